@@ -69,6 +69,21 @@ def text_of(path: str) -> str:
         return file.read()
 
 
+def pairs_of(text: str) -> list[list[str]]:
+    """The lines of an edit as pairs of file, old and new."""
+    found: list[list[str]] = []
+    path = old = ""
+    for line in text.split("\n"):
+        word, _, rest = line.partition(": ")
+        if word == "file":
+            path = rest.strip()
+        elif word == "old":
+            old = rest
+        elif word == "new":
+            found.append([path, old, rest])
+    return found
+
+
 class Seed:
     """A crate that is proved as it stands, and what its check kept: each text is tried over a copy of that."""
 

@@ -1,16 +1,16 @@
 #!/usr/bin/env python3
 """Tries of each wrong body whether it is refused for what it means or for its form. The answers stand in twins.csv.
 
-usage: python3 bench/twins.py [--list] [--edits] [--table FILE] [CRATE..]    (rt; the crates are checked by `rt check`)
+usage: python3 bench/twins.py [--stale] [--list] [--edits] [--table FILE] [CRATE..]    (rt; the crates are checked by `rt check`)
 
 An edit that exchanges a name, a literal or an operator for another keeps the form of the source: its twin is the
 source, which is proved. Any other edit needs a twin: an edit of the same form that changes nothing, which has to be
 accepted. A rule makes it, or the file bench/twins/CRATE/NAME.edit holds it, or that file says "none: WHY" where there
-can be none. `--edits` tries the edits themselves too, and notes what refuses them and the processor seconds; `--list`
-tries nothing: it prints the table, with new edits as not tried.
+can be none. Each row has checksums of the edit, of the twin, and of the files that these strike, as evidence.py tells.
 """
 from __future__ import annotations
 
+import argparse
 import csv
 import fcntl
 import os
@@ -20,10 +20,13 @@ from collections.abc import Callable
 from dataclasses import dataclass
 from difflib import SequenceMatcher
 
-from trying import ROOT, Seed, edits_of, ready_kit, seed_of, text_of
+from evidence import struck_sum, sum_of, why_stale
+from trying import ROOT, Seed, edits_of, pairs_of, ready_kit, seed_of, text_of
 
 TWINS = f"{ROOT}/bench/twins"
-COLUMNS = ["crate", "edit", "kind", "twin", "verdict", "refused_at", "seconds"]
+TABLE = f"{ROOT}/bench/twins.csv"
+SUMS = ["edit_sum", "twin_sum", "struck_sum"]
+COLUMNS = ["crate", "edit", "kind", "twin", "verdict", "refused_at", "seconds", *SUMS]
 PATH = r"[&*]*[A-Za-z_]\w*(?:(?:::|\.)[A-Za-z_]\w*)*(?![\w!(.:])"
 OPERAND = PATH + r"|\d[\w_]*|b?\"(?:[^\"\\]|\\.)*\"|b?'(?:[^'\\]|\\.)'"
 TOKEN = re.compile(OPERAND + r"|[A-Za-z_]\w*!?|::|->|=>|[=!<>]=|&&|\|\||\.\.=|\.\.|[-+*/%]=|\S")
@@ -143,21 +146,6 @@ class Twin:
     why: str = ""
 
 
-def pairs_of(text: str) -> list[list[str]]:
-    """The lines of an edit as pairs of file, old and new."""
-    found: list[list[str]] = []
-    path = old = ""
-    for line in text.split("\n"):
-        word, _, rest = line.partition(": ")
-        if word == "file":
-            path = rest.strip()
-        elif word == "old":
-            old = rest
-        elif word == "new":
-            found.append([path, old, rest])
-    return found
-
-
 def by_rule(old: str, new: str) -> str | None:
     for rule in RULES:
         made = rule(old, new)
@@ -190,6 +178,16 @@ def shown(twin: Twin) -> str:
     return " ".join(" ".join(it[2].split()) for it in pairs_of(twin.text)) or twin.why
 
 
+def sums_of(crate: str, text: str, twin: Twin) -> dict[str, str]:
+    """Of the edit and its twin as they are; of the files where a twin has to be accepted over them."""
+    sums = {"edit": sum_of(text), "twin": sum_of(twin.text or twin.why or twin.kind)}
+    return {**sums, "struck": struck_sum(crate, twin.text)} if twin.text else sums
+
+
+def columns_of(sums: dict[str, str]) -> list[str]:
+    return [sums.get(name.removesuffix("_sum"), "") for name in SUMS]
+
+
 def tried(seed: Seed, text: str) -> tuple[str, str]:
     """What became of the crate with an edit, in words, and the processor seconds of that."""
     texts, why = seed.read(text)
@@ -204,6 +202,8 @@ def row_of(seed: Seed, path: str, tries_edits: bool, known: dict[str, str]) -> l
     """The table's row for one edit: tries its twin, and the edit itself where that is asked for."""
     name, text = os.path.basename(path)[: -len(".edit")], text_of(path)
     twin = twin_of(seed.crate.name, name, text)
+    # of the texts that are read for the trial, and not of what they are at its end
+    sums = columns_of(sums_of(seed.crate.name, text, twin))
     verdict = "the source" if twin.kind == "token" else "none"
     if twin.text:
         verdict = tried(seed, twin.text)[0]
@@ -211,7 +211,7 @@ def row_of(seed: Seed, path: str, tries_edits: bool, known: dict[str, str]) -> l
     refused = [known.get("refused_at", ""), known.get("seconds", "")]
     if tries_edits:
         refused = list(tried(seed, text))
-    return [seed.crate.name, name, twin.kind, shown(twin), verdict, *refused]
+    return [seed.crate.name, name, twin.kind, shown(twin), verdict, *refused, *sums]
 
 
 def rows_in(table: str) -> list[dict[str, str]]:
@@ -226,7 +226,7 @@ def keep(table: str, crate: str, rows: list[list[str]]) -> None:
     lock = os.open(os.path.dirname(os.path.abspath(table)), os.O_RDONLY)
     try:
         fcntl.flock(lock, fcntl.LOCK_EX)
-        others = [[row[it] for it in COLUMNS] for row in rows_in(table) if row["crate"] != crate]
+        others = [[row.get(it) or "" for it in COLUMNS] for row in rows_in(table) if row["crate"] != crate]
         with open(table, "w", encoding="utf-8", newline="") as file:
             writer = csv.writer(file, lineterminator="\n")
             writer.writerow(COLUMNS)
@@ -235,16 +235,39 @@ def keep(table: str, crate: str, rows: list[list[str]]) -> None:
         os.close(lock)
 
 
-def rows_of(seed: Seed, table: str, tries_edits: bool) -> list[list[str]]:
-    """Tries all of a crate's edits, and keeps each answer as soon as it is there."""
-    crate = seed.crate.name
+def name_of(path: str) -> str:
+    return os.path.basename(path)[: -len(".edit")]
+
+
+def stale(crate: str, table: str = TABLE) -> list[tuple[str, str, str]]:
+    """The crate's edits whose row isn't of the texts of now, each with why."""
     known = {row["edit"]: row for row in rows_in(table) if row["crate"] == crate}
-    rows = []
+    found = []
     for path in edits_of(crate):
-        edit = os.path.basename(path)[: -len(".edit")]
-        rows.append(row_of(seed, path, tries_edits, known.pop(edit, {})))
-        print("\t".join(rows[-1]), flush=True)
-        keep(table, crate, rows + [[row[it] for it in COLUMNS] for row in known.values()])
+        text = text_of(path)
+        why = why_stale(known.get(name_of(path)), sums_of(crate, text, twin_of(crate, name_of(path), text)))
+        found += [(crate, name_of(path), why)] if why else []
+    return found
+
+
+def gone(table: str = TABLE) -> list[tuple[str, str, str]]:
+    """The rows of edits that are there no more."""
+    rows = [(row["crate"], row["edit"]) for row in rows_in(table)]
+    return [(crate, edit, "its edit is gone") for crate, edit in rows if edit not in map(name_of, edits_of(crate))]
+
+
+def rows_of(seed: Seed, asked: argparse.Namespace) -> list[list[str]]:
+    """Tries a crate's edits, all or those that are stale, and keeps each answer as soon as it is there."""
+    crate = seed.crate.name
+    known = {row["edit"]: row for row in rows_in(asked.table) if row["crate"] == crate}
+    known = {edit: row for edit, row in known.items() if edit in map(name_of, edits_of(crate))}
+    wanted = [edit for _, edit, _ in stale(crate, asked.table)] if asked.stale else list(map(name_of, edits_of(crate)))
+    rows: list[list[str]] = []
+    for path in edits_of(crate):
+        if name_of(path) in wanted:
+            rows.append(row_of(seed, path, asked.edits, known.pop(name_of(path), {})))
+            print("\t".join(rows[-1]), flush=True)
+            keep(asked.table, crate, rows + [[row.get(it) or "" for it in COLUMNS] for row in known.values()])
     return rows
 
 
@@ -255,10 +278,12 @@ def is_amiss(row: list[str]) -> bool:
 
 def untried(crate: str, path: str) -> list[str]:
     """The row of an edit of which nothing was tried."""
-    name, text = os.path.basename(path)[: -len(".edit")], text_of(path)
+    name, text = name_of(path), text_of(path)
     twin = twin_of(crate, name, text)
     verdict = "the source" if twin.kind == "token" else "not tried" if twin.text else "none"
-    return [crate, name, twin.kind, shown(twin), verdict, "", ""]
+    # what needs no trial is as it should be, of these texts
+    sums = columns_of({} if twin.text else sums_of(crate, text, twin))
+    return [crate, name, twin.kind, shown(twin), verdict, "", "", *sums]
 
 
 def listed(crate: str, table: str) -> None:
@@ -267,28 +292,41 @@ def listed(crate: str, table: str) -> None:
     rows = []
     for path in edits_of(crate):
         row = untried(crate, path)
-        told = known.get((row[1], row[2], row[3]))
-        rows.append([told[it] for it in COLUMNS] if told else row)
-        print("\t".join(rows[-1]))
+        has = known.get((row[1], row[2], row[3]))
+        if has:
+            # what was tried keeps the checksums of its day; what needs no trial gets those of now
+            row = [*(has[it] for it in COLUMNS[:-3]), *(row[-3:] if any(row[-3:]) else [has.get(it) or "" for it in SUMS])]
+        rows.append(row)
+        print("\t".join(row))
     keep(table, crate, rows)
 
 
+def words() -> argparse.Namespace:
+    parser = argparse.ArgumentParser(description=__doc__, formatter_class=argparse.RawDescriptionHelpFormatter)
+    parser.add_argument("crates", nargs="*", metavar="CRATE", help="all crates where none is named")
+    parser.add_argument("--stale", action="store_true", help="only the edits whose row isn't of the texts of now")
+    parser.add_argument("--edits", action="store_true", help="the edits too: what refuses them, and the processor seconds")
+    parser.add_argument("--list", action="store_true", help="tries nothing: prints the table, with new edits as not tried")
+    parser.add_argument("--table", default=TABLE, metavar="FILE", help="the table (bench/twins.csv)")
+    return parser.parse_args()
+
+
 def main() -> int:
-    words = sys.argv[1:]
-    table = words[words.index("--table") + 1] if "--table" in words else f"{ROOT}/bench/twins.csv"
-    names = [it for it in words if not it.startswith("--") and it != table] or sorted(os.listdir(f"{ROOT}/crates"))
-    names = [it for it in names if edits_of(it)]
-    if "--list" in words:
+    asked = words()
+    names = [it for it in asked.crates or sorted(os.listdir(f"{ROOT}/crates")) if edits_of(it)]
+    if asked.list:
         for name in names:
-            listed(name, table)
+            listed(name, asked.table)
         return 0
+    if asked.stale:
+        names = [it for it in names if stale(it, asked.table)]
     kit = ready_kit()
     failed = 0
     for name in names:
         with seed_of(kit, name) as seed:
             if seed is None:
                 print(f"{name}: isn't proved as it stands, so nothing is tried")
-            rows = rows_of(seed, table, "--edits" in words) if seed else []
+            rows = rows_of(seed, asked) if seed else []
             failed |= seed is None or any(is_amiss(row) for row in rows)
     return int(failed)
 

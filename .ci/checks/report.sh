@@ -68,7 +68,7 @@ if command -v chromium >/dev/null; then
     timeout 120 chromium --headless --no-sandbox --disable-gpu --dump-dom "file://$PWD/page.html" 2>browser | grep -q 'total' ||
         complain "the browser shows no total"
 else
-    echo "report: the page in a browser is skipped: there is no chromium (apt-get install chromium)"
+    echo "report: skipped: the page in a browser: there is no chromium (apt-get install chromium)"
 fi
 
 # policy 13 matures (2656.22), policy 14 is reduced from 15000.00 to 10000.00 and so from 1418.85 to 945.90, and then ages

@@ -88,6 +88,16 @@ a_second_disk's_fault_not_told  stating_modes/second_disks_fault_told_as_want_of
 watchers_told_of_refusals       office_state/told_of_refused_commands watcher_set/a_done_watcher_is_kept
 EDITS
 
+# each skip is named at the end of the gate, whatever its words
+made=$(mktemp -d) || exit 2
+printf 'one: skipped: no wind\none: all is well\n' >"$made/one.said"
+printf 'the page in a browser is skipped\n' >"$made/two.said"
+printf 'three: Skipping what needs a kit\nthree: run again: it failed beside the others\n' >"$made/three.said"
+printf 'four: all rows are right\n' >"$made/four.said"
+[ "$(sh .ci/not_tried.sh "$made" | LC_ALL=C sort | paste -sd ';')" = "one: skipped: no wind;three: Skipping what needs a kit;\
+three: run again: it failed beside the others;two: the page in a browser is skipped" ] ||
+    complain "skips are named so: $(sh .ci/not_tried.sh "$made")"
+rm -r "$made"
 # the names that pages for engineers tell are there
 python3 .ci/told_names.py || failed=1
 
