@@ -25,7 +25,7 @@ LIMITS = {
     "docs/FORMATS.md": 6150,
     "docs/ARCHITECTURE.md": 4700,
     "docs/PROOF.md": 8200,
-    "docs/DECISIONS.md": 4000,
+    "docs/DECISIONS.md": 4100,
     "docs/FIGURES.md": 1500,
 }
 MOST_IN_A_SENTENCE = 35
