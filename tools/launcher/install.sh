@@ -1,4 +1,6 @@
 # The proved program for daily use, in a folder of programs: with what belongs to it, and without the clone.
+# What it takes of the launcher:
+: "${root:?}" "${launcher:?}" "${program:?}"
 
 # where the files go, and what they are there
 name_places() {
@@ -45,7 +47,7 @@ install_life() {
     is_current "$program" ||
         give_up "nothing was installed, since no proved program is as new as its sources: sh life prove" 69
     command -v python3 >/dev/null || give_up "nothing was installed: the tools need python3"
-    staged= staged_share=
+    staged='' staged_share=''
     trap 'rm -rf "$staged" "$staged_share"' EXIT
     ends_by_signal : "nothing was installed"
     name_places "$@"

@@ -1,4 +1,6 @@
 # A release of the proved program in out/release: a package for Debian, a tar file, and what was proved.
+# What it takes of the launcher:
+: "${root:?}" "${program:?}"
 
 # What is packed and isn't committed, since a release is of a revision.
 uncommitted() {

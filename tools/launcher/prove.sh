@@ -1,4 +1,6 @@
 # The proof of the program's crates, and its build.
+# What it takes of the launcher:
+: "${root:?}" "${program:?}" "${worker?}"
 
 # the crates that the kit is done with, so far
 checked_crates() {

@@ -1,5 +1,7 @@
 # The proved program in the folder that the launcher is called from; on a terminal it is watched, and its status is
 # explained.
+# What it takes of the launcher:
+: "${launcher:?}" "${program:?}"
 . "$launcher/waiting.sh"
 
 # what a status means here, beside what the program printed of these words

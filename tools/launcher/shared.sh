@@ -1,4 +1,7 @@
 # What the launcher's parts share: what is said on standard error, whether a program is current, and the kit's commands.
+# What it takes of the launcher; and for its parts, what in_a_session began, and where that writes:
+: "${root:?}"
+worker='' log=''
 
 # a line on standard error, and the status that is given, or 70
 give_up() {
@@ -67,6 +70,7 @@ jobs_at_once() {
 # A command in a folder and in a session of its own, so that it ends with the launcher; what it prints goes to the log.
 in_a_session() {
     (cd "$1" && shift && exec setsid "$@" </dev/null >>"$log" 2>&1) &
+    # shellcheck disable=SC2034 # of those that call it
     worker=$!
 }
 

@@ -1,4 +1,6 @@
 # All tests without any proof: each crate of tests as the kit tries it, and checks of this repository over a preview.
+# What it takes of the launcher:
+: "${root:?}" "${launcher:?}" "${program:?}"
 
 # the crates of tests, the largest first
 test_crates() {
