@@ -3,6 +3,8 @@
 budget.py PID LOG: PID is the shell that runs the gate, LOG the file that its `rt ci` writes. It looks at /proc twice a
 second, and ends by SIGTERM, or when that shell is gone.
 """
+from __future__ import annotations
+
 
 import os
 import re
@@ -11,6 +13,7 @@ import sys
 import time
 from collections import defaultdict
 from pathlib import Path
+from typing import Any
 
 MINUTES_BETWEEN_LINES = 5
 # what a run from nothing may cost, in processor minutes; one above it is told, and not refused
@@ -22,7 +25,7 @@ PARTS = ("proofs", "tests", "seeds", "edits", "compiling")
 class Process:
     """A process as /proc shows it: whose child it is, and its ticks with those of the children that it has waited for."""
 
-    def __init__(self, pid):
+    def __init__(self, pid: int) -> None:
         self.pid = pid
         fields = Path(f"/proc/{pid}/stat").read_text().rpartition(") ")[2].split()
         self.parent = int(fields[1])
@@ -32,7 +35,7 @@ class Process:
         self.is_prover = os.path.basename(self.words[0]) == "rattle"
 
 
-def processes():
+def processes() -> Any:
     """All processes that there are, by number."""
     found = {}
     for name in os.listdir("/proc"):
@@ -44,7 +47,7 @@ def processes():
     return found
 
 
-def crate_and_part(process):
+def crate_and_part(process: Any) -> Any:
     """What a prover works at: the crate, and one of PARTS. A seed is the proof of a crate that its edits begin with."""
     words = process.words
     after = lambda flag: words[words.index(flag) + 1] if flag in words[:-1] else ""
@@ -64,13 +67,13 @@ def crate_and_part(process):
     return after("--crate-name"), part
 
 
-def runs_checks(words):
+def runs_checks(words: list[str]) -> Any:
     """Whether a command of the gate's shell is a check of this repository, or what runs them side by side."""
     return os.path.basename(words[0]) == "xargs" or any(".ci/checks/" in it for it in words)
 
 
 class Budget:
-    def __init__(self, shell, log):
+    def __init__(self, shell: Any, log: str) -> None:
         self.shell, self.log, self.begun = shell, log, time.time()
         self.ticks = {}  # Of each prover, and of each command of the shell.
         self.works = {}  # What each prover works at.
@@ -80,7 +83,7 @@ class Budget:
         self.crates = len(crates)
         self.edits = len(list(Path("crates").glob("*/must-fail/*.edit")))
 
-    def look(self):
+    def look(self) -> bool:
         """Reads what each prover and each command of the shell has used so far."""
         there = processes()
         self.there = {it.key for it in there.values()}
@@ -88,10 +91,10 @@ class Budget:
         for it in there.values():
             below[it.parent].append(it)
 
-        def whole(it):
+        def whole(it: Any) -> Any:
             return it.ticks + sum(whole(child) for child in below[it.pid])
 
-        def provers(it):
+        def provers(it: Any) -> None:
             for child in below[it.pid]:
                 if not child.is_prover:
                     provers(child)
@@ -106,7 +109,7 @@ class Budget:
                 provers(command)
         return self.shell in there
 
-    def progress(self):
+    def progress(self) -> str:
         """A line on how far the gate is."""
         said = self.log.read_text(errors="replace")
         proved = len(set(re.findall(r"^rt: (\w+) (?:proved|is kept)", said, re.M)))
@@ -117,7 +120,7 @@ class Budget:
         line += f", NOT PROVED: {', '.join(failed)}" if failed else ""
         return f"gate: {(time.time() - self.begun) / 60:.0f} minutes: {line}"
 
-    def table(self):
+    def table(self) -> Any:
         """The processor seconds of each crate by part, and of the whole."""
         of_crates = defaultdict(lambda: defaultdict(float))
         tries = defaultdict(int)
@@ -144,7 +147,7 @@ class Budget:
         return "\n".join(lines)
 
 
-def main():
+def main() -> None:
     budget = Budget(int(sys.argv[1]), Path(sys.argv[2]))
     ended = []
     signal.signal(signal.SIGTERM, lambda *_: ended.append(True))

@@ -1,11 +1,15 @@
 """The layers: each crate of crates.txt stands only on crates above its own heading; docs/ARCHITECTURE.md lists the same
 crates under the same headings, in the same order. And each file of a crate that the page names is there, with the
 functions that a table has beside it; and its table of the gate names each check."""
+from __future__ import annotations
+
 
 import fnmatch
 import pathlib
 import re
 import sys
+from collections.abc import Iterator
+from typing import Any
 
 TOP = pathlib.Path(__file__).resolve().parent.parent
 PAGE = "docs/ARCHITECTURE.md"
@@ -33,7 +37,7 @@ def listed_in(page: str) -> list[tuple[str, list[str]]]:
     return [(heading, re.findall(r"^- `(\w+)`: ", items, re.M)) for heading, items in zip(parts[::2], parts[1::2])]
 
 
-def wrong_order(layers: list[tuple[str, list[tuple[str, list[str]]]]]):
+def wrong_order(layers: list[tuple[str, list[tuple[str, list[str]]]]]) -> Iterator[Any]:
     """Crates that stand on one below, or beside them."""
     ours = {crate for _, crates in layers for crate, _ in crates}
     above: set[str] = set()
@@ -45,7 +49,7 @@ def wrong_order(layers: list[tuple[str, list[tuple[str, list[str]]]]]):
         above.update(crate for crate, _ in crates)
 
 
-def wrong_page(layers: list[tuple[str, list[tuple[str, list[str]]]]], page: str):
+def wrong_page(layers: list[tuple[str, list[tuple[str, list[str]]]]], page: str) -> Iterator[Any]:
     """Where the page's layers aren't those of crates.txt, and files that it names and that aren't there."""
     wanted = [(heading, [crate for crate, _ in crates]) for heading, crates in layers]
     told = listed_in(page)
@@ -57,7 +61,7 @@ def wrong_page(layers: list[tuple[str, list[tuple[str, list[str]]]]], page: str)
         yield f"{PAGE}: its layers have other headings than crates.txt, or another order"
 
 
-def wrong_files(page: str):
+def wrong_files(page: str) -> Iterator[Any]:
     """Files of crates that the page names and that aren't there, and functions that aren't in the files beside them."""
     for line in page.splitlines():
         files = [TOP / "crates" / name for name in re.findall(r"`(\w+/(?:src|specs|proofs)/[\w/.]*)`", line)]
@@ -73,7 +77,7 @@ def wrong_files(page: str):
                 yield f"{PAGE}: {name} isn't in {cells[2].strip()}"
 
 
-def wrong_checks(page: str):
+def wrong_checks(page: str) -> Iterator[Any]:
     """Checks that the page's table of the gate doesn't name."""
     rows = [line.split("|")[1] for line in page.partition("\n## The gate\n")[2].splitlines() if line.startswith("|")]
     named = [name for row in rows for name in re.findall(r"`([\w*]+)`", row)]

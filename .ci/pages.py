@@ -6,10 +6,13 @@ A page's words are those that `wc -w` counts. A sentence ends with a full stop, 
 before a space; an item of a list, a heading and a cell of a table end one too. What stands in backticks is one word
 there, and a link counts by its text. Blocks of code aren't looked at.
 """
+from __future__ import annotations
+
 
 import pathlib
 import re
 import sys
+from collections.abc import Iterator
 
 TOP = pathlib.Path(__file__).resolve().parent.parent
 # The most words of each page.
@@ -47,11 +50,11 @@ def words_of(text: str) -> int:
     return sum(1 for word in text.split() if re.search(r"\w", word))
 
 
-def paragraphs_of(lines: list[str]):
+def paragraphs_of(lines: list[str]) -> Iterator[tuple[int, str]]:
     """Each paragraph or item of a list with the number of its first line, and each row of a table as itself."""
     fenced, begun, parts = False, 0, []
 
-    def ended():
+    def ended() -> Iterator[tuple[int, str]]:
         nonlocal parts
         if parts:
             yield begun, " ".join(parts)
@@ -78,7 +81,7 @@ def paragraphs_of(lines: list[str]):
     yield from ended()
 
 
-def wrong_in(page: str, text: str):
+def wrong_in(page: str, text: str) -> Iterator[None]:
     """What is too long in a page, with its line."""
     for number, part in paragraphs_of(text.split("\n")):
         if part.startswith("|"):

@@ -6,6 +6,8 @@ Lines are compared without their indentation; empty lines, comments, imports and
 command `duplicates` is installed, it looks over copies of all code, specs and proofs as well, and counts the pairs of
 places that share such a run to the letter. More than stand there now are refused.
 """
+from __future__ import annotations
+
 
 import pathlib
 import re
@@ -13,6 +15,8 @@ import shutil
 import subprocess
 import sys
 import tempfile
+from collections.abc import Iterator
+from typing import Any
 
 TOP = pathlib.Path(__file__).resolve().parent.parent
 LEAST_LINES = 8
@@ -53,7 +57,7 @@ class Places:
         places = self.seen.get(self.run_at(file, at), [])
         return max(((self.length(file, at, other, place), other, place) for other, place in places), default=(0, 0, 0))
 
-    def add(self, lines: list[tuple[int, str]]):
+    def add(self, lines: list[tuple[int, str]]) -> Iterator[Any]:
         """Takes a file in, and gives each run in it that was seen before."""
         self.files.append(lines)
         file, at, entered = len(self.files) - 1, 0, 0

@@ -3,10 +3,14 @@
 A word is taken for a name where it has an underscore or a capital letter within it or at its start, and for a file
 where it ends as one of ours does. usage: python3 .ci/told_names.py
 """
+from __future__ import annotations
+
 
 import pathlib
 import re
 import sys
+from collections.abc import Iterator
+from typing import Any
 
 TOP = pathlib.Path(__file__).resolve().parent.parent
 PAGES = ("docs/PROOF.md", "docs/DECISIONS.md")
@@ -15,7 +19,7 @@ NAME = re.compile(r"(?=\w*[A-Z_])[A-Za-z]\w*")
 FILE = re.compile(r"[\w./-]*\.(?:rt|antt|sh|py|md|csv)")
 
 
-def told_in(page: str):
+def told_in(page: str) -> Iterator[Any]:
     """The words in backticks of a page, each with its line."""
     fenced = False
     for number, line in enumerate((TOP / page).read_text(encoding="utf-8").splitlines(), 1):

@@ -12,9 +12,12 @@ hold, and then the law under it says nothing.
 
 usage: python3 .ci/worked.py [--all]      with --all: each definition that no case holds, and each premise
 """
+from __future__ import annotations
+
 
 import re
 import sys
+from typing import Any
 
 import definitions as known
 import statements
@@ -131,7 +134,7 @@ def held_by(texts: Texts, cases: set[str], built: set[str]) -> set[str]:
     return texts.under(plain, OF_A_DISK) | built | (named - asked)
 
 
-def main():
+def main() -> Any:
     texts = Texts()
     cases = cases_of(texts)
     named, premises = contracts(texts)

@@ -8,6 +8,8 @@ first). A change counts as refused where the case isn't proved, each file of spe
 the files of worked cases: no lemma of the code, but what the case says. It takes some ten seconds of a processor for
 each, three times that where the case is of a valuation.
 """
+from __future__ import annotations
+
 import argparse
 import concurrent.futures
 import os
@@ -17,6 +19,7 @@ import shutil
 import subprocess
 import sys
 import tempfile
+from typing import Any
 
 TOP = os.path.realpath(os.path.join(os.path.dirname(os.path.abspath(__file__)), ".."))
 # The kit's own list of the words with which it calls its prover.
@@ -103,7 +106,7 @@ CHANGES = [
 ]
 
 
-def copied_to(folder):
+def copied_to(folder: str) -> None:
     """Copies what a check reads of the repository, and nothing that was built."""
     for name in os.listdir(os.path.join(TOP, "crates")):
         for part in ("src", "specs", "proofs"):
@@ -113,7 +116,7 @@ def copied_to(folder):
     shutil.copy(os.path.join(TOP, "crates.txt"), folder)
 
 
-def words_of(crate, changed, folder):
+def words_of(crate: str, changed: Any, folder: str) -> Any:
     """The prover's words for a check of the crate in the copy, where the changed one and those above it are source."""
     below = crate.below()
     source = [it for it in below if it.name == changed or changed in [low.name for low in it.below()]]
@@ -138,7 +141,7 @@ def words_of(crate, changed, folder):
     return words + ["--incremental", f"{folder}/kept/{crate.name}", "--jobs", "1"]
 
 
-def checked(crate_name, changed, case, folder):
+def checked(crate_name: str, changed: Any, case: Any, folder: str) -> Any:
     """What the prover says of the case in the copy."""
     here = os.path.join(TOP, "crates", crate_name)
     crate = rtlib.Crate(here, TOP, {})
@@ -148,7 +151,7 @@ def checked(crate_name, changed, case, folder):
     return told.stdout.decode("utf-8", "replace")
 
 
-def verdict(said, crate_name, case):
+def verdict(said: Any, crate_name: str, case: Any) -> Any:
     """`refused` with the clauses that failed, or what else became of the case."""
     line = re.search(rf"^fn {crate_name}::{case}: (proved|not proved|no proof)", said, re.M)
     if not line:
@@ -163,7 +166,7 @@ def verdict(said, crate_name, case):
     return f"refused: {', '.join(own)}" if own else "NOT REFUSED BY ITSELF"
 
 
-def tried(change, folder):
+def tried(change: Any, folder: str) -> Any:
     """Makes the change in the copy, has the case checked there, and puts the file back."""
     _, file, pairs, crate_name, case = change
     path = os.path.join(folder, "crates", file)
@@ -183,7 +186,7 @@ def tried(change, folder):
     return verdict(said, crate_name, case), said
 
 
-def main():
+def main() -> None:
     reader = argparse.ArgumentParser()
     reader.add_argument("--processes", type=int, default=1)
     reader.add_argument("--logs", help="a folder for what the prover says of each change")
@@ -195,7 +198,7 @@ def main():
             copied_to(f"{folder}/{number}")
             copies.put(f"{folder}/{number}")
 
-        def work(number):
+        def work(number: int) -> Any:
             place = copies.get()
             try:
                 return number, *tried(CHANGES[number - 1], place)

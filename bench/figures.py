@@ -1,4 +1,6 @@
 """Takes the rows of docs/FIGURES.md; see figures.sh."""
+from __future__ import annotations
+
 import collections
 import os
 import sys
@@ -20,7 +22,7 @@ FIGURES |= figures_tables.FIGURES | figures_lines.FIGURES | figures_tools.FIGURE
 Setting = collections.namedtuple("Setting", "program disk memory rounds")
 
 
-def main():
+def main() -> None:
     names = sys.argv[1:] or list(FIGURES)
     for name in names:
         if name not in FIGURES:

@@ -1,7 +1,11 @@
 """Figures of a transcript's lines: when they come, and what many of them take."""
+from __future__ import annotations
+
 import os
 import re
 import time
+from collections.abc import Iterator
+from typing import Any
 
 import timing
 import workload
@@ -15,7 +19,7 @@ ACCEPTED = re.compile(rb",accepted,(\d+)$")
 class Arrivals:
     """One run whose output and journal are looked at again and again: by when a record stood, and by when its line was read."""
 
-    def __init__(self, setting, clerks):
+    def __init__(self, setting: timing.Setting, clerks: int) -> None:
         self.records, self.lines = [], {}
         with Folder(setting.disk) as folder:
             workload.write_lines(folder.at("script.csv"), workload.issue_lines(list(range(1, clerks + 1)), POSTINGS))
@@ -28,7 +32,7 @@ class Arrivals:
             os.close(gives)
             timing.need_right(run.wait(), [setting.program, "run"])
 
-    def look_on(self, folder, gives):
+    def look_on(self, folder: str, gives: Any) -> None:
         rest = b""
         while True:
             standing = (timing.size_of(folder.journal) - 18) // 65
@@ -47,12 +51,12 @@ class Arrivals:
                 if found:
                     self.lines[int(found[1])] = now
 
-    def behind(self):
+    def behind(self) -> Any:
         """Milliseconds from each record's standing in the file, where its gate has yet to be synced, to its line's coming."""
         return [1000 * (when - self.records[position - 1]) for position, when in self.lines.items()]
 
 
-def lines(setting):
+def lines(setting: timing.Setting) -> Iterator[Any]:
     found = timing.in_turn(setting.rounds, {n: lambda n=n: Arrivals(setting, n) for n in (1, 8)})
     first = {n: median([run.lines[1] - run.records[0] for run in runs]) * 1000 for n, runs in found.items()}
     middle = {n: median([median(run.behind()) for run in runs]) for n, runs in found.items()}
@@ -61,18 +65,18 @@ def lines(setting):
     yield ("with eight clerks", f"{first[8]:.2f} ms", f"the run's lines in the median {middle[8]:.2f} ms")
 
 
-def short_issues(clerks):
+def short_issues(clerks: int) -> Any:
     """So many as a script of 16 MiB holds."""
     return [f"{1 + n % clerks},issue,{n + 1},2020-01-01,endowment,0,3,1000.00,400.00" for n in range(MANY)]
 
 
-def timed_run(setting, script):
+def timed_run(setting: timing.Setting, script: bytes) -> Any:
     with Folder(setting.memory) as folder:
         workload.write_lines(folder.at("script.csv"), script)
         return timing.timed([setting.program, "run"], folder.path, folder.at("script.csv"))
 
 
-def many(setting):
+def many(setting: timing.Setting) -> Iterator[Any]:
     found = timing.in_turn(setting.rounds, {
         "one": lambda: timed_run(setting, short_issues(1)),
         "eight": lambda: timed_run(setting, short_issues(8)),

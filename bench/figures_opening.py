@@ -1,8 +1,12 @@
 """Figures of what opens a journal: runs of an empty script, `state`, checkpoints."""
+from __future__ import annotations
+
 import hashlib
 import os
 import shutil
 import sys
+from collections.abc import Iterator
+from typing import Any
 
 import timing
 import workload
@@ -11,11 +15,11 @@ from timing import Folder, median
 MILLION = 1000000
 
 
-def told(runs):
+def told(runs: int) -> str:
     return f"{median(runs, 'clock'):.2f} s, {median(runs, 'peak'):.0f} MiB"
 
 
-def opening(setting):
+def opening(setting: timing.Setting) -> Iterator[Any]:
     for count in (MILLION, 4 * MILLION):
         with Folder(setting.memory) as folder:
             plain = timing.build_plain("plain_opening", folder.path)
@@ -32,7 +36,7 @@ def opening(setting):
         yield f"`state ID` among {count:,} policies", told(found["one"]), alone
 
 
-def paid_policies(policies):
+def paid_policies(policies: int) -> Iterator[Any]:
     """Issues, and then the premiums of three years."""
     for number in range(1, policies + 1):
         yield workload.record(workload.ISSUE, number, 18262, (3, 30, 20), 100000 + number, 40000)
@@ -41,7 +45,7 @@ def paid_policies(policies):
             yield workload.record(workload.PREMIUM, number, day, amount=40000)
 
 
-def take_checkpoints(setting, folder, ages):
+def take_checkpoints(setting: timing.Setting, folder: str, ages: int) -> Any:
     """Checkpoints that are so many commands old, and what it took to make that of all."""
     records, runs = list(paid_policies(MILLION)), {}
     for age in ages:
@@ -52,7 +56,7 @@ def take_checkpoints(setting, folder, ages):
     return runs[0]
 
 
-def state_by(setting, folder, age, texts):
+def state_by(setting: timing.Setting, folder: str, age: int, texts: list[str]) -> Any:
     """A run of `state` by such a checkpoint, or by none; its text is kept to be compared."""
     used, written = folder.at("checkpoint.life"), folder.at("written")
     if os.path.exists(used):
@@ -65,7 +69,7 @@ def state_by(setting, folder, age, texts):
     return run
 
 
-def checkpoint(setting):
+def checkpoint(setting: timing.Setting) -> Iterator[Any]:
     ages, texts = (0, 1000, 100000), set()
     with Folder(setting.memory) as folder:
         made = take_checkpoints(setting, folder, ages)

@@ -1,7 +1,11 @@
 """Figures of postings on a real file, and of valuations beside them."""
+from __future__ import annotations
+
 import os
 import shutil
 import sys
+from collections.abc import Iterator
+from typing import Any
 
 import timing
 import workload
@@ -10,12 +14,12 @@ from timing import Folder, Watched, median
 BOOK, POSTINGS = 100000, 3000
 
 
-def fill(folder, book):
+def fill(folder: str, book: Any) -> None:
     if book:
         workload.write_journal(folder.journal, workload.drawn_policies(book))
 
 
-def rate(setting, clerks, valuers=0):
+def rate(setting: timing.Setting, clerks: int, valuers: int = 0) -> Any:
     """Postings a second of so many clerks, beside others who value a book again and again."""
     with Folder(setting.disk) as folder:
         fill(folder, BOOK if valuers else 0)
@@ -25,13 +29,13 @@ def rate(setting, clerks, valuers=0):
         return Watched(setting.program, folder, lines).postings_a_second()
 
 
-def plain_rate(setting):
+def plain_rate(setting: timing.Setting) -> Any:
     with Folder(setting.disk) as folder:
         plain = timing.build_plain("plain_postings", folder.path)
         return POSTINGS / timing.timed([plain, str(POSTINGS), "plain.life"], folder.path).clock
 
 
-def postings(setting):
+def postings(setting: timing.Setting) -> Iterator[Any]:
     found = timing.in_turn(setting.rounds, {
         "C": lambda: plain_rate(setting),
         "one": lambda: rate(setting, 1),
@@ -50,7 +54,7 @@ def postings(setting):
            f"{each['six']:,.0f} a second", f"one clerk {each['one']:,.0f}: {each['six'] / each['one']:.2f}")
 
 
-def valuation(setting, clerks):
+def valuation(setting: timing.Setting, clerks: int) -> Any:
     """Milliseconds of a valuation between two postings of its clerk."""
     with Folder(setting.disk) as folder:
         fill(folder, BOOK)
@@ -60,7 +64,7 @@ def valuation(setting, clerks):
         return 1000 * Watched(setting.program, folder, lines).between_marks()
 
 
-def beside(setting):
+def beside(setting: timing.Setting) -> Iterator[Any]:
     found = timing.in_turn(setting.rounds, {
         "alone": lambda: valuation(setting, 0),
         "six": lambda: valuation(setting, 6),
@@ -69,7 +73,7 @@ def beside(setting):
     yield (f"a valuation of {BOOK:,} policies while six clerks post", f"{six:.0f} ms", f"alone {alone:.0f} ms")
 
 
-def counted(setting, folder, lines):
+def counted(setting: timing.Setting, folder: str, lines: list[str]) -> Any:
     """How often a run of these lines writes, syncs and reads by place."""
     names, told = ["pwrite64", "fsync", "pread64"], folder.at("calls")
     workload.write_lines(folder.at("script.csv"), lines)
@@ -80,7 +84,7 @@ def counted(setting, folder, lines):
     return [sum(int(row[3]) for row in rows if row and row[-1] == name) for name in names]
 
 
-def calls(setting):
+def calls(setting: timing.Setting) -> Iterator[Any]:
     if not shutil.which("strace"):
         print("calls: strace isn't installed", file=sys.stderr)
         return
@@ -94,7 +98,7 @@ def calls(setting):
            f"a creation alone {' '.join(map(str, made))}; an opening alone {' '.join(map(str, opened))}")
 
 
-def load(setting):
+def load(setting: timing.Setting) -> Iterator[Any]:
     with Folder(setting.disk) as folder:
         run = timing.timed([setting.program, "load", "1", str(BOOK), "8", "4"], folder.path)
         made = (os.path.getsize(folder.journal) - 18) // 65

@@ -1,6 +1,10 @@
 """Figures of what reads a script or a table."""
+from __future__ import annotations
+
 import os
 import time
+from collections.abc import Iterator
+from typing import Any
 
 import timing
 import workload
@@ -9,7 +13,7 @@ from timing import Folder, median
 LONGEST = 16 * 1024 * 1024
 
 
-def script_lines():
+def script_lines() -> Iterator[Any]:
     """Lines of eight kinds, some of them quoted."""
     number = 0
     while True:
@@ -26,7 +30,7 @@ def script_lines():
         yield "1,mature,%d,%s" % (number, day)
 
 
-def longest_script(bad):
+def longest_script(bad: Any) -> Any:
     """All lines that fit, and one at the end that is no line, so that nothing is posted."""
     lines, size = [], len(bad) + 1
     for line in script_lines():
@@ -36,7 +40,7 @@ def longest_script(bad):
         lines.append(line)
 
 
-def seconds_of(words, folder, answer, status):
+def seconds_of(words: list[str], folder: str, answer: Any, status: int) -> Any:
     begun = time.perf_counter()
     run = timing.start(words, folder.path, folder.at("script.csv"), folder.at("written"))
     ended = run.wait()
@@ -48,7 +52,7 @@ def seconds_of(words, folder, answer, status):
     return seconds
 
 
-def script(setting):
+def script(setting: timing.Setting) -> Iterator[Any]:
     with Folder(setting.memory) as folder:
         plain = timing.build_plain("plain_script", folder.path)
         lines = longest_script("1,claim,1,2021-02-29")
@@ -62,7 +66,7 @@ def script(setting):
            f"a plain Rust loop {other:.0f} MB/s: {life / other:.2f}")
 
 
-def trims(setting):
+def trims(setting: timing.Setting) -> Iterator[Any]:
     with Folder(setting.memory) as folder:
         count = LONGEST // len("1,trim\n")
         workload.write_lines(folder.at("script.csv"), ["1,trim"] * count)

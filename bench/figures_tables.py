@@ -1,9 +1,13 @@
 """Figures of the readers of basis and table files over inputs of up to 4 MiB, beside Python's parser of XML, expat."""
+from __future__ import annotations
+
 import os
 import resource
 import subprocess
 import time
 import xml.parsers.expat
+from collections.abc import Iterator
+from typing import Any
 
 import timing
 from timing import Folder
@@ -21,29 +25,29 @@ FILLINGS = {
 }
 
 
-def table(filling=""):
+def table(filling: str = "") -> Any:
     return "  <Table>\n    <Values>\n      <Axis>\n%s      </Axis>\n    </Values>\n  </Table>\n" % (ROWS + filling)
 
 
-def repeated():
+def repeated() -> Any:
     one = table()
     return HEAD + one * ((LONGEST - len(HEAD) - len(TAIL)) // len(one)) + TAIL
 
 
-def filled(filling):
+def filled(filling: str) -> Any:
     room = LONGEST - len(HEAD) - len(table()) - len(TAIL)
     return HEAD + table(filling * (room // len(filling))) + TAIL
 
 
-def basis(first_day):
+def basis(first_day: Any) -> Any:
     """A thousand rows, each on a day of its own."""
     days = ["%d-%02d-01" % (first_day + i // 12, 1 + i % 12) for i in range(1000)]
     return "".join("%s,%s,%d\n" % (day, "table-" + "x" * 40 + ".xml", 300 + i % 7) for i, day in enumerate(days))
 
 
-def readings(program, folder, name, times):
+def readings(program: str, folder: str, name: str, times: Any) -> Any:
     """Seconds of the processor of so many readings of a file and a start, the least of five."""
-    def once():
+    def once() -> Any:
         before = resource.getrusage(resource.RUSAGE_CHILDREN).ru_utime
         subprocess.run([program, "tables", str(times), name], check=True, capture_output=True, cwd=folder.path,
                        preexec_fn=timing.below_watcher)
@@ -51,7 +55,7 @@ def readings(program, folder, name, times):
     return min(once() for _ in range(5))
 
 
-def of_one(program, folder, name):
+def of_one(program: str, folder: str, name: str) -> Any:
     """Seconds of one reading, from so many that a start is little beside them."""
     more = 4
     while readings(program, folder, name, 1 + more) < 0.4:
@@ -59,10 +63,10 @@ def of_one(program, folder, name):
     return (readings(program, folder, name, 1 + more) - readings(program, folder, name, 1)) / more
 
 
-def by_expat(data):
+def by_expat(data: bytes) -> Any:
     turns = max(1, 1024 * 1024 // len(data))
 
-    def once():
+    def once() -> Any:
         begun = time.process_time()
         for _ in range(turns):
             xml.parsers.expat.ParserCreate().Parse(data, True)
@@ -70,13 +74,13 @@ def by_expat(data):
     return min(once() for _ in range(5)) / turns
 
 
-def documents():
+def documents() -> Iterator[Any]:
     yield "a table that repeats", repeated()
     for name, filling in FILLINGS.items():
         yield name, filled(filling)
 
 
-def tables(setting):
+def tables(setting: timing.Setting) -> Iterator[Any]:
     program = timing.measure_program()
     with Folder(setting.memory) as folder:
         for what, text in documents():

@@ -1,10 +1,14 @@
 """Figures of valuations and projections, each timed within its run."""
+from __future__ import annotations
+
 import datetime
 import hashlib
 import os
 import re
 import subprocess
 import sys
+from collections.abc import Iterator
+from typing import Any
 
 import timing
 import workload
@@ -14,7 +18,7 @@ MILLION = 1000000
 ON, BEFORE_ALL = "2020-12-31", "1999-12-31"
 
 
-def take_back(folder):
+def take_back(folder: str) -> None:
     """Takes the marks out of the journal."""
     with open(folder.journal, "r+b") as file:
         file.truncate(folder.whole)
@@ -22,7 +26,7 @@ def take_back(folder):
         file.write(b"\0")
 
 
-def in_run(setting, folder, workers, day=ON):
+def in_run(setting: timing.Setting, folder: str, workers: int, day: int = ON) -> Any:
     """Seconds of a valuation between two postings of its clerk."""
     lines = timing.marked(1, workload.valuation_lines(1, 1, workers, day))
     seconds = Watched(setting.program, folder, lines).between_marks()
@@ -30,14 +34,14 @@ def in_run(setting, folder, workers, day=ON):
     return seconds
 
 
-def filled(setting, count):
+def filled(setting: timing.Setting, count: int) -> Any:
     folder = Folder(setting.memory)
     workload.write_journal(folder.journal, workload.drawn_policies(count))
     folder.whole = os.path.getsize(folder.journal)
     return folder
 
 
-def plain_value(folder, plain, workers):
+def plain_value(folder: str, plain: Any, workers: int) -> Any:
     """Seconds of the plain program's valuation alone, as it tells them."""
     with open(folder.journal, "rb") as journal:
         run = subprocess.run([plain, "g.xml", "400", str(workers)], stdin=journal, stdout=subprocess.DEVNULL,
@@ -45,11 +49,11 @@ def plain_value(folder, plain, workers):
     return float(re.search(r"([0-9.]+) valued", run.stderr.decode()).group(1))
 
 
-def told_whole(runs):
+def told_whole(runs: int) -> str:
     return f"{median(runs, 'clock'):.2f} s, {median(runs, 'peak'):.0f} MiB"
 
 
-def workers(setting):
+def workers(setting: timing.Setting) -> Iterator[Any]:
     with filled(setting, MILLION) as folder:
         plain = timing.build_plain("plain_value", folder.path)
         ways = {("plain", n): lambda n=n: plain_value(folder, plain, n) for n in (1, 2, 4, 16)}
@@ -67,7 +71,7 @@ def workers(setting):
     yield f"`value` of {MILLION:,} policies by 4 workers, whole", told_whole(whole), ""
 
 
-def small(setting):
+def small(setting: timing.Setting) -> Iterator[Any]:
     """Books so small that threads are most of their valuation."""
     for count in (1, 300):
         with filled(setting, count) as folder:
@@ -78,11 +82,11 @@ def small(setting):
                f"{1000 * median(found[64]):.1f} ms", f"by one {1000 * median(found[1]):.1f} ms")
 
 
-def timed_alone(setting, folder, *words):
+def timed_alone(setting: timing.Setting, folder: str, *words: Any) -> Any:
     return timing.from_last_read_to_first_write([setting.program, *words], folder.path)
 
 
-def measures(setting):
+def measures(setting: timing.Setting) -> Iterator[Any]:
     count = 100000
     with filled(setting, count) as folder:
         found = timing.in_turn(setting.rounds, {
@@ -94,7 +98,7 @@ def measures(setting):
                f"terminal {1000 * each['terminal']:.0f} ms: {each['terminal'] / each[measure]:.2f} as many a second")
 
 
-def need_same_text(setting, folder, *words):
+def need_same_text(setting: timing.Setting, folder: str, *words: Any) -> None:
     """However many workers there are, the text is the same."""
     texts = set()
     for number in (1, 4):
@@ -106,7 +110,7 @@ def need_same_text(setting, folder, *words):
         sys.exit(f"wrong: the text of {words} isn't the same for each number of workers")
 
 
-def project(setting):
+def project(setting: timing.Setting) -> Iterator[Any]:
     with filled(setting, MILLION) as folder:
         need_same_text(setting, folder, "project", ON, "40")
         found = timing.in_turn(setting.rounds, {
@@ -117,16 +121,16 @@ def project(setting):
            f"4 make {one / four:.2f} times 1")
 
 
-def rate(age, percent=100):
+def rate(age: int, percent: int = 100) -> Any:
     units = min(600 * age**3, 10**9) * percent // 100
     return "%d.%09d" % (units // 10**9, units % 10**9)
 
 
-def axis(rates):
+def axis(rates: Any) -> Any:
     return "<Axis>%s</Axis>" % "".join('<Y t="%d">%s</Y>\n' % each for each in rates)
 
 
-def write_tables(folder):
+def write_tables(folder: str) -> None:
     """A select and ultimate table of 100 issue ages and 25 durations, and its ultimate part alone."""
     ultimate = axis((age, rate(age)) for age in range(121))
     ages = "".join('<Axis t="%d">%s</Axis>\n' % (age, axis((d + 1, rate(age + d, 50 + 2 * d)) for d in range(25)))
@@ -136,12 +140,12 @@ def write_tables(folder):
     workload.write_lines(folder.at("select.xml"), ["<XTbML>%s%s</XTbML>" % (table % ages, table % ultimate)])
 
 
-def value_by(setting, folder, table):
+def value_by(setting: timing.Setting, folder: str, table: str) -> Any:
     workload.write_lines(folder.at("basis.csv"), [f"1900-01-01,{table}.xml,400"])
     return in_run(setting, folder, 1)
 
 
-def select(setting):
+def select(setting: timing.Setting) -> Iterator[Any]:
     for count in (20000, 100000, MILLION):
         with filled(setting, count) as folder:
             write_tables(folder)

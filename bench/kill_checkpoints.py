@@ -6,6 +6,8 @@ usage: python3 bench/kill_checkpoints.py PROGRAM FOLDER KILLS SEED     (python3 
 
 FOLDER is made, and is left as it is. The seed fixes what is drawn, not where a kill falls.
 """
+from __future__ import annotations
+
 import os
 import random
 import shutil
@@ -13,6 +15,7 @@ import signal
 import subprocess
 import sys
 import time
+from typing import Any
 
 sys.path.insert(0, os.path.join(os.path.dirname(os.path.dirname(os.path.abspath(__file__))), "tools"))
 
@@ -26,42 +29,42 @@ JOURNAL, KEPT = "journal.life", "checkpoint.life"
 
 
 class Office:
-    def __init__(self, program, folder):
+    def __init__(self, program: str, folder: str) -> None:
         self.program, self.folder, self.given = program, folder, 0
         self.kinds = {"no file": 0, "no checkpoint": 0, "older": 0, "of the count": 0}
 
-    def path(self, name):
+    def path(self, name: str) -> Any:
         return os.path.join(self.folder, name)
 
-    def read(self, name):
+    def read(self, name: str) -> Any:
         if not os.path.exists(self.path(name)):
             return None
         with open(self.path(name), "rb") as file:
             return file.read()
 
-    def start(self, words, script=b""):
+    def start(self, words: list[str], script: bytes = b"") -> Any:
         with open(self.path("script"), "wb") as file:
             file.write(script)
         with open(self.path("script"), "rb") as given, open(self.path("out"), "wb") as out:
             return subprocess.Popen([self.program, *words], stdin=given, stdout=out, cwd=self.folder)
 
-    def issues(self, many):
+    def issues(self, many: Any) -> Any:
         first, self.given = self.given, self.given + many
         rows = (f"1,issue,{n},2020-01-01,endowment,0,3,1000.00,400.00\n" for n in range(first + 1, self.given + 1))
         return "".join(rows).encode()
 
-    def run(self, words, script=b""):
+    def run(self, words: list[str], script: bytes = b"") -> Any:
         status = self.start(words, script).wait()
         demand(status == 0, f"{words} ended with {status}: {self.read('out')[:80]!r}")
         return self.read("out")
 
-    def kill(self, words, script, delay):
+    def kill(self, words: list[str], script: bytes, delay: float) -> bool:
         made = self.start(words, script)
         time.sleep(delay)
         made.send_signal(signal.SIGKILL)
         return made.wait() != 0
 
-    def judge(self):
+    def judge(self) -> None:
         """What the killed program left of both files, before anything is repaired."""
         journal, kept = self.read(JOURNAL), self.read(KEPT)
         commands = read_journal(journal or b"").commands
@@ -83,13 +86,13 @@ class Office:
         shutil.rmtree(alone.folder)
 
 
-def seconds_of(office, words, script=b""):
+def seconds_of(office: Any, words: list[str], script: bytes = b"") -> Any:
     start = time.perf_counter()
     office.run(words, script)
     return time.perf_counter() - start
 
 
-def main():
+def main() -> None:
     program, folder, kills, seed = os.path.abspath(sys.argv[1]), sys.argv[2], int(sys.argv[3]), sys.argv[4]
     draw = random.Random(seed)
     os.mkdir(folder)

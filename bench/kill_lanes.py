@@ -6,18 +6,21 @@ usage: python3 bench/kill_lanes.py ROUNDS FOLDER    (python3 and its standard li
 All records from before have to be there, and of each clerk's postings the first so many, in order, once each. Then the
 program has to open the file to just these records. The same file goes on from round to round.
 """
+from __future__ import annotations
+
 import os
 import random
 import subprocess
 import sys
 import time
+from typing import Any
 
 HERE = os.path.dirname(os.path.abspath(__file__))
 PROGRAM = os.environ.get("LIFE_PROGRAM") or os.path.join(HERE, "../crates/life_cli/out/life_cli")
 CLERKS, POSTINGS_EACH, LONGEST_SECONDS = 8, 400, 0.9
 
 
-def policies_of(journal):
+def policies_of(journal: str) -> list[Any]:
     """The numbers of the policies in the open records, in order."""
     if not os.path.exists(journal):
         return []
@@ -31,12 +34,12 @@ def policies_of(journal):
     return found
 
 
-def need(right, message):
+def need(right: bool, message: str) -> None:
     if not right:
         sys.exit("kill_lanes: " + message)
 
 
-def kill_one(folder, first):
+def kill_one(folder: str, first: int) -> tuple[list[list[int]], bytes]:
     """Kills a run whose policies are numbered from there on; gives each clerk's numbers, and what it had printed."""
     numbers = range(first, first + CLERKS * POSTINGS_EACH)
     lanes = [[n for n in numbers if n % CLERKS == clerk] for clerk in range(CLERKS)]
@@ -51,7 +54,7 @@ def kill_one(folder, first):
     return lanes, answered
 
 
-def main(rounds, folder):
+def main(rounds: int, folder: str) -> None:
     random.seed(1)
     journal, kept, cut, printed = os.path.join(folder, "journal.life"), [], 0, 0
     for number in range(rounds):

@@ -9,6 +9,8 @@ kills left. The seed fixes what is drawn, not where a kill falls. The files lie 
 by default in the parent of the current folder; it is removed where all is well and kept where a round fails.
 A run that ends before its kill is judged like the others and counted as no kill.
 """
+from __future__ import annotations
+
 import argparse
 import os
 import random
@@ -31,12 +33,12 @@ class Wrong(Exception):
     """What a round found wrong."""
 
 
-def need(holds, text):
+def need(holds: bool | list[int], text: str) -> None:
     if not holds:
         raise Wrong(text)
 
 
-def read_bytes(path):
+def read_bytes(path: str) -> bytes | None:
     """The bytes of a file, or None where there is none."""
     if not os.path.exists(path):
         return None
@@ -46,22 +48,22 @@ def read_bytes(path):
 
 # The file.
 
-def gate_of(n):
+def gate_of(n: int) -> int:
     return 17 + 65 * n
 
 
-def body(policy):
+def body(policy: int) -> bytes:
     """The record that the program has to write for a line of `lines_of`."""
     return (bytes([1, 3, 0, 3]) + policy.to_bytes(4, "big") + (18262).to_bytes(4, "big")
             + (100000).to_bytes(8, "big") + (40000).to_bytes(8, "big") + bytes(36))
 
 
-def front_of(policies):
+def front_of(policies: list[int]) -> bytes:
     """The file up to the end of the last of these records."""
     return b"\1" + HEADER + b"".join(b"\1" + body(policy) for policy in policies)
 
 
-def is_unfinished(image):
+def is_unfinished(image: bytes) -> bool:
     """Whether the file is a creation that didn't end."""
     if len(image) <= 1:
         return True
@@ -70,7 +72,7 @@ def is_unfinished(image):
     return image[0] != 1 and len(image) == 18 and image[1:17] == HEADER and image[17] != 1
 
 
-def open_gates(image):
+def open_gates(image: bytes) -> int:
     """How many gates stand open from that of record 0 on."""
     n = 0
     while gate_of(n) < len(image) and image[gate_of(n)] == 1:
@@ -83,7 +85,7 @@ def open_gates(image):
 class Office:
     """A folder with a journal, and the ids of its open records."""
 
-    def __init__(self, folder, start=None):
+    def __init__(self, folder: str, start: None = None) -> None:
         shutil.rmtree(folder, ignore_errors=True)
         os.mkdir(folder)
         self.folder = folder
@@ -92,13 +94,13 @@ class Office:
             with open(self.path(JOURNAL), "wb") as file:
                 file.write(start)
 
-    def path(self, name):
+    def path(self, name: str) -> str:
         return os.path.join(self.folder, name)
 
-    def image(self):
+    def image(self) -> bytes | None:
         return read_bytes(self.path(JOURNAL))
 
-    def start(self, policies, name):
+    def start(self, policies: list[int], name: str) -> subprocess.Popen[bytes]:
         """Starts the program on a line for each id."""
         with open(self.path(name + ".csv"), "w") as script:
             script.writelines("1,issue,%d,2020-01-01,endowment,0,3,1000.00,400.00\n" % policy for policy in policies)
@@ -109,15 +111,15 @@ class Office:
 class Ids:
     """Ids that were never given out before, in no order."""
 
-    def __init__(self):
+    def __init__(self) -> None:
         self.given = 0
 
-    def take(self, many):
+    def take(self, many: int) -> list[int]:
         first, self.given = self.given, self.given + many
         return [k * 1000000007 % 4294967291 + 1 for k in range(first, self.given)]
 
 
-def wait(seconds):
+def wait(seconds: float) -> None:
     """More exact than a sleep where it is short."""
     end = time.perf_counter() + seconds
     if seconds > 0.01:
@@ -126,7 +128,7 @@ def wait(seconds):
         pass
 
 
-def kill_run(office, asked, delay, on_file):
+def kill_run(office: Office, asked: list[int], delay: float, on_file: bool) -> bool:
     """Kills a run after a delay from its start, or from when its file is there. False where the run had ended."""
     run = office.start(asked, "killed")
     while on_file and run.poll() is None and not os.path.exists(office.path(JOURNAL)):
@@ -140,7 +142,7 @@ def kill_run(office, asked, delay, on_file):
 
 # What the killed run left.
 
-def judge_left(office, asked):
+def judge_left(office: Office, asked: list[int]) -> tuple[str, int]:
     """What kind of file it is, and how many records are open."""
     image = office.image()
     kept = office.kept
@@ -168,7 +170,7 @@ def judge_left(office, asked):
     return {0: "nothing staged", 65: "whole"}.get(len(staged), "torn"), count
 
 
-def reopen(office, count, new, drawn):
+def reopen(office: Office, count: int, new: int, drawn: int) -> None:
     """Runs the program on what was left, and judges its answers and the file after."""
     with open(office.path("left.life"), "wb") as file:
         file.write(office.image() or b"")
@@ -190,7 +192,7 @@ def reopen(office, count, new, drawn):
 class Trial:
     """All rounds: the journal that grows, and what was counted."""
 
-    def __init__(self, folder):
+    def __init__(self, folder: str) -> None:
         self.folder = folder
         self.ids = Ids()
         self.standing = None
@@ -200,28 +202,28 @@ class Trial:
         self.late = 0
         self.span = self.seconds_of_a_run()
 
-    def seconds_of_a_run(self):
+    def seconds_of_a_run(self) -> float:
         """About how long two thirds of a long script take here."""
         office = Office(os.path.join(self.folder, "timed"))
         start = time.perf_counter()
         office.start(self.ids.take(LONG_SCRIPT * 2 // 3), "timed").wait()
         return time.perf_counter() - start
 
-    def fresh(self, draw):
+    def fresh(self, draw: random.Random) -> tuple[Office, list[int], float, bool]:
         """A fresh folder, or one with the creation that an earlier kill left unfinished."""
         start = draw.choice(self.unfinished) if self.unfinished and draw.random() < 0.25 else None
         office = Office(os.path.join(self.folder, "fresh"), start)
         on_file = start is None and draw.random() < 0.5
         return office, self.ids.take(SHORT_SCRIPT), draw.uniform(0, 0.0015 if on_file else 0.003), on_file
 
-    def grown(self, draw):
+    def grown(self, draw: random.Random) -> tuple[Office, list[int], float, bool]:
         """The journal that earlier kills left; a quarter of the kills falls near the start of the run."""
         if self.standing is None or len(self.standing.kept) > MOST_RECORDS:
             self.standing = Office(os.path.join(self.folder, "standing"))
         near = self.span / 20 if draw.random() < 0.25 else self.span
         return self.standing, self.ids.take(LONG_SCRIPT), draw.uniform(0, near), False
 
-    def round(self, draw):
+    def round(self, draw: random.Random) -> None:
         office, asked, delay, on_file = self.fresh(draw) if draw.random() < 1 / 3 else self.grown(draw)
         before, had_file = len(office.kept), office.image() is not None
         killed = kill_run(office, asked, delay, on_file)
@@ -240,7 +242,7 @@ class Trial:
         self.kinds[kind] += 1
         self.counts.append(count)
 
-    def report(self, seed):
+    def report(self, seed: int) -> None:
         kinds = self.kinds
         staged = kinds["whole"] + kinds["torn"]
         print("%d kills, seed %d: %d before there was a file, %d in a creation, %d with a body staged behind a closed "
@@ -250,7 +252,7 @@ class Trial:
         print("all reopened")
 
 
-def run_rounds(trial, kills, seed):
+def run_rounds(trial: Trial, kills: int, seed: int) -> bool:
     """Answers whether all rounds were right."""
     number = 0
     while len(trial.counts) < kills:
@@ -265,7 +267,7 @@ def run_rounds(trial, kills, seed):
     return True
 
 
-def main():
+def main() -> int:
     words = argparse.ArgumentParser(description="Kills `life run` and judges that it reopens to the open records.")
     words.add_argument("kills", type=int, nargs="?", default=100)
     words.add_argument("--folder", default=os.pardir, help="where the temporary folder is made")

@@ -3,6 +3,8 @@
 At a high weight alone a thread that wakes where its processor is busy waits for the next tick of 4 ms, so that a figure
 tells of the other work. Where the machine doesn't give real-time priority, that is said once on standard error.
 """
+from __future__ import annotations
+
 import collections
 import os
 import resource
@@ -13,6 +15,7 @@ import subprocess
 import sys
 import tempfile
 import time
+from typing import Any
 
 import workload
 
@@ -26,11 +29,11 @@ ROOT = os.path.dirname(os.path.dirname(os.path.abspath(__file__)))
 Run = collections.namedtuple("Run", "clock used peak")
 
 
-def set_priority(level):
+def set_priority(level: Any) -> None:
     os.sched_setscheduler(0, os.SCHED_FIFO, os.sched_param(level))
 
 
-def watch():
+def watch() -> None:
     """Puts this process above what it will time; without the right to do so nothing has real-time priority."""
     # ended from outside it takes its folders away, too
     signal.signal(signal.SIGTERM, lambda *_: sys.exit(143))
@@ -40,27 +43,27 @@ def watch():
         print("without real-time priority: figures tell of the machine's other work, too", file=sys.stderr)
 
 
-def below_watcher():
+def below_watcher() -> None:
     """In a new process, before its program begins."""
     if os.sched_getscheduler(0) == os.SCHED_FIFO:
         set_priority(TIMED)
 
 
-def start_to(words, folder, given, out, told=None):
+def start_to(words: list[str], folder: str, given: Any, out: Any, told: Any = None) -> Any:
     return subprocess.Popen(words, stdin=given, stdout=out, stderr=told, cwd=folder, preexec_fn=below_watcher)
 
 
-def start(words, folder, script=os.devnull, written=os.devnull, told=None):
+def start(words: list[str], folder: str, script: bytes = os.devnull, written: Any = os.devnull, told: Any = None) -> Any:
     with open(script, "rb") as given, open(written, "wb") as out:
         return start_to(words, folder, given, out, told)
 
 
-def need_right(status, words):
+def need_right(status: int, words: list[str]) -> None:
     if status != 0:
         sys.exit(f"wrong: status {status} of {' '.join(words)}")
 
 
-def timed(words, folder, script=os.devnull, written=os.devnull):
+def timed(words: list[str], folder: str, script: bytes = os.devnull, written: Any = os.devnull) -> Any:
     before, begun = resource.getrusage(resource.RUSAGE_CHILDREN), time.perf_counter()
     run = start(["/usr/bin/time", "-f", "%M", *words], folder, script, written, subprocess.PIPE)
     told = run.communicate()[1]
@@ -70,7 +73,7 @@ def timed(words, folder, script=os.devnull, written=os.devnull):
     return Run(clock, used, int(told.split()[-1]) / 1024)
 
 
-def in_turn(rounds, ways):
+def in_turn(rounds: int, ways: Any) -> Any:
     """What each way gives in so many rounds, every other round from the last to the first."""
     found = {name: [] for name in ways}
     for number in range(rounds):
@@ -79,11 +82,11 @@ def in_turn(rounds, ways):
     return found
 
 
-def median(values, part=None):
+def median(values: list[float], part: Any = None) -> Any:
     return statistics.median(values if part is None else [getattr(each, part) for each in values])
 
 
-def build_plain(name, folder):
+def build_plain(name: str, folder: str) -> Any:
     """A plain program of this folder, in Rust or C, to stand beside `life`."""
     built = os.path.join(folder, name)
     rust = os.path.join(ROOT, "bench", name + ".rs")
@@ -94,7 +97,7 @@ def build_plain(name, folder):
     return built
 
 
-def measure_program():
+def measure_program() -> Any:
     """The program `measure`, which runs single functions of the crates again and again."""
     given = os.environ.get("MEASURE_PROGRAM")
     if given:
@@ -107,34 +110,34 @@ def measure_program():
 class Folder:
     """A new folder with table G and the basis at 4 percent."""
 
-    def __init__(self, parent):
+    def __init__(self, parent: str) -> None:
         self.path = tempfile.mkdtemp(prefix="figures.", dir=parent)
         shutil.copy(os.path.join(ROOT, "examples", "g.xml"), self.path)
         workload.write_lines(self.at("basis.csv"), ["1900-01-01,g.xml,400"])
         self.journal = self.at("journal.life")
 
-    def at(self, name):
+    def at(self, name: str) -> Any:
         return os.path.join(self.path, name)
 
-    def __enter__(self):
+    def __enter__(self) -> Any:
         return self
 
-    def __exit__(self, *_):
+    def __exit__(self, *_: Any) -> None:
         shutil.rmtree(self.path)
 
 
-def size_of(path):
+def size_of(path: str) -> Any:
     try:
         return os.path.getsize(path)
     except OSError:
         return 0
 
 
-def mark(lane, number):
+def mark(lane: int, number: int) -> Any:
     return [f"{lane},issue,{number},2020-01-01,endowment,30,20,1000.00,40.00"]
 
 
-def marked(lane, lines):
+def marked(lane: int, lines: list[str]) -> Any:
     """Lines between two postings that tell by when they ran."""
     return mark(lane, FIRST_MARK) + lines + mark(lane, LAST_MARK)
 
@@ -142,7 +145,7 @@ def marked(lane, lines):
 class Watched:
     """One run of a script: when the journal grew, when the marks stood in it, and how long the whole took."""
 
-    def __init__(self, program, folder, lines):
+    def __init__(self, program: str, folder: str, lines: list[str]) -> None:
         script = folder.at("script.csv")
         workload.write_lines(script, lines)
         self.grown, self.marks = [], {}
@@ -155,7 +158,7 @@ class Watched:
         self.look(folder.journal, seen)
         need_right(run.returncode, [program, "run"])
 
-    def look(self, path, seen):
+    def look(self, path: str, seen: Any) -> Any:
         size = size_of(path)
         if size <= seen:
             return seen
@@ -170,22 +173,22 @@ class Watched:
         self.grown.append((now, (size - 18) // 65))
         return size
 
-    def postings_a_second(self):
+    def postings_a_second(self) -> Any:
         (begun, first), (end, last) = self.grown[0], self.grown[-1]
         return (last - first) / max(end - begun, 0.001)
 
-    def between_marks(self):
+    def between_marks(self) -> Any:
         return self.marks[LAST_MARK] - self.marks[FIRST_MARK]
 
 
-def counted_bytes(process):
+def counted_bytes(process: Any) -> Any:
     """How many bytes a process has read and has written by now."""
     with open(f"/proc/{process}/io", encoding="ascii") as file:
         told = dict(line.split(": ") for line in file)
     return int(told["rchar"]), int(told["wchar"])
 
 
-def from_last_read_to_first_write(words, folder):
+def from_last_read_to_first_write(words: list[str], folder: str) -> Any:
     """Seconds of a run in which it neither reads nor writes: of a valuation with its text, or a projection."""
     run = start(words, folder)
     read, wrote, last_read = 0, 0, time.perf_counter()

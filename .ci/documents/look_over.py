@@ -2,10 +2,13 @@
 
 usage: python3 look_over.py ROOT PAGE..
 """
+from __future__ import annotations
+
 import os
 import re
 import subprocess
 import sys
+from collections.abc import Iterator
 
 # crates that print nothing of the program `life`
 OTHER_CRATES = re.compile("measure|.*_tests$")
@@ -16,7 +19,7 @@ NOT_PRINTED = {"values", "seed", "lanes", "workers", "on", "id", "at", "count", 
 class Page:
     """A page's lines outside its blocks, and its headings."""
 
-    def __init__(self, root, name):
+    def __init__(self, root: str, name: str) -> None:
         self.name = name
         with open(os.path.join(root, name), encoding="utf-8") as file:
             text = file.read()
@@ -28,14 +31,14 @@ class Page:
             else:
                 self.lines.append("" if self.unended or line.startswith("    ") and not self.in_a_list() else line)
 
-    def in_a_list(self):
+    def in_a_list(self) -> bool:
         """Whether the lines so far end in an item of a list, which an indented line goes on with."""
         for line in reversed(self.lines):
             if line and not line.startswith(" "):
                 return re.match(r"(-|\d+\.) ", line) is not None
         return False
 
-    def anchors(self):
+    def anchors(self) -> list[str]:
         """The names by which headings are linked to."""
         found = []
         for line in self.lines:
@@ -47,12 +50,12 @@ class Page:
         return found
 
 
-def cells_of(line):
+def cells_of(line: str) -> int:
     """How many cells a table's row has; `\\|` stands for a bar in one."""
     return len(re.findall(r"(?<!\\)\|", line.strip())) - 1
 
 
-def wrong_tables(page):
+def wrong_tables(page: Page) -> Iterator[None]:
     """Rows of a table that stand apart from its head, or have another number of cells."""
     start = None
     for number, line in enumerate([*page.lines, ""]):
@@ -72,7 +75,7 @@ def wrong_tables(page):
         start = None
 
 
-def wrong_lists(page):
+def wrong_lists(page: Page) -> Iterator[None]:
     """Items that run into the text before them, and numbers that don't go on."""
     last = None
     for number, line in enumerate(page.lines):
@@ -94,7 +97,7 @@ def wrong_lists(page):
             yield number + 1, "an item in the middle of a line"
 
 
-def wrong_links(root, page, pages):
+def wrong_links(root: str, page: Page, pages: dict[str, Page]) -> Iterator[None]:
     """Links to files that aren't there, and to headings that no page has."""
     for number, line in enumerate(page.lines, 1):
         for target in re.findall(r"\]\(([^)\s]+)\)", re.sub("`[^`]*`", "", line)):
@@ -108,7 +111,7 @@ def wrong_links(root, page, pages):
                 yield number, f"a link to {target}, and {name} has no such heading"
 
 
-def printed_words(root):
+def printed_words(root: str) -> set[str]:
     """The words in the code that the program can print."""
     files = subprocess.run(["git", "ls-files", "crates/*/src/*.rt"], cwd=root, stdout=subprocess.PIPE, check=True).stdout.decode()
     words = set()
@@ -122,7 +125,7 @@ def printed_words(root):
     return words - NOT_PRINTED
 
 
-def wrong_tests(root):
+def wrong_tests(root: str) -> Iterator[None]:
     """Tests, their crates and checks that the page's limits name, and that aren't there."""
     with open(os.path.join(root, "docs", "FORMATS.md"), encoding="utf-8") as file:
         limits = file.read().split("\n## Limits\n")[1]
@@ -139,7 +142,7 @@ def wrong_tests(root):
         yield 0, f"there is no test {name}, which the limits name"
 
 
-def wrong_words(root):
+def wrong_words(root: str) -> Iterator[None]:
     yield from wrong_tests(root)
     with open(os.path.join(root, "docs", "FORMATS.md"), encoding="utf-8") as file:
         known = {word for line in file for code in re.findall("`([^`]+)`", line) for word in re.findall("[a-z]+", code)}
@@ -150,7 +153,7 @@ def wrong_words(root):
         yield 0, f"the program can print `{word}`, which FORMATS.md doesn't tell"
 
 
-def main():
+def main() -> None:
     root, *names = sys.argv[1:]
     pages = {name: Page(root, name) for name in names}
     wrong = [("docs/FORMATS.md", *each) for each in wrong_words(root)]

@@ -9,6 +9,8 @@ next one or to the end of the block, are what it prints, standard output and sta
 stands for any lines, and `...` in a line for any text of it. Lines that begin with `life: ` are the launcher's, and
 aren't compared. Other blocks aren't run, nor are commands that prove, which are named here.
 """
+from __future__ import annotations
+
 import os
 import re
 import select
@@ -16,6 +18,7 @@ import shutil
 import subprocess
 import sys
 import time
+from typing import Any
 
 PROVES = ("rt ", "sh life prove", "sh ../life prove", "sh .ci/run", "git clone")
 SECONDS = 300
@@ -25,11 +28,11 @@ ENDED = "documents-command-ended"
 class Command:
     """A documented command: where it stands, its text, and the lines that it is to print."""
 
-    def __init__(self, page, line, text):
+    def __init__(self, page: str, line: int, text: str) -> None:
         self.place, self.text, self.wanted = f"{page}:{line}", text, []
 
 
-def commands_in(page, text):
+def commands_in(page: str, text: str) -> list[Command]:
     """The commands of a page's blocks, in order."""
     found, fence = [], None
     for number, line in enumerate(text.split("\n"), 1):
@@ -46,7 +49,7 @@ def commands_in(page, text):
     return found
 
 
-def pattern_of(lines):
+def pattern_of(lines: list[str]) -> str:
     """What the lines of a page stand for."""
     parts = []
     for line in lines:
@@ -57,11 +60,11 @@ def pattern_of(lines):
     return "".join(parts)
 
 
-def told(lines):
+def told(lines: list[str]) -> list[str]:
     return [line for line in lines if not line.startswith("life: ")]
 
 
-def is_as_shown(wanted, printed):
+def is_as_shown(wanted: list[str], printed: list[str]) -> bool:
     text = "".join(line + "\n" for line in told(printed))
     return re.fullmatch(pattern_of(told(wanted)), text) is not None
 
@@ -69,18 +72,18 @@ def is_as_shown(wanted, printed):
 class Session:
     """A shell at the top of a copy of the repository."""
 
-    def __init__(self, top, home):
+    def __init__(self, top: str, home: str) -> None:
         self.top = top
         self.shell = subprocess.Popen(["sh"], cwd=top, stdin=subprocess.PIPE, stdout=subprocess.PIPE, stderr=subprocess.STDOUT,
                                       start_new_session=True, env={**os.environ, "LC_ALL": "C", "HOME": home})
         os.set_blocking(self.shell.stdout.fileno(), False)
         self.send("status=0")
 
-    def send(self, text):
+    def send(self, text: str) -> None:
         self.shell.stdin.write((text + "\n").encode())
         self.shell.stdin.flush()
 
-    def run(self, text):
+    def run(self, text: str) -> list[str]:
         """The lines that a command prints, or none where it doesn't end."""
         # `$?` of a command is the status of the one before
         self.send(f"(exit $status); {{ {text}\n}} </dev/null; status=$?; printf '\\n{ENDED}\\n'")
@@ -93,18 +96,18 @@ class Session:
         text = said[:-len(ENDED) - 2].decode("utf-8", "replace")
         return text[:-1].split("\n") if text.endswith("\n") else text.split("\n") if text else []
 
-    def take_copy_away(self):
+    def take_copy_away(self) -> None:
         """Takes the copy away where the shell is outside of it."""
         where = os.path.realpath(f"/proc/{self.shell.pid}/cwd")
         if os.path.isdir(self.top) and os.path.commonpath([where, self.top]) != self.top:
             shutil.rmtree(self.top)
 
-    def end(self):
+    def end(self) -> None:
         self.shell.stdin.close()
         self.shell.wait()
 
 
-def copy_repository(root, program, top):
+def copy_repository(root: str, program: str, top: str) -> None:
     """A clone of the tracked files, with the program where the launcher looks for it."""
     files = subprocess.run(["git", "ls-files", "-z"], cwd=root, stdout=subprocess.PIPE, check=True).stdout.decode().split("\0")
     for name in filter(None, files):
@@ -117,7 +120,7 @@ def copy_repository(root, program, top):
         shutil.copy(program, os.path.join(top, folder, name))
 
 
-def run_page(page, root, program, folder):
+def run_page(page: str, root: str, program: str, folder: str) -> tuple[int, list[Any]]:
     """Runs a page's commands; gives their number, and what isn't as it is shown."""
     with open(os.path.join(root, page), encoding="utf-8") as file:
         commands = commands_in(page, file.read())
@@ -142,7 +145,7 @@ def run_page(page, root, program, folder):
     return len(commands), wrong
 
 
-def main():
+def main() -> None:
     program, root, folder, *pages = sys.argv[1:]
     count, wrong = 0, []
     for page in pages:

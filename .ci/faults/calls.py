@@ -7,12 +7,16 @@ first thread makes to open the journal, before there is a second thread or a rec
 of each thread by itself, so the k-th call may fail in two threads; what is recorded of the disturbed run says how many
 failed.
 """
+from __future__ import annotations
+
 import collections
 import concurrent.futures
 import os
 import re
 import sys
 from dataclasses import dataclass
+from collections.abc import Iterator
+from typing import Any
 
 from judge import (Wrong, commands_in, demand, demand_faults, demand_file, judge_early_end, judge_front, judge_transcript,
                    judge_unanswered, reason)
@@ -20,6 +24,8 @@ from life_tools.journals import file_of
 from runs import JOURNAL, KEPT, Desk, read_bytes
 from scenes import SCENES, book_before, checkpoint_before
 from life_tools.tables import read_basis
+from runs import Ended
+from scenes import Scene
 
 AT_ONCE = 2
 KINDS = ["openat", "flock", "statx", "newfstatat", "pread64", "read", "pwrite64", "write", "fsync", "fdatasync"]
@@ -41,28 +47,28 @@ class Target:
     k: int
     on: bool = False
 
-    def __str__(self):
+    def __str__(self) -> str:
         return f"{self.kind} of {self.file}, call {self.k}{' and all behind' if self.on else ''}"
 
 
-def names_in(desk):
+def names_in(desk: Desk) -> dict[str, list[str]]:
     """The files that are watched, each by the names under which strace may see it."""
     names = {name: [name, desk.path(name)] for name in ("basis.csv", "q.xml", "g.xml", JOURNAL, KEPT, "script.csv", "out")}
     return {**names, "folder": [".", desk.folder]}
 
 
-def file_of_call(desk, args):
+def file_of_call(desk: Desk, args: str) -> str | None:
     """The watched file that a call is on, by the name or the path in its arguments."""
     path = re.match(r'AT_FDCWD<[^>]*>, "([^"]*)"', args) or re.match(r"\d+<([^>]*)>", args)
     return next((file for file, names in names_in(desk).items() if path and path[1] in names), None)
 
 
-def is_record(call):
+def is_record(call: re.Match[str]) -> bool | None:
     """Whether the call writes a body and the gate behind it."""
     return call[2] == "pwrite64" and re.search(r", 65, \d+", call[3])
 
 
-def record(desk, words):
+def record(desk: Desk, words: list[str]) -> tuple[dict[Any, Any], collections.Counter[Any]]:
     """The calls of an undisturbed run: how many of each kind and file each thread makes, and how many open the journal."""
     kinds = ",".join([*KINDS, "clone3", "clone"])
     desk.run(words, ["strace", "-f", "-y", "-qq", "-o", desk.path("record"), "-e", f"trace={kinds}"])
@@ -83,7 +89,7 @@ def record(desk, words):
     return found, opening
 
 
-def targets_of(found):
+def targets_of(found: dict[Any, Any]) -> Iterator[Target]:
     """Every k of each kind and file; of what is written and synced also all from the k-th on."""
     for (kind, file), counts in found.items():
         for k in range(1, max(counts.values()) + 1):
@@ -95,7 +101,7 @@ def targets_of(found):
 class Trial:
     """A scene in which every call fails once: what was recorded of it, and what is counted."""
 
-    def __init__(self, program, folder, scene):
+    def __init__(self, program: str, folder: str, scene: Scene) -> None:
         self.program, self.folder, self.scene = program, folder, scene
         self.before = file_of(book_before().commands) if scene.has_journal else b""
         self.kept = checkpoint_before(scene.kept)
@@ -106,19 +112,19 @@ class Trial:
         self.found, self.opening = record(desk, scene.words)
         self.seen = collections.Counter()
 
-    def desk(self, name):
+    def desk(self, name: str) -> Desk:
         desk = Desk(self.program, os.path.join(self.folder, name))
         self.lay(desk)
         return desk
 
-    def lay(self, desk):
+    def lay(self, desk: Desk) -> None:
         desk.lay(self.before, self.scene.script, self.kept)
 
-    def is_posting(self, target):
+    def is_posting(self, target: Target) -> bool:
         """Whether the call may be a posting's: one behind those that open the journal."""
         return self.scene.posts and target.file == JOURNAL and target.k > self.opening[target.kind, JOURNAL]
 
-    def try_one(self, number, target, error):
+    def try_one(self, number: int, target: Target, error: str) -> None:
         desk = self.desk(f"{number}")
         when = f"{target.k}+" if target.on else f"{target.k}"
         paths = [word for name in names_in(desk)[target.file] for word in ("-P", name)]
@@ -138,7 +144,7 @@ class Trial:
         except Exception as wrong:
             raise Wrong(f"{self.scene.name}: {target} fails with {error}: {reason(wrong)}; the files are in {desk.folder}")
 
-    def judge(self, target, error, log, ended):
+    def judge(self, target: Target, error: str, log: list[str], ended: Ended) -> None:
         self.seen[error] += 1
         is_held = target.kind == "openat" and target.file == "folder" and target.k <= HELD
         if is_held or (error == "EINTR" and target.kind in MADE_AGAIN):
@@ -150,7 +156,7 @@ class Trial:
         else:
             judge_early_end(ended, 6, self.before)
 
-    def judge_undisturbed(self, ended):
+    def judge_undisturbed(self, ended: Ended) -> None:
         if self.scene.posts:
             run = judge_transcript(self.scene.script, ended, self.before, self.basis, self.known)
             demand(run.faults == 0, f"{run.faults} lines are answered fault")
@@ -158,7 +164,7 @@ class Trial:
             is_same = (ended.status, ended.text) == (0, self.undisturbed.text)
             demand(is_same, f"status {ended.status}, printed {ended.text[:200]!r}")
 
-    def judge_cut(self, ended):
+    def judge_cut(self, ended: Ended) -> None:
         """The output failed: status 7, a front of the text, and what was posted is kept."""
         demand(ended.status == 7, f"status {ended.status}, wanted 7")
         if self.scene.posts:
@@ -168,7 +174,7 @@ class Trial:
             demand(ended.text == "", f"printed {ended.text[:200]!r}, though the one write failed")
             demand_file(ended.after, commands_in(self.before, "the file before"))
 
-    def judge_disk(self, target, log, ended):
+    def judge_disk(self, target: Target, log: list[str], ended: Ended) -> None:
         if not self.is_posting(target):
             judge_early_end(ended, 8, self.before)
             return
@@ -177,12 +183,12 @@ class Trial:
         self.seen["lines"] += run.faults
 
 
-def errors_of(target):
+def errors_of(target: Target) -> list[str]:
     # a call that is made again as long as it is interrupted would never end, so not all from the k-th on are interrupted
     return [error for error in ERRORS.get(target.kind, READ) if not (target.on and error in ("EINTR", "EDQUOT"))]
 
 
-def main():
+def main() -> None:
     program, folder = sys.argv[1:3]
     seen, trials = collections.Counter(), 0
     for scene in SCENES:

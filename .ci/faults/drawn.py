@@ -6,11 +6,14 @@ Each failing call is one of a posting's, drawn among all that an undisturbed run
 opening's; strace counts the calls of each thread by itself. Just as many lines as calls failed are answered `fault`, or
 each posting from a sync that failed on; what was accepted is in the file, and beyond it at most the last that wasn't.
 """
+from __future__ import annotations
+
 import collections
 import os
 import random
 import sys
 from concurrent.futures import ThreadPoolExecutor
+from typing import Any
 
 from judge import Wrong, demand, demand_faults, judge_early_end, judge_transcript, reason
 from life_tools.journals import file_of, read_journal
@@ -29,7 +32,7 @@ ERRORS = ["EIO", "ENOSPC"]
 class Drawn:
     """A drawn script over a drawn book."""
 
-    def __init__(self, program, folder, seed):
+    def __init__(self, program: str, folder: str, seed: int) -> None:
         self.program, self.folder, self.seed = program, folder, seed
         draw = draws(seed)
         self.before = file_of(make_book(draw, 40).commands)
@@ -44,20 +47,20 @@ class Drawn:
         for (thread, kind), count in by_thread.items():
             self.most[kind] = max(self.most[kind], count)
 
-    def desk(self, name):
+    def desk(self, name: str) -> Any:
         desk = Desk(self.program, os.path.join(self.folder, name))
         desk.lay(self.before, self.script)
         return desk
 
-    def strace(self, desk, kinds, inject):
+    def strace(self, desk: Any, kinds: Any, inject: Any) -> Any:
         paths = ["-P", desk.path(JOURNAL), "-P", JOURNAL]
         return ["strace", "-f", "-qq", "-o", desk.path("log"), *paths, "-e", f"trace={','.join(kinds)}", *inject]
 
-    def log(self, desk):
+    def log(self, desk: Any) -> Any:
         lines = read_bytes(desk.path("log")).decode("utf-8", "replace").splitlines()
         return [line for line in lines if "(" in line and "resumed" not in line]
 
-    def try_one(self, number):
+    def try_one(self, number: int) -> Any:
         draw = random.Random(f"drawn {self.seed} {number}")
         kind = draw.choice([kind for kind in KINDS if self.most[kind]])
         first = draw.randint(1, self.most[kind])
@@ -83,7 +86,7 @@ class Drawn:
                         f"the files are in {desk.folder}")
 
 
-def main():
+def main() -> None:
     program, folder, seed = sys.argv[1], sys.argv[2], int(sys.argv[3])
     faults = 0
     for n in range(SCRIPTS):

@@ -4,9 +4,13 @@ Nothing that was accepted may be lost, just the lines whose calls failed may be 
 that failed; and the status has to be the one that is due. Beyond what was accepted the file may hold one command more, of
 a line that was answered `fault` and behind which nothing was accepted.
 """
+from __future__ import annotations
+
 import os
 import re
 import sys
+import datetime
+from typing import Any
 
 sys.path.insert(0, os.path.join(os.path.dirname(os.path.abspath(__file__)), "..", "..", "tools"))
 from life_tools.transcript_check import Run, answers_in, is_block
@@ -15,12 +19,17 @@ from life_tools.formats import Wrong, demand
 from life_tools.journals import read_journal
 from life_tools.rules import Book, Refusal
 from life_tools.script_lines import lanes_of, read_script
+from life_tools.commands import Command
+from life_tools.reserves import InForce
+from life_tools.script_lines import Line
+from life_tools.tables import BasisRow
+from runs import Ended
 
 # the last line of a run that ends before its lanes begin
 LAST_LINES = {6: "readfault\n", 8: "diskfault\n", 9: "nomemory\n"}
 
 
-def commands_in(data, what):
+def commands_in(data: bytes, what: str) -> list[Command] | None:
     """The commands of a file, which has to be a journal or an unfinished creation of one."""
     journal = read_journal(data)
     demand(not journal.refused, f"{what}: {journal.refused}: {journal.why}")
@@ -30,7 +39,7 @@ def commands_in(data, what):
 class FaultyRun(Run):
     """A run in which postings may be answered `fault` or `nomemory`, and valuations `nomemory`."""
 
-    def __init__(self, lines, book, basis, known):
+    def __init__(self, lines: list[Line], book: Book, basis: list[BasisRow], known: dict[tuple[datetime.date | int, ...], InForce]) -> None:
         super().__init__(lines, book, basis, known)
         self.faults = self.unserved = 0
         # of the lines that were answered `fault` those behind which one was accepted
@@ -38,7 +47,7 @@ class FaultyRun(Run):
         # the commands that the file may hold beyond the accepted ones
         self.in_doubt = []
 
-    def post(self, head, line, command):
+    def post(self, head: list[str], line: Line, command: Command) -> None:
         if head == [*line.head, "nomemory"]:
             self.unserved += 1
         elif head == [*line.head, "fault"]:
@@ -52,14 +61,14 @@ class FaultyRun(Run):
                 self.in_doubt = []
                 self.recovered = self.faults
 
-    def value(self, answer, line):
+    def value(self, answer: list[list[str]], line: Line) -> None:
         if answer[0] == [*line.head, "nomemory"]:
             self.unserved += 1
         else:
             super().value(answer, line)
 
 
-def follow(script, text, before, basis, known):
+def follow(script: bytes, text: str, before: bytes, basis: list[BasisRow], known: dict[tuple[datetime.date | int, ...], InForce]) -> FaultyRun | None:
     """The run that a whole transcript tells; every line of the script has to be answered, and the auditors' lines right."""
     run = FaultyRun(read_script(script), read_journal(before).book, basis, known)
     answers, watchers = answers_in(text)
@@ -72,7 +81,7 @@ def follow(script, text, before, basis, known):
     return run
 
 
-def demand_file(after, accepted, in_doubt=()):
+def demand_file(after: bytes, accepted: list[Command], in_doubt: list[Command] | tuple[()] = ()) -> None:
     """Demands that the file holds what was accepted, in order, and at most one command more, which is in doubt."""
     found = commands_in(after, "the file afterwards")
     for position, command in enumerate(accepted):
@@ -82,7 +91,7 @@ def demand_file(after, accepted, in_doubt=()):
     demand(len(more) <= 1 and all(it in in_doubt for it in more), f"more was posted than was answered: {more}")
 
 
-def judge_transcript(script, ended, before, basis, known):
+def judge_transcript(script: bytes, ended: Ended, before: bytes, basis: list[BasisRow], known: dict[tuple[datetime.date | int, ...], InForce]) -> FaultyRun | None:
     """A run that printed its transcript: its lines, its file and its status."""
     run = follow(script, ended.text, before, basis, known)
     demand_file(ended.after, run.book.commands, run.in_doubt)
@@ -91,7 +100,7 @@ def judge_transcript(script, ended, before, basis, known):
     return run
 
 
-def front_of(text):
+def front_of(text: str) -> str:
     """What is whole of a text that may be cut anywhere: its ended lines, but for those of a valuation without its total."""
     lines, whole, amid = text.split("\n")[:-1], 0, False
     for count, line in enumerate(lines, 1):
@@ -101,7 +110,7 @@ def front_of(text):
     return "".join(line + "\n" for line in lines[:whole])
 
 
-def judge_front(script, text, before, after, basis, known):
+def judge_front(script: bytes, text: str, before: bytes, after: bytes, basis: list[BasisRow], known: dict[tuple[datetime.date | int, ...], InForce]) -> FaultyRun:
     """A run whose transcript is cut: what is whole of it is a front of one, and the file has what it tells was accepted."""
     run = FaultyRun(read_script(script), read_journal(before).book, basis, known)
     answers, watchers = answers_in(front_of(text))
@@ -114,7 +123,7 @@ def judge_front(script, text, before, after, basis, known):
     return run
 
 
-def failed_calls(log):
+def failed_calls(log: list[str]) -> tuple[int, int]:
     """How many calls strace made fail: those of a sync, of which the question about the name is a part; and the others."""
     syncs, others, begun = 0, 0, {}
     for line in log:
@@ -130,7 +139,7 @@ def failed_calls(log):
     return syncs, others
 
 
-def demand_faults(run, log):
+def demand_faults(run: FaultyRun, log: list[str]) -> None:
     """Each call that failed cost one line. But behind a sync that failed no posting is accepted any more."""
     syncs, others = failed_calls(log)
     if syncs:
@@ -140,7 +149,7 @@ def demand_faults(run, log):
         demand(run.faults == others, f"{run.faults} lines are answered fault, and {others} calls failed")
 
 
-def judge_early_end(ended, status, before):
+def judge_early_end(ended: Ended, status: int, before: bytes) -> None:
     """A run that ends before it posts: the last line is its only one, and the file has the commands of before."""
     demand(ended.status == status, f"status {ended.status}, wanted {status}; printed {ended.text[:200]!r}")
     demand(ended.text == LAST_LINES[status], f"printed {ended.text[:200]!r}, wanted {LAST_LINES[status]!r}")
@@ -151,7 +160,7 @@ def judge_early_end(ended, status, before):
 
 # --- clerks whose policies are their own ---
 
-def due_of(lines, kept):
+def due_of(lines: list[Line], kept: list[Command]) -> list[Command]:
     """What is accepted of a clerk's lines behind these commands, where no other clerk has its policies."""
     book = Book(kept)
     for line in lines:
@@ -161,7 +170,7 @@ def due_of(lines, kept):
     return book.commands[len(kept):]
 
 
-def judge_unanswered(script, before, after, is_whole):
+def judge_unanswered(script: bytes, before: bytes, after: bytes, is_whole: bool) -> int | None:
     """The file of a run that printed no transcript: of each clerk the first of what is accepted, or all of it."""
     kept, found = commands_in(before, "the file before"), commands_in(after, "the file afterwards")
     demand(found[:len(kept)] == kept, "a record from before is lost or another")
@@ -178,7 +187,7 @@ def judge_unanswered(script, before, after, is_whole):
     return len(found) - len(kept)
 
 
-def judge_lacking(script, before, after):
+def judge_lacking(script: bytes, before: bytes, after: bytes) -> int | None:
     """The file of a run that wanted memory and printed no transcript: of each clerk some of its postings, in their order,
     each as the rules accept it behind those before it. One that wanted memory changes nothing, and the next may find it.
     """
@@ -195,5 +204,5 @@ def judge_lacking(script, before, after):
     return len(found) - len(kept)
 
 
-def reason(wrong):
+def reason(wrong: Any) -> Any:
     return str(wrong) if isinstance(wrong, Wrong) else repr(wrong)

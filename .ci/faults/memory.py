@@ -6,6 +6,8 @@ The answer has to be that of a run which may want memory. In two cases the syste
 nothing, as docs/CLERK.md tells: below some limit it can't be loaded; and where memory ends just where the stack of the
 first thread has to grow, the system has no other answer than a signal. strace records where such a signal points.
 """
+from __future__ import annotations
+
 import collections
 import os
 import random
@@ -13,6 +15,7 @@ import re
 import signal
 import sys
 from concurrent.futures import ThreadPoolExecutor
+from typing import Any
 
 from judge import Wrong, demand, judge_lacking, reason
 from lacking import Lacking, Mode
@@ -31,7 +34,7 @@ THREAD, BESIDE = 8256, 3100
 BEFORE = 150
 
 
-def modes(program, folder):
+def modes(program: str, folder: str) -> Any:
     # what `load` runs is what `generate` writes
     generated = Desk(program, folder).run(["generate", "1", "300", "8"]).text.encode()
     before = file_of(many_policies(BEFORE).commands)
@@ -42,11 +45,11 @@ def modes(program, folder):
 
 
 class Trial(Lacking):
-    def __init__(self, program, folder, mode):
+    def __init__(self, program: str, folder: str, mode: str) -> None:
         super().__init__(program, folder, mode)
         self.seen = collections.Counter()
 
-    def try_limit(self, kib):
+    def try_limit(self, kib: Any) -> Any:
         """What became of a run under this limit: a word."""
         desk = self.desk(f"{kib}")
         strace = ["strace", "-f", "-qq", "-o", desk.path("log"), "-e", "trace=none", "-e", "signal=SIGSEGV"]
@@ -60,7 +63,7 @@ class Trial(Lacking):
         self.seen[word] += 1
         return word
 
-    def judge_limited(self, kib, ended, pointed):
+    def judge_limited(self, kib: Any, ended: Any, pointed: Any) -> Any:
         if ended.status == -signal.SIGSEGV and pointed >= STACKS_FROM:
             demand(self.mode.words[0] == "run" or not ended.text, f"printed {ended.text[:200]!r}")
             judge_lacking(self.mode.script, self.mode.before, ended.after)
@@ -72,7 +75,7 @@ class Trial(Lacking):
         return self.judge(ended)
 
 
-def limits(draw):
+def limits(draw: random.Random) -> Any:
     """Limits that fall by a fifth each time, drawn ones between, and some that leave little beside the stacks of threads."""
     falling, limit = [], AMPLE
     while limit > 512:
@@ -82,7 +85,7 @@ def limits(draw):
     return falling + drawn + [BESIDE + THREAD * (n % 8) + draw.randrange(50) * PAGE for n in range(DRAWN)]
 
 
-def least_loaded(trial, words):
+def least_loaded(trial: Any, words: list[str]) -> Any:
     """Between which limits, about, the program begins to be loaded."""
     below = max(kib for kib, word in words.items() if word == "not loaded")
     above = min(kib for kib, word in words.items() if word == "right")
@@ -95,7 +98,7 @@ def least_loaded(trial, words):
     return below
 
 
-def try_mode(trial, draw):
+def try_mode(trial: Any, draw: random.Random) -> None:
     """All limits, and then some between the greatest that doesn't load the program and the least right answer."""
     with ThreadPoolExecutor(AT_ONCE) as pool:
         tried = limits(draw)
@@ -105,7 +108,7 @@ def try_mode(trial, draw):
         list(pool.map(trial.try_limit, draw.sample(between, min(FINE, len(between)))))
 
 
-def main():
+def main() -> None:
     program, folder, seed = sys.argv[1:4]
     if is_preview(program):
         print("faults: a preview asks for more memory than any limit gives, so memory isn't tried; the proved program is")

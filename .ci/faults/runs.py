@@ -1,4 +1,6 @@
 """Runs of the program in a folder of its own: with a journal before, a script, and what stands in front of the program."""
+from __future__ import annotations
+
 import os
 import shutil
 import signal
@@ -26,7 +28,7 @@ class Ended:
     after: bytes
 
 
-def read_bytes(path):
+def read_bytes(path: str) -> bytes:
     """What a file has, and nothing where there is none."""
     if not os.path.exists(path):
         return b""
@@ -34,12 +36,12 @@ def read_bytes(path):
         return file.read()
 
 
-def write_bytes(path, data):
+def write_bytes(path: str, data: bytes) -> None:
     with open(path, "wb") as file:
         file.write(data)
 
 
-def is_preview(program):
+def is_preview(program: str) -> bool:
     """Whether it has checks of memory in it, which ask for memory in their own way."""
     return b"__asan_init" in read_bytes(program)
 
@@ -47,7 +49,7 @@ def is_preview(program):
 class Desk:
     """A folder with the basis of the examples, in which a program runs. Its journal goes on unless it is laid anew."""
 
-    def __init__(self, program, folder):
+    def __init__(self, program: str, folder: str) -> None:
         shutil.rmtree(folder, ignore_errors=True)
         os.makedirs(folder)
         self.program, self.folder = program, os.path.realpath(folder)
@@ -55,13 +57,13 @@ class Desk:
             shutil.copy(os.path.join(ROOT, "examples", name), folder)
         self.lay(b"")
 
-    def path(self, name):
+    def path(self, name: str) -> str:
         return os.path.join(self.folder, name)
 
-    def journal(self):
+    def journal(self) -> bytes:
         return read_bytes(self.path(JOURNAL))
 
-    def lay(self, journal, script=b"", kept=b""):
+    def lay(self, journal: bytes, script: bytes = b"", kept: bytes = b"") -> None:
         """Puts this journal and this checkpoint there, or none where they are empty, and this script."""
         for name, data in ((JOURNAL, journal), (KEPT, kept)):
             if os.path.exists(self.path(name)):
@@ -70,24 +72,24 @@ class Desk:
                 write_bytes(self.path(name), data)
         write_bytes(self.path("script.csv"), script)
 
-    def start(self, words, before=()):
+    def start(self, words: list[str], before: list[str] | tuple[()] = ()) -> subprocess.Popen[bytes]:
         """Starts the program, with these words in front of it, on the script as its input."""
         with open(self.path("script.csv"), "rb") as script, open(self.path("out"), "wb") as out, \
                 open(self.path("err"), "wb") as err:
             return subprocess.Popen([*before, self.program, *words], cwd=self.folder, stdin=script, stdout=out, stderr=err,
                                     preexec_fn=default_signals)
 
-    def ended(self, run):
+    def ended(self, run: subprocess.Popen[bytes]) -> Ended:
         status = run.wait(LONGEST_SECONDS)
         told = read_bytes(self.path("err")).decode("utf-8", "replace").splitlines()
         complaints = "\n".join(line for line in told if not line.startswith("strace: Requested path"))
         text = read_bytes(self.path("out")).decode("ascii", "replace")
         return Ended(status, text, complaints, self.journal())
 
-    def run(self, words, before=()):
+    def run(self, words: list[str], before: list[str] | tuple[()] = ()) -> Ended:
         return self.ended(self.start(words, before))
 
-    def judge_reopening(self):
+    def judge_reopening(self) -> None:
         """What is left opens to just its records, and takes one more."""
         count = len(read_journal(self.journal()).commands)
         write_bytes(self.path("script.csv"), b"1,issue,4294967295,2020-01-01,endowment,0,3,1000.00,400.00\n")
@@ -97,7 +99,7 @@ class Desk:
         demand(len(read_journal(again.after).commands) == count + 1, "the record after reopening isn't there")
         self.judge_kept()
 
-    def judge_kept(self):
+    def judge_kept(self) -> None:
         """What is left of a checkpoint changes nothing of the state."""
         if os.path.exists(self.path(KEPT)):
             beside = self.run(["state"])
@@ -106,7 +108,7 @@ class Desk:
             demand((beside.status, beside.text) == (0, alone.text), f"with the checkpoint the state is {beside.text[:200]!r}")
 
 
-def default_signals():
+def default_signals() -> None:
     """Signals that the check's own shell ignores aren't ignored by the program."""
     for number in (signal.SIGINT, signal.SIGTERM, signal.SIGPIPE):
         signal.signal(number, signal.SIG_DFL)

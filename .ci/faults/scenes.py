@@ -1,4 +1,6 @@
 """What is run while something fails: the words, the script, whether there is a journal, and the calls that must be made."""
+from __future__ import annotations
+
 from dataclasses import dataclass
 
 from runs import JOURNAL, KEPT  # noqa: F401: it also puts tools/ on the path
@@ -44,11 +46,11 @@ class Scene:
     kept: int | None = None
 
     @property
-    def posts(self):
+    def posts(self) -> bool:
         return self.words[0] == "run"
 
 
-def book_before():
+def book_before() -> Book:
     """Three policies of before; the first was valued in no run, and the last is claimed."""
     day = day_in("2020-01-01")
     issues = [Command("issue", number, day, plan="endowment", age=0, years=3, amount=100000, premium=40000)
@@ -56,7 +58,7 @@ def book_before():
     return Book([*issues, Command("premium", 7, day, amount=40000), Command("claim", 9, day_in("2020-01-20"))])
 
 
-def checkpoint_before(count):
+def checkpoint_before(count: int | None) -> bytes:
     """That of the first so many commands of the book before."""
     return b"" if count is None else bytes_of_checkpoint(checkpoint_of(book_before().commands[:count]))
 
@@ -77,14 +79,14 @@ SCENES = [
 ]
 
 
-def many_policies(count):
+def many_policies(count: int) -> Book:
     """A book of so many policies, of few ages, so that few exact values have to be worked out."""
     day = day_in("2020-01-01")
     return Book(Command("issue", number, day, plan="whole", age=30 + number % 7, years=0, amount=100000, premium=2000)
                 for number in range(1, count + 1))
 
 
-def eight_clerks(each, taken):
+def eight_clerks(each: int, taken: int) -> bytes:
     """A script of eight clerks, each with so many new policies and a premium for each, and two valuations."""
     rows = []
     for n in range(each * 8):

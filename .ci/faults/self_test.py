@@ -2,9 +2,13 @@
 
 usage: python3 self_test.py PROGRAM FOLDER
 """
+from __future__ import annotations
+
 import os
 import sys
 from dataclasses import replace
+from collections.abc import Callable
+from typing import Any
 
 from judge import Wrong, demand, demand_faults, judge_early_end, judge_lacking, judge_transcript, judge_unanswered
 from lacking import Mode
@@ -13,9 +17,10 @@ from refused import Refused
 from runs import JOURNAL, Desk, read_bytes
 from scenes import ONE_CLERK, TWO_CLERKS, book_before
 from life_tools.tables import read_basis
+from runs import Ended
 
 
-def disturbed(program, folder, script, kind, when, file):
+def disturbed(program: str, folder: str, script: bytes, kind: str, when: int, file: str) -> tuple[Desk, bytes, Ended]:
     """A run over the journal of before in which a call fails."""
     desk = Desk(program, folder)
     before = file_of(book_before().commands)
@@ -25,11 +30,11 @@ def disturbed(program, folder, script, kind, when, file):
     return desk, before, ended
 
 
-def log_of(desk):
+def log_of(desk: Desk) -> list[str]:
     return read_bytes(desk.path("log")).decode("utf-8", "replace").splitlines()
 
 
-def refused(judge):
+def refused(judge: Callable[..., Any]) -> bool:
     try:
         judge()
     except Wrong:
@@ -37,26 +42,26 @@ def refused(judge):
     return False
 
 
-def replaced(ended, old, new):
+def replaced(ended: Ended, old: str, new: str) -> Ended:
     """The run with the first line that ends so ended otherwise."""
     lines = ended.text.splitlines(keepends=True)
     place = next(i for i, line in enumerate(lines) if old in line)
     return replace(ended, text="".join(lines[:place] + [lines[place].split(old)[0] + new + "\n"] + lines[place + 1:]))
 
 
-def cut(ended, records):
+def cut(ended: Ended, records: int) -> Ended:
     """The run with so many records cut off the end of its file."""
     commands = read_journal(ended.after).commands
     return replace(ended, after=file_of(commands[:len(commands) - records]))
 
 
-def doubled(ended):
+def doubled(ended: Ended) -> bytes:
     """The run's file with its last record once more."""
     commands = read_journal(ended.after).commands
     return file_of(commands + commands[-1:])
 
 
-def try_transcripts(program, folder):
+def try_transcripts(program: str, folder: str) -> int:
     """A run of two clerks in which a sync failed, and what may not be made of it."""
     desk, before, ended = disturbed(program, folder, TWO_CLERKS, "fsync", 7, JOURNAL)
     basis = read_basis(desk.path("basis.csv"))
@@ -84,7 +89,7 @@ def try_transcripts(program, folder):
     return len(changed)
 
 
-def try_counts(program, folder):
+def try_counts(program: str, folder: str) -> int:
     """A run goes on behind a write that failed, and not behind a sync; each with the calls of the other is refused."""
     runs = {}
     for kind, when in (("pwrite64", 3), ("fsync", 4)):
@@ -96,7 +101,7 @@ def try_counts(program, folder):
     return len(runs)
 
 
-def try_ends(program, folder):
+def try_ends(program: str, folder: str) -> int:
     """Runs that end early or whose output fails, and what may not be made of them."""
     _, before, early = disturbed(program, os.path.join(folder, "early"), ONE_CLERK, "fsync", 1, JOURNAL)
     judge_early_end(early, 8, before)
@@ -120,7 +125,7 @@ def try_ends(program, folder):
     return len(changed)
 
 
-def without_the_last(program, folder, rows):
+def without_the_last(program: str, folder: str, rows: int) -> Ended:
     """A run of one clerk without its last rows, told as one that found no memory for them."""
     desk, lines = Desk(program, folder), ONE_CLERK.splitlines(keepends=True)
     desk.lay(file_of(book_before().commands), b"".join(lines[:-rows]))
@@ -129,7 +134,7 @@ def without_the_last(program, folder, rows):
     return replace(ended, status=9, text=ended.text.replace("watcher,1,", unserved + "watcher,1,"))
 
 
-def try_refusals(program, folder):
+def try_refusals(program: str, folder: str) -> int:
     """Runs as they may be where one request for memory is refused, and what may not be made of them."""
     before = file_of(book_before().commands)
     trial = Refused(program, folder, "", Mode("a run", ["run"], ONE_CLERK, before))
@@ -157,7 +162,7 @@ def try_refusals(program, folder):
     return len(changed)
 
 
-def main():
+def main() -> None:
     program, folder = sys.argv[1:3]
     tried = (try_transcripts(program, os.path.join(folder, "transcripts")) + try_counts(program, os.path.join(folder, "counts"))
              + try_ends(program, folder) + try_refusals(program, os.path.join(folder, "refusals")))

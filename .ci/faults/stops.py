@@ -5,12 +5,15 @@ usage: python3 stops.py PROGRAM FOLDER QUICK SEED
 In half of the runs the journal lies in FOLDER, on a real disk, where most of the time is a sync's; in the others in QUICK,
 a disk in memory. `.ci/checks/kills.sh` kills runs that have no valuations; here two are under way.
 """
+from __future__ import annotations
+
 import os
 import random
 import signal
 import subprocess
 import sys
 import time
+from typing import Any
 
 from judge import Wrong, demand, judge_front, judge_transcript, judge_unanswered, reason
 from life_tools.journals import file_of
@@ -26,14 +29,14 @@ OPENING = [["state"], ["checkpoint"], ["state", "7"], ["value", "2021-01-01"], [
            ["value", "--deficiency", "2021-01-01"], ["project", "2021-01-01", "40"], ["run"]]
 
 
-def span_of(desk, words):
+def span_of(desk: Any, words: list[str]) -> Any:
     """How long an undisturbed run takes, and how it ended."""
     start = time.perf_counter()
     ended = desk.run(words)
     return time.perf_counter() - start, ended
 
 
-def stop(desk, words, delay, number):
+def stop(desk: Any, words: list[str], delay: float, number: int) -> Any:
     run = desk.start(words)
     time.sleep(delay)
     run.send_signal(number)
@@ -43,7 +46,7 @@ def stop(desk, words, delay, number):
 class Runs:
     """Runs of eight clerks with two valuations that are stopped."""
 
-    def __init__(self, program, folder):
+    def __init__(self, program: str, folder: str) -> None:
         self.desk = Desk(program, folder)
         self.before, self.script = file_of(many_policies(BEFORE).commands), eight_clerks(EACH, BEFORE)
         self.basis, self.known = read_basis(self.desk.path("basis.csv")), {}
@@ -52,7 +55,7 @@ class Runs:
         judge_transcript(self.script, ended, self.before, self.basis, self.known)
         self.amid = self.printed = 0
 
-    def try_one(self, draw):
+    def try_one(self, draw: random.Random) -> None:
         number = draw.choice(SIGNALS)
         self.desk.lay(self.before, self.script)
         ended = stop(self.desk, ["run"], draw.uniform(0, self.span), number)
@@ -70,7 +73,7 @@ class Runs:
 class Openings:
     """Openings of a large journal that are stopped: not a byte of it may change."""
 
-    def __init__(self, program, folder):
+    def __init__(self, program: str, folder: str) -> None:
         self.desk = Desk(program, folder)
         self.before = file_of(many_policies(LARGE).commands)
         self.desk.lay(self.before)
@@ -78,7 +81,7 @@ class Openings:
         demand(self.right.status == 0 and self.right.text.endswith(f"count,{LARGE}\n"), "the large journal doesn't open")
         self.amid = 0
 
-    def try_one(self, draw):
+    def try_one(self, draw: random.Random) -> None:
         number, words = draw.choice(SIGNALS), draw.choice(OPENING)
         ended = stop(self.desk, words, draw.uniform(0, self.span), number)
         demand(ended.status in (0, -number), f"status {ended.status} after signal {number}")
@@ -86,7 +89,7 @@ class Openings:
         self.amid += ended.status != 0
 
 
-def read_a_line(desk, words):
+def read_a_line(desk: Any, words: list[str]) -> Any:
     """Runs the program into a pipe of which one line is read, as `head -n 1` does; its status, and that line."""
     with open(desk.path("script.csv"), "rb") as script:
         run = subprocess.Popen([desk.program, *words], cwd=desk.folder, stdin=script, stdout=subprocess.PIPE,
@@ -98,7 +101,7 @@ def read_a_line(desk, words):
     return run.wait(60), line.decode("ascii", "replace")
 
 
-def try_closed_pipes(desk):
+def try_closed_pipes(desk: Any) -> None:
     """The reader leaves after a line of a text that no pipe holds whole: 7, and the postings are kept."""
     before, script = file_of(many_policies(4000).commands), eight_clerks(EACH, 4000)
     desk.lay(before, script)
@@ -116,14 +119,14 @@ def try_closed_pipes(desk):
         demand(desk.journal() == before, f"{' '.join(words)} changed the file")
 
 
-def pause(run):
+def pause(run: Any) -> None:
     """Stops the program for a moment, once it has had time to wait for something."""
     for number in (signal.SIGSTOP, signal.SIGCONT):
         time.sleep(0.1)
         run.send_signal(number)
 
 
-def try_pauses(desk):
+def try_pauses(desk: Any) -> None:
     """A run that is stopped, and goes on, while it waits for the rest of its input and for room in its output."""
     before, script = file_of(many_policies(4000).commands), eight_clerks(EACH, 4000)
     desk.lay(before)
@@ -140,7 +143,7 @@ def try_pauses(desk):
     judge_transcript(script, ended, before, read_basis(desk.path("basis.csv")), {})
 
 
-def try_all(trials, tries, draw):
+def try_all(trials: int, tries: Any, draw: random.Random) -> None:
     for number in range(tries):
         trial = trials[number % len(trials)]
         try:
@@ -149,7 +152,7 @@ def try_all(trials, tries, draw):
             raise Wrong(f"stop {number}: {reason(wrong)}; the files are in {trial.desk.folder}")
 
 
-def main():
+def main() -> None:
     program, folder, quick, seed = sys.argv[1:5]
     draw = random.Random(f"stops {seed}")
     runs = [Runs(program, os.path.join(place, "stopped")) for place in (folder, quick)]

@@ -6,29 +6,33 @@ Each line comes as soon as its place is settled; a reader that stops, or that le
 has printed is a front that its journal bears out; and at no moment of a run of eight clerks are more accepted lines written
 than gates are safe.
 """
+from __future__ import annotations
+
 import os
 import random
 import re
 import subprocess
 import sys
 import time
+from typing import Any
 
 from judge import demand, judge_front, judge_transcript, judge_unanswered
 from life_tools.journals import file_of
 from life_tools.tables import read_basis
 from runs import Desk, Ended, default_signals
 from scenes import eight_clerks, many_policies
+from life_tools.tables import BasisRow
 
 LINES, BEFORE, EACH, MANY = 20000, 150, 60, 500
 
 
-def started(desk, words):
+def started(desk: Desk, words: list[str]) -> subprocess.Popen[bytes]:
     with open(desk.path("script.csv"), "rb") as script:
         return subprocess.Popen([desk.program, *words], cwd=desk.folder, stdin=script, stdout=subprocess.PIPE, bufsize=0,
                                 preexec_fn=default_signals)
 
 
-def try_arrivals(desk):
+def try_arrivals(desk: Desk) -> None:
     """A clerk's first line is read while most of its postings have yet to be made."""
     desk.lay(b"", b"".join(b"1,issue,%d,2020-01-01,endowment,0,3,1000.00,400.00\n" % n for n in range(1, LINES + 1)))
     run = started(desk, ["run"])
@@ -40,7 +44,7 @@ def try_arrivals(desk):
     demand(posted < LINES / 2, f"when the first line was read {posted} of {LINES} postings had been made")
 
 
-def try_stopped_reader(desk, before, basis):
+def try_stopped_reader(desk: Desk, before: bytes, basis: list[BasisRow]) -> None:
     """A reader that stops after a byte of more text than a pipe holds, while all postings are made, and then reads the rest."""
     script = eight_clerks(MANY, BEFORE)
     desk.lay(before, script)
@@ -57,7 +61,7 @@ def try_stopped_reader(desk, before, basis):
     judge_transcript(script, ended, before, basis, {})
 
 
-def try_left_reader(desk, before):
+def try_left_reader(desk: Desk, before: bytes) -> None:
     """A reader that leaves after a byte while the postings go on: 7, and all of them are made."""
     script = eight_clerks(MANY, BEFORE)
     desk.lay(before, script)
@@ -68,12 +72,12 @@ def try_left_reader(desk, before):
     judge_unanswered(script, before, desk.journal(), True)
 
 
-def wait_for_records(desk, run, count):
+def wait_for_records(desk: Desk, run: subprocess.Popen[bytes], count: int) -> None:
     while run.poll() is None and os.path.getsize(desk.path("journal.life")) < 18 + 65 * count:
         time.sleep(0.0002)
 
 
-def try_kills(desk, before, script, basis, draw, kills):
+def try_kills(desk: Desk, before: bytes, script: bytes, basis: list[BasisRow], draw: random.Random, kills: int) -> Any:
     """Runs that are killed: what they printed is a front, and stands in the journal. Tells how many had printed."""
     desk.lay(before, script)
     begun = time.perf_counter()
@@ -95,7 +99,7 @@ def try_kills(desk, before, script, basis, draw, kills):
     return printed
 
 
-def try_calls(desk, before, script):
+def try_calls(desk: Any, before: Any, script: bytes) -> None:
     """At no moment are more accepted lines written than gates are safe."""
     desk.lay(before, script)
     ended = desk.run(["run"], ["strace", "-f", "-y", "-qq", "-s", "70000", "-o", desk.path("record"),
@@ -120,7 +124,7 @@ def try_calls(desk, before, script):
     demand(told == ended.text.count(",accepted,") and told, f"{told} accepted lines were seen")
 
 
-def main():
+def main() -> None:
     program, folder, seed, kills = *sys.argv[1:4], int(sys.argv[4])
     draw = random.Random(f"streamed {seed}")
     before, script = file_of(many_policies(BEFORE).commands), eight_clerks(EACH, BEFORE)

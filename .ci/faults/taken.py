@@ -6,11 +6,14 @@ From then on no line may be answered `accepted`, and the status is 8. What was a
 away; the file that took its place isn't touched. Where the name is a symbolic link, it is so of the file to which it leads,
 and the folder of that file is synced.
 """
+from __future__ import annotations
+
 import concurrent.futures
 import os
 import re
 import sys
 import time
+from typing import Any
 
 from judge import Wrong, commands_in, demand, demand_file, follow, reason
 from life_tools.journals import RECORD_SIZE, file_of, read_journal
@@ -27,20 +30,20 @@ HELD_UP, STILL = 1_500_000, 0.2
 HELD = [("fsync", 1), ("statx", 3), ("statx", 7), ("fsync", 4), ("fsync", 5), ("statx", 8), ("fsync", 9), ("statx", 12)]
 
 
-def remove(desk):
+def remove(desk: Any) -> None:
     os.remove(desk.path(JOURNAL))
 
 
-def rename(desk):
+def rename(desk: Any) -> None:
     os.rename(desk.path(JOURNAL), desk.path("old.life"))
 
 
-def replace(desk):
+def replace(desk: Any) -> None:
     write_bytes(desk.path("new.life"), file_of(book_before().commands[:3]))
     os.rename(desk.path("new.life"), desk.path(JOURNAL))
 
 
-def cut(desk):
+def cut(desk: Any) -> None:
     size = os.path.getsize(desk.path(JOURNAL))
     os.truncate(desk.path(JOURNAL), size - RECORD_SIZE)
 
@@ -48,7 +51,7 @@ def cut(desk):
 DEEDS = [remove, rename, replace, cut]
 
 
-def wait_until_still(desk, run):
+def wait_until_still(desk: Any, run: Any) -> None:
     """Waits until the program makes no progress: it is held up."""
     last, since = None, time.monotonic()
     while run.poll() is None and time.monotonic() - since < STILL:
@@ -63,13 +66,13 @@ def wait_until_still(desk, run):
     demand(run.poll() is None, "the program had ended before")
 
 
-def held_up(desk, kind, k):
+def held_up(desk: Any, kind: str, k: Any) -> Any:
     """Starts a run of the four lines in which a call is held up."""
     hold = ["-e", f"trace={kind}", "-e", f"inject={kind}:delay_enter={HELD_UP}:when={k}"]
     return desk.start(["run"], ["strace", "-f", "-qq", "-o", desk.path("log"), "-P", desk.path(JOURNAL), "-P", JOURNAL, *hold])
 
 
-def judge(ended, before, kept, was_cut, basis):
+def judge(ended: Any, before: Any, kept: Any, was_cut: Any, basis: str) -> Any:
     """Nothing is accepted behind the first fault, and what was is kept; tells how many lines met one."""
     demand(ended.status == 8, f"status {ended.status}, wanted 8; printed {ended.text[:200]!r}")
     if ended.text == "diskfault\n":
@@ -86,7 +89,7 @@ def judge(ended, before, kept, was_cut, basis):
     return run.faults
 
 
-def try_one(program, folder, deed, kind, k):
+def try_one(program: str, folder: str, deed: Any, kind: str, k: Any) -> Any:
     desk = Desk(program, folder)
     before = file_of(book_before().commands)
     desk.lay(before, ONE_CLERK)
@@ -106,7 +109,7 @@ def try_one(program, folder, deed, kind, k):
         raise Wrong(f"{deed.__name__} while {kind} {k} is held up: {reason(wrong)}; the files are in {desk.folder}")
 
 
-def try_a_link(program, folder):
+def try_a_link(program: str, folder: str) -> None:
     """The journal is a symbolic link into another folder: that one is synced, and the file there is the journal."""
     desk = Desk(program, folder)
     desk.lay(b"", ONE_CLERK)
@@ -126,7 +129,7 @@ def try_a_link(program, folder):
     demand(ended.status == 8 and ",fault\n" in ended.text, f"the far file was removed: {ended.status}, {ended.text[:200]!r}")
 
 
-def main():
+def main() -> None:
     program, folder = sys.argv[1:3]
     tried = [(deed, kind, k) for deed in DEEDS for kind, k in HELD]
     with concurrent.futures.ThreadPoolExecutor(AT_ONCE) as pool:

@@ -6,10 +6,13 @@ COUNT issues of the ids from 1 on, also of the greatest amount and premium; or o
 are of its policy: alterations by one cent each; premiums, which the rules refuse after 131; or a claim, and settlements of
 one cent.
 """
+from __future__ import annotations
+
 import datetime
 import os
 import sys
 from array import array
+from typing import Any
 
 sys.path.insert(0, os.path.join(os.path.dirname(os.path.abspath(__file__)), "..", "..", "tools"))
 
@@ -23,15 +26,15 @@ BLOCK = 65_536
 ID_END, AMOUNT_END = 1 + 7, 1 + 19
 
 
-def record_of(command):
+def record_of(command: Any) -> Any:
     return file_of([command])[FIRST_GATE:FIRST_GATE + RECORD_SIZE]
 
 
-def issue(number, plan="endowment", age=0, years=3, amount=100_000, premium=40_000):
+def issue(number: int, plan: str = "endowment", age: int = 0, years: int = 3, amount: int = 100_000, premium: int = 40_000) -> Any:
     return Command("issue", number, DAY, plan, age, years, amount, premium)
 
 
-def write_numbered(file, record, number_end, size, numbers):
+def write_numbered(file: Any, record: Any, number_end: Any, size: int, numbers: Any) -> None:
     """Records like this one, in which a number of so many bytes takes these values."""
     for made in range(0, len(numbers), BLOCK):
         some = numbers[made:made + BLOCK]
@@ -45,33 +48,33 @@ def write_numbered(file, record, number_end, size, numbers):
         file.write(block)
 
 
-def write_repeated(file, record, count):
+def write_repeated(file: Any, record: Any, count: int) -> None:
     for made in range(0, count, BLOCK):
         file.write(record * min(BLOCK, count - made))
 
 
-def write_policies(file, count):
+def write_policies(file: Any, count: int) -> None:
     write_numbered(file, record_of(issue(1)), ID_END, 4, range(1, count + 1))
 
 
-def write_greatest(file, count):
+def write_greatest(file: Any, count: int) -> None:
     write_numbered(file, record_of(issue(1, amount=MOST_CENTS, premium=MOST_CENTS)), ID_END, 4, range(1, count + 1))
 
 
-def write_alterations(file, count):
+def write_alterations(file: Any, count: int) -> None:
     file.write(record_of(issue(1, amount=MOST_CENTS)))
     alteration = record_of(Command("alter", 1, DAY, amount=1, premium=1))
     write_numbered(file, alteration, AMOUNT_END, 8, range(MOST_CENTS - 1, MOST_CENTS - count, -1))
 
 
-def write_premiums(file, count):
+def write_premiums(file: Any, count: int) -> None:
     file.write(record_of(issue(1, "whole", years=0)))
     for year in range(LAST_AGE):
         file.write(record_of(Command("premium", 1, DAY.replace(year=DAY.year + year), amount=40_000)))
     write_repeated(file, record_of(Command("premium", 1, DAY.replace(year=DAY.year + LAST_AGE), amount=40_000)), count - 1 - LAST_AGE)
 
 
-def write_settlements(file, count):
+def write_settlements(file: Any, count: int) -> None:
     file.write(record_of(issue(1, amount=MOST_CENTS)) + record_of(Command("claim", 1, DAY)))
     write_repeated(file, record_of(Command("settle", 1, DAY, amount=1)), count - 2)
 
@@ -80,7 +83,7 @@ WRITERS = {"policies": write_policies, "greatest": write_greatest, "alterations"
            "settlements": write_settlements}
 
 
-def write(kind, count, path):
+def write(kind: str, count: int, path: str) -> None:
     with open(path, "wb") as file:
         file.write(EMPTY[:FIRST_GATE])
         WRITERS[kind](file, count)

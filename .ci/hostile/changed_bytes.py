@@ -7,6 +7,8 @@ The files are a journal of forty records of all kinds, its script, a basis file,
 order drawn by the seed, one part of so many, until the time is over and there were two hundred; where SECONDS is `all`,
 until there are none left.
 """
+from __future__ import annotations
+
 import os
 import random
 import sys
@@ -14,6 +16,7 @@ import sys
 from trial import (Book, Trial, demand, file_of, judge_basis, judge_journal, judge_posting, judge_script, judge_table, read_script,
                    try_for)
 from life_tools.formats import KINDS, Wrong
+from life_tools.rules import Book
 
 VALUES = (0, 1, 2, 127, 255)
 HERE = os.path.dirname(os.path.abspath(__file__))
@@ -36,38 +39,38 @@ VALUED = b"""1,issue,1,2004-02-29,whole,0,0,1000.00,400.00
 BASIS = b'2000-01-01,q.xml,0\r\n\n"2010-01-01",m.xml,300\n2015-02-28,g.xml,2000\n2018-01-01,select.xml,300'
 
 
-def script_of_forty():
+def script_of_forty() -> bytes:
     with open(os.path.join(HERE, "forty.csv"), "rb") as file:
         return file.read()
 
 
-def book_of_forty():
+def book_of_forty() -> Book:
     book = Book(line.command for line in read_script(script_of_forty()))
     demand(len(book.commands) == 40 and {it.kind for it in book.commands} == set(KINDS.values()), "they aren't forty of all kinds")
     return book
 
 
-def book_of_values():
+def book_of_values() -> Book:
     return Book(line.command for line in read_script(VALUED))
 
 
-def files(book):
+def files(book: Book) -> dict[str, bytes]:
     """Each file by its kind."""
     return {"journal": file_of(book.commands), "script": script_of_forty() + b"2,trim\n3,value,2021-01-01,7,64\n", "basis": BASIS,
             "table": TABLE, "select": SELECT}
 
 
-def changes(byte):
+def changes(byte: int) -> list[int]:
     """What a byte is changed to."""
     return sorted({*VALUES, *(byte ^ 1 << bit for bit in range(8))} - {byte})
 
 
-def cases(book):
+def cases(book: Book) -> list[tuple[str, int, int]]:
     """All cases, as kind, place and new byte."""
     return [(kind, place, new) for kind, data in files(book).items() for place in range(len(data)) for new in changes(data[place])]
 
 
-def judge(trials, book, case):
+def judge(trials: dict[str, Trial], book: Book, case: tuple[str, int, int]) -> str:
     """What the program makes of a case, in a word."""
     kind, place, new = case
     data = bytearray(files(book)[kind])
@@ -80,7 +83,7 @@ def judge(trials, book, case):
     return (judge_basis if kind == "basis" else judge_table)(trials[kind], bytes(data), book_of_values())
 
 
-def main():
+def main() -> None:
     program, folder, seconds, part, parts = sys.argv[1:6]
     book = book_of_forty()
     every = cases(book)
@@ -88,7 +91,7 @@ def main():
     mine = every[int(part)::int(parts)]
     trials = {kind: Trial(program, os.path.join(folder, f"{kind}-{part}")) for kind in files(book)}
 
-    def try_one(case):
+    def try_one(case: tuple[str, int, int]) -> str:
         try:
             return f"{case[0]} {judge(trials, book, case)}"
         except Wrong as wrong:

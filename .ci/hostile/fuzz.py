@@ -6,6 +6,8 @@ usage: python3 fuzz.py PROGRAM FOLDER SECONDS SEED [CASE]
 The cases of a seed are numbered from 0 on, and taken until the time is over and there were two hundred, or there were
 twelve thousand, so that the gate tries no other cases on a faster machine; with CASE just this one is tried.
 """
+from __future__ import annotations
+
 import os
 import random
 import sys
@@ -52,7 +54,7 @@ RIGHT = [[b"run"], [b"run", b"--basis", b"none.csv"], [b"state"], [b"checkpoint"
 SCRIPT = b"1,issue,77,2020-01-01,endowment,0,3,1000.00,400.00\n8,lapse,77,2020-01-01\n"
 
 
-def spoilt(draw, data, tokens, most):
+def spoilt(draw: random.Random, data: bytes, tokens: list[bytes], most: int) -> bytes:
     """The data with up to so many changes."""
     data = bytearray(data)
     for _ in range(draw.randrange(most + 1)):
@@ -76,13 +78,13 @@ def spoilt(draw, data, tokens, most):
     return bytes(data)
 
 
-def drawn_script(draw):
+def drawn_script(draw: random.Random) -> bytes:
     rows = make_script(draw, Book()).encode() if draw.random() < 0.2 else script_of_forty() + b"2,trim\n3,value,2021-01-01,7,64\n"
     rows = rows.splitlines(keepends=True)
     return spoilt(draw, b"".join(rows[:draw.randrange(len(rows) + 1)]), TOKENS["script"], 3)
 
 
-def drawn_journal(draw, book):
+def drawn_journal(draw: random.Random, book: Book) -> bytes:
     """A journal of which records may be left out, put in again or changed, and bytes spoilt."""
     commands = list(book.commands[:draw.randrange(41)])
     for _ in range(draw.randrange(3)):
@@ -93,7 +95,7 @@ def drawn_journal(draw, book):
     return spoilt(draw, data, TOKENS["journal"], draw.choice([0, 1, 2, 3]))
 
 
-def drawn_checkpoint(draw, book):
+def drawn_checkpoint(draw: random.Random, book: Book) -> bytes:
     """That of a front of the book or of another book, or of more commands, with bytes spoilt."""
     commands = list(book.commands[:draw.randrange(41)])
     if draw.random() < 0.2:
@@ -107,7 +109,7 @@ def drawn_checkpoint(draw, book):
     return spoilt(draw, data, TOKENS["checkpoint"], draw.choice([0, 1, 2, 3]))
 
 
-def drawn_words(draw):
+def drawn_words(draw: random.Random) -> list[bytes]:
     if draw.random() < 0.2:
         return [draw.choice(WORDS) for _ in range(draw.randrange(6))]
     words = list(draw.choice(RIGHT))
@@ -117,7 +119,7 @@ def drawn_words(draw):
     return words
 
 
-def tables(root):
+def tables(root: str) -> list[bytes]:
     """Tables by age, and select ones in each layout."""
     found = [TABLE, TABLE, SELECT, SELECT, MIDDLE.encode()]
     for name in ("g.xml", "select.xml", "select-inner.xml"):
@@ -126,7 +128,7 @@ def tables(root):
     return found
 
 
-def judge(trials, book, draw, kind):
+def judge(trials: dict[str, Trial], book: Book, draw: random.Random, kind: str) -> str:
     """What the program makes of a drawn case, in a word."""
     trial = trials[kind]
     if kind == "script":
@@ -142,13 +144,13 @@ def judge(trials, book, draw, kind):
     return judge_table(trial, spoilt(draw, draw.choice(tables(ROOT)), TOKENS["table"], 4), book_of_values())
 
 
-def main():
+def main() -> None:
     program, folder, seconds, seed = sys.argv[1:5]
     book = book_of_forty()
     trials = {kind: Trial(program, os.path.join(folder, f"fuzz-{kind}-{seed}")) for kind in KINDS}
     only = [int(it) for it in sys.argv[5:]]
 
-    def try_one(case):
+    def try_one(case: int) -> str:
         kind = KINDS[case % len(KINDS)]
         try:
             return f"{kind} {judge(trials, book, random.Random(f'{seed} {case}'), kind)}"

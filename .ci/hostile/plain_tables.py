@@ -2,9 +2,12 @@
 
 It takes all files of the profile, some of which are no XML. The checks behind the document are those of tools/life_tools/tables.py.
 """
+from __future__ import annotations
+
 import re
 
 from life_tools.tables import MARK, MOST_DEPTH, BadBasis, Element, table_of
+from life_tools.tables import SelectTable, Table
 
 WHITE = b" \t\n\r"
 NAME = rb"[A-Za-z_\x80-\xff][A-Za-z_\x80-\xff0-9.:-]*"
@@ -19,7 +22,7 @@ TEXT = re.compile(rb"[^<]+")
 class Document:
     """The elements of a file, or the place up to which its pieces nest."""
 
-    def __init__(self, data):
+    def __init__(self, data: bytes) -> None:
         self.data, self.at = data, 0
         self.root, self.open = None, []
         self.is_declared, self.is_begun = False, False
@@ -29,7 +32,7 @@ class Document:
             pass
         self.is_whole = self.at == len(data) and self.root is not None and not self.open
 
-    def take(self):
+    def take(self) -> bool:
         """Takes a piece, or a run of single bytes, or stands still before what may not follow."""
         for piece, taken in ((TEXT, self.text), (DECLARATION, self.declaration), (COMMENT, self.comment), (END, self.end),
                              (START, self.start)):
@@ -38,7 +41,7 @@ class Document:
                 return taken(found)
         return False
 
-    def text(self, found):
+    def text(self, found: re.Match[str]) -> bool:
         if self.open:
             self.open[-1].text += found[0].decode("latin-1")
             self.at = found.end()
@@ -47,31 +50,31 @@ class Document:
         self.at += white
         return white == len(found[0])
 
-    def declaration(self, found):
+    def declaration(self, found: re.Match[str]) -> bool:
         if self.is_declared or self.is_begun:
             return False
         self.is_declared, self.at = True, found.end()
         return True
 
-    def comment(self, found):
+    def comment(self, found: re.Match[str]) -> bool:
         self.begin()
         self.at = found.end()
         return True
 
-    def begin(self):
+    def begin(self) -> None:
         """An element or a comment stands here: no declaration may follow, and the element around isn't plain."""
         self.is_begun = True
         if self.open:
             self.open[-1].is_plain = False
 
-    def end(self, found):
+    def end(self, found: re.Match[str]) -> bool:
         if not self.open or self.open[-1].name != found[1].decode("latin-1"):
             return False
         self.open.pop()
         self.at = found.end()
         return True
 
-    def start(self, found):
+    def start(self, found: re.Match[str]) -> bool:
         if (self.root is not None and not self.open) or len(self.open) == MOST_DEPTH:
             return False
         self.begin()
@@ -88,7 +91,7 @@ class Document:
         return True
 
 
-def read_plain_table(data, name):
+def read_plain_table(data: bytes, name: str) -> SelectTable | Table | None:
     """The table of a file of this name, or `BadBasis` with the first check that applies."""
     document = Document(data)
     if not document.is_whole:

@@ -1,7 +1,11 @@
 """A plain reading of the words of a command line (docs/FORMATS.md, "The words"), and the shape of the answer to each."""
+from __future__ import annotations
+
 import re
 from dataclasses import dataclass
 from typing import Callable
+import datetime
+from typing import Any
 
 from life_tools.formats import MOST_COMMANDS, MOST_LANES, MOST_NUMBER, MOST_WORKERS, MOST_YEARS, day_of, measure_of, number_of, printed_rows
 from life_tools.script_lines import Fault, read_script
@@ -29,11 +33,11 @@ class Meaning:
     measure: str = "terminal"
 
 
-def usage():
+def usage() -> Meaning:
     return Meaning("usage", lambda found: found == (2, "usage\n"))
 
 
-def value_of(name, text):
+def value_of(name: str, text: str) -> datetime.date | int | str | None:
     """What a word says at its place or for its option, or none."""
     if name == "measure":
         return text
@@ -44,7 +48,7 @@ def value_of(name, text):
     return number_of(text, *LIMITS[name])
 
 
-def split(words, mode):
+def split(words: list[str], mode: str) -> tuple[list[str], dict[str, str]] | None:
     """The words that are no options, and the options with their words, a flag with its own; or none where they don't fit."""
     plain, options, left = [], {}, list(words)
     while left:
@@ -64,7 +68,7 @@ def split(words, mode):
     return plain, options
 
 
-def meaning_of(words, count):
+def meaning_of(words: list[bytes], count: int) -> Meaning:
     """What the words ask where so many commands are accepted."""
     try:
         words = [word.decode("utf-8") for word in words]
@@ -85,12 +89,12 @@ def meaning_of(words, count):
     return SHAPES[mode](values, asked, count)
 
 
-def is_run(_, __, ___):
+def is_run(_: list[Any], __: dict[str, str], ___: int) -> Meaning:
     return Meaning("run", lambda found: found[0] == 0)
 
 
-def is_state(values, _, count):
-    def fits(found):
+def is_state(values: list[int], _: dict[Any, Any], count: int) -> Meaning:
+    def fits(found: tuple[int, str]) -> bool:
         rows = printed_rows(found[1])
         if not values:
             return found[0] == 0 and rows[-1] == ["count", str(count)]
@@ -99,20 +103,20 @@ def is_state(values, _, count):
     return Meaning("state", fits, values[0] if values else 0)
 
 
-def is_checkpoint(_, __, count):
+def is_checkpoint(_: list[Any], __: dict[Any, Any], count: int) -> Meaning:
     return Meaning("checkpoint", lambda found: found == (0, f"checkpoint,{count}\n"))
 
 
-def is_by_another_basis(found, name):
+def is_by_another_basis(found: Any, name: str) -> Any:
     """Whether an answer fits where the basis isn't basis.csv: there is none but the tables, which may be no basis."""
     return found[0] == 4 and found[1] == f"badbasis,{name},0,absent\n" or name in ("q.xml", "g.xml", "m.xml", "select.xml")
 
 
-def is_value(values, asked, count):
+def is_value(values: list[datetime.date], asked: dict[str, int | str], count: int) -> Meaning:
     position, name = asked.get("--at", count), asked.get("--basis", "basis.csv")
     measure = asked.get("measure", "terminal")
 
-    def fits(found):
+    def fits(found: tuple[int, str]) -> bool:
         if name != "basis.csv":
             return is_by_another_basis(found, name)
         if position > count:
@@ -123,10 +127,10 @@ def is_value(values, asked, count):
     return Meaning("value", fits, measure=measure)
 
 
-def is_project(values, asked, count):
+def is_project(values: list[datetime.date | int], asked: dict[str, int | str], count: int) -> Meaning:
     name = asked.get("--basis", "basis.csv")
 
-    def fits(found):
+    def fits(found: tuple[int, str]) -> bool:
         if name != "basis.csv":
             return is_by_another_basis(found, name)
         rows = printed_rows(found[1])
@@ -135,10 +139,10 @@ def is_project(values, asked, count):
     return Meaning("project", fits)
 
 
-def is_generate(values, _, __):
+def is_generate(values: list[int], _: dict[Any, Any], __: int) -> Meaning:
     _, count, lanes = values
 
-    def fits(found):
+    def fits(found: tuple[int, str]) -> bool:
         lines = read_script("\n".join(found[1].split("\n", 400)[:400]).encode())
         if found[0] != 0 or found[1].count("\n") != 2 * count or isinstance(lines, Fault):
             return False
@@ -146,8 +150,8 @@ def is_generate(values, _, __):
     return Meaning("generate", fits)
 
 
-def is_load(values, _, __):
-    def fits(found):
+def is_load(values: list[float], _: Any, __: Any) -> Any:
+    def fits(found: Any) -> Any:
         line = re.fullmatch(rf"load,([0-9]+),([0-9]+),[0-9]+,{AMOUNT},{AMOUNT},[0-9]+\n", found[1])
         return found[0] == 0 and line is not None and int(line[1]) + int(line[2]) == 2 * values[1]
     return Meaning("load", fits)

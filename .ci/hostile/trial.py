@@ -4,12 +4,16 @@ The judges use the readers in tools/, and for tables and words the plain reading
 where the program does anything else: another line, another status, a signal, a word on standard error, a file that was
 changed, or no answer within a time that no such case needs.
 """
+from __future__ import annotations
+
 import collections
 import os
 import subprocess
 import sys
 import time
 import zlib
+from collections.abc import Callable, Iterable
+from typing import Any
 
 ROOT = os.path.abspath(os.path.join(os.path.dirname(os.path.abspath(__file__)), "..", ".."))
 sys.path[:0] = [os.path.join(ROOT, "tools"), os.path.join(ROOT, ".ci", "stress")]
@@ -27,6 +31,8 @@ from life_tools.rules import Book, Policy, Refusal, balances_of, booking_of
 from life_tools.script_lines import Fault, read_script
 from scripts import folder_for
 from life_tools.tables import NotXml, BasisRow, Table, read_basis, read_table
+from life_tools.commands import Command
+from life_tools.tables import SelectTable
 
 SECONDS = 30
 # so many cases are tried whatever their time
@@ -35,7 +41,7 @@ ON = "2021-01-01"
 FRESH = 4294967295
 
 
-def try_for(seconds, cases, try_one, what):
+def try_for(seconds: float, cases: Iterable[Any] | list[tuple[str, int, int]], try_one: Callable[..., Any], what: str) -> None:
     """Tries cases until the time is over and there were some, and tells how many became of each kind."""
     end, seen = time.monotonic() + seconds, collections.Counter()
     for case in cases:
@@ -48,30 +54,30 @@ def try_for(seconds, cases, try_one, what):
 class Trial:
     """A program, and a folder with the basis of the random scripts in which it runs."""
 
-    def __init__(self, program, folder):
+    def __init__(self, program: str, folder: str) -> None:
         self.program, self.folder = os.path.abspath(program), folder
         folder_for(folder, ROOT)
         self.known = {}  # Exact values that were worked out, by what they rest on.
 
-    def path(self, name):
+    def path(self, name: str) -> str:
         return os.path.join(self.folder, name)
 
-    def write(self, name, data):
+    def write(self, name: str, data: bytes) -> None:
         with open(self.path(name), "wb") as file:
             file.write(data)
 
-    def read(self, name):
+    def read(self, name: str) -> bytes:
         """What a file has, and nothing where there is none."""
         if not os.path.exists(self.path(name)):
             return b""
         with open(self.path(name), "rb") as file:
             return file.read()
 
-    def remove(self, name):
+    def remove(self, name: str) -> None:
         if os.path.exists(self.path(name)):
             os.remove(self.path(name))
 
-    def run(self, *words, script=b"", seconds=SECONDS):
+    def run(self, *words: Any, script: bytes = b"", seconds: int = SECONDS) -> tuple[int, str]:
         """The status, and what was printed."""
         try:
             ran = subprocess.run([self.program, *words], cwd=self.folder, input=script, capture_output=True, timeout=seconds)
@@ -83,17 +89,17 @@ class Trial:
         demand(not ran.stderr, f"{words}: on standard error stands {ran.stderr[:300]!r}")
         return ran.returncode, ran.stdout.decode("utf-8", "surrogateescape")
 
-    def basis(self):
+    def basis(self) -> list[BasisRow] | None:
         return read_basis(self.path("basis.csv"))
 
 
-def demand_answer(found, status, text, words):
+def demand_answer(found: tuple[int, str], status: int, text: str, words: list[bytes] | str) -> None:
     demand(found == (status, text), f"{words}: the answer is {found[0]}, {found[1][-300:]!r}, and must be {status}, {text[-300:]!r}")
 
 
 # --- journals ---
 
-def state_of(book, balances=None):
+def state_of(book: Book, balances: dict[str, int] | None = None) -> str:
     """What `state` prints of a book, with its own balances or these."""
     lines = []
     for it in book.policies.values():
@@ -103,7 +109,7 @@ def state_of(book, balances=None):
     return "\n".join([*lines, f"count,{len(book.commands)}"]) + "\n"
 
 
-def judge_journal(trial, data):
+def judge_journal(trial: Trial, data: bytes) -> str:
     """Any bytes as journal.life: the book that they hold or the cause of their refusal, and what stands there afterwards."""
     trial.write("journal.life", data)
     journal = read_journal(data)
@@ -116,7 +122,7 @@ def judge_journal(trial, data):
     return journal.refused.rsplit(",", 1)[0] or "opened"
 
 
-def state_from(checkpoint: Checkpoint, commands):
+def state_from(checkpoint: Checkpoint, commands: list[Command]) -> tuple[int, str]:
     """The status and text of `state` where it begins with these books, be they of this journal or not."""
     book, balances = Book(), dict(checkpoint.balances)
     book.policies = {policy.number: policy for policy in checkpoint.policies}
@@ -132,7 +138,7 @@ def state_from(checkpoint: Checkpoint, commands):
     return 0, state_of(book, balances)
 
 
-def judge_checkpoint(trial, data, book):
+def judge_checkpoint(trial: Trial, data: bytes, book: Book) -> str:
     """Any bytes as checkpoint.life beside the journal of the book: the state, and the checkpoint that is made then."""
     trial.write("journal.life", file_of(book.commands))
     trial.write("checkpoint.life", data)
@@ -158,7 +164,7 @@ def judge_checkpoint(trial, data, book):
     return "this book's" if wanted == (0, state_of(book)) else f"of another book, {wanted[0]}"
 
 
-def judge_posting(trial, data):
+def judge_posting(trial: Trial, data: bytes) -> str:
     """Any bytes as journal.life, and a script of one issue."""
     trial.write("journal.life", data)
     journal = read_journal(data)
@@ -183,7 +189,7 @@ def judge_posting(trial, data):
 
 # --- scripts ---
 
-def judge_script(trial, data):
+def judge_script(trial: Trial, data: bytes) -> str:
     """Any bytes as a script, on no journal: the place of the first fault, or a history of its lines."""
     trial.remove("journal.life")
     status, text = trial.run("run", script=data)
@@ -199,7 +205,7 @@ def judge_script(trial, data):
 
 # --- bases and tables ---
 
-def judge_values(trial, basis, book, wanted, data):
+def judge_values(trial: Trial, basis: list[BasisRow], book: Book, wanted: str, data: bytes) -> None:
     """The valuation of the book by a basis, or the line of the bad file where there is none. The measure is drawn from the
     bytes of the file."""
     measure = MEASURES[zlib.crc32(data) % len(MEASURES)]
@@ -212,7 +218,7 @@ def judge_values(trial, basis, book, wanted, data):
     check_block(rows, list(book.policies.values()), basis, {}, measure)
 
 
-def judge_basis(trial, data, book):
+def judge_basis(trial: Trial, data: bytes, book: Book) -> str:
     """Any bytes as basis.csv, beside right tables and the journal of the book."""
     trial.write("basis.csv", data)
     trial.write("journal.life", file_of(book.commands))
@@ -225,7 +231,7 @@ def judge_basis(trial, data, book):
     return wanted.rsplit(",", 1)[-1] or "taken"
 
 
-def judge_table(trial, data, book):
+def judge_table(trial: Trial, data: bytes, book: Book) -> str:
     """Any bytes as the table t.xml of a basis of one row, beside the journal of the book. Where an XML parser takes the
     file, what tools/life_tools/tables.py makes of it has to be the same."""
     trial.write("basis.csv", b"1900-01-01,t.xml,250\n")
@@ -242,7 +248,7 @@ def judge_table(trial, data, book):
     return wanted.rsplit(",", 1)[-1] or "taken"
 
 
-def demand_parsers_agree(data, table, wanted):
+def demand_parsers_agree(data: bytes, table: SelectTable | Table, wanted: str) -> None:
     try:
         found = read_table(data, "t.xml"), ""
     except NotXml:
@@ -254,7 +260,7 @@ def demand_parsers_agree(data, table, wanted):
 
 # --- words ---
 
-def judge_words(trial, words, script, book):
+def judge_words(trial: Trial, words: list[bytes], script: bytes, book: Book) -> str:
     """Any words, each as bytes, beside the journal of the book; the script is right, and has no valuation."""
     trial.write("journal.life", file_of(book.commands))
     found = trial.run(*words, script=script)

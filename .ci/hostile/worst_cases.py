@@ -5,11 +5,15 @@ usage: python3 worst_cases.py PROGRAM FOLDER PART [NAME..]
 The sizes are divided by PART, so that a case that isn't linear shows itself by two runs. Each line has the case, seconds,
 processor seconds, MiB at the most, the status and the last line printed. With names, just the cases that begin with one.
 """
+from __future__ import annotations
+
 import os
 import shutil
 import subprocess
 import sys
 import tempfile
+from collections.abc import Iterator
+from typing import Any
 
 from big_journals import WRITERS, write
 
@@ -19,7 +23,7 @@ GOOD = b'<XTbML><Table><Values><Axis><Y t="0">0.1</Y><Y t="1">1</Y></Axis></Valu
 AXIS = b"<XTbML><Table><Values><Axis>", b"</Axis></Values></Table></XTbML>"
 
 
-def filled(piece, size, head=b"", tail=b""):
+def filled(piece: Any, size: int, head: bytes = b"", tail: bytes = b"") -> Any:
     """So many bytes at the most: a head, a piece again and again, and a tail."""
     return head + piece * ((size - len(head) - len(tail)) // len(piece)) + tail
 
@@ -44,7 +48,7 @@ TABLES = {
 }
 
 
-def make_bases(folder, part, is_same):
+def make_bases(folder: str, part: Any, is_same: Any) -> None:
     """A basis of a thousand rows, of one name or of as many; each names a table of 4 MiB, which is one file on the disk."""
     rows = ROWS // part
     with open(os.path.join(folder, "t.xml"), "wb") as file:
@@ -57,12 +61,12 @@ def make_bases(folder, part, is_same):
                 os.link(os.path.join(folder, "t.xml"), os.path.join(folder, name))
 
 
-def write_file(folder, name, data):
+def write_file(folder: str, name: str, data: bytes) -> None:
     with open(os.path.join(folder, name), "wb") as file:
         file.write(data)
 
 
-def cases(part):
+def cases(part: Any) -> Iterator[Any]:
     """Each case as its name, the words, and what makes its files in a folder; a script is the file `script`."""
     for name, pieces in SCRIPTS.items():
         yield name, ["run"], lambda folder, pieces=pieces: write_file(folder, "script", filled(pieces[0], SCRIPT // part, *pieces[1:]))
@@ -70,7 +74,7 @@ def cases(part):
         yield name, ["value", "2021-01-01"], lambda folder, pieces=pieces: write_file(
             folder, "basis.csv", filled(pieces[0], FILE // part, *pieces[1:]))
     for name, pieces in TABLES.items():
-        def make(folder, pieces=pieces):
+        def make(folder: str, pieces: Any = pieces) -> None:
             write_file(folder, "basis.csv", b"1900-01-01,t.xml,0\n")
             write_file(folder, "t.xml", filled(pieces[0], FILE // part, *pieces[1:]))
         yield name, ["value", "2021-01-01"], make
@@ -82,7 +86,7 @@ def cases(part):
                 kind, RECORDS // part, os.path.join(folder, "journal.life"))
 
 
-def measured(program, folder, words):
+def measured(program: str, folder: str, words: list[str]) -> Any:
     """Seconds, processor seconds, MiB, status and last line. GNU time starts the program: a child of Python's own would be
     reckoned with the memory of Python."""
     path = lambda name: os.path.join(folder, name)
@@ -97,7 +101,7 @@ def measured(program, folder, words):
     return seconds, user + system, kibibytes / 1024, status, last
 
 
-def main():
+def main() -> None:
     program, folder, part, *names = sys.argv[1:]
     for name, words, make in cases(int(part)):
         if names and not name.startswith(tuple(names)):

@@ -7,11 +7,15 @@ policies, so that a valuation takes several reads and others post and trim betwe
 FOLDER, on a real disk, where a posting takes long and the others wait; three are made in QUICK. Where a run isn't right,
 its files are left.
 """
+from __future__ import annotations
+
 import collections
 import os
 import shutil
 import subprocess
 import sys
+import random
+from typing import Any
 
 from scripts import draws, folder_for, make_book, make_script, value_words, valued_on
 from life_tools.transcript_check import check
@@ -25,7 +29,7 @@ REASONS = 16
 MANY = 1200
 
 
-def bytes_of(path):
+def bytes_of(path: str) -> Any:
     """What a file has, and nothing where there is none."""
     if not os.path.exists(path):
         return b""
@@ -33,7 +37,7 @@ def bytes_of(path):
         return file.read()
 
 
-def run_pair(program, root, folder, seed, known, seen):
+def run_pair(program: str, root: str, folder: str, seed: int, known: Any, seen: Any) -> None:
     """Two scripts one after the other in a new folder."""
     folder_for(folder, root)
     path = lambda name: os.path.join(folder, name)
@@ -61,7 +65,7 @@ def run_pair(program, root, folder, seed, known, seen):
     shutil.rmtree(folder)
 
 
-def value_by_each(program, folder, draw, basis, known, seen):
+def value_by_each(program: str, folder: str, draw: random.Random, basis: str, known: Any, seen: Any) -> None:
     """Values what the scripts left, on a drawn day, by each measure."""
     policies = list(read_journal(bytes_of(os.path.join(folder, "journal.life"))).book.policies.values())
     on = valued_on(draw)
@@ -80,7 +84,7 @@ def value_by_each(program, folder, draw, basis, known, seen):
             seen[f"rows by {measure}"] += 1
 
 
-def count(text, accepted, seen):
+def count(text: str, accepted: Any, seen: Any) -> None:
     """What there was to be seen in a transcript."""
     changes, last = 0, None
     for line in printed_rows(text):
@@ -102,7 +106,7 @@ def count(text, accepted, seen):
     seen["changes of clerk"] += changes
 
 
-def main():
+def main() -> None:
     program, root, folder, quick, scripts = sys.argv[1:6]
     first, known, seen = int((sys.argv[6:] or ["0"])[0]), {}, collections.Counter()
     for pair in range(int(scripts) // 2):

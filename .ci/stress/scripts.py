@@ -3,6 +3,8 @@
 The clerks share policies, and most commands are near what the rules allow, so that each kind is accepted and refused for
 each reason. The office takes one clerk's turn after another, at random, and is written without the program.
 """
+from __future__ import annotations
+
 import os
 import random
 import sys
@@ -10,12 +12,17 @@ import sys
 sys.path.insert(0, os.path.join(os.path.dirname(os.path.abspath(__file__)), "..", "..", "tools"))
 import datetime
 import math
+from typing import Any
 
 from life_tools.commands import UPGRADE, Command, words_of
 from life_tools.formats import FIRST_DAY, LAST_DAY, money
 from life_tools.reserves import worth
 from life_tools.rules import EARLY, GRACE, REINSTATEMENT_ANNIVERSARIES, Book, Refusal, anniversary, end_of, missed_by
 from life_tools.script_lines import lanes_of, read_script
+from life_tools.reserves import InForce, PaidUp
+from life_tools.rules import Policy
+from life_tools.script_lines import Line
+from life_tools.tables import BasisRow
 
 BASIS = "2000-01-01,q.xml,0\n2010-01-01,m.xml,300\n2015-01-01,g.xml,400\n2018-01-01,select.xml,250\n"
 # a table of the ages 20 to 25, where one is likelier to die than not at 22
@@ -28,7 +35,7 @@ YOUNG = [(datetime.date(1999, 6, 1), (0, 1), (2,)), (datetime.date(2004, 2, 29),
          (datetime.date(2018, 2, 28), (0, 1, 2, 3), (2, 3, 4))]
 
 
-def make_issue(draw, number):
+def make_issue(draw: random.Random, number: int) -> Command:
     first, ages, years = draw.choice(YOUNG)
     plan, age = draw.choice(["term", "whole", "endowment", "limited"]), draw.choice(ages)
     return Command("issue", number, day=first + draw.randrange(400) * DAY, plan=plan, age=age,
@@ -36,7 +43,7 @@ def make_issue(draw, number):
                    premium=draw.randrange(1, 10**5))
 
 
-def days_near(draw, policy):
+def days_near(draw: random.Random, policy: Policy) -> datetime.date:
     """A day near one of those by which the policy's commands are judged."""
     due = anniversary(policy.issued, policy.paid)
     near = [due, due - EARLY, due + GRACE, anniversary(policy.issued, policy.paid + REINSTATEMENT_ANNIVERSARIES),
@@ -45,7 +52,7 @@ def days_near(draw, policy):
     return min(max(day, FIRST_DAY), LAST_DAY)
 
 
-def make_command(draw, book, number):
+def make_command(draw: random.Random, book: Book, number: int) -> Command:
     """A command on the policy, which would be accepted, or refused for a reason that is near."""
     policy = book.policies.get(number)
     if policy is None and draw.random() < 0.9:
@@ -74,40 +81,40 @@ def make_command(draw, book, number):
     return Command(kind, number, day, amount=amount, premium=premium)
 
 
-def next_premium(draw, policy, number):
+def next_premium(draw: random.Random, policy: Policy, number: int) -> Command:
     """The next premium, on a right day where there is one."""
     due = anniversary(policy.issued, policy.paid)
     day = max(due - draw.randrange(60) * DAY, policy.last)
     return Command("premium", number, min(day, LAST_DAY), amount=policy.premium)
 
 
-def book_policy(draw):
+def book_policy(draw: random.Random) -> Policy:
     """The policy of an issue that no book has."""
     return Book([make_issue(draw, 1)]).policies[1]
 
 
-def make_book(draw, count):
+def make_book(draw: random.Random, count: int) -> Book:
     """A book of so many policies, which no command has changed."""
     return Book(make_issue(draw, number) for number in range(1, count + 1))
 
 
-def row_of(lane, command):
+def row_of(lane: int, command: Command) -> str:
     return ",".join([str(lane), *words_of(command)])
 
 
-def valued_on(draw):
+def valued_on(draw: random.Random) -> datetime.date:
     """A day on which policies of each table have begun, and not all have ended."""
     return datetime.date(draw.choice([2003, 2006, 2007, 2013, 2014, 2017, 2019]), draw.randrange(1, 13), 28)
 
 
-def value_words(draw, on, measure):
+def value_words(draw: random.Random, on: str, measure: Any) -> Any:
     """The words of a valuation by a measure, with the number of workers, in a drawn order."""
     words = [[str(on)], ["--workers", draw.choice(["1", "2", "64"])], [] if measure == "terminal" else ["--" + measure]]
     draw.shuffle(words)
     return ["value", *(word for part in words for word in part)]
 
 
-def make_script(draw, book):
+def make_script(draw: random.Random, book: Book) -> str:
     """A script of 50 to 300 rows for the book, which is then the one that the rows would leave in their order."""
     rows, asked, size = [], 0, draw.randrange(50, 301)
     numbers = list(book.policies)[-20:] + [draw.randrange(1, 2**32) for _ in range(size // 12 + 1)]
@@ -141,12 +148,12 @@ def make_script(draw, book):
 class Office:
     """Runs a script: the clerks take turns at random, and the lines stand in the order of their first turns."""
 
-    def __init__(self, draw, book, basis, known):
+    def __init__(self, draw: random.Random, book: Book, basis: list[BasisRow], known: dict[tuple[datetime.date | int, ...], InForce | PaidUp]) -> None:
         self.draw, self.book, self.basis, self.known = draw, book, basis, known
         self.lines, self.live, self.floor = [], {}, 0
         self.accepted = self.premiums = 0
 
-    def run(self, script):
+    def run(self, script: str) -> str:
         left = lanes_of(read_script(script.encode()))
         while any(left.values()) or self.live:
             lane = self.draw.choice([lane for lane in left if left[lane] or lane in self.live])
@@ -160,7 +167,7 @@ class Office:
         self.lines.append(f"watcher,2,{self.accepted},{self.premiums}")
         return "\n".join(self.lines) + "\n"
 
-    def take(self, lane, line):
+    def take(self, lane: int, line: Line) -> None:
         count = len(self.book.commands)
         if line.kind == "trim":
             self.floor = min([position for position, _ in self.live.values()], default=count)
@@ -178,7 +185,7 @@ class Office:
         else:
             self.post(line)
 
-    def post(self, line):
+    def post(self, line: Line) -> None:
         command, after = line.command, self.book.decide(line.command)
         if isinstance(after, Refusal):
             self.lines.append(",".join([*line.head, "refused", *after.words()]))
@@ -188,7 +195,7 @@ class Office:
         self.accepted += 1
         self.premiums += command.amount if command.kind in ("premium", "reinstate") else 0
 
-    def show(self, line, position):
+    def show(self, line: Line, position: int) -> None:
         policies = Book(self.book.commands[:position]).policies
         self.lines.append(",".join([*line.head, str(position), str(len(policies))]))
         sums, words = [0, 0], 0
@@ -205,7 +212,7 @@ class Office:
         self.lines.append(f"total,{money(sums[0])},{money(sums[1])},{words}")
 
 
-def folder_for(path, root):
+def folder_for(path: str, root: str) -> None:
     """Puts the basis and its tables into a folder."""
     os.makedirs(path)
     for name in ("q.xml", "g.xml", "select.xml"):
@@ -218,5 +225,5 @@ def folder_for(path, root):
             file.write(text)
 
 
-def draws(seed):
+def draws(seed: int) -> random.Random:
     return random.Random(seed)

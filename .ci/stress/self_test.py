@@ -2,10 +2,15 @@
 
 usage: python3 self_test.py ROOT FOLDER
 """
+from __future__ import annotations
+
 import collections
 import os
 import re
 import sys
+from collections.abc import Callable, Iterator
+import random
+from typing import Any
 
 from scripts import Office, draws, folder_for, make_script
 from life_tools.transcript_check import check
@@ -18,31 +23,31 @@ SCRIPTS = 4
 PLACES = 6
 
 
-def cents_of(text):
+def cents_of(text: str) -> int:
     return int(text.replace(".", ""))
 
 
-def places(draw, lines, pattern):
+def places(draw: random.Random, lines: list[str], pattern: str) -> list[int]:
     """Some of the lines that are like the pattern."""
     found = [i for i, line in enumerate(lines) if re.search(pattern, line)]
     return draw.sample(found, min(PLACES, len(found)))
 
 
-def with_line(lines, i, line):
+def with_line(lines: list[str], i: int, line: str | None) -> list[str]:
     return lines[:i] + ([] if line is None else [line]) + lines[i + 1:]
 
 
-def with_field(line, place, change):
+def with_field(line: str, place: int, change: Callable[..., Any]) -> str:
     fields = line.split(",")
     fields[place] = change(fields[place])
     return ",".join(fields)
 
 
-def more(by):
+def more(by: int) -> Callable[..., Any]:
     return lambda text: str(int(text) + by)
 
 
-def cents_more(by):
+def cents_more(by: int) -> Callable[..., Any]:
     return lambda text: money(cents_of(text) + by)
 
 
@@ -78,7 +83,7 @@ LINES = [
 ]
 
 
-def changed_texts(draw, text):
+def changed_texts(draw: random.Random, text: str) -> Iterator[tuple[str, list[str]]]:
     """Each right transcript with one thing changed, and what."""
     lines = text.splitlines()
     for name, pattern, place, change in LINES:
@@ -97,7 +102,7 @@ def changed_texts(draw, text):
             yield "two lines of a clerk swapped", with_line(with_line(lines, i, lines[j]), j, lines[i])
 
 
-def changed_files(draw, file, before):
+def changed_files(draw: random.Random, file: bytes, before: bytes) -> Iterator[tuple[str, bytes]]:
     """The journal after the run with one thing changed, and what."""
     records = read_journal(file).commands
     for _ in range(PLACES):
@@ -112,7 +117,7 @@ def changed_files(draw, file, before):
     yield "the journal as it was before", before
 
 
-def main():
+def main() -> None:
     root, folder = sys.argv[1:]
     folder_for(folder, root)
     basis, known, refused = read_basis(os.path.join(folder, "basis.csv")), {}, collections.Counter()

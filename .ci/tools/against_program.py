@@ -3,10 +3,13 @@ have to say the same.
 
 usage: python3 against_program.py PROGRAM ROOT FOLDER
 """
+from __future__ import annotations
+
 import os
 import random
 import subprocess
 import sys
+from typing import Any
 
 ROOT = sys.argv[2]
 sys.path[:0] = [os.path.join(ROOT, "tools"), os.path.join(ROOT, ".ci", "stress")]
@@ -24,32 +27,32 @@ JOURNALS, SCRIPTS, TABLES, SELECT_TABLES = 150, 150, 200, 250
 class Program:
     """The program in a folder of its own."""
 
-    def __init__(self, program, folder):
+    def __init__(self, program: str, folder: str) -> None:
         self.program, self.folder = program, folder
         os.makedirs(folder)
 
-    def write(self, name, data):
+    def write(self, name: str, data: bytes) -> None:
         with open(os.path.join(self.folder, name), "wb") as file:
             file.write(data)
 
-    def remove(self, name):
+    def remove(self, name: str) -> None:
         path = os.path.join(self.folder, name)
         if os.path.exists(path):
             os.remove(path)
 
-    def run(self, *words, script=b""):
+    def run(self, *words: Any, script: bytes = b"") -> tuple[int, str]:
         ran = subprocess.run([self.program, *words], cwd=self.folder, input=script, stdout=subprocess.PIPE)
         return ran.returncode, ran.stdout.decode("ascii")
 
 
-def need(right, message):
+def need(right: bool, message: str) -> None:
     if not right:
         sys.exit(f"tools: {message}")
 
 
 # --- journals ---
 
-def drawn_journal(draw):
+def drawn_journal(draw: random.Random) -> bytes:
     """The bytes of a journal with something changed, cut off, put in or left as it is."""
     book = make_book(draw, draw.randrange(4))
     # which leaves the commands in the book that the script would have accepted
@@ -73,7 +76,7 @@ def drawn_journal(draw):
     return bytes(data)
 
 
-def judge_journal(program, data):
+def judge_journal(program: Program, data: bytes) -> int:
     program.write("journal.life", data)
     status, text = program.run("state")
     journal = read_journal(data)
@@ -90,7 +93,7 @@ def judge_journal(program, data):
 
 # --- scripts ---
 
-def drawn_script(draw):
+def drawn_script(draw: random.Random) -> bytes:
     """A script with something changed in a row or two."""
     rows = make_script(draw, Book()).split("\n")[:30]
     for _ in range(draw.randrange(3)):
@@ -107,7 +110,7 @@ def drawn_script(draw):
     return draw.choice(["\n", "\n", "\r\n", "\r", "\n\n"]).join(rows).encode() + draw.choice([b"", b"\n", b"\n\n"])
 
 
-def judge_script(program, data):
+def judge_script(program: Program, data: bytes) -> int:
     program.remove("journal.life")
     status, text = program.run("run", script=data)
     lines = read_script(data)
@@ -131,7 +134,7 @@ FACTORS = [None, None, "", "0", " 1.0 ", "1000", "1<!-- -->", " "]
 DECLARATIONS = ["", '<?xml version="1.0"?>', '<?xml version="1.0" encoding="utf-8"?>\n']
 
 
-def drawn_rows(draw, first, wrong):
+def drawn_rows(draw: random.Random, first: int, wrong: float) -> list[str]:
     """A few rows from a first age or duration on, of which one is wrong or strange with this chance."""
     rates = [draw.choice(RATES) for _ in range(draw.randrange(1, 4))]
     if draw.random() < wrong:
@@ -139,13 +142,13 @@ def drawn_rows(draw, first, wrong):
     return [f'<Y t="{first + place}">{rate}</Y>' for place, rate in enumerate(rates)]
 
 
-def with_factor(draw, factors, axes):
+def with_factor(draw: random.Random, factors: list[str | None], axes: str) -> str:
     factor = draw.choice(factors)
     scaling = "" if factor is None else f"<ScalingFactor>{factor}</ScalingFactor>"
     return f"<Table><MetaData>{scaling}</MetaData><Values>{axes}</Values></Table>"
 
 
-def drawn_table(draw):
+def drawn_table(draw: random.Random) -> bytes:
     """A table's file with something in it that is passed over, or that isn't right."""
     rows = drawn_rows(draw, draw.choice([0, 0, 5, 128]), 0.3)
     if draw.random() < 0.3:
@@ -156,7 +159,7 @@ def drawn_table(draw):
     return broken(draw, "".join([*head, "<XTbML>", *around, "</XTbML>", draw.choice(["", "\n", "<!-- -->"])]).encode())
 
 
-def drawn_issue_age(draw, age, is_inner):
+def drawn_issue_age(draw: random.Random, age: int, is_inner: bool) -> str:
     """The axis of an issue age with its rates in it, or in an axis in it."""
     rows = drawn_rows(draw, draw.choice([0, 1, 1]), 0.05)
     if draw.random() < 0.1:
@@ -166,7 +169,7 @@ def drawn_issue_age(draw, age, is_inner):
     return f'<Axis t="{label}">' + (f"<Axis>{text}</Axis>" if is_inner else text) + "</Axis>"
 
 
-def drawn_select_table(draw):
+def drawn_select_table(draw: random.Random) -> bytes:
     """A select table's file in one of the layouts, most with an ultimate table that begins at or near its ages."""
     first, is_inner = draw.choice([0, 0, 5, 128]), draw.random() < 0.6
     axes = "".join(drawn_issue_age(draw, first + place, is_inner) for place in range(draw.randrange(1, 4)))
@@ -180,7 +183,7 @@ def drawn_select_table(draw):
     return broken(draw, data) if draw.random() < 0.2 else data
 
 
-def broken(draw, data):
+def broken(draw: random.Random, data: bytes) -> bytes:
     """The file, at times cut short or with a piece changed."""
     what = draw.randrange(10)
     if what == 0:
@@ -193,7 +196,7 @@ def broken(draw, data):
     return data
 
 
-def judge_table(program, data):
+def judge_table(program: Program, data: bytes) -> str:
     """Whether the file is refused by both, or only an XML parser refuses it."""
     program.write("t.xml", data)
     status, text = program.run("value", "2021-01-01")
@@ -209,7 +212,7 @@ def judge_table(program, data):
     return "taken"
 
 
-def main():
+def main() -> None:
     draw = random.Random(7)
     program = Program(os.path.abspath(sys.argv[1]), sys.argv[3])
     program.write("basis.csv", b"1900-01-01,t.xml,0\n")

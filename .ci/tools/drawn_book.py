@@ -3,6 +3,8 @@ plans, statuses and ages around the ends of the tables, after commands that cler
 
 usage: python3 drawn_book.py ROOT SEED POLICIES SCRIPTS
 """
+from __future__ import annotations
+
 import os
 import random
 import shutil
@@ -15,7 +17,7 @@ from life_tools.journals import file_of
 from scripts import BASIS, MIDDLE, make_book, make_script
 
 
-def main():
+def main() -> None:
     seed, policies, scripts = map(int, sys.argv[2:])
     draw = random.Random(seed)
     book = make_book(draw, policies)

@@ -6,38 +6,40 @@ usage: python3 made_table.py FIRST LAST DURATIONS ULTIMATE_FIRST ULTIMATE_LAST
 The ultimate rate at age a is 600 a^3 units of 10^-9, at most 1. Those of an issue age begin at half of it and come nearer
 by a fiftieth with each duration; the last issue ages have as many as there are ages up to 130, and an empty Y for the rest.
 """
+from __future__ import annotations
+
 import sys
 
 ONE = 10**9
 
 
-def ultimate(age):
+def ultimate(age: int) -> int:
     return min(600 * age**3, ONE)
 
 
-def select(age, duration):
+def select(age: int, duration: int) -> int:
     return ultimate(age + duration) * min(25 + duration, 50) // 50
 
 
-def text(units):
+def text(units: int) -> str:
     return f"{units // ONE}.{units % ONE:09}".rstrip("0").rstrip(".")
 
 
-def row(label, units):
+def row(label: int, units: int) -> str:
     return f'<Y t="{label}">{text(units)}</Y>'
 
 
-def axis(name, first, last):
+def axis(name: str, first: int, last: int) -> str:
     return (f'<AxisDef id="{name}"><ScaleType tc="3">{name}</ScaleType><AxisName>{name}</AxisName><MinScaleValue>{first}</MinScaleValue>'
             f"<MaxScaleValue>{last}</MaxScaleValue><Increment>1</Increment></AxisDef>")
 
 
-def table(axes, values):
+def table(axes: list[str], values: list[str]) -> str:
     return ('  <Table>\n    <MetaData>\n      <ScalingFactor>0</ScalingFactor>\n      <DataType tc="2">Floating Point</DataType>\n      '
             + "\n      ".join(axes) + "\n    </MetaData>\n    <Values>\n" + "\n".join(values) + "\n    </Values>\n  </Table>")
 
 
-def main():
+def main() -> None:
     first, last, durations, ultimate_first, ultimate_last = map(int, sys.argv[1:])
     values = []
     for age in range(first, last + 1):

@@ -4,6 +4,8 @@ usage: python3 movements.py ROOT PROGRAM PAIRS SEED, in a folder with journal.li
 
 An independent sum stands beside each: the rows of the two valuations, read as plain lines.
 """
+from __future__ import annotations
+
 import contextlib
 import datetime
 import io
@@ -11,6 +13,7 @@ import os
 import random
 import subprocess
 import sys
+from typing import Any
 
 ROOT, PROGRAM = sys.argv[1:3]
 sys.path.insert(0, os.path.join(ROOT, "tools"))
@@ -20,13 +23,13 @@ from life_tools.entry import main
 FIRST, LAST = datetime.date(2000, 1, 1), datetime.date(2030, 12, 31)
 
 
-def printed_total(on, position):
+def printed_total(on: str, position: int) -> Any:
     """The last line of a valuation, as its fields."""
     ran = subprocess.run([PROGRAM, "value", str(on), "--at", str(position)], stdin=subprocess.DEVNULL, capture_output=True, text=True)
     return ran.stdout.splitlines()[-1].split(",")
 
 
-def analysed(*words):
+def analysed(*words: Any) -> Any:
     """What the entry prints, line by line: name, policies, lower, upper."""
     out = io.StringIO()
     with contextlib.redirect_stdout(out):
@@ -35,11 +38,11 @@ def analysed(*words):
     return status, lines
 
 
-def cents(text):
+def cents(text: str) -> Any:
     return int(text.replace(".", ""))
 
 
-def judge(draw, count):
+def judge(draw: random.Random, count: int) -> None:
     first, last = sorted(draw.randrange(count + 1) for _ in range(2))
     on1, on2 = sorted(FIRST + datetime.timedelta(draw.randrange((LAST - FIRST).days)) for _ in range(2))
     status, lines = analysed(str(on1), str(first), str(on2), str(last))
@@ -56,7 +59,7 @@ def judge(draw, count):
             sys.exit(f"{pair}: the lines add up to {moved} cents, and the closing reserve is {lines['closing reserve']}")
 
 
-def run():
+def run() -> None:
     draw = random.Random(int(sys.argv[4]))
     count = (os.path.getsize("journal.life") - 18) // 65
     for _ in range(int(sys.argv[3])):

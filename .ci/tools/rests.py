@@ -3,6 +3,8 @@ moment, and `rests` of tools/ is handed what a kill leaves: the script, the jour
 
 usage: python3 rests.py ROOT
 """
+from __future__ import annotations
+
 import os
 import random
 import sys
@@ -17,16 +19,19 @@ from life_tools.rests import History, NoRun, demand_records, rest_of
 from life_tools.rules import Book, Refusal
 from life_tools.script_lines import lanes_of, read_script
 from scripts import make_script
+from life_tools.commands import Command
+from life_tools.rules import Policy, Upgraded
+from life_tools.script_lines import Line
 
 RUNS, EQUAL_RUNS, CUTS = 8, 40, 6
 
 
-def need(right, message):
+def need(right: bool, message: str) -> None:
     if not right:
         sys.exit(f"tools: {message}")
 
 
-def answer_text(line, book, after):
+def answer_text(line: Line, book: Book, after: Policy | Refusal | Upgraded) -> str:
     """The line that tells of a row, as the program prints it; no policy is valued here."""
     count = len(book.commands)
     if line.kind == "trim":
@@ -40,7 +45,7 @@ def answer_text(line, book, after):
     return ",".join([*line.head, *words]) + "\n"
 
 
-def run_up_to(draw, lines, book, turns):
+def run_up_to(draw: random.Random, lines: list[Line], book: Book, turns: int) -> tuple[dict[int, int], dict[int, int], list[tuple[int, str]]]:
     """Each lane's number of answered rows after so many turns, its number up to the last accepted one, and the transcript:
     each answer's lane and text."""
     left, answered, shown, told = lanes_of(lines), {}, {}, []
@@ -59,7 +64,7 @@ def run_up_to(draw, lines, book, turns):
     return answered, shown, told
 
 
-def front_of(draw, told):
+def front_of(draw: random.Random, told: list[tuple[int, str]]) -> tuple[str, dict[int, int]]:
     """A front of a transcript that is cut anywhere, and how many of each lane's answers are whole in it."""
     whole = draw.randrange(len(told) + 1)
     part = told[whole][1][:draw.randrange(len(told[whole][1]))] if whole < len(told) else ""
@@ -69,13 +74,13 @@ def front_of(draw, told):
     return "".join(text for _, text in told[:whole]) + part, counts
 
 
-def is_a_run(lines, book, commands, rest):
+def is_a_run(lines: list[Line], book: Book, commands: list[Command], rest: dict[int, list[Line]]) -> bool:
     """Whether a run may leave these commands that answered just the rows that aren't in the rest, in some order of turns."""
     lanes = {lane: rows[:len(rows) - len(rest[lane])] for lane, rows in lanes_of(lines).items()}
     return can_leave(lanes, dict.fromkeys(lanes, 0), book, commands, set())
 
 
-def can_leave(lanes, at, book, commands, seen):
+def can_leave(lanes: dict[int, list[Line]], at: dict[int, int], book: Book, commands: list[Command], seen: set[tuple[int, tuple[int, ...]]]) -> bool:
     key = (len(book.commands), tuple(at.values()))
     if key in seen:
         return False
@@ -96,7 +101,7 @@ def can_leave(lanes, at, book, commands, seen):
     return False
 
 
-def judge_drawn(draw):
+def judge_drawn(draw: random.Random) -> None:
     """A script in which no two lanes have an equal posting: the rest is just what is known."""
     text, taken = [], {}
     for row in make_script(draw, Book()).splitlines():
@@ -117,19 +122,19 @@ def judge_drawn(draw):
                    {lane: max(shown.get(lane, 0), counts.get(lane, 0)) for lane in lanes_of(lines)}, text)
 
 
-def judge_rest(lines, rest, shown, text):
+def judge_rest(lines: list[Line], rest: dict[int, list[Line]], shown: dict[int, int], text: list[str]) -> None:
     for lane, rows in lanes_of(lines).items():
         need(len(rest[lane]) <= len(rows) - shown.get(lane, 0), f"lane {lane}: too much is left of {text}")
     need(is_short(lines, rest, shown), f"too little is left of {text}")
 
 
-def is_short(lines, rest, shown):
+def is_short(lines: list[Line], rest: dict[int, list[Line]], shown: dict[int, int]) -> bool:
     """Whether of each lane just the rows up to its last accepted one are taken as answered; equal rows of one lane may be
     taken for one another, which is a row that was refused for one that was accepted."""
     return all(lines_of[shown.get(lane, 0):] == rest[lane] or has_equal(lines_of) for lane, lines_of in lanes_of(lines).items())
 
 
-def has_equal(lines):
+def has_equal(lines: list[str]) -> bool:
     commands = [line.command for line in lines if line.command]
     return len(commands) != len(set(commands))
 
@@ -138,7 +143,7 @@ SETTLEMENTS = ("settle,1,2020-03-01,10.00", "settle,1,2020-03-01,20.00", "premiu
                "settle,2,2020-03-01,5.00", "trim", "value,2020-04-01,now,1")
 
 
-def judge_equal(draw):
+def judge_equal(draw: random.Random) -> None:
     """Few kinds of rows in three lanes, so that most stand in several: the rest has to be that of some run."""
     rows = [f"{draw.randrange(1, 4)},{draw.choice(SETTLEMENTS)}" for _ in range(draw.randrange(2, 12))]
     lines = read_script("\n".join(rows).encode())
@@ -160,7 +165,7 @@ def judge_equal(draw):
              f"rows that are printed in {front!r} are left")
 
 
-def judge_strange(draw):
+def judge_strange(draw: random.Random) -> None:
     """A journal that no run of the script leaves has to be refused."""
     lines = read_script(b"1,settle,1,2020-03-01,10.00\n2,settle,1,2020-03-01,10.00\n")
     opening = Book(line.command for line in read_script(b"1,issue,1,2020-01-01,whole,30,0,60.00,1.00\n1,claim,1,2020-02-01\n"))
@@ -174,7 +179,7 @@ def judge_strange(draw):
     judge_printed_strange(lines, opening.commands, command)
 
 
-def judge_printed_strange(lines, opening, command):
+def judge_printed_strange(lines: list[Line], opening: list[Command], command: Command) -> None:
     """What is printed as accepted and isn't in the journal is refused; a faulted line may be the journal's last."""
     printed = read_front("1,settle,1,accepted,3\n", lines)
     try:
@@ -196,7 +201,7 @@ def judge_printed_strange(lines, opening, command):
         sys.exit(f"tools: {text!r} is read as a front of another script's transcript")
 
 
-def main():
+def main() -> None:
     draw = random.Random(3)
     for _ in range(RUNS):
         judge_drawn(draw)
