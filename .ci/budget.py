@@ -47,10 +47,13 @@ def processes() -> Any:
     return found
 
 
-def crate_and_part(process: Any) -> Any:
+def crate_and_part(process: Process) -> tuple[str, str]:
     """What a prover works at: the crate, and one of PARTS. A seed is the proof of a crate that its edits begin with."""
     words = process.words
-    after = lambda flag: words[words.index(flag) + 1] if flag in words[:-1] else ""
+
+    def after(flag: str) -> str:
+        return str(words[words.index(flag) + 1]) if flag in words[:-1] else ""
+
     kept = re.search(r"/rt-edits-[^/]*/(\w+)$", after("--incremental"))
     if kept:
         part = "seeds" if kept[1] == "seed" else "edits"
@@ -73,12 +76,12 @@ def runs_checks(words: list[str]) -> Any:
 
 
 class Budget:
-    def __init__(self, shell: Any, log: str) -> None:
+    def __init__(self, shell: int, log: Path) -> None:
         self.shell, self.log, self.begun = shell, log, time.time()
-        self.ticks = {}  # Of each prover, and of each command of the shell.
-        self.works = {}  # What each prover works at.
-        self.there = set()  # The processes of the last look.
-        self.commands = {}  # The words of each command of the shell.
+        self.ticks: dict[Any, float] = {}  # Of each prover, and of each command of the shell.
+        self.works: dict[Any, tuple[str, str]] = {}  # What each prover works at.
+        self.there: set[Any] = set()  # The processes of the last look.
+        self.commands: dict[Any, list[str]] = {}  # The words of each command of the shell.
         crates = re.findall(r"^(\w+)[^#\n]*:", Path("crates.txt").read_text(), re.M)
         self.crates = len(crates)
         self.edits = len(list(Path("crates").glob("*/must-fail/*.edit")))
@@ -120,19 +123,23 @@ class Budget:
         line += f", NOT PROVED: {', '.join(failed)}" if failed else ""
         return f"gate: {(time.time() - self.begun) / 60:.0f} minutes: {line}"
 
-    def table(self) -> Any:
+    def table(self) -> str:
         """The processor seconds of each crate by part, and of the whole."""
-        of_crates = defaultdict(lambda: defaultdict(float))
-        tries = defaultdict(int)
+        of_crates: defaultdict[str, defaultdict[str, float]] = defaultdict(lambda: defaultdict(float))
+        tries: defaultdict[str, int] = defaultdict(int)
         for key, (crate, part) in self.works.items():
             of_crates[crate][part] += self.ticks[key] / TICKS
             tries[crate] += part == "edits"
         lines = ["gate: processor seconds", f"{'':20}" + "".join(f"{it:>10}" for it in (*PARTS, "all", "tried"))]
-        row = lambda name, of, tried: f"{name:20}" + "".join(f"{it:10.0f}" for it in (*(of[part] for part in PARTS), sum(of.values()))) + f"{tried:10}"
+
+        def row(name: str, of: dict[str, float], tried: object) -> str:
+            parts = (*(of[part] for part in PARTS), sum(of.values()))
+            return f"{name:20}" + "".join(f"{it:10.0f}" for it in parts) + f"{tried:10}"
+
         lines += [row(crate, of_crates[crate], tries[crate]) for crate in sorted(of_crates)]
         whole = {part: sum(of[part] for of in of_crates.values()) for part in PARTS}
         lines.append(row("all crates", whole, sum(tries.values())))
-        rest = checks = 0
+        rest = checks = 0.0
         for key, words in self.commands.items():
             if runs_checks(words):
                 checks += self.ticks[key] / TICKS

@@ -29,7 +29,8 @@ h2 { margin-top: 2.2rem; }
 h3 { font-size: 1.05rem; margin: 1.6rem 0 .2rem; }
 nav { border-bottom: 1px solid #8888; padding: .8rem 0; }
 nav a { margin-right: 1rem; display: inline-block; }
-pre { background: #8881; margin: .3rem 0 .8rem; padding: .5rem .7rem; border-radius: .3rem; font-size: .88rem; white-space: pre-wrap; }
+pre { background: #8881; margin: .3rem 0 .8rem; padding: .5rem .7rem; border-radius: .3rem; }
+pre { font-size: .88rem; white-space: pre-wrap; }
 .place { color: #666; font-size: .85rem; }
 .name { font-weight: 600; }
 p { margin: .3rem 0; }
@@ -119,7 +120,8 @@ class Pages:
 
     def definition(self, key: str, one: known.Definition) -> str:
         comment = f": {said(one.comment)}" if one.comment else ""
-        text = self.linked("\n".join(statements.bare("\n".join(one.lines)).splitlines()), self.public.texts.imports[one.place], one.place)
+        text = self.linked("\n".join(statements.bare("\n".join(one.lines)).splitlines()), self.public.texts.imports[one.place],
+                           one.place)
         return (f'<div id="{anchor(key)}"><p><span class="name">{html.escape(one.name)}</span>{comment} '
                 f'<span class="place">{place_of(one)}</span></p>\n<pre>{text}</pre></div>')
 
@@ -128,7 +130,7 @@ class Pages:
     def index(self) -> Iterator[str]:
         yield ("<h1>Clauses and definitions</h1>\n<p>Each public clause of each crate, and the definitions under it, as they "
                "stand in the files. docs/PROOF.md says what they promise together, and in which order they are read well. "
-               f'<a href="names.html">All names</a>, by letter.</p>')
+               '<a href="names.html">All names</a>, by letter.</p>')
         yield "<h2>How much is to be read</h2>"
         yield from table(counts.table_of(self.public))
         yield "<h2>The program</h2>\n<ul>"
@@ -153,7 +155,8 @@ class Pages:
 
 def anchor(key: str) -> str:
     """A definition's place in its page, of letters that an address keeps."""
-    return "".join(sign if sign.isalnum() and sign.isascii() or sign in "._" else f"-{ord(sign):x}" for sign in key.partition(".specs.")[2])
+    return "".join(sign if sign.isalnum() and sign.isascii() or sign in "._" else f"-{ord(sign):x}"
+                   for sign in key.partition(".specs.")[2])
 
 
 def anchor_of(one: Function) -> str:
@@ -215,8 +218,10 @@ def table(text: str) -> Iterator[str]:
 def write_page(path: pathlib.Path, title: str, parts: Iterable[str]) -> None:
     body = "\n".join(parts)
     path.write_text(f'<!DOCTYPE html>\n<html lang="en">\n<head>\n<meta charset="utf-8">\n<title>{title}: life</title>\n'
-                    f'<meta name="viewport" content="width=device-width, initial-scale=1">\n<style>{STYLE}</style>\n</head>\n<body>\n'
-                    '<nav aria-label="Pages"><a href="index.html">clauses and definitions</a><a href="names.html">names</a></nav>\n'
+                    f'<meta name="viewport" content="width=device-width, '
+                    f'initial-scale=1">\n<style>{STYLE}</style>\n</head>\n<body>\n'
+                    '<nav aria-label="Pages"><a href="index.html">clauses and definitions</a><a '
+                    'href="names.html">names</a></nav>\n'
                     f"<main>\n{body}\n</main>\n</body>\n</html>\n", encoding="utf-8")
 
 

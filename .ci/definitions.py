@@ -18,6 +18,8 @@ import sys
 TOP = pathlib.Path(__file__).resolve().parent.parent
 NAME = r"[^\s:{}()\[\],.;⦃⦄]+"
 USE = re.compile(r"use\s+Rattle\.([\w.]+)\.\{([^}]*)\}")
+BEGINS = re.compile(r"(?:(?:abbrev|unfoldable)\s+pub|pub\s+(?:record|data)|record|data|abbrev|unfoldable|pub)\s+"
+                    r"(?:record\s+|data\s+)?(" + NAME + ")")
 WORD = re.compile(r"(?<![.\w])[^\s:{}()\[\],.;⦃⦄×⊎λ→≡]+")
 
 
@@ -52,7 +54,8 @@ def place_of(file: pathlib.Path) -> str:
 
 def read_specs() -> tuple[dict[str, Definition], dict[str, dict[str, str]]]:
     """All definitions by key, and each file's imports."""
-    definitions, imports = {}, {}
+    definitions: dict[str, Definition] = {}
+    imports: dict[str, dict[str, str]] = {}
     for file in sorted(TOP.glob("crates/*/specs/**/*.antt")):
         if file.name in ("Lib.antt", "inside.antt"):
             continue
@@ -81,10 +84,12 @@ def read_file(place: str, text: str, definitions: dict[str, Definition]) -> None
             continue
         if indent == 0:
             indent_of_module = 0
-        begins = re.match(r"(?:(?:abbrev|unfoldable)\s+pub|pub\s+(?:record|data)|record|data|abbrev|unfoldable|pub)\s+(?:record\s+|data\s+)?(" + NAME + ")", bare)
+        begins = BEGINS.match(bare)
         private = re.match(r"(" + NAME + r")\s*:\s", bare)
         if indent == indent_of_module and (begins or private) and not bare.startswith("unfolding"):
-            name = (begins or private).group(1)
+            found = begins or private
+            assert found
+            name = found.group(1)
             key = f"{place}.{name}"
             if key not in definitions:
                 definitions[key] = Definition(place, name, number, above)
@@ -115,7 +120,8 @@ def roots_of(name: str, definitions: dict[str, Definition]) -> set[str]:
     return {name}
 
 
-def reach(roots: set[str], definitions: dict[str, Definition], imports: dict[str, dict[str, str]], given: set[str]) -> tuple[set[str], set[str]]:
+def reach(roots: set[str], definitions: dict[str, Definition], imports: dict[str, dict[str, str]],
+          given: set[str]) -> tuple[set[str], set[str]]:
     """All definitions, and all types of the code, that these rest on."""
     seen, types, open_names = set(), set(), set(roots)
     while open_names:

@@ -52,7 +52,8 @@ def words_of(text: str) -> int:
 
 def paragraphs_of(lines: list[str]) -> Iterator[tuple[int, str]]:
     """Each paragraph or item of a list with the number of its first line, and each row of a table as itself."""
-    fenced, begun, parts = False, 0, []
+    fenced, begun = False, 0
+    parts: list[str] = []
 
     def ended() -> Iterator[tuple[int, str]]:
         nonlocal parts
@@ -81,7 +82,7 @@ def paragraphs_of(lines: list[str]) -> Iterator[tuple[int, str]]:
     yield from ended()
 
 
-def wrong_in(page: str, text: str) -> Iterator[None]:
+def wrong_in(page: str, text: str) -> Iterator[tuple[int, str]]:
     """What is too long in a page, with its line."""
     for number, part in paragraphs_of(text.split("\n")):
         if part.startswith("|"):
@@ -100,7 +101,8 @@ def wrong_in(page: str, text: str) -> Iterator[None]:
 
 
 def main() -> int:
-    written = [*sorted(page.name for page in TOP.glob("*.md")), *sorted(str(page.relative_to(TOP)) for page in TOP.glob("docs/*.md"))]
+    written = [*sorted(page.name for page in TOP.glob("*.md")),
+               *sorted(str(page.relative_to(TOP)) for page in TOP.glob("docs/*.md"))]
     pages = sys.argv[1:] or written
     wrong, total = 0, 0
     for page in pages:

@@ -107,7 +107,10 @@ def given(calls: list[Call], name: str) -> bytes:
 
 
 def judge(calls: list[Call], before: bytes, after: bytes, printed: bytes, reads_script: bool) -> None:
-    of = lambda file: [call for call in calls if call.file == file]
+
+    def of(file: str) -> list[Call]:
+        return [call for call in calls if call.file == file]
+
     if replay(of("journal.life"), before) != after:
         raise Wrong("the journal doesn't hold what was written")
     taken = b"".join(call.data[:call.answer] for call in of("output") if call.word == "write")
@@ -147,7 +150,8 @@ def main(records: list[str]) -> int:
     refused = 0
     for name in records:
         before = Path(f"{name}.before")
-        ends = (before.read_bytes() if before.exists() else b"", Path(f"{name}.after").read_bytes(), Path(f"{name}.out").read_bytes())
+        ends = (before.read_bytes() if before.exists() else b"", Path(f"{name}.after").read_bytes(),
+                Path(f"{name}.out").read_bytes())
         reads_script = name in ("created", "again")
         calls = calls_of(Path(name))
         try:

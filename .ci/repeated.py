@@ -77,7 +77,10 @@ def repeated_runs() -> list[tuple[int, str, str]]:
     """The lines of each run, its place, and the place where it stood before."""
     files = sorted(file for part in ("specs", "proofs") for file in TOP.glob(f"crates/*/{part}/**/*.antt"))
     places, found = Places(), []
-    told = lambda file, at: f"{files[file].relative_to(TOP)}:{places.files[file][at][0]}"
+
+    def told(file: int, at: int) -> str:
+        return f"{files[file].relative_to(TOP)}:{places.files[file][at][0]}"
+
     for number, file in enumerate(files):
         for count, at, other, place in places.add(lines_of(file)):
             found.append((count, told(number, at), told(other, place)))
@@ -112,7 +115,8 @@ def main() -> int:
     if "--list" in sys.argv[1:]:
         for count, place, before in sorted(found, reverse=True):
             print(f"{count} lines: {place} as {before}")
-    told = f"{len(found)} runs of {LEAST_LINES} lines or more of specs and proofs stand twice, {sum(run[0] for run in found)} lines"
+    told = f"{len(found)} runs of {LEAST_LINES} lines or more of specs and proofs stand twice, "
+    told += f"{sum(run[0] for run in found)} lines"
     pairs = pairs_by_duplicates()
     if pairs is not None:
         told += f"; {pairs} pairs of places by `duplicates`"

@@ -56,7 +56,9 @@ class Sides:
     """The words of a statement that are shown for sure, those that may be, and those that are asked for."""
 
     def __init__(self) -> None:
-        self.sure, self.choice, self.asked = set(), set(), set()
+        self.sure: set[str] = set()
+        self.choice: set[str] = set()
+        self.asked: set[str] = set()
 
     def read(self, text: str, shown: bool = True, sure: bool = True) -> "Sides":
         parts = split(text, "→")

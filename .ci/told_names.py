@@ -32,7 +32,8 @@ def told_in(page: str) -> Iterator[Any]:
 def main() -> int:
     text = "\n".join(path.read_text(encoding="utf-8") for pattern in SOURCES for path in TOP.glob(pattern))
     names = set(re.findall(r"[A-Za-z]\w*", text))
-    files = {path.name for folder in (".ci", "bench", "crates", "docs", "tools", "examples", "tests") for path in (TOP / folder).rglob("*")}
+    files = {path.name for folder in (".ci", "bench", "crates", "docs", "tools", "examples", "tests")
+             for path in (TOP / folder).rglob("*")}
     looked, wrong = 0, 0
     for page in PAGES:
         for number, word in told_in(page):

@@ -42,6 +42,7 @@ EXCEPTIONS = {
     "Says nothing.": "program_endings.specs.Replies.AreAny",
 }
 
+
 class Texts:
     """All definitions of specs/, what each shows and asks for, and what its words mean."""
 

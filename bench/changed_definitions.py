@@ -24,7 +24,7 @@ from typing import Any
 TOP = os.path.realpath(os.path.join(os.path.dirname(os.path.abspath(__file__)), ".."))
 # The kit's own list of the words with which it calls its prover.
 sys.path.insert(0, os.path.dirname(os.path.realpath(shutil.which("rt") or "rt")))
-import rtlib  # pylint: disable=import-error,wrong-import-position
+import rtlib  # type: ignore[import]  # noqa: E402
 
 # what is changed; the file below crates/; what stands there and what is put in its place, in pairs; the crate that has the
 # worked case, and the case
@@ -88,7 +88,8 @@ CHANGES = [
      ["(word ≡ codes \"generate\")", "(word ≡ codes \"make\")"],
      "life_args", "worked::words_by_hand"),
     ("the last line tells the position asked for, and not the count", "valuing_modes/specs/Valuing.antt",
-     ["(codes \"refused,ahead,\" ++ decimal (length commands))", "(codes \"refused,ahead,\" ++ decimal (position_of at (length commands)))"],
+     ["(codes \"refused,ahead,\" ++ decimal (length commands))",
+      "(codes \"refused,ahead,\" ++ decimal (position_of at (length commands)))"],
      "valuing_modes", "worked::valuations_by_hand"),
     ("no run is ever cut", "life_app/specs/Runs.antt",
      ["  pub when : (run.answered ≡ []) ⊎ HasAnsweredSome g old run\n",
@@ -116,7 +117,7 @@ def copied_to(folder: str) -> None:
     shutil.copy(os.path.join(TOP, "crates.txt"), folder)
 
 
-def words_of(crate: str, changed: Any, folder: str) -> Any:
+def words_of(crate: Any, changed: Any, folder: str) -> Any:
     """The prover's words for a check of the crate in the copy, where the changed one and those above it are source."""
     below = crate.below()
     source = [it for it in below if it.name == changed or changed in [low.name for low in it.below()]]
@@ -192,7 +193,8 @@ def main() -> None:
     reader.add_argument("--logs", help="a folder for what the prover says of each change")
     reader.add_argument("numbers", type=int, nargs="*")
     given = reader.parse_args()
-    copies, bad = queue.Queue(), 0
+    copies: queue.Queue[str] = queue.Queue()
+    bad = 0
     with tempfile.TemporaryDirectory() as folder, concurrent.futures.ThreadPoolExecutor(given.processes) as pool:
         for number in range(given.processes):
             copied_to(f"{folder}/{number}")

@@ -1,25 +1,21 @@
 """Takes the rows of docs/FIGURES.md; see figures.sh."""
 from __future__ import annotations
 
-import collections
 import os
 import sys
 
 sys.path.insert(0, os.path.dirname(os.path.abspath(__file__)))
-import figures_lines
-import figures_opening
-import figures_postings
-import figures_reading
-import figures_tables
-import figures_tools
-import figures_value
-import timing
+import figures_lines  # noqa: E402
+import figures_opening  # noqa: E402
+import figures_postings  # noqa: E402
+import figures_reading  # noqa: E402
+import figures_tables  # noqa: E402
+import figures_tools  # noqa: E402
+import figures_value  # noqa: E402
+import timing  # noqa: E402
 
 FIGURES = figures_postings.FIGURES | figures_value.FIGURES | figures_opening.FIGURES | figures_reading.FIGURES
 FIGURES |= figures_tables.FIGURES | figures_lines.FIGURES | figures_tools.FIGURES
-
-# the program, a folder on a real disk, one in memory where there is any, and how many rounds
-Setting = collections.namedtuple("Setting", "program disk memory rounds")
 
 
 def main() -> None:
@@ -28,8 +24,8 @@ def main() -> None:
         if name not in FIGURES:
             sys.exit(f"no figure {name}; there are {' '.join(FIGURES)}")
     disk = os.path.realpath(os.environ.get("FOLDER", "."))
-    setting = Setting(os.environ["LIFE_PROGRAM"], disk, "/dev/shm" if os.path.isdir("/dev/shm") else disk,
-                      int(os.environ.get("ROUNDS", "5")))
+    setting = timing.Setting(os.environ["LIFE_PROGRAM"], disk, "/dev/shm" if os.path.isdir("/dev/shm") else disk,
+                             int(os.environ.get("ROUNDS", "5")))
     timing.watch()
     print("| what | figure | beside | script |\n|---|---|---|---|")
     for name in names:

@@ -20,7 +20,8 @@ class Arrivals:
     """One run whose output and journal are looked at again and again: by when a record stood, and by when its line was read."""
 
     def __init__(self, setting: timing.Setting, clerks: int) -> None:
-        self.records, self.lines = [], {}
+        self.records: list[Any] = []
+        self.lines: dict[int, Any] = {}
         with Folder(setting.disk) as folder:
             workload.write_lines(folder.at("script.csv"), workload.issue_lines(list(range(1, clerks + 1)), POSTINGS))
             gives, takes = os.pipe()
@@ -32,7 +33,7 @@ class Arrivals:
             os.close(gives)
             timing.need_right(run.wait(), [setting.program, "run"])
 
-    def look_on(self, folder: str, gives: Any) -> None:
+    def look_on(self, folder: timing.Folder, gives: Any) -> None:
         rest = b""
         while True:
             standing = (timing.size_of(folder.journal) - 18) // 65
@@ -56,7 +57,7 @@ class Arrivals:
         return [1000 * (when - self.records[position - 1]) for position, when in self.lines.items()]
 
 
-def lines(setting: timing.Setting) -> Iterator[Any]:
+def lines(setting: timing.Setting) -> Iterator[timing.Row]:
     found = timing.in_turn(setting.rounds, {n: lambda n=n: Arrivals(setting, n) for n in (1, 8)})
     first = {n: median([run.lines[1] - run.records[0] for run in runs]) * 1000 for n, runs in found.items()}
     middle = {n: median([median(run.behind()) for run in runs]) for n, runs in found.items()}
@@ -65,18 +66,18 @@ def lines(setting: timing.Setting) -> Iterator[Any]:
     yield ("with eight clerks", f"{first[8]:.2f} ms", f"the run's lines in the median {middle[8]:.2f} ms")
 
 
-def short_issues(clerks: int) -> Any:
+def short_issues(clerks: int) -> list[str]:
     """So many as a script of 16 MiB holds."""
     return [f"{1 + n % clerks},issue,{n + 1},2020-01-01,endowment,0,3,1000.00,400.00" for n in range(MANY)]
 
 
-def timed_run(setting: timing.Setting, script: bytes) -> Any:
+def timed_run(setting: timing.Setting, script: list[str]) -> timing.Run:
     with Folder(setting.memory) as folder:
         workload.write_lines(folder.at("script.csv"), script)
         return timing.timed([setting.program, "run"], folder.path, folder.at("script.csv"))
 
 
-def many(setting: timing.Setting) -> Iterator[Any]:
+def many(setting: timing.Setting) -> Iterator[timing.Row]:
     found = timing.in_turn(setting.rounds, {
         "one": lambda: timed_run(setting, short_issues(1)),
         "eight": lambda: timed_run(setting, short_issues(8)),

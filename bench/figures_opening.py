@@ -6,7 +6,6 @@ import os
 import shutil
 import sys
 from collections.abc import Iterator
-from typing import Any
 
 import timing
 import workload
@@ -15,11 +14,11 @@ from timing import Folder, median
 MILLION = 1000000
 
 
-def told(runs: int) -> str:
+def told(runs: list[timing.Run]) -> str:
     return f"{median(runs, 'clock'):.2f} s, {median(runs, 'peak'):.0f} MiB"
 
 
-def opening(setting: timing.Setting) -> Iterator[Any]:
+def opening(setting: timing.Setting) -> Iterator[timing.Row]:
     for count in (MILLION, 4 * MILLION):
         with Folder(setting.memory) as folder:
             plain = timing.build_plain("plain_opening", folder.path)
@@ -36,7 +35,7 @@ def opening(setting: timing.Setting) -> Iterator[Any]:
         yield f"`state ID` among {count:,} policies", told(found["one"]), alone
 
 
-def paid_policies(policies: int) -> Iterator[Any]:
+def paid_policies(policies: int) -> Iterator[bytes]:
     """Issues, and then the premiums of three years."""
     for number in range(1, policies + 1):
         yield workload.record(workload.ISSUE, number, 18262, (3, 30, 20), 100000 + number, 40000)
@@ -45,9 +44,10 @@ def paid_policies(policies: int) -> Iterator[Any]:
             yield workload.record(workload.PREMIUM, number, day, amount=40000)
 
 
-def take_checkpoints(setting: timing.Setting, folder: str, ages: int) -> Any:
+def take_checkpoints(setting: timing.Setting, folder: timing.Folder, ages: tuple[int, ...]) -> timing.Run:
     """Checkpoints that are so many commands old, and what it took to make that of all."""
-    records, runs = list(paid_policies(MILLION)), {}
+    records = list(paid_policies(MILLION))
+    runs: dict[int, timing.Run] = {}
     for age in ages:
         workload.write_journal(folder.journal, records[:len(records) - age])
         runs[age] = timing.timed([setting.program, "checkpoint"], folder.path)
@@ -56,7 +56,8 @@ def take_checkpoints(setting: timing.Setting, folder: str, ages: int) -> Any:
     return runs[0]
 
 
-def state_by(setting: timing.Setting, folder: str, age: int, texts: list[str]) -> Any:
+def state_by(setting: timing.Setting, folder: timing.Folder, age: int | None,
+             texts: set[bytes]) -> timing.Run:
     """A run of `state` by such a checkpoint, or by none; its text is kept to be compared."""
     used, written = folder.at("checkpoint.life"), folder.at("written")
     if os.path.exists(used):
@@ -69,8 +70,9 @@ def state_by(setting: timing.Setting, folder: str, age: int, texts: list[str]) -
     return run
 
 
-def checkpoint(setting: timing.Setting) -> Iterator[Any]:
-    ages, texts = (0, 1000, 100000), set()
+def checkpoint(setting: timing.Setting) -> Iterator[timing.Row]:
+    ages = (0, 1000, 100000)
+    texts: set[bytes] = set()
     with Folder(setting.memory) as folder:
         made = take_checkpoints(setting, folder, ages)
         found = timing.in_turn(setting.rounds, {

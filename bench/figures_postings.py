@@ -14,7 +14,7 @@ from timing import Folder, Watched, median
 BOOK, POSTINGS = 100000, 3000
 
 
-def fill(folder: str, book: Any) -> None:
+def fill(folder: timing.Folder, book: Any) -> None:
     if book:
         workload.write_journal(folder.journal, workload.drawn_policies(book))
 
@@ -35,7 +35,7 @@ def plain_rate(setting: timing.Setting) -> Any:
         return POSTINGS / timing.timed([plain, str(POSTINGS), "plain.life"], folder.path).clock
 
 
-def postings(setting: timing.Setting) -> Iterator[Any]:
+def postings(setting: timing.Setting) -> Iterator[timing.Row]:
     found = timing.in_turn(setting.rounds, {
         "C": lambda: plain_rate(setting),
         "one": lambda: rate(setting, 1),
@@ -64,7 +64,7 @@ def valuation(setting: timing.Setting, clerks: int) -> Any:
         return 1000 * Watched(setting.program, folder, lines).between_marks()
 
 
-def beside(setting: timing.Setting) -> Iterator[Any]:
+def beside(setting: timing.Setting) -> Iterator[timing.Row]:
     found = timing.in_turn(setting.rounds, {
         "alone": lambda: valuation(setting, 0),
         "six": lambda: valuation(setting, 6),
@@ -73,7 +73,7 @@ def beside(setting: timing.Setting) -> Iterator[Any]:
     yield (f"a valuation of {BOOK:,} policies while six clerks post", f"{six:.0f} ms", f"alone {alone:.0f} ms")
 
 
-def counted(setting: timing.Setting, folder: str, lines: list[str]) -> Any:
+def counted(setting: timing.Setting, folder: timing.Folder, lines: list[str]) -> Any:
     """How often a run of these lines writes, syncs and reads by place."""
     names, told = ["pwrite64", "fsync", "pread64"], folder.at("calls")
     workload.write_lines(folder.at("script.csv"), lines)
@@ -84,7 +84,7 @@ def counted(setting: timing.Setting, folder: str, lines: list[str]) -> Any:
     return [sum(int(row[3]) for row in rows if row and row[-1] == name) for name in names]
 
 
-def calls(setting: timing.Setting) -> Iterator[Any]:
+def calls(setting: timing.Setting) -> Iterator[timing.Row]:
     if not shutil.which("strace"):
         print("calls: strace isn't installed", file=sys.stderr)
         return
@@ -98,7 +98,7 @@ def calls(setting: timing.Setting) -> Iterator[Any]:
            f"a creation alone {' '.join(map(str, made))}; an opening alone {' '.join(map(str, opened))}")
 
 
-def load(setting: timing.Setting) -> Iterator[Any]:
+def load(setting: timing.Setting) -> Iterator[timing.Row]:
     with Folder(setting.disk) as folder:
         run = timing.timed([setting.program, "load", "1", str(BOOK), "8", "4"], folder.path)
         made = (os.path.getsize(folder.journal) - 18) // 65

@@ -30,17 +30,19 @@ def script_lines() -> Iterator[Any]:
         yield "1,mature,%d,%s" % (number, day)
 
 
-def longest_script(bad: Any) -> Any:
+def longest_script(bad: str) -> list[str]:
     """All lines that fit, and one at the end that is no line, so that nothing is posted."""
-    lines, size = [], len(bad) + 1
+    size = len(bad) + 1
+    lines: list[str] = []
     for line in script_lines():
         size += len(line) + 1
         if size > LONGEST:
-            return lines + [bad]
+            break
         lines.append(line)
+    return [*lines, bad]
 
 
-def seconds_of(words: list[str], folder: str, answer: Any, status: int) -> Any:
+def seconds_of(words: list[str], folder: timing.Folder, answer: Any, status: int) -> Any:
     begun = time.perf_counter()
     run = timing.start(words, folder.path, folder.at("script.csv"), folder.at("written"))
     ended = run.wait()
@@ -52,7 +54,7 @@ def seconds_of(words: list[str], folder: str, answer: Any, status: int) -> Any:
     return seconds
 
 
-def script(setting: timing.Setting) -> Iterator[Any]:
+def script(setting: timing.Setting) -> Iterator[timing.Row]:
     with Folder(setting.memory) as folder:
         plain = timing.build_plain("plain_script", folder.path)
         lines = longest_script("1,claim,1,2021-02-29")
@@ -66,7 +68,7 @@ def script(setting: timing.Setting) -> Iterator[Any]:
            f"a plain Rust loop {other:.0f} MB/s: {life / other:.2f}")
 
 
-def trims(setting: timing.Setting) -> Iterator[Any]:
+def trims(setting: timing.Setting) -> Iterator[timing.Row]:
     with Folder(setting.memory) as folder:
         count = LONGEST // len("1,trim\n")
         workload.write_lines(folder.at("script.csv"), ["1,trim"] * count)

@@ -45,7 +45,7 @@ def basis(first_day: Any) -> Any:
     return "".join("%s,%s,%d\n" % (day, "table-" + "x" * 40 + ".xml", 300 + i % 7) for i, day in enumerate(days))
 
 
-def readings(program: str, folder: str, name: str, times: Any) -> Any:
+def readings(program: str, folder: timing.Folder, name: str, times: Any) -> Any:
     """Seconds of the processor of so many readings of a file and a start, the least of five."""
     def once() -> Any:
         before = resource.getrusage(resource.RUSAGE_CHILDREN).ru_utime
@@ -55,7 +55,7 @@ def readings(program: str, folder: str, name: str, times: Any) -> Any:
     return min(once() for _ in range(5))
 
 
-def of_one(program: str, folder: str, name: str) -> Any:
+def of_one(program: str, folder: timing.Folder, name: str) -> Any:
     """Seconds of one reading, from so many that a start is little beside them."""
     more = 4
     while readings(program, folder, name, 1 + more) < 0.4:
@@ -80,7 +80,7 @@ def documents() -> Iterator[Any]:
         yield name, filled(filling)
 
 
-def tables(setting: timing.Setting) -> Iterator[Any]:
+def tables(setting: timing.Setting) -> Iterator[timing.Row]:
     program = timing.measure_program()
     with Folder(setting.memory) as folder:
         for what, text in documents():

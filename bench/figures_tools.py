@@ -17,18 +17,18 @@ MILLION = 1000000
 TOOLS = os.path.join(timing.ROOT, "tools", "life-tools")
 
 
-def tool(folder: str, *words: Any) -> Any:
+def tool(folder: timing.Folder, *words: Any) -> Any:
     return timing.timed([sys.executable, "-B", TOOLS, *words], folder.path)
 
 
-def due(setting: timing.Setting) -> Iterator[Any]:
+def due(setting: timing.Setting) -> Iterator[timing.Row]:
     with Folder(setting.memory) as folder:
         workload.write_journal(folder.journal, workload.drawn_policies(MILLION))
         runs = [tool(folder, "due", "2010-01-01") for _ in range(setting.rounds)]
     yield f"`due` over {MILLION:,} policies", told(runs), ""
 
 
-def rest(setting: timing.Setting) -> Iterator[Any]:
+def rest(setting: timing.Setting) -> Iterator[timing.Row]:
     """The rest of a run of eight lanes that was killed half-way: the journal has the first half of the rows."""
     rows = short_issues(8)
     with Folder(setting.memory) as folder:
@@ -39,7 +39,7 @@ def rest(setting: timing.Setting) -> Iterator[Any]:
     yield f"`rest` of {len(rows):,} rows of eight lanes, half of them answered", told(runs), ""
 
 
-def export(setting: timing.Setting) -> Iterator[Any]:
+def export(setting: timing.Setting) -> Iterator[timing.Row]:
     """A journal of as many commands, with a valuation of its policies."""
     with Folder(setting.memory) as folder:
         workload.write_journal(folder.journal, list(paid_policies(MILLION // 4)))
@@ -51,7 +51,7 @@ def export(setting: timing.Setting) -> Iterator[Any]:
            f"`csv` {told(found['csv'])}; `pandas` {told(found['pandas'])}")
 
 
-def exported(folder: str, form: Any) -> Any:
+def exported(folder: timing.Folder, form: Any) -> Any:
     made = folder.at("made")
     shutil.rmtree(made, ignore_errors=True)
     if os.path.exists(made):

@@ -7,7 +7,7 @@ import os
 import re
 import subprocess
 import sys
-from collections.abc import Iterator
+from collections.abc import Callable, Iterator
 from typing import Any
 
 import timing
@@ -18,7 +18,16 @@ MILLION = 1000000
 ON, BEFORE_ALL = "2020-12-31", "1999-12-31"
 
 
-def take_back(folder: str) -> None:
+class Filled(Folder):
+    """A folder whose journal was so long when it was filled."""
+
+    whole = 0
+
+    def __enter__(self) -> Filled:
+        return self
+
+
+def take_back(folder: Filled) -> None:
     """Takes the marks out of the journal."""
     with open(folder.journal, "r+b") as file:
         file.truncate(folder.whole)
@@ -26,7 +35,7 @@ def take_back(folder: str) -> None:
         file.write(b"\0")
 
 
-def in_run(setting: timing.Setting, folder: str, workers: int, day: int = ON) -> Any:
+def in_run(setting: timing.Setting, folder: Filled, workers: int, day: str = ON) -> float:
     """Seconds of a valuation between two postings of its clerk."""
     lines = timing.marked(1, workload.valuation_lines(1, 1, workers, day))
     seconds = Watched(setting.program, folder, lines).between_marks()
@@ -34,29 +43,31 @@ def in_run(setting: timing.Setting, folder: str, workers: int, day: int = ON) ->
     return seconds
 
 
-def filled(setting: timing.Setting, count: int) -> Any:
-    folder = Folder(setting.memory)
+def filled(setting: timing.Setting, count: int) -> Filled:
+    folder = Filled(setting.memory)
     workload.write_journal(folder.journal, workload.drawn_policies(count))
     folder.whole = os.path.getsize(folder.journal)
     return folder
 
 
-def plain_value(folder: str, plain: Any, workers: int) -> Any:
+def plain_value(folder: timing.Folder, plain: str, workers: int) -> float:
     """Seconds of the plain program's valuation alone, as it tells them."""
     with open(folder.journal, "rb") as journal:
         run = subprocess.run([plain, "g.xml", "400", str(workers)], stdin=journal, stdout=subprocess.DEVNULL,
                              stderr=subprocess.PIPE, cwd=folder.path, check=True, preexec_fn=timing.below_watcher)
-    return float(re.search(r"([0-9.]+) valued", run.stderr.decode()).group(1))
+    told = re.search(r"([0-9.]+) valued", run.stderr.decode())
+    assert told
+    return float(told[1])
 
 
-def told_whole(runs: int) -> str:
+def told_whole(runs: list[timing.Run]) -> str:
     return f"{median(runs, 'clock'):.2f} s, {median(runs, 'peak'):.0f} MiB"
 
 
-def workers(setting: timing.Setting) -> Iterator[Any]:
+def workers(setting: timing.Setting) -> Iterator[timing.Row]:
     with filled(setting, MILLION) as folder:
         plain = timing.build_plain("plain_value", folder.path)
-        ways = {("plain", n): lambda n=n: plain_value(folder, plain, n) for n in (1, 2, 4, 16)}
+        ways: dict[Any, Callable[..., float]] = {("plain", n): lambda n=n: plain_value(folder, plain, n) for n in (1, 2, 4, 16)}
         ways |= {("life", n): lambda n=n: in_run(setting, folder, n) for n in (1, 2, 4, 16)}
         ways["read"] = lambda: in_run(setting, folder, 1, BEFORE_ALL)
         found = timing.in_turn(setting.rounds, ways)
@@ -71,7 +82,7 @@ def workers(setting: timing.Setting) -> Iterator[Any]:
     yield f"`value` of {MILLION:,} policies by 4 workers, whole", told_whole(whole), ""
 
 
-def small(setting: timing.Setting) -> Iterator[Any]:
+def small(setting: timing.Setting) -> Iterator[timing.Row]:
     """Books so small that threads are most of their valuation."""
     for count in (1, 300):
         with filled(setting, count) as folder:
@@ -82,11 +93,11 @@ def small(setting: timing.Setting) -> Iterator[Any]:
                f"{1000 * median(found[64]):.1f} ms", f"by one {1000 * median(found[1]):.1f} ms")
 
 
-def timed_alone(setting: timing.Setting, folder: str, *words: Any) -> Any:
+def timed_alone(setting: timing.Setting, folder: timing.Folder, *words: Any) -> Any:
     return timing.from_last_read_to_first_write([setting.program, *words], folder.path)
 
 
-def measures(setting: timing.Setting) -> Iterator[Any]:
+def measures(setting: timing.Setting) -> Iterator[timing.Row]:
     count = 100000
     with filled(setting, count) as folder:
         found = timing.in_turn(setting.rounds, {
@@ -98,7 +109,7 @@ def measures(setting: timing.Setting) -> Iterator[Any]:
                f"terminal {1000 * each['terminal']:.0f} ms: {each['terminal'] / each[measure]:.2f} as many a second")
 
 
-def need_same_text(setting: timing.Setting, folder: str, *words: Any) -> None:
+def need_same_text(setting: timing.Setting, folder: timing.Folder, *words: Any) -> None:
     """However many workers there are, the text is the same."""
     texts = set()
     for number in (1, 4):
@@ -110,7 +121,7 @@ def need_same_text(setting: timing.Setting, folder: str, *words: Any) -> None:
         sys.exit(f"wrong: the text of {words} isn't the same for each number of workers")
 
 
-def project(setting: timing.Setting) -> Iterator[Any]:
+def project(setting: timing.Setting) -> Iterator[timing.Row]:
     with filled(setting, MILLION) as folder:
         need_same_text(setting, folder, "project", ON, "40")
         found = timing.in_turn(setting.rounds, {
@@ -130,7 +141,7 @@ def axis(rates: Any) -> Any:
     return "<Axis>%s</Axis>" % "".join('<Y t="%d">%s</Y>\n' % each for each in rates)
 
 
-def write_tables(folder: str) -> None:
+def write_tables(folder: timing.Folder) -> None:
     """A select and ultimate table of 100 issue ages and 25 durations, and its ultimate part alone."""
     ultimate = axis((age, rate(age)) for age in range(121))
     ages = "".join('<Axis t="%d">%s</Axis>\n' % (age, axis((d + 1, rate(age + d, 50 + 2 * d)) for d in range(25)))
@@ -140,12 +151,12 @@ def write_tables(folder: str) -> None:
     workload.write_lines(folder.at("select.xml"), ["<XTbML>%s%s</XTbML>" % (table % ages, table % ultimate)])
 
 
-def value_by(setting: timing.Setting, folder: str, table: str) -> Any:
+def value_by(setting: timing.Setting, folder: Filled, table: str) -> float:
     workload.write_lines(folder.at("basis.csv"), [f"1900-01-01,{table}.xml,400"])
     return in_run(setting, folder, 1)
 
 
-def select(setting: timing.Setting) -> Iterator[Any]:
+def select(setting: timing.Setting) -> Iterator[timing.Row]:
     for count in (20000, 100000, MILLION):
         with filled(setting, count) as folder:
             write_tables(folder)
@@ -154,7 +165,6 @@ def select(setting: timing.Setting) -> Iterator[Any]:
         ultimate, select_ = median(found["ultimate"]), median(found["select"])
         yield (f"valuation of {count:,} policies by a select table, one worker", f"{1000 * select_:.1f} ms",
                f"by its ultimate part alone {1000 * ultimate:.1f} ms: {ultimate / select_:.2f} as many a second")
-
 
     with filled(setting, MILLION) as folder:
         write_tables(folder)

@@ -19,10 +19,10 @@ from typing import Any
 
 sys.path.insert(0, os.path.join(os.path.dirname(os.path.dirname(os.path.abspath(__file__))), "tools"))
 
-from life_tools.checkpoints import checkpoint_in, checkpoint_of
-from life_tools.formats import Wrong, demand
-from life_tools.journals import file_of, read_journal
-from life_tools.script_lines import read_script
+from life_tools.checkpoints import checkpoint_in, checkpoint_of  # noqa: E402
+from life_tools.formats import Wrong, demand  # noqa: E402
+from life_tools.journals import file_of, read_journal  # noqa: E402
+from life_tools.script_lines import lines_in  # noqa: E402
 
 POLICIES = 1500
 JOURNAL, KEPT = "journal.life", "checkpoint.life"
@@ -62,7 +62,7 @@ class Office:
         made = self.start(words, script)
         time.sleep(delay)
         made.send_signal(signal.SIGKILL)
-        return made.wait() != 0
+        return bool(made.wait() != 0)
 
     def judge(self) -> None:
         """What the killed program left of both files, before anything is repaired."""
@@ -73,7 +73,8 @@ class Office:
         except Wrong:
             self.kinds["no file" if kept is None else "no checkpoint"] += 1
         else:
-            demand(checkpoint.position <= len(commands), f"a checkpoint of {checkpoint.position} commands, and {len(commands)} are there")
+            demand(checkpoint.position <= len(commands), f"a checkpoint of {checkpoint.position} commands, and "
+                                                         f"{len(commands)} are there")
             demand(checkpoint == checkpoint_of(commands[:checkpoint.position]), "a checkpoint of other books")
             self.kinds["of the count" if checkpoint.position == len(commands) else "older"] += 1
         stated = self.run(["state"])
@@ -98,7 +99,7 @@ def main() -> None:
     os.mkdir(folder)
     office = Office(program, folder)
     with open(office.path(JOURNAL), "wb") as file:
-        file.write(file_of(line.command for line in read_script(office.issues(POLICIES))))
+        file.write(file_of(line.posted for line in lines_in(office.issues(POLICIES))))
     span = seconds_of(office, ["checkpoint"])
     long = seconds_of(office, ["run"], office.issues(40))
     killed = 0

@@ -44,7 +44,7 @@ def kill_one(folder: str, first: int) -> tuple[list[list[int]], bytes]:
     numbers = range(first, first + CLERKS * POSTINGS_EACH)
     lanes = [[n for n in numbers if n % CLERKS == clerk] for clerk in range(CLERKS)]
     rows = "".join(f"{n % CLERKS + 1},issue,{n},2020-01-01,endowment,0,3,1000.00,400.00\n" for n in numbers)
-    run = subprocess.Popen([PROGRAM, "run"], cwd=folder, stdin=subprocess.PIPE, stdout=subprocess.PIPE)
+    run: Any = subprocess.Popen([PROGRAM, "run"], cwd=folder, stdin=subprocess.PIPE, stdout=subprocess.PIPE)
     run.stdin.write(rows.encode())
     run.stdin.close()
     time.sleep(random.uniform(0, LONGEST_SECONDS))
@@ -56,7 +56,8 @@ def kill_one(folder: str, first: int) -> tuple[list[list[int]], bytes]:
 
 def main(rounds: int, folder: str) -> None:
     random.seed(1)
-    journal, kept, cut, printed = os.path.join(folder, "journal.life"), [], 0, 0
+    journal, cut, printed = os.path.join(folder, "journal.life"), 0, 0
+    kept: list[Any] = []
     for number in range(rounds):
         lanes, answered = kill_one(folder, 1 + number * CLERKS * POSTINGS_EACH)
         left = policies_of(journal)
@@ -68,13 +69,15 @@ def main(rounds: int, folder: str) -> None:
         need(len(new) == len(set(new)) and len(new) <= CLERKS * POSTINGS_EACH, "a record stands twice")
         for line in answered.decode("latin-1").split("\n")[:-1]:
             fields = line.split(",")
-            need(fields[0] == "watcher" or left[int(fields[4]) - 1:][:1] == [int(fields[2])], "what was printed isn't there: " + line)
+            need(fields[0] == "watcher" or left[int(fields[4]) - 1:][:1] == [int(fields[2])],
+                 "what was printed isn't there: " + line)
         printed += bool(answered)
         cut += 0 < len(new) < CLERKS * POSTINGS_EACH
         state = subprocess.run([PROGRAM, "state"], cwd=folder, stdin=subprocess.DEVNULL, capture_output=True)
         need(state.returncode == 0 and state.stdout.endswith(b"\ncount,%d\n" % len(left)), "it opens to other records")
         kept = left
-    print(f"{rounds} runs of eight clerks killed, {cut} of them amid their postings, {printed} behind their first lines: nothing is lost")
+    print(f"{rounds} runs of eight clerks killed, {cut} of them amid their postings, {printed} behind their first lines: "
+          f"nothing is lost")
 
 
 main(int(sys.argv[1]), sys.argv[2])

@@ -85,11 +85,11 @@ def open_gates(image: bytes) -> int:
 class Office:
     """A folder with a journal, and the ids of its open records."""
 
-    def __init__(self, folder: str, start: None = None) -> None:
+    def __init__(self, folder: str, start: bytes | None = None) -> None:
         shutil.rmtree(folder, ignore_errors=True)
         os.mkdir(folder)
         self.folder = folder
-        self.kept = []
+        self.kept: list[int] = []
         if start is not None:
             with open(self.path(JOURNAL), "wb") as file:
                 file.write(start)
@@ -146,7 +146,7 @@ def judge_left(office: Office, asked: list[int]) -> tuple[str, int]:
     """What kind of file it is, and how many records are open."""
     image = office.image()
     kept = office.kept
-    printed = read_bytes(office.path("killed.out"))
+    printed = read_bytes(office.path("killed.out")) or b""
     if image is None or is_unfinished(image):
         need(not kept, "a journal of %d records is none any more" % len(kept))
         need(not printed, "the run had printed and left no journal")
@@ -179,11 +179,11 @@ def reopen(office: Office, count: int, new: int, drawn: int) -> None:
     wanted = "".join("1,issue,%d,refused,taken\n" % policy for policy in taken)
     wanted += "1,issue,%d,accepted,%d\n" % (new, count + 1)
     wanted += "watcher,1,1,1\nwatcher,2,1,0\n"
-    answered = read_bytes(office.path("reopened.out")).decode("latin-1")
+    answered = (read_bytes(office.path("reopened.out")) or b"").decode("latin-1")
     need(status == 0, "status %d on reopening, with %r" % (status, answered))
     need(answered == wanted, "the answers on reopening are %r, wanted %r" % (answered, wanted))
     office.kept = office.kept + [new]
-    image = office.image()
+    image = office.image() or b""
     need(image.startswith(front_of(office.kept)), "the records after reopening aren't those before and the new one")
     need(open_gates(image) == count + 1, "%d records are open after reopening" % open_gates(image))
     need(gate_of(count + 1) < len(image), "the last record after reopening has no gate behind it")
@@ -195,9 +195,9 @@ class Trial:
     def __init__(self, folder: str) -> None:
         self.folder = folder
         self.ids = Ids()
-        self.standing = None
-        self.unfinished = []
-        self.counts = []
+        self.standing: Office | None = None
+        self.unfinished: list[bytes] = []
+        self.counts: list[int] = []
         self.kinds = {"no file": 0, "creation": 0, "nothing staged": 0, "whole": 0, "torn": 0}
         self.late = 0
         self.span = self.seconds_of_a_run()
@@ -231,7 +231,7 @@ class Trial:
         kind, count = judge_left(office, asked)
         need(killed or count == before + len(asked), "a run that ended left %d records" % count)
         if kind == "creation":
-            self.unfinished.append(office.image())
+            self.unfinished.append(office.image() or b"")
         # The id of a body that was staged is as free as one that was never asked for.
         free = asked[count - before] if kind in ("whole", "torn") and draw.random() < 0.5 else self.ids.take(1)[0]
         reopen(office, count, free, draw.choice(office.kept or [0]))

@@ -5,7 +5,6 @@ tells of the other work. Where the machine doesn't give real-time priority, that
 """
 from __future__ import annotations
 
-import collections
 import os
 import resource
 import shutil
@@ -15,7 +14,8 @@ import subprocess
 import sys
 import tempfile
 import time
-from typing import Any
+from collections.abc import Callable, Mapping, Sequence
+from typing import Any, NamedTuple, TypeVar
 
 import workload
 
@@ -25,11 +25,29 @@ WATCHER = TIMED + 1
 FIRST_MARK, LAST_MARK = 4294967294, 4294967295
 ROOT = os.path.dirname(os.path.dirname(os.path.abspath(__file__)))
 
-# seconds by the clock, of the processors, and the most memory in MiB
-Run = collections.namedtuple("Run", "clock used peak")
+Value = TypeVar("Value")
+# a row of the table: what, the figure, beside what
+Row = tuple[str, str, str]
 
 
-def set_priority(level: Any) -> None:
+class Run(NamedTuple):
+    """Seconds by the clock, of the processors, and the most memory in MiB."""
+
+    clock: float
+    used: float
+    peak: float
+
+
+class Setting(NamedTuple):
+    """The program, a folder on a real disk, one in memory where there is any, and how many rounds."""
+
+    program: str
+    disk: str
+    memory: str
+    rounds: int
+
+
+def set_priority(level: int) -> None:
     os.sched_setscheduler(0, os.SCHED_FIFO, os.sched_param(level))
 
 
@@ -49,11 +67,12 @@ def below_watcher() -> None:
         set_priority(TIMED)
 
 
-def start_to(words: list[str], folder: str, given: Any, out: Any, told: Any = None) -> Any:
+def start_to(words: list[str], folder: str, given: Any, out: Any, told: Any = None) -> subprocess.Popen[bytes]:
     return subprocess.Popen(words, stdin=given, stdout=out, stderr=told, cwd=folder, preexec_fn=below_watcher)
 
 
-def start(words: list[str], folder: str, script: bytes = os.devnull, written: Any = os.devnull, told: Any = None) -> Any:
+def start(words: list[str], folder: str, script: str = os.devnull, written: str = os.devnull,
+          told: Any = None) -> subprocess.Popen[bytes]:
     with open(script, "rb") as given, open(written, "wb") as out:
         return start_to(words, folder, given, out, told)
 
@@ -63,7 +82,7 @@ def need_right(status: int, words: list[str]) -> None:
         sys.exit(f"wrong: status {status} of {' '.join(words)}")
 
 
-def timed(words: list[str], folder: str, script: bytes = os.devnull, written: Any = os.devnull) -> Any:
+def timed(words: list[str], folder: str, script: str = os.devnull, written: str = os.devnull) -> Run:
     before, begun = resource.getrusage(resource.RUSAGE_CHILDREN), time.perf_counter()
     run = start(["/usr/bin/time", "-f", "%M", *words], folder, script, written, subprocess.PIPE)
     told = run.communicate()[1]
@@ -73,20 +92,20 @@ def timed(words: list[str], folder: str, script: bytes = os.devnull, written: An
     return Run(clock, used, int(told.split()[-1]) / 1024)
 
 
-def in_turn(rounds: int, ways: Any) -> Any:
+def in_turn(rounds: int, ways: Mapping[Any, Callable[..., Value]]) -> dict[Any, list[Value]]:
     """What each way gives in so many rounds, every other round from the last to the first."""
-    found = {name: [] for name in ways}
+    found: dict[Any, list[Value]] = {name: [] for name in ways}
     for number in range(rounds):
         for name in list(ways) if number % 2 == 0 else list(ways)[::-1]:
             found[name].append(ways[name]())
     return found
 
 
-def median(values: list[float], part: Any = None) -> Any:
-    return statistics.median(values if part is None else [getattr(each, part) for each in values])
+def median(values: Sequence[Any], part: str | None = None) -> float:
+    return float(statistics.median(values if part is None else [getattr(each, part) for each in values]))
 
 
-def build_plain(name: str, folder: str) -> Any:
+def build_plain(name: str, folder: str) -> str:
     """A plain program of this folder, in Rust or C, to stand beside `life`."""
     built = os.path.join(folder, name)
     rust = os.path.join(ROOT, "bench", name + ".rs")
@@ -97,7 +116,7 @@ def build_plain(name: str, folder: str) -> Any:
     return built
 
 
-def measure_program() -> Any:
+def measure_program() -> str:
     """The program `measure`, which runs single functions of the crates again and again."""
     given = os.environ.get("MEASURE_PROGRAM")
     if given:
@@ -116,28 +135,28 @@ class Folder:
         workload.write_lines(self.at("basis.csv"), ["1900-01-01,g.xml,400"])
         self.journal = self.at("journal.life")
 
-    def at(self, name: str) -> Any:
+    def at(self, name: str) -> str:
         return os.path.join(self.path, name)
 
-    def __enter__(self) -> Any:
+    def __enter__(self) -> Folder:
         return self
 
-    def __exit__(self, *_: Any) -> None:
+    def __exit__(self, *_: object) -> None:
         shutil.rmtree(self.path)
 
 
-def size_of(path: str) -> Any:
+def size_of(path: str) -> int:
     try:
         return os.path.getsize(path)
     except OSError:
         return 0
 
 
-def mark(lane: int, number: int) -> Any:
+def mark(lane: int, number: int) -> list[str]:
     return [f"{lane},issue,{number},2020-01-01,endowment,30,20,1000.00,40.00"]
 
 
-def marked(lane: int, lines: list[str]) -> Any:
+def marked(lane: int, lines: list[str]) -> list[str]:
     """Lines between two postings that tell by when they ran."""
     return mark(lane, FIRST_MARK) + lines + mark(lane, LAST_MARK)
 
@@ -145,10 +164,11 @@ def marked(lane: int, lines: list[str]) -> Any:
 class Watched:
     """One run of a script: when the journal grew, when the marks stood in it, and how long the whole took."""
 
-    def __init__(self, program: str, folder: str, lines: list[str]) -> None:
+    def __init__(self, program: str, folder: Folder, lines: list[str]) -> None:
         script = folder.at("script.csv")
         workload.write_lines(script, lines)
-        self.grown, self.marks = [], {}
+        self.grown: list[tuple[float, int]] = []
+        self.marks: dict[int, float] = {}
         seen, begun = size_of(folder.journal), time.perf_counter()
         run = start([program, "run"], folder.path, script)
         while run.poll() is None:
@@ -158,7 +178,7 @@ class Watched:
         self.look(folder.journal, seen)
         need_right(run.returncode, [program, "run"])
 
-    def look(self, path: str, seen: Any) -> Any:
+    def look(self, path: str, seen: int) -> int:
         size = size_of(path)
         if size <= seen:
             return seen
@@ -173,22 +193,22 @@ class Watched:
         self.grown.append((now, (size - 18) // 65))
         return size
 
-    def postings_a_second(self) -> Any:
+    def postings_a_second(self) -> float:
         (begun, first), (end, last) = self.grown[0], self.grown[-1]
         return (last - first) / max(end - begun, 0.001)
 
-    def between_marks(self) -> Any:
+    def between_marks(self) -> float:
         return self.marks[LAST_MARK] - self.marks[FIRST_MARK]
 
 
-def counted_bytes(process: Any) -> Any:
+def counted_bytes(process: int) -> tuple[int, int]:
     """How many bytes a process has read and has written by now."""
     with open(f"/proc/{process}/io", encoding="ascii") as file:
         told = dict(line.split(": ") for line in file)
     return int(told["rchar"]), int(told["wchar"])
 
 
-def from_last_read_to_first_write(words: list[str], folder: str) -> Any:
+def from_last_read_to_first_write(words: list[str], folder: str) -> float:
     """Seconds of a run in which it neither reads nor writes: of a valuation with its text, or a projection."""
     run = start(words, folder)
     read, wrote, last_read = 0, 0, time.perf_counter()

@@ -3,8 +3,7 @@ from __future__ import annotations
 
 import os
 import struct
-from collections.abc import Iterator
-from typing import Any
+from collections.abc import Iterable, Iterator, Sequence
 
 HEADER = b"\x01LIFEJRNL\x00\x01\x00\x40\x00\x00\x00\x00"
 RECORD = struct.Struct(">BBBBBIiQQ36x")
@@ -19,16 +18,16 @@ class Draws:
     def __init__(self, seed: int) -> None:
         self.x = seed
 
-    def below(self, most: int) -> Any:
+    def below(self, most: int) -> int:
         self.x = (self.x * 1103515245 + 12345) % 2**31
         return self.x // 256 % most
 
 
-def record(kind: str, number: int, day: int, head: Any = (0, 0, 0), amount: int = 0, premium: int = 0) -> Any:
+def record(kind: int, number: int, day: int, head: tuple[int, int, int] = (0, 0, 0), amount: int = 0, premium: int = 0) -> bytes:
     return RECORD.pack(1, kind, *head, number, day, amount, premium)
 
 
-def write_journal(path: str, records: int) -> None:
+def write_journal(path: str, records: Iterable[bytes]) -> None:
     """A journal of these records, safe on the disk."""
     with open(path, "wb") as file:
         file.write(HEADER)
@@ -38,7 +37,7 @@ def write_journal(path: str, records: int) -> None:
         os.fsync(file.fileno())
 
 
-def drawn_policies(count: int, seed: int = 1) -> Iterator[Any]:
+def drawn_policies(count: int, seed: int = 1) -> Iterator[bytes]:
     """Issues of the workload, with numbers in a row."""
     draws = Draws(seed)
     for number in range(1, count + 1):
@@ -47,22 +46,22 @@ def drawn_policies(count: int, seed: int = 1) -> Iterator[Any]:
         yield record(ISSUE, number, day, (plan, age, 0 if plan == WHOLE else years), units * 100000, units * 2000)
 
 
-def like_policies(count: int) -> Iterator[Any]:
+def like_policies(count: int) -> Iterator[bytes]:
     """Issues that differ in their numbers alone, which are in a row."""
     body = record(ISSUE, 0, 18262, (3, 0, 3), 100000, 40000)
     for number in range(1, count + 1):
         yield body[:5] + number.to_bytes(4, "big") + body[9:]
 
 
-def issue_lines(lanes: Any, count: int, first: int = 1000001) -> Any:
+def issue_lines(lanes: Sequence[int], count: int, first: int = 1000001) -> list[str]:
     """So many lines of a script that issue policies, dealt to the lanes in turn."""
     return [f"{lanes[n % len(lanes)]},issue,{first + n},2020-01-01,endowment,30,20,1000.00,40.00" for n in range(count)]
 
 
-def valuation_lines(lane: int, count: int, workers: int = 1, day: str = "2020-12-31") -> Any:
+def valuation_lines(lane: int, count: int, workers: int = 1, day: str = "2020-12-31") -> list[str]:
     return [f"{lane},value,{day},now,{workers}"] * count
 
 
-def write_lines(path: str, lines: list[str]) -> None:
+def write_lines(path: str, lines: Iterable[str]) -> None:
     with open(path, "w", encoding="ascii") as file:
         file.writelines(line + "\n" for line in lines)

@@ -40,7 +40,7 @@ class Page:
 
     def anchors(self) -> list[str]:
         """The names by which headings are linked to."""
-        found = []
+        found: list[str] = []
         for line in self.lines:
             heading = re.match("#+ +(.*)", line)
             if heading:
@@ -55,7 +55,7 @@ def cells_of(line: str) -> int:
     return len(re.findall(r"(?<!\\)\|", line.strip())) - 1
 
 
-def wrong_tables(page: Page) -> Iterator[None]:
+def wrong_tables(page: Page) -> Iterator[tuple[int, str]]:
     """Rows of a table that stand apart from its head, or have another number of cells."""
     start = None
     for number, line in enumerate([*page.lines, ""]):
@@ -75,7 +75,7 @@ def wrong_tables(page: Page) -> Iterator[None]:
         start = None
 
 
-def wrong_lists(page: Page) -> Iterator[None]:
+def wrong_lists(page: Page) -> Iterator[tuple[int, str]]:
     """Items that run into the text before them, and numbers that don't go on."""
     last = None
     for number, line in enumerate(page.lines):
@@ -85,7 +85,7 @@ def wrong_lists(page: Page) -> Iterator[None]:
             # a line of text that begins with a number; only a 1 begins a list without a blank line
             item = None
         if item:
-            wanted = 1 if last is None else last + 1
+            wanted = (last or 0) + 1
             if int(item[1]) != wanted:
                 yield number + 1, f"item {item[1]} of a list where {wanted} is due"
             last = int(item[1])
@@ -97,7 +97,7 @@ def wrong_lists(page: Page) -> Iterator[None]:
             yield number + 1, "an item in the middle of a line"
 
 
-def wrong_links(root: str, page: Page, pages: dict[str, Page]) -> Iterator[None]:
+def wrong_links(root: str, page: Page, pages: dict[str, Page]) -> Iterator[tuple[int, str]]:
     """Links to files that aren't there, and to headings that no page has."""
     for number, line in enumerate(page.lines, 1):
         for target in re.findall(r"\]\(([^)\s]+)\)", re.sub("`[^`]*`", "", line)):
@@ -125,7 +125,7 @@ def printed_words(root: str) -> set[str]:
     return words - NOT_PRINTED
 
 
-def wrong_tests(root: str) -> Iterator[None]:
+def wrong_tests(root: str) -> Iterator[tuple[int, str]]:
     """Tests, their crates and checks that the page's limits name, and that aren't there."""
     with open(os.path.join(root, "docs", "FORMATS.md"), encoding="utf-8") as file:
         limits = file.read().split("\n## Limits\n")[1]
@@ -142,7 +142,7 @@ def wrong_tests(root: str) -> Iterator[None]:
         yield 0, f"there is no test {name}, which the limits name"
 
 
-def wrong_words(root: str) -> Iterator[None]:
+def wrong_words(root: str) -> Iterator[tuple[int, str]]:
     yield from wrong_tests(root)
     with open(os.path.join(root, "docs", "FORMATS.md"), encoding="utf-8") as file:
         known = {word for line in file for code in re.findall("`([^`]+)`", line) for word in re.findall("[a-z]+", code)}

@@ -29,7 +29,8 @@ class Command:
     """A documented command: where it stands, its text, and the lines that it is to print."""
 
     def __init__(self, page: str, line: int, text: str) -> None:
-        self.place, self.text, self.wanted = f"{page}:{line}", text, []
+        self.place, self.text = f"{page}:{line}", text
+        self.wanted: list[str] = []
 
 
 def commands_in(page: str, text: str) -> list[Command]:
@@ -74,8 +75,9 @@ class Session:
 
     def __init__(self, top: str, home: str) -> None:
         self.top = top
-        self.shell = subprocess.Popen(["sh"], cwd=top, stdin=subprocess.PIPE, stdout=subprocess.PIPE, stderr=subprocess.STDOUT,
-                                      start_new_session=True, env={**os.environ, "LC_ALL": "C", "HOME": home})
+        self.shell: Any = subprocess.Popen(["sh"], cwd=top, stdin=subprocess.PIPE, stdout=subprocess.PIPE,
+                                           stderr=subprocess.STDOUT,
+                                           start_new_session=True, env={**os.environ, "LC_ALL": "C", "HOME": home})
         os.set_blocking(self.shell.stdout.fileno(), False)
         self.send("status=0")
 
@@ -83,7 +85,7 @@ class Session:
         self.shell.stdin.write((text + "\n").encode())
         self.shell.stdin.flush()
 
-    def run(self, text: str) -> list[str]:
+    def run(self, text: str) -> list[str] | None:
         """The lines that a command prints, or none where it doesn't end."""
         # `$?` of a command is the status of the one before
         self.send(f"(exit $status); {{ {text}\n}} </dev/null; status=$?; printf '\\n{ENDED}\\n'")
@@ -129,7 +131,8 @@ def run_page(page: str, root: str, program: str, folder: str) -> tuple[int, list
     top = os.path.realpath(os.path.join(folder, page.replace("/", "-")))
     copy_repository(root, program, top)
     os.makedirs(top + ".home")
-    session, wrong = Session(top, top + ".home"), []
+    session = Session(top, top + ".home")
+    wrong: list[str] = []
     for command in commands:
         if command.text.startswith(PROVES):
             continue
@@ -147,7 +150,8 @@ def run_page(page: str, root: str, program: str, folder: str) -> tuple[int, list
 
 def main() -> None:
     program, root, folder, *pages = sys.argv[1:]
-    count, wrong = 0, []
+    count = 0
+    wrong: list[str] = []
     for page in pages:
         commands, found = run_page(page, root, os.path.abspath(program), folder)
         count += commands

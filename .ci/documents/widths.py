@@ -8,6 +8,7 @@ from __future__ import annotations
 
 import pathlib
 import sys
+from typing import Any
 
 from selenium import webdriver
 from selenium.webdriver.chrome.service import Service
@@ -23,14 +24,14 @@ return [...document.body.querySelectorAll("*")].filter(part => part.getBoundingC
 """
 
 
-def browser() -> webdriver.Chrome:
-    options = webdriver.ChromeOptions()
+def browser() -> Any:
+    options: Any = webdriver.ChromeOptions()
     for word in ("--headless=new", "--no-sandbox", "--disable-gpu", "--disable-dev-shm-usage", "--hide-scrollbars"):
         options.add_argument(word)
     return webdriver.Chrome(service=Service("/usr/bin/chromedriver"), options=options)
 
 
-def wrong_in(opened: webdriver.Chrome, page: pathlib.Path, width: int) -> list[str]:
+def wrong_in(opened: Any, page: pathlib.Path, width: int) -> list[str]:
     # a window has a least width, and a page that is emulated has none
     opened.execute_cdp_cmd("Emulation.setDeviceMetricsOverride",
                            {"width": width, "height": 900, "deviceScaleFactor": 1, "mobile": width < 500})

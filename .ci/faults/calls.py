@@ -14,18 +14,18 @@ import concurrent.futures
 import os
 import re
 import sys
-from dataclasses import dataclass
 from collections.abc import Iterator
+from dataclasses import dataclass
 from typing import Any
 
-from judge import (Wrong, commands_in, demand, demand_faults, demand_file, judge_early_end, judge_front, judge_transcript,
+from judge import (commands_in, demand_faults, demand_file, judge_early_end, judge_front, judge_transcript,
                    judge_unanswered, reason)
 from life_tools.journals import file_of
-from runs import JOURNAL, KEPT, Desk, read_bytes
-from scenes import SCENES, book_before, checkpoint_before
+from runs import JOURNAL, KEPT, Desk, Ended, read_bytes
+from scenes import SCENES, Scene, book_before, checkpoint_before
 from life_tools.tables import read_basis
-from runs import Ended
-from scenes import Scene
+from life_tools.formats import Wrong, demand
+from life_tools.reserves import Known
 
 AT_ONCE = 2
 KINDS = ["openat", "flock", "statx", "newfstatat", "pread64", "read", "pwrite64", "write", "fsync", "fdatasync"]
@@ -63,16 +63,18 @@ def file_of_call(desk: Desk, args: str) -> str | None:
     return next((file for file, names in names_in(desk).items() if path and path[1] in names), None)
 
 
-def is_record(call: re.Match[str]) -> bool | None:
+def is_record(call: re.Match[str]) -> bool:
     """Whether the call writes a body and the gate behind it."""
-    return call[2] == "pwrite64" and re.search(r", 65, \d+", call[3])
+    return call[2] == "pwrite64" and re.search(r", 65, \d+", call[3]) is not None
 
 
 def record(desk: Desk, words: list[str]) -> tuple[dict[Any, Any], collections.Counter[Any]]:
     """The calls of an undisturbed run: how many of each kind and file each thread makes, and how many open the journal."""
     kinds = ",".join([*KINDS, "clone3", "clone"])
     desk.run(words, ["strace", "-f", "-y", "-qq", "-o", desk.path("record"), "-e", f"trace={kinds}"])
-    found, opening, first = collections.defaultdict(collections.Counter), collections.Counter(), ""
+    found: dict[Any, collections.Counter[Any]] = collections.defaultdict(collections.Counter)
+    opening: collections.Counter[Any] = collections.Counter()
+    first = ""
     with open(desk.path("record"), errors="replace") as lines:
         for line in lines:
             call = re.match(r"(\d+) +(\w+)\((.*)", line)
@@ -106,11 +108,12 @@ class Trial:
         self.before = file_of(book_before().commands) if scene.has_journal else b""
         self.kept = checkpoint_before(scene.kept)
         desk = self.desk("recorded")
-        self.basis, self.known = read_basis(desk.path("basis.csv")), {}
+        self.basis = read_basis(desk.path("basis.csv"))
+        self.known: Known = {}
         self.undisturbed = desk.run(scene.words)
         self.lay(desk)
         self.found, self.opening = record(desk, scene.words)
-        self.seen = collections.Counter()
+        self.seen: collections.Counter[str] = collections.Counter()
 
     def desk(self, name: str) -> Desk:
         desk = Desk(self.program, os.path.join(self.folder, name))
@@ -190,7 +193,8 @@ def errors_of(target: Target) -> list[str]:
 
 def main() -> None:
     program, folder = sys.argv[1:3]
-    seen, trials = collections.Counter(), 0
+    seen: collections.Counter[str] = collections.Counter()
+    trials = 0
     for scene in SCENES:
         trial = Trial(program, os.path.join(folder, scene.name.replace(" ", "-")), scene)
         missing = [it for it in scene.makes if it not in trial.found]

@@ -15,13 +15,15 @@ import sys
 from concurrent.futures import ThreadPoolExecutor
 from typing import Any
 
-from judge import Wrong, demand, demand_faults, judge_early_end, judge_transcript, reason
+from judge import demand_faults, judge_early_end, judge_transcript, reason
 from life_tools.journals import file_of, read_journal
 from runs import JOURNAL, ROOT, Desk, read_bytes
 from life_tools.tables import read_basis
 
 sys.path.insert(0, os.path.join(ROOT, ".ci", "stress"))
-from scripts import draws, make_book, make_script
+from scripts import draws, make_book, make_script  # noqa: E402
+from life_tools.formats import Wrong, demand  # noqa: E402
+from life_tools.reserves import Known  # noqa: E402
 
 AT_ONCE = 2
 SCRIPTS, FAULTS_EACH = 4, 10
@@ -38,11 +40,12 @@ class Drawn:
         self.before = file_of(make_book(draw, 40).commands)
         self.script = make_script(draw, read_journal(self.before).book).encode()
         desk = self.desk("undisturbed")
-        self.basis, self.known = read_basis(desk.path("basis.csv")), {}
+        self.basis = read_basis(desk.path("basis.csv"))
+        self.known: Known = {}
         ended = desk.run(["run"], self.strace(desk, KINDS, []))
         judge_transcript(self.script, ended, self.before, self.basis, self.known)
         # by kind, how many calls the thread makes that makes most
-        self.most = collections.Counter()
+        self.most: collections.Counter[str] = collections.Counter()
         by_thread = collections.Counter(tuple(line.split("(")[0].split()[-2:]) for line in self.log(desk))
         for (thread, kind), count in by_thread.items():
             self.most[kind] = max(self.most[kind], count)

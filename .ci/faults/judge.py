@@ -9,27 +9,24 @@ from __future__ import annotations
 import os
 import re
 import sys
-import datetime
 from typing import Any
 
 sys.path.insert(0, os.path.join(os.path.dirname(os.path.abspath(__file__)), "..", "..", "tools"))
-from life_tools.transcript_check import Run, answers_in, is_block
-from life_tools.commands import words_of
-from life_tools.formats import Wrong, demand
-from life_tools.journals import read_journal
-from life_tools.rules import Book, Refusal
-from life_tools.script_lines import lanes_of, read_script
-from life_tools.commands import Command
-from life_tools.reserves import InForce
-from life_tools.script_lines import Line
-from life_tools.tables import BasisRow
-from runs import Ended
+from life_tools.transcript_check import Run, answers_in, is_block  # noqa: E402
+from life_tools.commands import Command, words_of  # noqa: E402
+from life_tools.formats import Wrong, demand  # noqa: E402
+from life_tools.journals import read_journal  # noqa: E402
+from life_tools.rules import Book, Refusal  # noqa: E402
+from life_tools.script_lines import Line, lanes_of, lines_in  # noqa: E402
+from life_tools.reserves import Known  # noqa: E402
+from life_tools.tables import BasisRow  # noqa: E402
+from runs import Ended  # noqa: E402
 
 # the last line of a run that ends before its lanes begin
 LAST_LINES = {6: "readfault\n", 8: "diskfault\n", 9: "nomemory\n"}
 
 
-def commands_in(data: bytes, what: str) -> list[Command] | None:
+def commands_in(data: bytes, what: str) -> list[Command]:
     """The commands of a file, which has to be a journal or an unfinished creation of one."""
     journal = read_journal(data)
     demand(not journal.refused, f"{what}: {journal.refused}: {journal.why}")
@@ -39,13 +36,13 @@ def commands_in(data: bytes, what: str) -> list[Command] | None:
 class FaultyRun(Run):
     """A run in which postings may be answered `fault` or `nomemory`, and valuations `nomemory`."""
 
-    def __init__(self, lines: list[Line], book: Book, basis: list[BasisRow], known: dict[tuple[datetime.date | int, ...], InForce]) -> None:
+    def __init__(self, lines: list[Line], book: Book, basis: list[BasisRow], known: Known) -> None:
         super().__init__(lines, book, basis, known)
         self.faults = self.unserved = 0
         # of the lines that were answered `fault` those behind which one was accepted
         self.recovered = 0
         # the commands that the file may hold beyond the accepted ones
-        self.in_doubt = []
+        self.in_doubt: list[Command] = []
 
     def post(self, head: list[str], line: Line, command: Command) -> None:
         if head == [*line.head, "nomemory"]:
@@ -68,9 +65,9 @@ class FaultyRun(Run):
             super().value(answer, line)
 
 
-def follow(script: bytes, text: str, before: bytes, basis: list[BasisRow], known: dict[tuple[datetime.date | int, ...], InForce]) -> FaultyRun | None:
+def follow(script: bytes, text: str, before: bytes, basis: list[BasisRow], known: Known) -> FaultyRun:
     """The run that a whole transcript tells; every line of the script has to be answered, and the auditors' lines right."""
-    run = FaultyRun(read_script(script), read_journal(before).book, basis, known)
+    run = FaultyRun(lines_in(script), read_journal(before).book, basis, known)
     answers, watchers = answers_in(text)
     for answer in answers:
         run.follow(answer)
@@ -91,7 +88,7 @@ def demand_file(after: bytes, accepted: list[Command], in_doubt: list[Command] |
     demand(len(more) <= 1 and all(it in in_doubt for it in more), f"more was posted than was answered: {more}")
 
 
-def judge_transcript(script: bytes, ended: Ended, before: bytes, basis: list[BasisRow], known: dict[tuple[datetime.date | int, ...], InForce]) -> FaultyRun | None:
+def judge_transcript(script: bytes, ended: Ended, before: bytes, basis: list[BasisRow], known: Known) -> FaultyRun:
     """A run that printed its transcript: its lines, its file and its status."""
     run = follow(script, ended.text, before, basis, known)
     demand_file(ended.after, run.book.commands, run.in_doubt)
@@ -110,9 +107,9 @@ def front_of(text: str) -> str:
     return "".join(line + "\n" for line in lines[:whole])
 
 
-def judge_front(script: bytes, text: str, before: bytes, after: bytes, basis: list[BasisRow], known: dict[tuple[datetime.date | int, ...], InForce]) -> FaultyRun:
+def judge_front(script: bytes, text: str, before: bytes, after: bytes, basis: list[BasisRow], known: Known) -> FaultyRun:
     """A run whose transcript is cut: what is whole of it is a front of one, and the file has what it tells was accepted."""
-    run = FaultyRun(read_script(script), read_journal(before).book, basis, known)
+    run = FaultyRun(lines_in(script), read_journal(before).book, basis, known)
     answers, watchers = answers_in(front_of(text))
     for answer in answers:
         run.follow(answer)
@@ -144,7 +141,8 @@ def demand_faults(run: FaultyRun, log: list[str]) -> None:
     syncs, others = failed_calls(log)
     if syncs:
         demand(run.recovered <= others < run.faults,
-               f"{run.faults} lines are answered fault, {run.recovered} before one is accepted; a sync failed, and {others} others")
+               f"{run.faults} lines are answered fault, {run.recovered} before one is accepted; a sync failed, and {others} "
+               f"others")
     else:
         demand(run.faults == others, f"{run.faults} lines are answered fault, and {others} calls failed")
 
@@ -166,17 +164,17 @@ def due_of(lines: list[Line], kept: list[Command]) -> list[Command]:
     for line in lines:
         after = book.decide(line.command) if line.command else None
         if after and not isinstance(after, Refusal):
-            book.take(line.command, after)
+            book.take(line.posted, after)
     return book.commands[len(kept):]
 
 
-def judge_unanswered(script: bytes, before: bytes, after: bytes, is_whole: bool) -> int | None:
+def judge_unanswered(script: bytes, before: bytes, after: bytes, is_whole: bool) -> int:
     """The file of a run that printed no transcript: of each clerk the first of what is accepted, or all of it."""
     kept, found = commands_in(before, "the file before"), commands_in(after, "the file afterwards")
     demand(found[:len(kept)] == kept, "a record from before is lost or another")
-    lanes = lanes_of(read_script(script))
+    lanes = lanes_of(lines_in(script))
     clerk_of = {line.command.number: lane for lane, lines in lanes.items() for line in lines if line.command}
-    of_clerk = {lane: [] for lane in lanes}
+    of_clerk: dict[int, list[Command]] = {lane: [] for lane in lanes}
     for command in found[len(kept):]:
         demand(command.number in clerk_of, f"a record was never asked for: {','.join(words_of(command))}")
         of_clerk[clerk_of[command.number]].append(command)
@@ -187,13 +185,13 @@ def judge_unanswered(script: bytes, before: bytes, after: bytes, is_whole: bool)
     return len(found) - len(kept)
 
 
-def judge_lacking(script: bytes, before: bytes, after: bytes) -> int | None:
+def judge_lacking(script: bytes, before: bytes, after: bytes) -> int:
     """The file of a run that wanted memory and printed no transcript: of each clerk some of its postings, in their order,
     each as the rules accept it behind those before it. One that wanted memory changes nothing, and the next may find it.
     """
     kept, found = commands_in(before, "the file before"), commands_in(after, "the file afterwards")
     demand(found[:len(kept)] == kept, "a record from before is lost or another")
-    lanes = lanes_of(read_script(script))
+    lanes = lanes_of(lines_in(script))
     clerk_of = {line.command.number: lane for lane, lines in lanes.items() for line in lines if line.command}
     unread = {lane: iter([line.command for line in lines if line.command]) for lane, lines in lanes.items()}
     for command in found[len(kept):]:

@@ -8,10 +8,11 @@ from __future__ import annotations
 import os
 from dataclasses import dataclass
 
-from judge import demand, demand_file, follow, judge_early_end, judge_front, judge_lacking
+from judge import demand_file, follow, judge_early_end, judge_front, judge_lacking
 from life_tools.reserves import Known
 from life_tools.tables import read_basis
 from runs import Desk, Ended
+from life_tools.formats import demand
 
 
 @dataclass

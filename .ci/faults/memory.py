@@ -17,11 +17,12 @@ import sys
 from concurrent.futures import ThreadPoolExecutor
 from typing import Any
 
-from judge import Wrong, demand, judge_lacking, reason
+from judge import judge_lacking, reason
 from lacking import Lacking, Mode
 from life_tools.journals import file_of
 from runs import Desk, is_preview, read_bytes
 from scenes import eight_clerks, many_policies
+from life_tools.formats import Wrong, demand
 
 AT_ONCE = 2
 KIB = 1024
@@ -45,9 +46,9 @@ def modes(program: str, folder: str) -> Any:
 
 
 class Trial(Lacking):
-    def __init__(self, program: str, folder: str, mode: str) -> None:
+    def __init__(self, program: str, folder: str, mode: Mode) -> None:
         super().__init__(program, folder, mode)
-        self.seen = collections.Counter()
+        self.seen: collections.Counter[str] = collections.Counter()
 
     def try_limit(self, kib: Any) -> Any:
         """What became of a run under this limit: a word."""
@@ -85,7 +86,7 @@ def limits(draw: random.Random) -> Any:
     return falling + drawn + [BESIDE + THREAD * (n % 8) + draw.randrange(50) * PAGE for n in range(DRAWN)]
 
 
-def least_loaded(trial: Any, words: list[str]) -> Any:
+def least_loaded(trial: Trial, words: dict[int, str]) -> int:
     """Between which limits, about, the program begins to be loaded."""
     below = max(kib for kib, word in words.items() if word == "not loaded")
     above = min(kib for kib, word in words.items() if word == "right")
@@ -98,7 +99,7 @@ def least_loaded(trial: Any, words: list[str]) -> Any:
     return below
 
 
-def try_mode(trial: Any, draw: random.Random) -> None:
+def try_mode(trial: Trial, draw: random.Random) -> None:
     """All limits, and then some between the greatest that doesn't load the program and the least right answer."""
     with ThreadPoolExecutor(AT_ONCE) as pool:
         tried = limits(draw)
@@ -113,7 +114,7 @@ def main() -> None:
     if is_preview(program):
         print("faults: a preview asks for more memory than any limit gives, so memory isn't tried; the proved program is")
         return
-    seen = collections.Counter()
+    seen: collections.Counter[str] = collections.Counter()
     for mode in modes(program, os.path.join(folder, "generated")):
         trial = Trial(program, os.path.join(folder, mode.name), mode)
         try_mode(trial, random.Random(f"{seed} {mode.name}"))

@@ -1,6 +1,7 @@
 """Runs of the program in a folder of its own: with a journal before, a script, and what stands in front of the program."""
 from __future__ import annotations
 
+from typing import Any
 import os
 import shutil
 import signal
@@ -9,8 +10,8 @@ import sys
 from dataclasses import dataclass
 
 sys.path.insert(0, os.path.join(os.path.dirname(os.path.abspath(__file__)), "..", "..", "tools"))
-from life_tools.formats import demand
-from life_tools.journals import read_journal
+from life_tools.formats import demand  # noqa: E402
+from life_tools.journals import read_journal  # noqa: E402
 
 ROOT = os.path.join(os.path.dirname(os.path.abspath(__file__)), "..", "..")
 JOURNAL = "journal.life"
@@ -79,7 +80,7 @@ class Desk:
             return subprocess.Popen([*before, self.program, *words], cwd=self.folder, stdin=script, stdout=out, stderr=err,
                                     preexec_fn=default_signals)
 
-    def ended(self, run: subprocess.Popen[bytes]) -> Ended:
+    def ended(self, run: Any) -> Ended:
         status = run.wait(LONGEST_SECONDS)
         told = read_bytes(self.path("err")).decode("utf-8", "replace").splitlines()
         complaints = "\n".join(line for line in told if not line.startswith("strace: Requested path"))

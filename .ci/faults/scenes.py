@@ -8,6 +8,7 @@ from life_tools.checkpoints import bytes_of_checkpoint, checkpoint_of
 from life_tools.commands import Command
 from life_tools.formats import day_in
 from life_tools.rules import Book
+from typing import Any
 
 # Two clerks whose policies are their own. The second has the policies of whole life, and asks for values. The last one's
 # lane is run by the first thread; each has postings that rest on earlier ones, and others that don't.
@@ -38,16 +39,16 @@ OPENS_KEPT = [(kind, KEPT) for kind in ("openat", "flock", "fsync", "statx")]
 @dataclass(frozen=True)
 class Scene:
     name: str
-    words: list
+    words: list[str]
     script: bytes
     has_journal: bool
-    makes: list
+    makes: list[Any]
     # of how many commands there is a checkpoint, if there is one
     kept: int | None = None
 
     @property
     def posts(self) -> bool:
-        return self.words[0] == "run"
+        return bool(self.words[0] == "run")
 
 
 def book_before() -> Book:
@@ -71,7 +72,8 @@ SCENES = [
     Scene("mean values", ["value", "2021-01-01", "--mean"], b"", True, OPENS + READS_BASIS + READS + [("write", "out")]),
     Scene("a projection", ["project", "2021-01-01", "3"], b"", True, OPENS + READS_BASIS + READS + [("write", "out")]),
     Scene("the state", ["state"], b"", True, OPENS + READS + OPENS_KEPT + [("write", "out")]),
-    Scene("the state behind a checkpoint", ["state"], b"", True, OPENS + OPENS_KEPT + READS + [("pread64", KEPT), ("write", "out")], 4),
+    Scene("the state behind a checkpoint", ["state"], b"", True,
+          OPENS + OPENS_KEPT + READS + [("pread64", KEPT), ("write", "out")], 4),
     Scene("a checkpoint", ["checkpoint"], b"", True, OPENS + OPENS_KEPT + READS + [("pwrite64", KEPT), ("write", "out")]),
     Scene("a later checkpoint", ["checkpoint"], b"", True,
           OPENS + OPENS_KEPT + READS + [("pread64", KEPT), ("pwrite64", KEPT), ("write", "out")], 3),

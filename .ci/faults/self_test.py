@@ -6,18 +6,18 @@ from __future__ import annotations
 
 import os
 import sys
-from dataclasses import replace
 from collections.abc import Callable
+from dataclasses import replace
 from typing import Any
 
-from judge import Wrong, demand, demand_faults, judge_early_end, judge_lacking, judge_transcript, judge_unanswered
+from judge import demand_faults, judge_early_end, judge_lacking, judge_transcript, judge_unanswered
 from lacking import Mode
 from life_tools.journals import RECORD_SIZE, file_of, read_journal
 from refused import Refused
-from runs import JOURNAL, Desk, read_bytes
+from runs import JOURNAL, Desk, Ended, read_bytes
 from scenes import ONE_CLERK, TWO_CLERKS, book_before
 from life_tools.tables import read_basis
-from runs import Ended
+from life_tools.formats import Wrong, demand
 
 
 def disturbed(program: str, folder: str, script: bytes, kind: str, when: int, file: str) -> tuple[Desk, bytes, Ended]:
@@ -65,7 +65,10 @@ def try_transcripts(program: str, folder: str) -> int:
     """A run of two clerks in which a sync failed, and what may not be made of it."""
     desk, before, ended = disturbed(program, folder, TWO_CLERKS, "fsync", 7, JOURNAL)
     basis = read_basis(desk.path("basis.csv"))
-    judge = lambda run: judge_transcript(TWO_CLERKS, run, before, basis, {})
+
+    def judge(run: Any) -> Any:
+        return judge_transcript(TWO_CLERKS, run, before, basis, {})
+
     run = judge(ended)
     demand(run.faults > 0, "no line is answered fault")
     demand_faults(run, log_of(desk))

@@ -15,11 +15,14 @@ import sys
 import time
 from typing import Any
 
-from judge import Wrong, demand, judge_front, judge_transcript, judge_unanswered, reason
+from judge import judge_front, judge_transcript, judge_unanswered, reason
 from life_tools.journals import file_of
 from runs import Desk, Ended, default_signals
 from scenes import eight_clerks, many_policies
 from life_tools.tables import read_basis
+from life_tools.formats import Wrong, demand
+from life_tools.reserves import Known
+from collections.abc import Sequence
 
 SIGNALS = [signal.SIGTERM, signal.SIGINT, signal.SIGKILL]
 RUNS, OPENINGS = 24, 12
@@ -49,7 +52,8 @@ class Runs:
     def __init__(self, program: str, folder: str) -> None:
         self.desk = Desk(program, folder)
         self.before, self.script = file_of(many_policies(BEFORE).commands), eight_clerks(EACH, BEFORE)
-        self.basis, self.known = read_basis(self.desk.path("basis.csv")), {}
+        self.basis = read_basis(self.desk.path("basis.csv"))
+        self.known: Known = {}
         self.desk.lay(self.before, self.script)
         self.span, ended = span_of(self.desk, ["run"])
         judge_transcript(self.script, ended, self.before, self.basis, self.known)
@@ -92,12 +96,12 @@ class Openings:
 def read_a_line(desk: Any, words: list[str]) -> Any:
     """Runs the program into a pipe of which one line is read, as `head -n 1` does; its status, and that line."""
     with open(desk.path("script.csv"), "rb") as script:
-        run = subprocess.Popen([desk.program, *words], cwd=desk.folder, stdin=script, stdout=subprocess.PIPE,
-                               stderr=subprocess.PIPE, preexec_fn=default_signals)
+        run: Any = subprocess.Popen([desk.program, *words], cwd=desk.folder, stdin=script, stdout=subprocess.PIPE,
+                                    stderr=subprocess.PIPE, preexec_fn=default_signals)
     line = run.stdout.readline()
     run.stdout.close()
     complaints = run.stderr.read()
-    demand(not complaints, f"on standard error: {complaints[:200]}")
+    demand(not complaints, f"on standard error: {complaints[:200]!r}")
     return run.wait(60), line.decode("ascii", "replace")
 
 
@@ -130,8 +134,8 @@ def try_pauses(desk: Any) -> None:
     """A run that is stopped, and goes on, while it waits for the rest of its input and for room in its output."""
     before, script = file_of(many_policies(4000).commands), eight_clerks(EACH, 4000)
     desk.lay(before)
-    run = subprocess.Popen([desk.program, "run"], cwd=desk.folder, stdin=subprocess.PIPE, stdout=subprocess.PIPE, bufsize=0,
-                           preexec_fn=default_signals)
+    run: Any = subprocess.Popen([desk.program, "run"], cwd=desk.folder, stdin=subprocess.PIPE, stdout=subprocess.PIPE, bufsize=0,
+                                preexec_fn=default_signals)
     run.stdin.write(script[:1000])
     pause(run)
     run.stdin.write(script[1000:])
@@ -143,7 +147,7 @@ def try_pauses(desk: Any) -> None:
     judge_transcript(script, ended, before, read_basis(desk.path("basis.csv")), {})
 
 
-def try_all(trials: int, tries: Any, draw: random.Random) -> None:
+def try_all(trials: Sequence[Any], tries: int, draw: random.Random) -> None:
     for number in range(tries):
         trial = trials[number % len(trials)]
         try:

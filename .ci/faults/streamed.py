@@ -16,17 +16,18 @@ import sys
 import time
 from typing import Any
 
-from judge import demand, judge_front, judge_transcript, judge_unanswered
+from judge import judge_front, judge_transcript, judge_unanswered
 from life_tools.journals import file_of
-from life_tools.tables import read_basis
+from life_tools.tables import BasisRow, read_basis
 from runs import Desk, Ended, default_signals
 from scenes import eight_clerks, many_policies
-from life_tools.tables import BasisRow
+from life_tools.formats import demand
+from life_tools.reserves import Known
 
 LINES, BEFORE, EACH, MANY = 20000, 150, 60, 500
 
 
-def started(desk: Desk, words: list[str]) -> subprocess.Popen[bytes]:
+def started(desk: Desk, words: list[str]) -> Any:
     with open(desk.path("script.csv"), "rb") as script:
         return subprocess.Popen([desk.program, *words], cwd=desk.folder, stdin=script, stdout=subprocess.PIPE, bufsize=0,
                                 preexec_fn=default_signals)
@@ -72,7 +73,7 @@ def try_left_reader(desk: Desk, before: bytes) -> None:
     judge_unanswered(script, before, desk.journal(), True)
 
 
-def wait_for_records(desk: Desk, run: subprocess.Popen[bytes], count: int) -> None:
+def wait_for_records(desk: Desk, run: Any, count: int) -> None:
     while run.poll() is None and os.path.getsize(desk.path("journal.life")) < 18 + 65 * count:
         time.sleep(0.0002)
 
@@ -82,7 +83,8 @@ def try_kills(desk: Desk, before: bytes, script: bytes, basis: list[BasisRow], d
     desk.lay(before, script)
     begun = time.perf_counter()
     desk.run(["run"])
-    span, printed, known = time.perf_counter() - begun, 0, {}
+    span, printed = time.perf_counter() - begun, 0
+    known: Known = {}
     for number in range(kills):
         desk.lay(before, script)
         run = desk.start(["run"])

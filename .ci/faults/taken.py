@@ -15,11 +15,12 @@ import sys
 import time
 from typing import Any
 
-from judge import Wrong, commands_in, demand, demand_file, follow, reason
+from judge import commands_in, demand_file, follow, reason
 from life_tools.journals import RECORD_SIZE, file_of, read_journal
 from runs import JOURNAL, Desk, read_bytes, write_bytes
 from scenes import ONE_CLERK, book_before
-from life_tools.tables import read_basis
+from life_tools.tables import BasisRow, read_basis
+from life_tools.formats import Wrong, demand
 
 AT_ONCE = 4
 # a call is held up for so long, in microseconds; the deed is done once the file has stood still for so long, in seconds
@@ -72,7 +73,7 @@ def held_up(desk: Any, kind: str, k: Any) -> Any:
     return desk.start(["run"], ["strace", "-f", "-qq", "-o", desk.path("log"), "-P", desk.path(JOURNAL), "-P", JOURNAL, *hold])
 
 
-def judge(ended: Any, before: Any, kept: Any, was_cut: Any, basis: str) -> Any:
+def judge(ended: Any, before: Any, kept: Any, was_cut: bool, basis: list[BasisRow]) -> int:
     """Nothing is accepted behind the first fault, and what was is kept; tells how many lines met one."""
     demand(ended.status == 8, f"status {ended.status}, wanted 8; printed {ended.text[:200]!r}")
     if ended.text == "diskfault\n":
@@ -136,7 +137,8 @@ def main() -> None:
         runs = [pool.submit(try_one, program, os.path.join(folder, str(n)), *it) for n, it in enumerate(tried)]
         faults = sum(run.result() for run in runs)
     try_a_link(program, os.path.join(folder, "link"))
-    print(f"faults: {len(tried)} runs whose journal was removed, renamed, replaced or cut end with 8, {faults} lines are answered "
+    print(f"faults: {len(tried)} runs whose journal was removed, renamed, replaced or cut end with 8, {faults} lines are "
+          f"answered "
           "fault, and none behind them is accepted; a symbolic link is followed")
 
 

@@ -16,9 +16,9 @@ from typing import Any
 
 sys.path.insert(0, os.path.join(os.path.dirname(os.path.abspath(__file__)), "..", "..", "tools"))
 
-from life_tools.commands import LAST_AGE, Command
-from life_tools.formats import MOST_CENTS
-from life_tools.journals import EMPTY, FIRST_GATE, RECORD_SIZE, file_of
+from life_tools.commands import LAST_AGE, Command  # noqa: E402
+from life_tools.formats import MOST_CENTS  # noqa: E402
+from life_tools.journals import EMPTY, FIRST_GATE, RECORD_SIZE, file_of  # noqa: E402
 
 DAY = datetime.date(2020, 1, 1)
 BLOCK = 65_536
@@ -30,7 +30,8 @@ def record_of(command: Any) -> Any:
     return file_of([command])[FIRST_GATE:FIRST_GATE + RECORD_SIZE]
 
 
-def issue(number: int, plan: str = "endowment", age: int = 0, years: int = 3, amount: int = 100_000, premium: int = 40_000) -> Any:
+def issue(number: int, plan: str = "endowment", age: int = 0, years: int = 3, amount: int = 100_000,
+          premium: int = 40_000) -> Any:
     return Command("issue", number, DAY, plan, age, years, amount, premium)
 
 
@@ -71,7 +72,8 @@ def write_premiums(file: Any, count: int) -> None:
     file.write(record_of(issue(1, "whole", years=0)))
     for year in range(LAST_AGE):
         file.write(record_of(Command("premium", 1, DAY.replace(year=DAY.year + year), amount=40_000)))
-    write_repeated(file, record_of(Command("premium", 1, DAY.replace(year=DAY.year + LAST_AGE), amount=40_000)), count - 1 - LAST_AGE)
+    write_repeated(file, record_of(Command("premium", 1, DAY.replace(year=DAY.year + LAST_AGE), amount=40_000)),
+                   count - 1 - LAST_AGE)
 
 
 def write_settlements(file: Any, count: int) -> None:

@@ -3,9 +3,9 @@ program has to answer it as docs/FORMATS.md says.
 
 usage: python3 changed_bytes.py PROGRAM FOLDER SECONDS PART PARTS [SEED]
 
-The files are a journal of forty records of all kinds, its script, a basis file, a table and a select table. The cases are taken in an
-order drawn by the seed, one part of so many, until the time is over and there were two hundred; where SECONDS is `all`,
-until there are none left.
+The files are a journal of forty records of all kinds, its script, a basis file, a table and a select table. The cases are
+taken in an order drawn by the seed, one part of so many, until the time is over and there were two hundred; where SECONDS
+is `all`, until there are none left.
 """
 from __future__ import annotations
 
@@ -13,9 +13,10 @@ import os
 import random
 import sys
 
-from trial import (Book, Trial, demand, file_of, judge_basis, judge_journal, judge_posting, judge_script, judge_table, read_script,
-                   try_for)
-from life_tools.formats import KINDS, Wrong
+from trial import Trial, judge_basis, judge_journal, judge_posting, judge_script, judge_table, try_for
+from life_tools.journals import file_of
+from life_tools.script_lines import lines_in
+from life_tools.formats import KINDS, Wrong, demand
 from life_tools.rules import Book
 
 VALUES = (0, 1, 2, 127, 255)
@@ -27,7 +28,8 @@ TABLE = (b'\xef\xbb\xbf <?xml version="1.0"?>\n<!-- Q --><XTbML><Table><MetaData
          b'</Y></Axis></Values></Table><Table/></XTbML>\n').replace(b"<!-- --></Y>", b"</Y><!-- -->")
 # issue ages 0 and 1, each with rates of its own layout and number; blank rows, an axis and a table that are passed over
 SELECT = (b'<XTbML><Table><MetaData><ScalingFactor>0</ScalingFactor></MetaData><Values>\n<Axis t="0"><Axis><Y t="1">0.05</Y>'
-          b'<Y t="02">.1</Y><Y t="x"> </Y><Y/></Axis></Axis><Axis t=\'1\'><Y t="0">1E-1</Y><Axis/></Axis></Values></Table><!-- -->\n'
+          b'<Y t="02">.1</Y><Y t="x"> </Y><Y/></Axis></Axis><Axis t=\'1\'><Y '
+          b't="0">1E-1</Y><Axis/></Axis></Values></Table><!-- -->\n'
           b'<Table><Values><Axis><Y t="2">0.25</Y><Y t="3">0.5</Y></Axis></Values></Table><Table/></XTbML>')
 # policies in force that the tables fit, so that a valuation rests on their rates
 VALUED = b"""1,issue,1,2004-02-29,whole,0,0,1000.00,400.00
@@ -45,13 +47,14 @@ def script_of_forty() -> bytes:
 
 
 def book_of_forty() -> Book:
-    book = Book(line.command for line in read_script(script_of_forty()))
-    demand(len(book.commands) == 40 and {it.kind for it in book.commands} == set(KINDS.values()), "they aren't forty of all kinds")
+    book = Book(line.posted for line in lines_in(script_of_forty()))
+    demand(len(book.commands) == 40 and {it.kind for it in book.commands} == set(KINDS.values()),
+           "they aren't forty of all kinds")
     return book
 
 
 def book_of_values() -> Book:
-    return Book(line.command for line in read_script(VALUED))
+    return Book(line.posted for line in lines_in(VALUED))
 
 
 def files(book: Book) -> dict[str, bytes]:
@@ -67,7 +70,8 @@ def changes(byte: int) -> list[int]:
 
 def cases(book: Book) -> list[tuple[str, int, int]]:
     """All cases, as kind, place and new byte."""
-    return [(kind, place, new) for kind, data in files(book).items() for place in range(len(data)) for new in changes(data[place])]
+    return [(kind, place, new) for kind, data in files(book).items() for place in range(len(data))
+            for new in changes(data[place])]
 
 
 def judge(trials: dict[str, Trial], book: Book, case: tuple[str, int, int]) -> str:

@@ -1,13 +1,13 @@
 """A plain reading of the mortality table file, piece by piece as docs/FORMATS.md has them.
 
-It takes all files of the profile, some of which are no XML. The checks behind the document are those of tools/life_tools/tables.py.
+It takes all files of the profile, some of which are no XML. The checks behind the document are those of
+tools/life_tools/tables.py.
 """
 from __future__ import annotations
 
 import re
 
-from life_tools.tables import MARK, MOST_DEPTH, BadBasis, Element, table_of
-from life_tools.tables import SelectTable, Table
+from life_tools.tables import MARK, MOST_DEPTH, BadBasis, Element, SelectTable, Table, table_of
 
 WHITE = b" \t\n\r"
 NAME = rb"[A-Za-z_\x80-\xff][A-Za-z_\x80-\xff0-9.:-]*"
@@ -24,7 +24,8 @@ class Document:
 
     def __init__(self, data: bytes) -> None:
         self.data, self.at = data, 0
-        self.root, self.open = None, []
+        self.root: Element | None = None
+        self.open: list[Element] = []
         self.is_declared, self.is_begun = False, False
         if data.startswith(MARK):
             self.at = len(MARK)
@@ -41,7 +42,7 @@ class Document:
                 return taken(found)
         return False
 
-    def text(self, found: re.Match[str]) -> bool:
+    def text(self, found: re.Match[bytes]) -> bool:
         if self.open:
             self.open[-1].text += found[0].decode("latin-1")
             self.at = found.end()
@@ -50,13 +51,13 @@ class Document:
         self.at += white
         return white == len(found[0])
 
-    def declaration(self, found: re.Match[str]) -> bool:
+    def declaration(self, found: re.Match[bytes]) -> bool:
         if self.is_declared or self.is_begun:
             return False
         self.is_declared, self.at = True, found.end()
         return True
 
-    def comment(self, found: re.Match[str]) -> bool:
+    def comment(self, found: re.Match[bytes]) -> bool:
         self.begin()
         self.at = found.end()
         return True
@@ -67,14 +68,14 @@ class Document:
         if self.open:
             self.open[-1].is_plain = False
 
-    def end(self, found: re.Match[str]) -> bool:
+    def end(self, found: re.Match[bytes]) -> bool:
         if not self.open or self.open[-1].name != found[1].decode("latin-1"):
             return False
         self.open.pop()
         self.at = found.end()
         return True
 
-    def start(self, found: re.Match[str]) -> bool:
+    def start(self, found: re.Match[bytes]) -> bool:
         if (self.root is not None and not self.open) or len(self.open) == MOST_DEPTH:
             return False
         self.begin()
@@ -94,6 +95,6 @@ class Document:
 def read_plain_table(data: bytes, name: str) -> SelectTable | Table | None:
     """The table of a file of this name, or `BadBasis` with the first check that applies."""
     document = Document(data)
-    if not document.is_whole:
+    if not document.is_whole or document.root is None:
         raise BadBasis(name, document.at, "notdocument")
     return table_of(document.root, name)

@@ -1,25 +1,32 @@
 """A plain reading of the words of a command line (docs/FORMATS.md, "The words"), and the shape of the answer to each."""
 from __future__ import annotations
 
+import datetime
 import re
 from dataclasses import dataclass
-from typing import Callable
-import datetime
-from typing import Any
+from typing import Any, Callable, Tuple
 
-from life_tools.formats import MOST_COMMANDS, MOST_LANES, MOST_NUMBER, MOST_WORKERS, MOST_YEARS, day_of, measure_of, number_of, printed_rows
+from life_tools.formats import (MOST_COMMANDS, MOST_LANES, MOST_NUMBER, MOST_WORKERS, MOST_YEARS, day_of, measure_of, number_of,
+                                printed_rows)
 from life_tools.script_lines import Fault, read_script
 from life_tools.tables import NAME
 
-OPTIONS = {"run": ("--basis",), "value": ("--at", "--workers", "--basis"), "project": ("--workers", "--basis"), "state": (), "checkpoint": (),
-           "generate": (), "load": ()}
+OPTIONS: dict[str, tuple[str, ...]] = {
+    "run": ("--basis",), "value": ("--at", "--workers", "--basis"), "project": ("--workers", "--basis"), "state": (),
+    "checkpoint": (), "generate": (), "load": ()}
 # which stand alone; of two such words there is none that fits
 FLAGS = {"value": ("--mean", "--deficiency")}
-PLACES = {"run": [], "value": ["day"], "project": ["day", "years"], "state": ["id"], "checkpoint": [], "generate": ["seed", "count", "lanes"],
-          "load": ["seed", "count", "lanes", "workers"]}
-LIMITS = {"years": (1, MOST_YEARS), "id": (1, MOST_NUMBER), "seed": (0, 2**31 - 1), "count": (1, 100_000), "lanes": (1, MOST_LANES),
+PLACES: dict[str, list[str]] = {
+    "run": [], "value": ["day"], "project": ["day", "years"], "state": ["id"], "checkpoint": [],
+    "generate": ["seed", "count", "lanes"], "load": ["seed", "count", "lanes", "workers"]}
+LIMITS = {"years": (1, MOST_YEARS), "id": (1, MOST_NUMBER), "seed": (0, 2**31 - 1), "count": (1, 100_000),
+          "lanes": (1, MOST_LANES),
           "workers": (1, MOST_WORKERS), "--at": (0, MOST_COMMANDS), "--workers": (1, MOST_WORKERS)}
 AMOUNT = r"(0|[1-9][0-9]*)\.[0-9]{2}"
+
+
+# status and text
+Answer = Tuple[int, str]
 
 
 @dataclass
@@ -28,7 +35,7 @@ class Meaning:
     the measure of a valuation."""
 
     mode: str
-    fits: Callable[[tuple], bool]
+    fits: Callable[[Answer], bool]
     number: int = 0
     measure: str = "terminal"
 
@@ -68,10 +75,10 @@ def split(words: list[str], mode: str) -> tuple[list[str], dict[str, str]] | Non
     return plain, options
 
 
-def meaning_of(words: list[bytes], count: int) -> Meaning:
+def meaning_of(given: list[bytes], count: int) -> Meaning:
     """What the words ask where so many commands are accepted."""
     try:
-        words = [word.decode("utf-8") for word in words]
+        words = [word.decode("utf-8") for word in given]
     except UnicodeDecodeError:
         return usage()
     mode = words[0] if words else ""
@@ -94,12 +101,13 @@ def is_run(_: list[Any], __: dict[str, str], ___: int) -> Meaning:
 
 
 def is_state(values: list[int], _: dict[Any, Any], count: int) -> Meaning:
-    def fits(found: tuple[int, str]) -> bool:
+    def fits(found: Answer) -> bool:
         rows = printed_rows(found[1])
         if not values:
             return found[0] == 0 and rows[-1] == ["count", str(count)]
         entries = [row for row in rows if row[0] == "entry"]
-        return found == (0, f"unknown,{values[0]}\n") or (found[0] == 0 and entries == rows[:-1] and rows[-1][:2] == ["policy", str(values[0])])
+        return found == (0, f"unknown,{values[0]}\n") or (found[0] == 0 and entries == rows[:-1]
+                                                          and rows[-1][:2] == ["policy", str(values[0])])
     return Meaning("state", fits, values[0] if values else 0)
 
 
@@ -107,46 +115,46 @@ def is_checkpoint(_: list[Any], __: dict[Any, Any], count: int) -> Meaning:
     return Meaning("checkpoint", lambda found: found == (0, f"checkpoint,{count}\n"))
 
 
-def is_by_another_basis(found: Any, name: str) -> Any:
+def is_by_another_basis(found: Answer, name: str) -> bool:
     """Whether an answer fits where the basis isn't basis.csv: there is none but the tables, which may be no basis."""
     return found[0] == 4 and found[1] == f"badbasis,{name},0,absent\n" or name in ("q.xml", "g.xml", "m.xml", "select.xml")
 
 
-def is_value(values: list[datetime.date], asked: dict[str, int | str], count: int) -> Meaning:
+def is_value(values: list[Any], asked: dict[str, Any], count: int) -> Meaning:
     position, name = asked.get("--at", count), asked.get("--basis", "basis.csv")
     measure = asked.get("measure", "terminal")
 
-    def fits(found: tuple[int, str]) -> bool:
+    def fits(found: Answer) -> bool:
         if name != "basis.csv":
             return is_by_another_basis(found, name)
         if position > count:
             return found == (10, f"refused,ahead,{count}\n")
         rows = printed_rows(found[1])
         is_block = rows[0][:4] == ["0", "value", str(values[0]), str(position)] and rows[-1][0] == "total"
-        return found[0] == 0 and is_block and measure_of(rows[0]) == measure
+        return bool(found[0] == 0 and is_block and measure_of(rows[0]) == measure)
     return Meaning("value", fits, measure=measure)
 
 
-def is_project(values: list[datetime.date | int], asked: dict[str, int | str], count: int) -> Meaning:
+def is_project(values: list[Any], asked: dict[str, Any], count: int) -> Meaning:
     name = asked.get("--basis", "basis.csv")
 
-    def fits(found: tuple[int, str]) -> bool:
+    def fits(found: Answer) -> bool:
         if name != "basis.csv":
             return is_by_another_basis(found, name)
         rows = printed_rows(found[1])
         is_head = rows[0][:3] == ["project", str(values[0]), str(count)] and rows[0][4:] == [str(values[1])]
-        return found[0] == 0 and is_head and len(rows) == values[1] + 2
+        return bool(found[0] == 0 and is_head and len(rows) == values[1] + 2)
     return Meaning("project", fits)
 
 
-def is_generate(values: list[int], _: dict[Any, Any], __: int) -> Meaning:
-    _, count, lanes = values
+def is_generate(values: list[int], _: object, __: object) -> Meaning:
+    count, lanes = values[1:]
 
-    def fits(found: tuple[int, str]) -> bool:
+    def fits(found: Answer) -> bool:
         lines = read_script("\n".join(found[1].split("\n", 400)[:400]).encode())
         if found[0] != 0 or found[1].count("\n") != 2 * count or isinstance(lines, Fault):
             return False
-        return all(line.lane == 1 + at // 2 % lanes and line.command.number == at // 2 + 1 for at, line in enumerate(lines))
+        return all(line.lane == 1 + at // 2 % lanes and line.posted.number == at // 2 + 1 for at, line in enumerate(lines))
     return Meaning("generate", fits)
 
 
@@ -157,5 +165,6 @@ def is_load(values: list[float], _: Any, __: Any) -> Any:
     return Meaning("load", fits)
 
 
-SHAPES = {"run": is_run, "state": is_state, "checkpoint": is_checkpoint, "value": is_value, "project": is_project, "generate": is_generate,
-          "load": is_load}
+SHAPES: dict[str, Callable[..., Meaning]] = {
+    "run": is_run, "state": is_state, "checkpoint": is_checkpoint, "value": is_value, "project": is_project,
+    "generate": is_generate, "load": is_load}

@@ -18,21 +18,21 @@ from typing import Any
 ROOT = os.path.abspath(os.path.join(os.path.dirname(os.path.abspath(__file__)), "..", ".."))
 sys.path[:0] = [os.path.join(ROOT, "tools"), os.path.join(ROOT, ".ci", "stress")]
 
-from life_tools.projection_check import check_years
-from life_tools.transcript_check import asks_for_values, check
-from life_tools.valuation_check import check_block
-from life_tools.checkpoints import Checkpoint, bytes_of_checkpoint, checkpoint_in, checkpoint_of
-from life_tools.formats import MEASURES, MOST_BASIS_BYTES, Wrong, day_in, demand, money, printed_rows
-from life_tools.journals import EMPTY, Journal, file_of, gate_of, read_journal
-from plain_tables import read_plain_table
-from plain_words import meaning_of
-from life_tools.projections import printed_projection
-from life_tools.rules import Book, Policy, Refusal, balances_of, booking_of
-from life_tools.script_lines import Fault, read_script
-from scripts import folder_for
-from life_tools.tables import NotXml, BasisRow, Table, read_basis, read_table
-from life_tools.commands import Command
-from life_tools.tables import SelectTable
+from life_tools.projection_check import check_years  # noqa: E402
+from life_tools.transcript_check import asks_for_values, check  # noqa: E402
+from life_tools.valuation_check import check_block  # noqa: E402
+from life_tools.checkpoints import Checkpoint, bytes_of_checkpoint, checkpoint_in, checkpoint_of  # noqa: E402
+from life_tools.formats import MEASURES, MOST_BASIS_BYTES, Wrong, day_in, demand, money, printed_rows  # noqa: E402
+from life_tools.journals import EMPTY, file_of, gate_of, read_journal  # noqa: E402
+from plain_tables import read_plain_table  # noqa: E402
+from plain_words import meaning_of  # noqa: E402
+from life_tools.projections import printed_projection  # noqa: E402
+from life_tools.rules import Book, Policy, Refusal, balances_of, booking_of  # noqa: E402
+from life_tools.script_lines import Fault, lines_in, read_script  # noqa: E402
+from scripts import folder_for  # noqa: E402
+from life_tools.tables import BasisRow, NotXml, SelectTable, Table, read_basis, read_table  # noqa: E402
+from life_tools.commands import Command  # noqa: E402
+from life_tools.reserves import Known  # noqa: E402
 
 SECONDS = 30
 # so many cases are tried whatever their time
@@ -43,7 +43,8 @@ FRESH = 4294967295
 
 def try_for(seconds: float, cases: Iterable[Any] | list[tuple[str, int, int]], try_one: Callable[..., Any], what: str) -> None:
     """Tries cases until the time is over and there were some, and tells how many became of each kind."""
-    end, seen = time.monotonic() + seconds, collections.Counter()
+    end = time.monotonic() + seconds
+    seen: collections.Counter[str] = collections.Counter()
     for case in cases:
         if time.monotonic() > end and sum(seen.values()) >= LEAST:
             break
@@ -57,7 +58,7 @@ class Trial:
     def __init__(self, program: str, folder: str) -> None:
         self.program, self.folder = os.path.abspath(program), folder
         folder_for(folder, ROOT)
-        self.known = {}  # Exact values that were worked out, by what they rest on.
+        self.known: Known = {}  # Exact values that were worked out, by what they rest on.
 
     def path(self, name: str) -> str:
         return os.path.join(self.folder, name)
@@ -94,7 +95,8 @@ class Trial:
 
 
 def demand_answer(found: tuple[int, str], status: int, text: str, words: list[bytes] | str) -> None:
-    demand(found == (status, text), f"{words}: the answer is {found[0]}, {found[1][-300:]!r}, and must be {status}, {text[-300:]!r}")
+    demand(found == (status, text), f"{words}: the answer is {found[0]}, {found[1][-300:]!r}, and must be {status}, "
+                                    f"{text[-300:]!r}")
 
 
 # --- journals ---
@@ -147,7 +149,7 @@ def judge_checkpoint(trial: Trial, data: bytes, book: Book) -> str:
     except Wrong:
         checkpoint = None
     is_used = checkpoint is not None and checkpoint.position <= len(book.commands)
-    wanted = state_from(checkpoint, book.commands) if is_used else (0, state_of(book))
+    wanted = state_from(checkpoint, book.commands) if is_used and checkpoint else (0, state_of(book))
     demand_answer(trial.run("state"), *wanted, "state")
     demand(trial.read("checkpoint.life") == data, "state changed the checkpoint")
     found = trial.run("checkpoint")
@@ -179,7 +181,7 @@ def judge_posting(trial: Trial, data: bytes) -> str:
     before = EMPTY if journal.is_unfinished else data
     check(script, found[1], before, after, [])
     count = len(journal.commands)
-    command = read_script(script)[0].command
+    command = lines_in(script)[0].posted
     if command.number not in journal.book.policies:
         record = file_of([command])[17:]
         wanted = before[:gate_of(count)] + record + before[gate_of(count) + len(record):]
@@ -199,7 +201,7 @@ def judge_script(trial: Trial, data: bytes) -> str:
         demand(not os.path.exists(trial.path("journal.life")), "a journal was made for a script that is wrong")
         return "badscript"
     demand(status == 0, f"run: the answer is {status}, {text[-300:]!r}, and the script is right")
-    check(data, text, b"", trial.read("journal.life"), trial.basis() if asks_for_values(data) else [], trial.known)
+    check(data, text, b"", trial.read("journal.life"), trial.basis() or [] if asks_for_values(data) else [], trial.known)
     return "taken"
 
 
@@ -214,7 +216,8 @@ def judge_values(trial: Trial, basis: list[BasisRow], book: Book, wanted: str, d
         demand_answer((status, text), 4, wanted + "\n", "value")
         return
     rows = printed_rows(text)
-    demand(status == 0 and rows[0][:4] == ["0", "value", ON, str(len(book.commands))], f"value: the answer is {status}, {text[:300]!r}")
+    demand(status == 0 and rows[0][:4] == ["0", "value", ON, str(len(book.commands))],
+           f"value: the answer is {status}, {text[:300]!r}")
     check_block(rows, list(book.policies.values()), basis, {}, measure)
 
 
@@ -222,7 +225,8 @@ def judge_basis(trial: Trial, data: bytes, book: Book) -> str:
     """Any bytes as basis.csv, beside right tables and the journal of the book."""
     trial.write("basis.csv", data)
     trial.write("journal.life", file_of(book.commands))
-    basis, wanted = [], ""
+    basis: Any = []
+    wanted = ""
     try:
         basis = trial.basis()
     except Wrong as wrong:
@@ -237,7 +241,7 @@ def judge_table(trial: Trial, data: bytes, book: Book) -> str:
     trial.write("basis.csv", b"1900-01-01,t.xml,250\n")
     trial.write("t.xml", data)
     trial.write("journal.life", file_of(book.commands))
-    table = Table(0, ())
+    table: Any = Table(0, ())
     wanted = "badbasis,t.xml,1,toolong" if len(data) > MOST_BASIS_BYTES else ""
     try:
         table = table if wanted else read_plain_table(data, "t.xml")
@@ -255,7 +259,8 @@ def demand_parsers_agree(data: bytes, table: SelectTable | Table, wanted: str) -
         return
     except Wrong as wrong:
         found = table, str(wrong)
-    demand(found == (table, wanted) or wanted.endswith(",toolong"), f"the two readers of tables differ: {found} and {table, wanted}")
+    demand(found == (table, wanted) or wanted.endswith(",toolong"),
+           f"the two readers of tables differ: {found} and {table, wanted}")
 
 
 # --- words ---
@@ -281,8 +286,8 @@ def judge_words(trial: Trial, words: list[bytes], script: bytes, book: Book) -> 
     rows = printed_rows(found[1]) if meaning.mode == "value" and found[0] == 0 else []
     if rows:
         policies = Book(book.commands[:int(rows[0][3])]).policies
-        check_block(rows, list(policies.values()), trial.basis(), trial.known, meaning.measure)
+        check_block(rows, list(policies.values()), trial.basis() or [], trial.known, meaning.measure)
     if meaning.mode == "project" and found[0] == 0:
-        check_years(printed_projection(found[1]), list(book.policies.values()), trial.basis())
+        check_years(printed_projection(found[1]), list(book.policies.values()), trial.basis() or [])
     demand(after == file_of(book.commands), f"{words}: journal.life was changed")
     return meaning.mode if meaning.measure == "terminal" else f"{meaning.mode} by {meaning.measure}"

@@ -30,20 +30,22 @@ def filled(piece: Any, size: int, head: bytes = b"", tail: bytes = b"") -> Any:
 
 SCRIPTS = {
     "script of line feeds": (b"\n",), "script of commas": (b",",), "script of quotes": (b'"',), "script of one field": (b"a",),
-    "script of one quoted field": (b"a", b'"'), "script of trims": (b"1,trim\n",), "script of empty fields behind a trim": (b",", b"1,trim"),
-    "script of refused lapses": (b"1,lapse,1,2020-01-01\n",), "script of refused lapses, eight lanes":
-    (b"".join(b"%d,lapse,1,2020-01-01\n" % lane for lane in range(1, 9)),),
+    "script of one quoted field": (b"a", b'"'), "script of trims": (b"1,trim\n",),
+    "script of empty fields behind a trim": (b",", b"1,trim"), "script of refused lapses": (b"1,lapse,1,2020-01-01\n",),
+    "script of refused lapses, eight lanes": (b"".join(b"%d,lapse,1,2020-01-01\n" % lane for lane in range(1, 9)),),
 }
 BASES = {"basis of line feeds": (b"\n",), "basis of commas": (b",",), "basis of quotes": (b'"',), "basis of one field": (b"a",),
          "basis of one-letter rows": (b"a\n",)}
 TABLES = {
     "table of <": (b"<",), "table of line feeds": (b"\n",), "table of <x>": (b"<x>",), "table of comments' starts": (b"<!--",),
-    "table of one comment": (b"-", b"<!--", b"-->" + GOOD), "table of one text": (b"a", *AXIS), "table of empty elements": (b"<a/>", *AXIS),
+    "table of one comment": (b"-", b"<!--", b"-->" + GOOD), "table of one text": (b"a", *AXIS),
+    "table of empty elements": (b"<a/>", *AXIS),
     "table of attributes": (b" a=''", b"<XTbML", b"/>"), "table of attributes without a value": (b" a", b"<XTbML", b"/>"),
     "table of a long name": (b"a", b"<XTbML><a", b"/></XTbML>"), "table of rows of one age": (b"<Y t='0'>1</Y>", *AXIS),
     "table of digits in a rate": (b"0", AXIS[0] + b'<Y t="0">.1', b"</Y>" + AXIS[1]),
     "table 64 deep": (b"<x>" * 60 + b"</x>" * 60, *AXIS),
-    "table of issue ages": (b"<Axis t='0'/>", *AXIS), "table of blank durations": (b"<Y/>", AXIS[0] + b'<Axis t="0">', b"</Axis>" + AXIS[1]),
+    "table of issue ages": (b"<Axis t='0'/>", *AXIS), "table of blank durations": (b"<Y/>", AXIS[0] + b'<Axis t="0">',
+                                                                                   b"</Axis>" + AXIS[1]),
     "table of durations": (b'<Y t="1">1</Y>', AXIS[0] + b'<Axis t="0">', b"</Axis>" + AXIS[1]),
 }
 
@@ -69,7 +71,8 @@ def write_file(folder: str, name: str, data: bytes) -> None:
 def cases(part: Any) -> Iterator[Any]:
     """Each case as its name, the words, and what makes its files in a folder; a script is the file `script`."""
     for name, pieces in SCRIPTS.items():
-        yield name, ["run"], lambda folder, pieces=pieces: write_file(folder, "script", filled(pieces[0], SCRIPT // part, *pieces[1:]))
+        yield name, ["run"], lambda folder, pieces=pieces: write_file(folder, "script",
+                                                                      filled(pieces[0], SCRIPT // part, *pieces[1:]))
     for name, pieces in BASES.items():
         yield name, ["value", "2021-01-01"], lambda folder, pieces=pieces: write_file(
             folder, "basis.csv", filled(pieces[0], FILE // part, *pieces[1:]))
@@ -89,7 +92,10 @@ def cases(part: Any) -> Iterator[Any]:
 def measured(program: str, folder: str, words: list[str]) -> Any:
     """Seconds, processor seconds, MiB, status and last line. GNU time starts the program: a child of Python's own would be
     reckoned with the memory of Python."""
-    path = lambda name: os.path.join(folder, name)
+
+    def path(name: str) -> str:
+        return os.path.join(folder, name)
+
     with open(path("script"), "ab+") as script, open(path("out"), "wb+") as out:
         script.seek(0)
         timed = ["/usr/bin/time", "-q", "-f", "%e %U %S %M", "-o", path("used"), "timeout", str(SECONDS), program, *words]

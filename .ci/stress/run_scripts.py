@@ -2,19 +2,19 @@
 
 usage: python3 run_scripts.py PROGRAM ROOT FOLDER QUICK SCRIPTS [FIRST_SEED]
 
-Two scripts run in each new folder, the second on the journal of the first, and what they leave is valued by each measure; in one of four the first has a book of many
-policies, so that a valuation takes several reads and others post and trim between them. One folder of four is made in
-FOLDER, on a real disk, where a posting takes long and the others wait; three are made in QUICK. Where a run isn't right,
-its files are left.
+Two scripts run in each new folder, the second on the journal of the first, and what they leave is valued by each measure;
+in one of four the first has a book of many policies, so that a valuation takes several reads and others post and trim
+between them. One folder of four is made in FOLDER, on a real disk, where a posting takes long and the others wait; three
+are made in QUICK. Where a run isn't right, its files are left.
 """
 from __future__ import annotations
 
 import collections
 import os
+import random
 import shutil
 import subprocess
 import sys
-import random
 from typing import Any
 
 from scripts import draws, folder_for, make_book, make_script, value_words, valued_on
@@ -22,7 +22,8 @@ from life_tools.transcript_check import check
 from life_tools.valuation_check import check_block
 from life_tools.formats import MEASURES, Wrong, printed_rows
 from life_tools.journals import file_of, read_journal
-from life_tools.tables import read_basis
+from life_tools.tables import BasisRow, read_basis
+from life_tools.reserves import Known
 
 # all but `full`
 REASONS = 16
@@ -40,7 +41,10 @@ def bytes_of(path: str) -> Any:
 def run_pair(program: str, root: str, folder: str, seed: int, known: Any, seen: Any) -> None:
     """Two scripts one after the other in a new folder."""
     folder_for(folder, root)
-    path = lambda name: os.path.join(folder, name)
+
+    def path(name: str) -> str:
+        return os.path.join(folder, name)
+
     draw, basis = draws(seed), read_basis(path("basis.csv"))
     if seed % 4 == 1:
         with open(path("journal.life"), "wb") as file:
@@ -48,11 +52,11 @@ def run_pair(program: str, root: str, folder: str, seed: int, known: Any, seen: 
     for number in (1, 2):
         before = bytes_of(path("journal.life"))
         script = make_script(draw, read_journal(before).book)
-        for name, text in ((f"script-{number}", script.encode()), (f"before-{number}", before)):
+        for name, content in ((f"script-{number}", script.encode()), (f"before-{number}", before)):
             with open(path(name), "wb") as file:
-                file.write(text)
-        with open(path(f"script-{number}"), "rb") as file, open(path(f"transcript-{number}"), "wb") as out:
-            status = subprocess.run([program, "run"], cwd=folder, stdin=file, stdout=out).returncode
+                file.write(content)
+        with open(path(f"script-{number}"), "rb") as lines, open(path(f"transcript-{number}"), "wb") as out:
+            status = subprocess.run([program, "run"], cwd=folder, stdin=lines, stdout=out).returncode
         text = bytes_of(path(f"transcript-{number}")).decode("ascii")
         try:
             if status != 0:
@@ -65,7 +69,7 @@ def run_pair(program: str, root: str, folder: str, seed: int, known: Any, seen: 
     shutil.rmtree(folder)
 
 
-def value_by_each(program: str, folder: str, draw: random.Random, basis: str, known: Any, seen: Any) -> None:
+def value_by_each(program: str, folder: str, draw: random.Random, basis: list[BasisRow], known: Any, seen: Any) -> None:
     """Values what the scripts left, on a drawn day, by each measure."""
     policies = list(read_journal(bytes_of(os.path.join(folder, "journal.life"))).book.policies.values())
     on = valued_on(draw)
@@ -108,12 +112,14 @@ def count(text: str, accepted: Any, seen: Any) -> None:
 
 def main() -> None:
     program, root, folder, quick, scripts = sys.argv[1:6]
-    first, known, seen = int((sys.argv[6:] or ["0"])[0]), {}, collections.Counter()
+    first = int((sys.argv[6:] or ["0"])[0])
+    known: Known = {}
+    seen: collections.Counter[str] = collections.Counter()
     for pair in range(int(scripts) // 2):
         place = os.path.join(quick if pair % 4 else folder, f"pair-{pair}")
         run_pair(program, root, place, first + pair, known, seen)
     reasons = [what for what in seen if what.startswith("refused ")]
-    if len(reasons) < REASONS or not seen["valuations"] or not seen["trims"] or not seen["paid-up rows"] or not seen["rows short"]:
+    if len(reasons) < REASONS or not all(seen[what] for what in ("valuations", "trims", "paid-up rows", "rows short")):
         sys.exit(f"stress: too little was tried: {dict(seen)}")
     refused = sum(seen[what] for what in reasons)
     print(f"stress: {scripts} scripts of eight clerks, {seen['lines']} lines: {seen['accepted']} accepted, {refused} refused for "

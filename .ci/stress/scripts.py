@@ -5,24 +5,22 @@ each reason. The office takes one clerk's turn after another, at random, and is 
 """
 from __future__ import annotations
 
+import datetime
+import math
 import os
 import random
 import sys
-
-sys.path.insert(0, os.path.join(os.path.dirname(os.path.abspath(__file__)), "..", "..", "tools"))
-import datetime
-import math
 from typing import Any
 
-from life_tools.commands import UPGRADE, Command, words_of
-from life_tools.formats import FIRST_DAY, LAST_DAY, money
-from life_tools.reserves import worth
-from life_tools.rules import EARLY, GRACE, REINSTATEMENT_ANNIVERSARIES, Book, Refusal, anniversary, end_of, missed_by
-from life_tools.script_lines import lanes_of, read_script
-from life_tools.reserves import InForce, PaidUp
-from life_tools.rules import Policy
-from life_tools.script_lines import Line
-from life_tools.tables import BasisRow
+sys.path.insert(0, os.path.join(os.path.dirname(os.path.abspath(__file__)), "..", "..", "tools"))
+
+from life_tools.commands import UPGRADE, Command, words_of  # noqa: E402
+from life_tools.formats import FIRST_DAY, LAST_DAY, money  # noqa: E402
+from life_tools.reserves import Known, worth  # noqa: E402
+from life_tools.rules import (EARLY, GRACE, REINSTATEMENT_ANNIVERSARIES, Book, Policy, Refusal, anniversary,  # noqa: E402
+                              end_of, missed_by)
+from life_tools.script_lines import Line, lanes_of, lines_in  # noqa: E402
+from life_tools.tables import BasisRow  # noqa: E402
 
 BASIS = "2000-01-01,q.xml,0\n2010-01-01,m.xml,300\n2015-01-01,g.xml,400\n2018-01-01,select.xml,250\n"
 # a table of the ages 20 to 25, where one is likelier to die than not at 22
@@ -60,7 +58,8 @@ def make_command(draw: random.Random, book: Book, number: int) -> Command:
     policy = policy or book_policy(draw)
     if policy.status == "inforce" and draw.random() < 0.4:
         return next_premium(draw, policy, number)
-    kinds = {"inforce": ["premium"] * 6 + ["alter", "lapse", "lapse", "claim", "mature", "reinstate", "settle", "issue", "paidup", "paidup"],
+    kinds = {"inforce": ["premium"] * 6 + ["alter", "lapse", "lapse", "claim", "mature", "reinstate", "settle", "issue",
+                                           "paidup", "paidup"],
              "lapsed": ["reinstate"] * 5 + ["premium", "lapse", "claim"],
              "claimed": ["settle"] * 4 + ["premium", "mature"], "matured": ["settle"] * 4 + ["claim", "alter"],
              "paidup": ["claim", "mature", "mature", "premium", "alter", "lapse", "paidup"]}
@@ -107,7 +106,7 @@ def valued_on(draw: random.Random) -> datetime.date:
     return datetime.date(draw.choice([2003, 2006, 2007, 2013, 2014, 2017, 2019]), draw.randrange(1, 13), 28)
 
 
-def value_words(draw: random.Random, on: str, measure: Any) -> Any:
+def value_words(draw: random.Random, on: object, measure: str) -> list[str]:
     """The words of a valuation by a measure, with the number of workers, in a drawn order."""
     words = [[str(on)], ["--workers", draw.choice(["1", "2", "64"])], [] if measure == "terminal" else ["--" + measure]]
     draw.shuffle(words)
@@ -148,13 +147,15 @@ def make_script(draw: random.Random, book: Book) -> str:
 class Office:
     """Runs a script: the clerks take turns at random, and the lines stand in the order of their first turns."""
 
-    def __init__(self, draw: random.Random, book: Book, basis: list[BasisRow], known: dict[tuple[datetime.date | int, ...], InForce | PaidUp]) -> None:
+    def __init__(self, draw: random.Random, book: Book, basis: list[BasisRow], known: Known) -> None:
         self.draw, self.book, self.basis, self.known = draw, book, basis, known
-        self.lines, self.live, self.floor = [], {}, 0
+        self.lines: list[str] = []
+        self.live: dict[Any, Any] = {}
+        self.floor = 0
         self.accepted = self.premiums = 0
 
     def run(self, script: str) -> str:
-        left = lanes_of(read_script(script.encode()))
+        left = lanes_of(lines_in(script.encode()))
         while any(left.values()) or self.live:
             lane = self.draw.choice([lane for lane in left if left[lane] or lane in self.live])
             if lane not in self.live:
@@ -186,7 +187,7 @@ class Office:
             self.post(line)
 
     def post(self, line: Line) -> None:
-        command, after = line.command, self.book.decide(line.command)
+        command, after = line.posted, self.book.decide(line.posted)
         if isinstance(after, Refusal):
             self.lines.append(",".join([*line.head, "refused", *after.words()]))
             return
@@ -200,6 +201,7 @@ class Office:
         self.lines.append(",".join([*line.head, str(position), str(len(policies))]))
         sums, words = [0, 0], 0
         for number, policy in policies.items():
+            assert line.day
             year, exact = worth(policy, self.basis, line.day, self.known)
             head = f"row,{number},{policy.status},{year}"
             if isinstance(exact, str):

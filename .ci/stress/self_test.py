@@ -6,10 +6,10 @@ from __future__ import annotations
 
 import collections
 import os
+import random
 import re
 import sys
 from collections.abc import Callable, Iterator
-import random
 from typing import Any
 
 from scripts import Office, draws, folder_for, make_script
@@ -18,6 +18,7 @@ from life_tools.formats import Wrong, money
 from life_tools.journals import file_of, read_journal
 from life_tools.rules import Book
 from life_tools.tables import read_basis
+from life_tools.reserves import Known
 
 SCRIPTS = 4
 PLACES = 6
@@ -52,7 +53,7 @@ def cents_more(by: int) -> Callable[..., Any]:
 
 
 # what is changed in a line: which lines, which field, and how
-LINES = [
+LINES: list[tuple[str, str, int, Callable[[str], str]]] = [
     ("a position one too high", r",accepted,", -1, more(1)),
     ("a position one too low", r",accepted,", -1, more(-1)),
     ("a valued position one off", r"^\d,value,[-\d]+,\d", 3, more(1)),
@@ -120,7 +121,9 @@ def changed_files(draw: random.Random, file: bytes, before: bytes) -> Iterator[t
 def main() -> None:
     root, folder = sys.argv[1:]
     folder_for(folder, root)
-    basis, known, refused = read_basis(os.path.join(folder, "basis.csv")), {}, collections.Counter()
+    basis = read_basis(os.path.join(folder, "basis.csv"))
+    known: Known = {}
+    refused: collections.Counter[str] = collections.Counter()
     for seed in range(SCRIPTS):
         draw = draws(seed)
         script_before = make_script(draw, Book())
@@ -143,7 +146,8 @@ def main() -> None:
     missing = [name for name, *_ in LINES if not refused[name]]
     if missing:
         sys.exit(f"stress: never tried: {missing}")
-    print(f"stress: the checker refuses {sum(refused.values())} changed transcripts and journals, of {len(refused)} kinds of change")
+    print(f"stress: the checker refuses {sum(refused.values())} changed transcripts and journals, of {len(refused)} kinds "
+          f"of change")
 
 
 if __name__ == "__main__":

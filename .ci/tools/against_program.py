@@ -14,12 +14,12 @@ from typing import Any
 ROOT = sys.argv[2]
 sys.path[:0] = [os.path.join(ROOT, "tools"), os.path.join(ROOT, ".ci", "stress")]
 
-from life_tools.formats import Wrong, money
-from life_tools.journals import file_of, read_journal
-from life_tools.rules import Book, balances_of
-from scripts import make_book, make_script
-from life_tools.script_lines import Fault, read_script
-from life_tools.tables import NotXml, read_basis
+from life_tools.formats import Wrong, money  # noqa: E402
+from life_tools.journals import file_of, read_journal  # noqa: E402
+from life_tools.rules import Book, balances_of  # noqa: E402
+from scripts import make_book, make_script  # noqa: E402
+from life_tools.script_lines import Fault, read_script  # noqa: E402
+from life_tools.tables import NotXml, read_basis  # noqa: E402
 
 JOURNALS, SCRIPTS, TABLES, SELECT_TABLES = 150, 150, 200, 250
 
@@ -102,7 +102,8 @@ def drawn_script(draw: random.Random) -> bytes:
         which = draw.randrange(len(fields))
         field = fields[which]
         fields[which] = draw.choice([field[:-1], field + "0", "0" + field, '"' + field + '"', '"' + field, " " + field,
-                                     field + '"', "", "9", "-1", "2100-02-29", "now", "whole", "value", "\u00e9", "1.5", "0.00", "00",
+                                     field + '"', "", "9", "-1", "2100-02-29", "now", "whole", "value", "\u00e9", "1.5", "0.00",
+                                     "00",
                                      "129", "130", "4000001", "64", "65"])
         if draw.random() < 0.2:
             fields = draw.choice([fields[:which], [*fields, ""], [*fields, "x"], [",".join(fields[:2])]])
@@ -128,7 +129,8 @@ RATES = ["0.1", "1", "1.", ".5", "9E-05", "0.000000001", "0", "1e0"]
 WRONG_RATES = ["1.1", "-1", "", "0,1", "0.0000000001", "x", "1E-999", "0.1<!-- -->", "<b/>0.1", "&lt;"]
 STRANGE_ROWS = ["<Y>0.1</Y>", '<Y t="131">0</Y>', '<Y t="7">0</Y>', '<Y t="x">0</Y>', "<Z/>", '<Axis t="1"/>',
                 '<Y t="00">0.1</Y>', '<Y u="1" t="0" >0.1</Y>', "<Y t='0'>\n 0.1\t</Y>", '<Y t="0"/>']
-STRANGE_DURATIONS = ["<Y>0.1</Y>", '<Y t="x">0.1</Y>', '<Y t="2">0.1</Y>', '<Y t="0"/>', '<Y t="001">0.1</Y>', '<Y t="1">2</Y>', "<Z/>",
+STRANGE_DURATIONS = ["<Y>0.1</Y>", '<Y t="x">0.1</Y>', '<Y t="2">0.1</Y>', '<Y t="0"/>', '<Y t="001">0.1</Y>',
+                     '<Y t="1">2</Y>', "<Z/>",
                      '<Y t="1"><!-- -->0.1</Y>', '<Axis t="1"/>', '<Y t="4">0.1</Y>']
 FACTORS = [None, None, "", "0", " 1.0 ", "1000", "1<!-- -->", " "]
 DECLARATIONS = ["", '<?xml version="1.0"?>', '<?xml version="1.0" encoding="utf-8"?>\n']
@@ -176,8 +178,9 @@ def drawn_select_table(draw: random.Random) -> bytes:
     if draw.random() < 0.6 or not is_inner:
         axes = f"<Axis>{axes}</Axis>"
     start = min(first + draw.choice([0, 1, 2, 3]), 130)
-    ultimate = with_factor(draw, [None] * 9 + FACTORS[-2:], f"<Axis>{''.join(drawn_rows(draw, start, 0.05))}</Axis>")
-    select = with_factor(draw, [None] * 9 + FACTORS[-2:], axes)
+    factors = [*[None] * 9, *FACTORS[-2:]]
+    ultimate = with_factor(draw, factors, f"<Axis>{''.join(drawn_rows(draw, start, 0.05))}</Axis>")
+    select = with_factor(draw, factors, axes)
     behind = draw.choice([ultimate] * 8 + ["", "<Table/>" + ultimate, "<Other/>" + ultimate + "<Table/>"])
     data = f"<XTbML>{select}{behind}</XTbML>".encode()
     return broken(draw, data) if draw.random() < 0.2 else data

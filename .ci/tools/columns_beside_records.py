@@ -44,7 +44,8 @@ def drawn(draw: random.Random) -> list[Command]:
         commands = book.commands
     if draw.random() < 0.3:
         far = {number: draw.randrange(1, MOST_NUMBER + 1) for number in {it.number for it in commands if it.number}}
-        commands = [replace(it, number=far.get(it.number, 0)) for it in commands] if len(set(far.values())) == len(far) else commands
+        commands = [replace(it, number=far.get(it.number, 0))
+                    for it in commands] if len(set(far.values())) == len(far) else commands
     return commands
 
 
@@ -65,7 +66,8 @@ def changed(draw: random.Random, command: Command, others: list[Command]) -> Com
     if field == "day":
         return replace(command, day=moved(draw, command)) if command.day else command
     cents = getattr(command, field)
-    return replace(command, **{field: max(0, draw.choice((cents - 1, cents + 1, cents + 1, cents * 2, 0, 10**10 + 1, 2**63 + 1)))})
+    return replace(command, **{field: max(0, draw.choice((cents - 1, cents + 1, cents + 1, cents * 2, 0, 10**10 + 1,
+                                                          2**63 + 1)))})
 
 
 def disordered(draw: random.Random, commands: list[Command]) -> list[Command]:
@@ -116,12 +118,14 @@ def compare_books(columns: Columns, book: Book, seed: object) -> None:
     need(policies == list(book.policies.values()), f"{seed}: the policies are {policies} and {book.policies}")
     need(columns.count == len(book.commands) and columns.upgrade == book.upgrade, f"{seed}: another count or upgrade")
     need(columns.balances == balances_of(book.commands), f"{seed}: the balances are {columns.balances}")
-    need(list(columns.records.commands(slice(None))) == book.commands, f"{seed}: the commands differ")
+    need(list(columns.records.commands(slice(None))) == book.commands,  # type: ignore[arg-type]
+         f"{seed}: the commands differ")
     for place, (command, booked) in enumerate(bookings(book.commands)):
-        cents = max(map(abs, booked.values()), default=0)
+        cents = max([abs(value) for value in booked.values()], default=0)
         need(int(columns.booked[place]) == cents, f"{seed}: command {place + 1} books {columns.booked[place]} and not {cents}")
         at = int(columns.place[place])
-        need(at == -1 if command.kind == "upgrade" else policies[at].number == command.number, f"{seed}: command {place + 1} is of {at}")
+        need(at == -1 if command.kind == "upgrade" else policies[at].number == command.number,
+             f"{seed}: command {place + 1} is of {at}")
 
 
 def compare(draw: random.Random, data: bytes, seed: object) -> Journal:
@@ -129,7 +133,8 @@ def compare(draw: random.Random, data: bytes, seed: object) -> Journal:
     if slow.refused:
         need(isinstance(found, Journal), f"{seed}: the bulk reader takes what is {slow.refused}: {slow.why}")
         assert isinstance(found, Journal)
-        need((found.refused, found.why) == (slow.refused, slow.why), f"{seed}: {found.refused}, {found.why}; {slow.refused}, {slow.why}")
+        need((found.refused, found.why) == (slow.refused, slow.why),
+             f"{seed}: {found.refused}, {found.why}; {slow.refused}, {slow.why}")
         return slow
     need(isinstance(found, Columns), f"{seed}: the bulk reader doesn't take a journal: {found}")
     assert isinstance(found, Columns)

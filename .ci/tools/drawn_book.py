@@ -13,8 +13,8 @@ import sys
 ROOT = sys.argv[1]
 sys.path[:0] = [os.path.join(ROOT, "tools"), os.path.join(ROOT, ".ci", "stress")]
 
-from life_tools.journals import file_of
-from scripts import BASIS, MIDDLE, make_book, make_script
+from life_tools.journals import file_of  # noqa: E402
+from scripts import BASIS, MIDDLE, make_book, make_script  # noqa: E402
 
 
 def main() -> None:

@@ -6,7 +6,7 @@ from __future__ import annotations
 
 import sqlite3
 import sys
-from typing import Iterable, Sequence
+from typing import Any, Dict, Iterable, List, Sequence
 
 
 def money(cents: int) -> str:
@@ -25,15 +25,19 @@ def tables_of_pandas(folder: str) -> dict[str, list[dict[str, object]]]:
 
     def read(name: str) -> list[dict[str, object]]:
         frame = pandas.read_pickle(f"{folder}/{name}.pkl").astype(object)
-        return frame.where(frame.notnull(), None).to_dict("records")
+        return list(frame.where(frame.notnull(), None).to_dict("records"))
     return {name: read(name) for name in ("command", "booking", "policy", "valuation", "valued")}
+
+
+# the rows of each table
+Tables = Dict[str, List[Dict[str, Any]]]
 
 
 def said(values: Iterable[object]) -> str:
     return ",".join("" if value is None else str(value) for value in values)
 
 
-def print_state(tables: dict[str, list[dict]]) -> None:
+def print_state(tables: Tables) -> None:
     for it in tables["policy"]:
         print(said(["policy", it["policy"], it["status"], it["plan"], it["age"], it["years"], money(it["amount_cents"]),
                     money(it["premium_cents"]), it["issued"], it["premiums_paid"], money(it["outstanding_cents"])]))
@@ -42,19 +46,19 @@ def print_state(tables: dict[str, list[dict]]) -> None:
     print(f"count,{len(tables['command'])}")
 
 
-def print_days(tables: dict[str, list[dict]]) -> None:
+def print_days(tables: Tables) -> None:
     for it in tables["policy"]:
         print(said(["days", it["policy"], it["ends"], it["paid_to"], it["next_due"], it["grace_end"]]))
 
 
-def print_entries(tables: dict[str, list[dict]]) -> None:
+def print_entries(tables: Tables) -> None:
     for it in tables["command"]:
         cents = [None if it[name] is None else money(it[name]) for name in ("amount_cents", "premium_cents")]
         held = [value for value in (it["plan"], it["age"], it["years"], *cents) if value is not None]
         print(said(["entry", it["position"], it["kind"], it["policy"], it["day"], *held]))
 
 
-def print_valuations(tables: dict[str, list[dict]]) -> None:
+def print_valuations(tables: Tables) -> None:
     assert len(tables["valued"]) == len(tables["valuation"])
     for it in tables["valued"]:
         cents = [None if it[name] is None else money(it[name]) for name in

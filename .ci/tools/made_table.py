@@ -30,12 +30,14 @@ def row(label: int, units: int) -> str:
 
 
 def axis(name: str, first: int, last: int) -> str:
-    return (f'<AxisDef id="{name}"><ScaleType tc="3">{name}</ScaleType><AxisName>{name}</AxisName><MinScaleValue>{first}</MinScaleValue>'
+    return (f'<AxisDef id="{name}"><ScaleType tc="3">{name}</ScaleType><AxisName>{name}</AxisName>'
+            f'<MinScaleValue>{first}</MinScaleValue>'
             f"<MaxScaleValue>{last}</MaxScaleValue><Increment>1</Increment></AxisDef>")
 
 
 def table(axes: list[str], values: list[str]) -> str:
-    return ('  <Table>\n    <MetaData>\n      <ScalingFactor>0</ScalingFactor>\n      <DataType tc="2">Floating Point</DataType>\n      '
+    return ('  <Table>\n    <MetaData>\n      <ScalingFactor>0</ScalingFactor>\n      <DataType tc="2">Floating '
+            'Point</DataType>\n      '
             + "\n      ".join(axes) + "\n    </MetaData>\n    <Values>\n" + "\n".join(values) + "\n    </Values>\n  </Table>")
 
 
@@ -44,10 +46,14 @@ def main() -> None:
     values = []
     for age in range(first, last + 1):
         rows = [row(k + 1, select(age, k)) if age + k <= 130 else f'<Y t="{k + 1}"/>' for k in range(durations)]
-        values.append(f'      <Axis t="{age}">\n        <Axis>\n          ' + "\n          ".join(rows) + "\n        </Axis>\n      </Axis>")
+        values.append(f'      <Axis t="{age}">\n        <Axis>\n          ' + "\n          ".join(rows) + "\n        "
+                                                                                                          "</Axis>\n      "
+                                                                                                          "</Axis>")
     by_age = [f"        {row(age, ultimate(age))}" for age in range(ultimate_first, ultimate_last + 1)]
-    print('<?xml version="1.0" encoding="utf-8"?>\n<XTbML>\n  <ContentClassification>\n    <TableIdentity>900002</TableIdentity>\n'
-          '    <ContentType tc="1">Insured Lives Mortality</ContentType>\n    <TableName>Made select and ultimate table</TableName>\n'
+    print('<?xml version="1.0" encoding="utf-8"?>\n<XTbML>\n  <ContentClassification>\n    '
+          '<TableIdentity>900002</TableIdentity>\n'
+          '    <ContentType tc="1">Insured Lives Mortality</ContentType>\n    <TableName>Made select and ultimate '
+          'table</TableName>\n'
           "  </ContentClassification>")
     print(table([axis("Age", first, last), axis("Duration", 1, durations)], values))
     print(table([axis("Age", ultimate_first, ultimate_last)], ["      <Axis>", *by_age, "      </Axis>"]))

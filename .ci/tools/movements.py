@@ -18,14 +18,15 @@ from typing import Any
 ROOT, PROGRAM = sys.argv[1:3]
 sys.path.insert(0, os.path.join(ROOT, "tools"))
 
-from life_tools.entry import main
+from life_tools.entry import main  # noqa: E402
 
 FIRST, LAST = datetime.date(2000, 1, 1), datetime.date(2030, 12, 31)
 
 
-def printed_total(on: str, position: int) -> Any:
+def printed_total(on: datetime.date, position: int) -> Any:
     """The last line of a valuation, as its fields."""
-    ran = subprocess.run([PROGRAM, "value", str(on), "--at", str(position)], stdin=subprocess.DEVNULL, capture_output=True, text=True)
+    ran = subprocess.run([PROGRAM, "value", str(on), "--at", str(position)], stdin=subprocess.DEVNULL, capture_output=True,
+                         text=True)
     return ran.stdout.splitlines()[-1].split(",")
 
 

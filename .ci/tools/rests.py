@@ -12,16 +12,13 @@ import sys
 ROOT = sys.argv[1]
 sys.path[:0] = [os.path.join(ROOT, "tools"), os.path.join(ROOT, ".ci", "stress")]
 
-from life_tools.commands import words_of
-from life_tools.formats import Wrong
-from life_tools.printed_fronts import read_front
-from life_tools.rests import History, NoRun, demand_records, rest_of
-from life_tools.rules import Book, Refusal
-from life_tools.script_lines import lanes_of, read_script
-from scripts import make_script
-from life_tools.commands import Command
-from life_tools.rules import Policy, Upgraded
-from life_tools.script_lines import Line
+from life_tools.commands import Command, words_of  # noqa: E402
+from life_tools.formats import Wrong  # noqa: E402
+from life_tools.printed_fronts import read_front  # noqa: E402
+from life_tools.rests import History, NoRun, demand_records, rest_of  # noqa: E402
+from life_tools.rules import Book, Policy, Refusal, Upgraded  # noqa: E402
+from life_tools.script_lines import Line, lanes_of, lines_in  # noqa: E402
+from scripts import make_script  # noqa: E402
 
 RUNS, EQUAL_RUNS, CUTS = 8, 40, 6
 
@@ -45,10 +42,13 @@ def answer_text(line: Line, book: Book, after: Policy | Refusal | Upgraded) -> s
     return ",".join([*line.head, *words]) + "\n"
 
 
-def run_up_to(draw: random.Random, lines: list[Line], book: Book, turns: int) -> tuple[dict[int, int], dict[int, int], list[tuple[int, str]]]:
+def run_up_to(draw: random.Random, lines: list[Line], book: Book, turns: int) -> tuple[dict[int, int], dict[int, int],
+                                                                                       list[tuple[int, str]]]:
     """Each lane's number of answered rows after so many turns, its number up to the last accepted one, and the transcript:
     each answer's lane and text."""
-    left, answered, shown, told = lanes_of(lines), {}, {}, []
+    left, told = lanes_of(lines), []
+    answered: dict[int, int] = {}
+    shown: dict[int, int] = {}
     for _ in range(turns):
         open_lanes = [lane for lane in left if answered.get(lane, 0) < len(left[lane])]
         if not open_lanes:
@@ -59,7 +59,7 @@ def run_up_to(draw: random.Random, lines: list[Line], book: Book, turns: int) ->
         after = book.decide(line.command) if line.command else Refusal("none")
         told.append((lane, answer_text(line, book, after)))
         if not isinstance(after, Refusal):
-            book.take(line.command, after)
+            book.take(line.posted, after)
             shown[lane] = answered[lane]
     return answered, shown, told
 
@@ -68,7 +68,7 @@ def front_of(draw: random.Random, told: list[tuple[int, str]]) -> tuple[str, dic
     """A front of a transcript that is cut anywhere, and how many of each lane's answers are whole in it."""
     whole = draw.randrange(len(told) + 1)
     part = told[whole][1][:draw.randrange(len(told[whole][1]))] if whole < len(told) else ""
-    counts = {}
+    counts: dict[int, int] = {}
     for lane, _ in told[:whole]:
         counts[lane] = counts.get(lane, 0) + 1
     return "".join(text for _, text in told[:whole]) + part, counts
@@ -80,7 +80,8 @@ def is_a_run(lines: list[Line], book: Book, commands: list[Command], rest: dict[
     return can_leave(lanes, dict.fromkeys(lanes, 0), book, commands, set())
 
 
-def can_leave(lanes: dict[int, list[Line]], at: dict[int, int], book: Book, commands: list[Command], seen: set[tuple[int, tuple[int, ...]]]) -> bool:
+def can_leave(lanes: dict[int, list[Line]], at: dict[int, int], book: Book, commands: list[Command],
+              seen: set[tuple[int, tuple[int, ...]]]) -> bool:
     key = (len(book.commands), tuple(at.values()))
     if key in seen:
         return False
@@ -103,12 +104,13 @@ def can_leave(lanes: dict[int, list[Line]], at: dict[int, int], book: Book, comm
 
 def judge_drawn(draw: random.Random) -> None:
     """A script in which no two lanes have an equal posting: the rest is just what is known."""
-    text, taken = [], {}
+    text = []
+    taken: dict[str, str] = {}
     for row in make_script(draw, Book()).splitlines():
         lane, words = row.split(",", 1)
         if taken.setdefault(words, lane) == lane or words == "trim" or words.startswith("value"):
             text.append(row)
-    lines = read_script("\n".join(text).encode())
+    lines = lines_in("\n".join(text).encode())
     book = Book()
     _, shown, told = run_up_to(draw, lines, book, draw.randrange(len(lines) + 1))
     judge_rest(lines, rest_of(lines, History(0, book.commands)), shown, text)
@@ -134,7 +136,7 @@ def is_short(lines: list[Line], rest: dict[int, list[Line]], shown: dict[int, in
     return all(lines_of[shown.get(lane, 0):] == rest[lane] or has_equal(lines_of) for lane, lines_of in lanes_of(lines).items())
 
 
-def has_equal(lines: list[str]) -> bool:
+def has_equal(lines: list[Line]) -> bool:
     commands = [line.command for line in lines if line.command]
     return len(commands) != len(set(commands))
 
@@ -146,10 +148,10 @@ SETTLEMENTS = ("settle,1,2020-03-01,10.00", "settle,1,2020-03-01,20.00", "premiu
 def judge_equal(draw: random.Random) -> None:
     """Few kinds of rows in three lanes, so that most stand in several: the rest has to be that of some run."""
     rows = [f"{draw.randrange(1, 4)},{draw.choice(SETTLEMENTS)}" for _ in range(draw.randrange(2, 12))]
-    lines = read_script("\n".join(rows).encode())
-    begun = read_script(b"1,issue,1,2020-01-01,whole,30,0,60.00,1.00\n1,claim,1,2020-02-01\n"
-                        b"1,issue,2,2020-01-01,whole,30,0,10.00,1.00\n")
-    opening = [line.command for line in begun]
+    lines = lines_in("\n".join(rows).encode())
+    begun = lines_in(b"1,issue,1,2020-01-01,whole,30,0,60.00,1.00\n1,claim,1,2020-02-01\n"
+                     b"1,issue,2,2020-01-01,whole,30,0,10.00,1.00\n")
+    opening = [line.posted for line in begun]
     for cut in range(CUTS):
         book = Book(opening)
         _, _, told = run_up_to(draw, lines, book, draw.randrange(len(lines) + 1))
@@ -167,10 +169,10 @@ def judge_equal(draw: random.Random) -> None:
 
 def judge_strange(draw: random.Random) -> None:
     """A journal that no run of the script leaves has to be refused."""
-    lines = read_script(b"1,settle,1,2020-03-01,10.00\n2,settle,1,2020-03-01,10.00\n")
-    opening = Book(line.command for line in read_script(b"1,issue,1,2020-01-01,whole,30,0,60.00,1.00\n1,claim,1,2020-02-01\n"))
-    command = lines[0].command
-    for records in ([command] * 3, [read_script(b"1,settle,1,2020-03-01,10.01\n")[0].command]):
+    lines = lines_in(b"1,settle,1,2020-03-01,10.00\n2,settle,1,2020-03-01,10.00\n")
+    opening = Book(line.posted for line in lines_in(b"1,issue,1,2020-01-01,whole,30,0,60.00,1.00\n1,claim,1,2020-02-01\n"))
+    command = lines[0].posted
+    for records in ([command] * 3, [lines_in(b"1,settle,1,2020-03-01,10.01\n")[0].posted]):
         try:
             rest_of(lines, History(len(opening.commands), [*opening.commands, *records]))
         except Wrong:
@@ -186,7 +188,8 @@ def judge_printed_strange(lines: list[Line], opening: list[Command], command: Co
         demand_records(printed, History(len(opening), opening))
     except NoRun:
         printed = read_front("1,settle,1,fault\n2,settle,1,nomemory\n", lines)
-        need(printed.begun is None and [word for word, _ in printed.unposted] == ["fault", "nomemory"], "unposted lines aren't told")
+        need(printed.begun is None and [word for word, _ in printed.unposted] == ["fault", "nomemory"],
+             "unposted lines aren't told")
         for commands in (opening, [*opening, command]):
             rest = rest_of(lines, History(len(opening), commands), printed)
             need(not any(rest.values()), f"printed rows are left: {rest}")

@@ -31,6 +31,12 @@ class Line:
         fields = self.row.fields
         return [*fields[:2], "0"] if self.kind == "upgrade" else list(fields[:3])
 
+    @property
+    def posted(self) -> Command:
+        """The command of a line that posts."""
+        assert self.command is not None
+        return self.command
+
 
 @dataclass(frozen=True)
 class Fault:
@@ -150,12 +156,17 @@ def read_script(data: bytes) -> list[Line] | Fault:
     return lines
 
 
-def script_at(path: str) -> list[Line]:
-    """The lines of a file, which has to be a script."""
-    lines = read_script(bytes_of(path))
+def lines_in(data: bytes, path: str = "the script") -> list[Line]:
+    """The lines of what has to be a script."""
+    lines = read_script(data)
     if isinstance(lines, Fault):
         raise Wrong(f"{path} is {lines.answer}, so nothing of it is posted")
     return lines
+
+
+def script_at(path: str) -> list[Line]:
+    """The lines of a file, which has to be a script."""
+    return lines_in(bytes_of(path), path)
 
 
 def lanes_of(lines: list[Line]) -> dict[int, list[Line]]:
