@@ -45,24 +45,5 @@ else
     LIFE_PROGRAM=$program
 
     go_on "a worker that has another program, or sees another book"
-    "$dask" - "$tools" "$program" <<'PY' >out 2>&1 || complain "$(cat out)"
-import os
-import sys
-sys.path.insert(0, sys.argv[1])
-from life_tools.book_runs import Task, run_once, sum_of
-from life_tools.formats import bytes_of
-program, folder = sys.argv[2], os.path.abspath("book1")
-words = ("value", "2010-12-31")
-right = sum_of(bytes_of(program))
-sums = tuple((name, sum_of(bytes_of(f"book1/{name}"))) for name in ("journal.life", "basis.csv", "g.xml"))
-assert run_once(Task("book1", folder, "basis.csv", words, (program,), None, True, right, sums)).status == 0
-other = run_once(Task("book1", folder, "basis.csv", words, (program,), None, True, "0" * 64, sums))
-assert other.status == 2 and "has no program of the sum 0000000000000000" in other.line, other
-for name in ("journal.life", "basis.csv", "g.xml"):
-    changed = tuple((each, "0" * 64 if each == name else told) for each, told in sums)
-    outcome = run_once(Task("book1", folder, "basis.csv", words, (program,), None, True, right, changed))
-    assert outcome.status == 2 and f"sees another {name} than the one asked for" in outcome.line, outcome
-gone = run_once(Task("book9", os.path.abspath("book9"), "basis.csv", words, (program,), None, True, right, sums))
-assert gone.status == 2 and "there is no" in gone.line, gone
-PY
+    "$dask" "$root/.ci/books/other_books.py" "$tools" "$program" >out 2>&1 || complain "$(cat out)"
 fi

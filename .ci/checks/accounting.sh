@@ -10,13 +10,7 @@ sed -n 's/^balance,//p' state | sort >wanted
 
 # lines of an account and its balance, however the program writes them, as those of `state`
 as_state() {
-    python3 -c '
-import decimal, sys
-for line in sys.stdin:
-    account, balance = line.replace(chr(34), "").strip().split(",")
-    if account != "account":
-        print(f"{account},{decimal.Decimal(balance):.2f}")
-' | sort
+    python3 "$root/.ci/tools/balances.py" | sort
 }
 
 tried=

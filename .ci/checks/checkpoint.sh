@@ -38,24 +38,12 @@ stated_alike() {
 is_right() {
     python3 "$tools/life-tools" read-checkpoint checkpoint.life journal.life >read 2>verdict || complain "$1: $(cat verdict)"
     "$life" state </dev/null | cmp -s - read || complain "$1: the checkpoint has other books than state"
-    PYTHONPATH=$tools python3 - <<'PY' || complain "$1: other bytes"
-import sys
-from life_tools.checkpoints import bytes_of_checkpoint, checkpoint_of
-from life_tools.journals import journal_at
-made = bytes_of_checkpoint(checkpoint_of(journal_at("journal.life").commands))
-sys.exit(open("checkpoint.life", "rb").read()[:len(made)] != made)
-PY
+    python3 "$root/.ci/checkpoints/of_journal.py" "$tools" || complain "$1: other bytes"
 }
 
 begin_claimed "claim and settle"
 cp journal.life before
-python3 - <<'PY' || complain "the checkpoint has other bytes"
-import sys
-front = "01 4c494645 4348 4b50 0001 0030 00000000 00000004 00000000 00000001"
-balances = "0000000000000000 ffffffffffff63c0 00000000000186a0 ffffffffffff15a0 000000"
-policy = "00001b59 03 00 03 01 03 000000 00004756 0000480c 00000000000186a0 0000000000009c40 000000000000ea60 00000000"
-sys.exit(open("checkpoint.life", "rb").read() != bytes.fromhex(front + balances + policy))
-PY
+python3 "$root/.ci/checkpoints/by_hand.py" || complain "the checkpoint has other bytes"
 leaves before
 is_right "four commands"
 echo 1,settle,7001,2020-07-03,600.00 | "$life" run >out

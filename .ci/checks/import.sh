@@ -69,16 +69,7 @@ cmp -s wanted script.csv || complain "the script is $(cat script.csv)"
 echo line,reason,row | cmp -s - none-left.csv || complain "left are $(cat none-left.csv)"
 
 go_on "a script of more than 16 MiB, here of more than 60 bytes, in parts whose names are in order"
-PYTHONPATH=$tools python3 - >names <<'PY' || complain "no parts"
-import argparse, glob
-from life_tools.entries import import_book
-import_book.MOST_SCRIPT_BYTES = 60
-parser = argparse.ArgumentParser()
-import_book.arguments(parser)
-import_book.run(parser.parse_args("book.csv --map map.csv --script parts.csv --left parts-left.txt".split()))
-print(*sorted(glob.glob("parts*.csv")))
-print(*import_book.names_of("in/box.csv", 10)[8:], import_book.names_of("in.d/box", 2)[1], import_book.names_of("box.csv", 1)[0])
-PY
+python3 "$root/.ci/tools/parts_of_script.py" "$tools" >names || complain "no parts"
 printf '%s\n' 'parts-1.csv parts-2.csv parts-3.csv' 'in/box-09.csv in/box-10.csv in.d/box-2 box.csv' | cmp -s - names || complain "$(cat names)"
 cat parts-*.csv | cmp -s - wanted || complain "the parts are $(cat parts-*.csv)"
 

@@ -262,22 +262,7 @@ for word in short enough; do grep -q "^row,.*,$word\$" block || complain "no pre
 
 # premiums around the net premium to the cent, of each plan: two that are below it, and two that aren't
 begin_with_examples "premiums around the net premium"
-python3 - "$tools" <<'PY' >script || complain "no premiums were made"
-import sys
-sys.path.insert(0, sys.argv[1])
-from life_tools.formats import day_in, money
-from life_tools.reserves import insured_on
-from life_tools.rules import Policy
-from life_tools.tables import read_basis
-basis, known, day, amount, number = read_basis("basis.csv"), {}, day_in("2021-03-01"), 1234567, 0
-for plan in ("term", "whole", "endowment", "limited"):
-    for age in (20, 41, 67):
-        for years in (0,) if plan == "whole" else (2, 11, 25):
-            _, insured = insured_on(Policy(1, plan, age, years, amount, 1, day, day), basis, day, known)
-            for premium in range(int(amount * insured.modified) - 1, int(amount * insured.modified) + 3):
-                number += 1
-                print(f"1,issue,{number},{day},{plan},{age},{years},{money(amount)},{money(premium)}")
-PY
+python3 "$root/.ci/tools/premiums_around.py" "$tools" >script || complain "no premiums were made"
 "$life" run <script >out || complain "the run ended with $?"
 for day in 2021-03-01 2022-03-01 2023-03-01 2031-12-31 2046-03-01; do
     "$life" value "$day" --deficiency </dev/null >block || complain "value on $day ended with $?"

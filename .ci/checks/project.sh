@@ -162,17 +162,7 @@ python3 "$tools/life-tools" check-projection journal.life basis.csv wrong >verdi
 # every plan at every age, for short covers and for those to the end of a table and past it; of a table by age, and of a
 # select one whose ultimate rates begin behind some of its issue ages
 begin_with_examples "a grid of ages"
-PYTHONPATH=$tools python3 - <<'PY' >journal.life || complain "no book was made"
-import datetime, sys
-from life_tools.commands import LAST_AGE, OLDEST_AT_ISSUE, Command, years_fit
-from life_tools.journals import file_of
-
-book = [(plan, age, years) for age in range(OLDEST_AT_ISSUE + 1) for plan in ("whole", "term", "endowment", "limited")
-        for years in ((0,) if plan == "whole" else (2, 3, 11, 26, 120 - age, 121 - age, 131 - age)) if years_fit(plan, age, years)]
-day = datetime.date(2000, 2, 29)
-sys.stdout.buffer.write(file_of(Command("issue", number, day, plan, age, years, 99999 + 7 * number, 1 + 13 * number)
-                                for number, (plan, age, years) in enumerate(book, 1)))
-PY
+python3 "$root/.ci/tools/grid_of_ages.py" "$tools" >journal.life || complain "no book was made"
 python3 "$root/.ci/tools/made_table.py" 18 70 25 40 118 >made.xml || complain "no table was made"
 for table in g.xml made.xml; do
     echo "1900-01-01,$table,0" >basis.csv

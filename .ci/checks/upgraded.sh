@@ -25,12 +25,8 @@ judge 0 0 wanted
 # a journal of these records of the upgraded one, counted from 0, which is refused at this one
 refused_at() {
     begin "$1"
-    python3 - "$upgraded/upgraded.life" $3 >journal.life <<'PY'
-import sys
-data = open(sys.argv[1], "rb").read()
-records = [data[17 + 65 * int(record):][:65] for record in sys.argv[2:]]
-sys.stdout.buffer.write(data[:17] + b"".join(records) + b"\0")
-PY
+    # shellcheck disable=SC2086
+    python3 "$root/.ci/upgrade/some_records.py" "$upgraded/upgraded.life" $3 >journal.life
     cp journal.life before
     echo "badjournal,badrecord,$2" >wanted
     "$life" run <"$nothing" >out
@@ -52,15 +48,7 @@ if [ -n "${OLDER_PROGRAM:-}" ]; then
     judge $? 5 "$upgraded/older-program.answer"
     leaves "$upgraded/upgraded.life"
 fi
-python3 - "$tools" >out <<'PY'
-import sys
-sys.path.insert(0, sys.argv[1])
-from life_tools import formats
-for kind in (9, 10):
-    del formats.KINDS[kind]
-from life_tools.journals import read_journal
-print(read_journal(open("journal.life", "rb").read()).refused)
-PY
+python3 "$root/.ci/upgrade/read_by_older.py" "$tools" >out
 judge $? 0 "$upgraded/older-program.answer"
 
 end "an upgraded journal is written, read, and refused by what is older"

@@ -8,18 +8,7 @@ needs strace
 
 # a journal of so many issues, of all plans, ages and durations, and of twenty years
 make_book() {
-    PYTHONPATH=$tools python3 - "$1" >journal.life <<'PY'
-import datetime, sys
-from life_tools.commands import PLANS, Command
-from life_tools.journals import file_of
-
-first, plans = datetime.date(2000, 1, 1), sorted(PLANS.values())
-def issue(number):
-    plan = plans[number % len(plans)]
-    return Command("issue", number, first + datetime.timedelta(days=number * 37 % 7305), plan, 20 + number * 13 % 50,
-                   0 if plan == "whole" else 2 + number * 7 % 40, 100000 * (1 + number % 900), 2000 * (1 + number % 900))
-sys.stdout.buffer.write(file_of(issue(number) for number in range(1, int(sys.argv[1]) + 1)))
-PY
+    python3 "$root/.ci/tools/many_issues.py" "$tools" "$1" >journal.life
 }
 
 # what is asked, by so many workers: it starts so many threads, and its text is that of one
