@@ -87,13 +87,10 @@ def measure_postings(title: Any, ways: Any) -> None:
     print(title + " (medians of %d rounds of %d):" % (rounds, postings))
     for name, runs in found.items():
         seconds = statistics.median(ran.seconds for ran in runs)
+        beside = " ".join("%.2f" % (base.seconds / ran.seconds) for base, ran in zip(found[ways[0][0]], runs))
+        each = [statistics.median(getattr(ran, part) for ran in runs) / postings for part in ("used", "given_up", "taken")]
         print("  %-10s %7.0f a second, %.3f of %s (%s); %4.0f us of processor time, %.1f switches given up and %.1f taken "
-              "a posting" % (
-            name, postings / seconds, first / seconds, ways[0][0],
-            " ".join("%.2f" % (base.seconds / ran.seconds) for base, ran in zip(found[ways[0][0]], runs)),
-            1e6 * statistics.median(ran.used for ran in runs) / postings,
-            statistics.median(ran.given_up for ran in runs) / postings,
-            statistics.median(ran.taken for ran in runs) / postings))
+              "a posting" % (name, postings / seconds, first / seconds, ways[0][0], beside, 1e6 * each[0], each[1], each[2]))
 
 
 def ways_of(word: Any, numbers: Any) -> Any:
