@@ -32,6 +32,7 @@ ENTRIES: dict[str, tuple[str, str]] = {
     "check-projection": ("check_projection", "work the years of a printed projection out anew, and compare"),
     "plot": ("plot", "draw printed valuations, a printed book or a printed projection"),
     "seal": ("seal", "a seal of the book and its basis, to keep elsewhere; and whether they still are so"),
+    "browse": ("browse", "a window on a book, in a web browser of this machine"),
     "version": ("version", "which program these tools were installed with"),
 }
 

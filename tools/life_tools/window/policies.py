@@ -5,7 +5,7 @@ import datetime
 import os
 from typing import Iterator, NamedTuple
 
-from life_tools.bulk import number_at, text_at
+from life_tools.day_columns import day_at, number_at
 from life_tools.commands import UPGRADE, Command
 from life_tools.entries.due import WHATS, Items
 from life_tools.formats import LAST_DAY, MOST_VALUATIONS, demand
@@ -94,7 +94,7 @@ def due_on(policy: Policy, day: datetime.date) -> list[tuple[str, str]]:
     items.other(policy)
     found = []
     for what, when, _, until, cents, _ in sorted(items.found):
-        words = {"amount": money(cents), "day": text_at(when), "until": "" if until is None else text_at(until)}
+        words = {"amount": money(cents), "day": str(day_at(when)), "until": "" if until is None else str(day_at(until))}
         found.append((WHATS[what], DUE_WORDS[WHATS[what]].format(**words)))
     return found
 
@@ -140,7 +140,7 @@ def rows_on(book: LookedAt, desk: str, days: list[datetime.date]) -> Iterator[Va
     """The rows of one policy that a script of valuations prints."""
     script = os.path.join(desk, "script")
     with open(script, "w", encoding="ascii") as file:
-        file.writelines(f"1,value,{day}\n" for day in days)
+        file.writelines(f"1,value,{day},now,1\n" for day in days)
     words = ["run", "--basis", book.book.basis]
     path = printed_by(book.life, words, desk, book.scratch, os.path.join(desk, "printed"), script)
     rows = [row_of(line, 2) for line in lines_of(path) if line.startswith("row,")]
