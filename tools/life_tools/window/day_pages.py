@@ -12,7 +12,7 @@ from life_tools.window.due_lists import SAYS, SORTED, TITLES, DueOn, csv_rows, d
 from life_tools.window.find_pages import policy_cell
 from life_tools.window.lists import A_PAGE
 from life_tools.window.looked_at import LookedAt
-from life_tools.window.parts import RIGHT, Answer, Cell, File, Head, Page, Table, cells, heads, link
+from life_tools.window.parts import RIGHT, Answer, Cell, File, Head, Page, Table, cells, link
 
 WORDS = ("at", "day", "within")
 LIST_WORDS = (*WORDS, "what", "sort", "order", "page")
@@ -32,7 +32,7 @@ def day(book: LookedAt, asked: Asked, at: int) -> Answer:
         count, cents = it.sums.get(what, (0, 0))
         rows.append([Cell(TITLES[what], link(book.number, "day/list", at, what=what, **words) if count else ""), Cell(SAYS[what]),
                      *cells((count, money(cents)))])
-    table = Table("Due by kind", heads(("what", "which", "policies", "sum"), 2), rows)
+    table = Table("Due by kind", [Head("what"), Head("which", "says"), Head("policies", RIGHT), Head("sum", RIGHT)], rows)
     return Page("day.html", f"The day {it.day}", {"table": table, "day": it.day, "within": it.within, "most_days": MOST_DAYS})
 
 

@@ -23,7 +23,7 @@ POLICY = ("default-src 'none'; style-src 'self'; img-src 'self'; form-action 'se
           "frame-ancestors 'none'")
 HEADERS = (("Content-Security-Policy", POLICY), ("Referrer-Policy", "no-referrer"), ("Cache-Control", "no-store"),
            ("X-Content-Type-Options", "nosniff"), ("Cross-Origin-Resource-Policy", "same-origin"))
-REASONS = {303: "See Other", 403: "Forbidden", 405: "Method Not Allowed", 414: "URI Too Long"}
+REASONS = {303: "See Other", 403: "Forbidden", 404: "Not Found", 405: "Method Not Allowed", 414: "URI Too Long"}
 
 
 def new_secret() -> str:
@@ -74,6 +74,8 @@ class Door:
             return 405, "This window only looks: GET and HEAD.", [("Allow", "GET, HEAD")]
         if len(environ.get("PATH_INFO", "")) + len(environ.get("QUERY_STRING", "")) > MOST_LETTERS:
             return 414, "No page has so long an address.", []
+        if "//" in environ.get("PATH_INFO", ""):
+            return 404, "No page has such an address.", []
         return None
 
     def exchange(self, environ: Environment) -> tuple[int, str, list[tuple[str, str]]] | None:
@@ -90,7 +92,7 @@ class Door:
 
     def brought(self, environ: Environment) -> str:
         try:
-            cookies = SimpleCookie(environ.get("HTTP_COOKIE", ""))
+            cookies: SimpleCookie[str] = SimpleCookie(environ.get("HTTP_COOKIE", ""))
         except CookieError:
             return ""
         return cookies[self.cookie_name].value if self.cookie_name in cookies else ""

@@ -5,7 +5,10 @@ import sqlite3
 from dataclasses import dataclass
 from typing import Any
 
+from life_tools.arrays import Array, np
 from life_tools.formats import MOST_COMMANDS, PLANS, STATUSES
+from life_tools.journal_columns import RECORD, UPGRADE
+from life_tools.journals import FIRST_GATE
 from life_tools.window.asked import Asked
 
 A_PAGE = 50
@@ -104,22 +107,10 @@ def newest_day(database: sqlite3.Connection, position: int) -> str | None:
     return row[0] if row else None
 
 
-@dataclass(frozen=True)
-class OnDay:
-    """The positions of a day: the first, by `position-on`; the last; and how many postings lie on the wrong side of each."""
-
-    first: int
-    last: int
-    lacked: int
-    ahead: int
-
-
-def on_day(database: sqlite3.Connection, day: str, newest: int) -> OnDay:
-    later = database.execute("select min(position) from command where position <= ? and day > ?", (newest, day)).fetchone()[0]
-    first = newest if later is None else later - 1
-    lacked, last = database.execute("select count(*), max(position) from command where position > ? and position <= ? and day <= ?",
-                                    (first, newest, day)).fetchone()
-    last = last or first
-    ahead = database.execute("select count(*) from command where position > ? and position <= ? and day > ?",
-                             (first, last, day)).fetchone()[0]
-    return OnDay(first, last, lacked, ahead)
+def days_of(journal: str, count: int) -> tuple[Array, int]:
+    """The days of the first records of a journal's file, as numbers, and the upgrade's position, or 0."""
+    if not count:
+        return np.zeros(0, np.int32), 0
+    records = np.memmap(journal, RECORD, "r", FIRST_GATE, count)
+    upgrades = np.flatnonzero(records["head"] >> 24 == UPGRADE)
+    return records["day"].astype(np.int32), int(upgrades[0]) + 1 if len(upgrades) else 0

@@ -23,7 +23,7 @@ from life_tools.window import tables
 from life_tools.window.jobs import Job, Jobs
 
 # so many results are kept of a book
-MOST_KEPT = 40
+MOST_KEPT = 24
 
 
 class LookedAt:
@@ -39,7 +39,8 @@ class LookedAt:
         self.database = os.path.join(self.folder, "tables")
         self.positions: list[int] = []
         self.made_at = datetime.datetime.now()
-        self.journal_sum = self.basis_sum = ""
+        self.basis_sum = ""
+        self.sums: dict[int, str] = {}
         self.files = 0
         self.counting = threading.Lock()
         self.jobs = Jobs(MOST_KEPT, self.forget)
@@ -55,6 +56,10 @@ class LookedAt:
     def newest(self) -> int:
         return self.positions[-1]
 
+    def sum_at(self, position: int) -> str:
+        """The SHA-256 of the journal of the first so many postings alone, for a position that the tables were made for."""
+        return self.sums[position]
+
     def open(self) -> None:
         """Makes the copy and the tables, where they aren't made yet; raises Working meanwhile."""
         if not self.positions:
@@ -66,6 +71,7 @@ class LookedAt:
         job.at("copying the journal")
         self.take_copy()
         position = tables.make(self.database, self.journal, job.at)
+        self.sums[position] = front_sum(self.journal, position)
         self.positions.append(position)
         return self.database
 
@@ -81,7 +87,6 @@ class LookedAt:
                 file.write(EMPTY)
         os.replace(new, self.journal)
         self.take_basis()
-        self.journal_sum = front_sum(self.journal, front_count(self.journal) or 0)
         self.made_at = datetime.datetime.now()
 
     def take_basis(self) -> None:
@@ -104,14 +109,15 @@ class LookedAt:
 
     def bring_up_to_date(self, job: Job) -> int:
         """Takes what was posted since the copy was made, which has to be its front."""
-        first, seen = self.newest, self.journal_sum
+        first = self.newest
         job.at("copying the journal")
-        demand(front_sum(self.book.journal, first) == seen,
+        demand(front_sum(self.book.journal, first) == self.sums[first],
                f"{self.book.journal} isn't the journal any more of which this window was opened: open another one")
         self.take_copy()
         last = front_count(self.journal) or 0
         if last > first:
             tables.bring_up_to_date(self.database, self.journal, first, last, job.at)
+            self.sums[last] = front_sum(self.journal, last)
             self.positions.append(last)
         return last
 

@@ -4,14 +4,16 @@ from __future__ import annotations
 import datetime
 import re
 
+from life_tools.day_columns import number_at
 from life_tools.entries.report import HEADS
 from life_tools.formats import MEASURES
 from life_tools.groups import Groups, Sums
+from life_tools.positions import on_day
 from life_tools.report_pages import apart, money
 from life_tools.window import pictures
 from life_tools.window.asked import Asked, BadRequest
 from life_tools.window.downloads import csv_parts, workbook
-from life_tools.window.lists import newest_day, on_day
+from life_tools.window.lists import days_of, newest_day
 from life_tools.window.looked_at import LookedAt
 from life_tools.window.parts import RIGHT, Answer, Cell, File, Head, Page, Table, cells, heads, link
 from life_tools.window.policy_pages import MEASURE_WORDS
@@ -35,8 +37,8 @@ def month(book: LookedAt, asked: Asked, at: int) -> Answer:
         newest = newest_day(database, at)
         on = asked.day("on", year_end_before(newest))
         before = asked.day("before", datetime.date(max(on.year - 1, 1900), 12, 31))
-        positions = on_day(database, str(on), at)
-        opening = on_day(database, str(before), at)
+    days, upgrade = days_of(book.journal, at)
+    positions, opening = (on_day(days, number_at(day), upgrade) for day in (on, before))
     values = {"on": on, "before": before, "positions": positions, "opening": opening, "newest_day": newest,
               "measures": [(each, MEASURE_WORDS[each]) for each in MEASURES]}
     return Page("month.html", "Month and year", values)
@@ -132,7 +134,7 @@ def report_xlsx(book: LookedAt, asked: Asked, at: int) -> Answer:
 
 def about(book: LookedAt, it: Valuation) -> list[list[str]]:
     return [["what", "is"], ["book", book.book.name], ["day", str(it.on)], ["position", str(it.position)], ["measure", it.measure],
-            ["basis", book.book.basis], ["journal, SHA-256 of the front looked at", book.journal_sum],
+            ["basis", book.book.basis], ["journal, SHA-256 of the front looked at", book.sum_at(book.newest)],
             ["printed by life", ", ".join(money(cents) for cents in it.total)], ["made", f"{datetime.datetime.now():%Y-%m-%d %H:%M}"]]
 
 
@@ -153,6 +155,7 @@ def asked_movement(book: LookedAt, asked: Asked, at: int) -> tuple[ToolRun, list
     return run, words
 
 
+AMOUNT = re.compile(r"[0-9]+\.[0-9]{2}")
 MOVED = re.compile(r"(.*?) {2,}([0-9]+) {2,}(-?[0-9.]+) {2,}(-?[0-9.]+)")
 
 
@@ -165,7 +168,7 @@ def moved_rows(run: ToolRun) -> tuple[list[list[str]], list[str]]:
             rows.append([parts[1].strip(), *parts.groups()[1:]])
         else:
             said.append(line.strip())
-    return rows, [each for each in said if each]
+    return rows, [AMOUNT.sub(lambda it: apart(it[0]), each) for each in said if each]
 
 
 def movement(book: LookedAt, asked: Asked, at: int) -> Answer:
@@ -173,10 +176,9 @@ def movement(book: LookedAt, asked: Asked, at: int) -> Answer:
     rows, said = moved_rows(run)
     opening, *between, closing = rows
     most = max((abs(cents_of(row[3])) for row in between), default=0)
+    moved = [[*cells(row), Cell("", picture=pictures.bar(cents_of(row[3]), most))] for row in between]
     table = Table("What moved", [*heads(("line", "policies", "lower bounds", "upper bounds")), Head("", "bar")],
-                  [[Cell(row[0]), *cells(row[1:]), Cell("", picture=pictures.bar(abs(cents_of(row[3])), most))] for row in [*between]],
-                  [[Cell(closing[0]), *cells(closing[1:]), Cell("")]])
-    table = Table(table.caption, table.heads, [[Cell(opening[0]), *cells(opening[1:]), Cell("")], *table.rows], table.totals)
+                  [[*cells(opening), Cell("")], *moved], [[*cells(closing), Cell("")]])
     on1, p1, on2, p2 = words
     told = {"on1": on1, "p1": p1, "on2": on2, "p2": p2}
     added = [sum(cents_of(row[place]) for row in rows[:-1]) for place in (2, 3)]

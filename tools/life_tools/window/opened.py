@@ -2,6 +2,7 @@
 from __future__ import annotations
 
 import gc
+import os
 import shutil
 import signal
 import tempfile
@@ -24,6 +25,7 @@ from life_tools.window.site import Site
 LOOPBACK = "127.0.0.1"
 # a connection that says nothing for so many seconds is closed
 SILENCE = 30
+TRIES = 100
 
 
 def quiet_handler() -> Any:
@@ -91,9 +93,19 @@ def browse(books: list[ListedBook], port: int) -> int:
     finally:
         for number in (signal.SIGINT, signal.SIGTERM, signal.SIGHUP):
             signal.signal(number, signal.SIG_IGN)
+        put_away(private)
+    return 0
+
+
+def put_away(private: str) -> None:
+    """Removes the private folder, also where something is just being written into it."""
+    for _ in range(TRIES):
         end_all()
         shutil.rmtree(private, ignore_errors=True)
-    return 0
+        if not os.path.lexists(private):
+            return
+        time.sleep(0.05)
+    remark(f"life-tools browse: {private} couldn't be removed")
 
 
 def serve(books: list[LookedAt], port: int) -> None:

@@ -71,7 +71,7 @@ class Curve:
 
 
 def bar(cents: int, most: int) -> str:
-    """A bar to the scale of the most, for a cell."""
-    permille = 1000 * max(cents, 0) // most if most > 0 else 0
-    return (f'<svg class="bar" viewBox="0 0 1000 60" preserveAspectRatio="none" aria-hidden="true"><rect class="ground" width="1000" '
-            f'height="60"/><rect width="{permille}" height="60"/></svg>')
+    """A bar to the scale of the most, for a cell; what is below 0 has a colour of its own."""
+    permille = 1000 * abs(cents) // most if most > 0 else 0
+    return ('<svg class="bar" viewBox="0 0 1000 60" preserveAspectRatio="none" aria-hidden="true"><rect class="ground" width="1000" '
+            f'height="60"/><rect class="{"less" if cents < 0 else "more"}" width="{permille}" height="60"/></svg>')

@@ -48,7 +48,7 @@ def postings_of(known: Known) -> Table:
         rows.append([*cells((step.position,)), Cell(str(it.day)), Cell(it.kind), Cell(money(it.amount) if it.amount else ""),
                      Cell(money(it.premium) if it.premium else ""), Cell(booked or "nothing")])
     return Table("Postings", [Head("position", RIGHT), Head("day"), Head("posting"), Head("amount", RIGHT), Head("premium", RIGHT),
-                              Head("booked")], rows)
+                              Head("booked", "says")], rows)
 
 
 def anniversaries_near(known: Known, book: LookedAt, at: int, day: datetime.date, measure: str) -> list[tuple[str, str]]:

@@ -8,16 +8,18 @@ import sys
 import threading
 from typing import Iterator, Sequence
 
-from life_tools.formats import Wrong
+from life_tools.formats import Wrong, demand
 
 # the seconds that a run may take: far more than the largest book needs
 LIMIT = 300
 ONE_AT_A_TIME = threading.Lock()
 RUNNING: set[subprocess.Popen[bytes]] = set()
+IS_CLOSED = threading.Event()
 
 
 def end_all() -> None:
-    """Ends what still runs."""
+    """Ends what still runs; nothing is begun any more."""
+    IS_CLOSED.set()
     for run in list(RUNNING):
         end(run)
 
@@ -32,6 +34,7 @@ def end(run: subprocess.Popen[bytes]) -> None:
 def run_to(path: str, words: Sequence[str], folder: str, scratch: str, given: str | None = None) -> tuple[int, str]:
     """Runs words in a folder, with what they print going to a file: the status, and the last of what they remarked."""
     environment = {**os.environ, "TMPDIR": scratch}
+    demand(not IS_CLOSED.is_set(), "the window is being closed")
     with ONE_AT_A_TIME, open(path, "wb") as out, open(given or os.devnull, "rb") as script:
         try:
             run = subprocess.Popen(words, cwd=folder, stdin=script, stdout=out, stderr=subprocess.PIPE, env=environment,

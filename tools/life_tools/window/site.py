@@ -60,7 +60,8 @@ class Site:
         self.app.jinja_env.loader = jinja.FunctionLoader(lambda name: file_of_package(f"templates/{name}").decode())
         self.app.jinja_env.trim_blocks = self.app.jinja_env.lstrip_blocks = True
         self.app.add_url_rule("/", "books", self.first)
-        self.app.add_url_rule("/window.css", "style", self.style)
+        self.app.add_url_rule("/window.css", "style", lambda: self.file("window.css", "text/css"))
+        self.app.add_url_rule("/window.svg", "icon", lambda: self.file("window.svg", "image/svg+xml"))
         self.app.add_url_rule("/<int:number>/", "book", self.shown, defaults={"name": ""})
         self.app.add_url_rule("/<int:number>/<path:name>", "page", self.shown)
         self.app.register_error_handler(Exception, self.failed)
@@ -77,8 +78,8 @@ class Site:
             return self.flask.redirect(link(1, ""), 303)
         return self.rendered("books.html", "Books", {"books": self.books})
 
-    def style(self) -> Any:
-        return self.flask.Response(file_of_package("window.css"), mimetype="text/css")
+    def file(self, name: str, kind: str) -> Any:
+        return self.flask.Response(file_of_package(name), mimetype=kind)
 
     def shown(self, number: int, name: str) -> Any:
         show = PAGES.get(name)

@@ -39,7 +39,7 @@ def stands(book: LookedAt, asked: Asked, at: int) -> Answer:
     values = {"room": headroom_table(room), "room_remarks": room.remarks, "count": at, "most": MOST_COMMANDS, "logged": logged,
               "open_ones": open_ones, "backups": found, "version": version.printed.strip(), "version_status": version.status,
               "user": getpass.getuser(), "host": socket.gethostname(), "life": " ".join(book.life),
-              "journal": book.book.journal, "journal_sum": book.journal_sum, "basis_sum": book.basis_sum, "positions": book.positions}
+              "journal": book.book.journal, "journal_sum": book.sum_at(at), "basis_sum": book.basis_sum, "positions": book.positions}
     return Page("stands.html", "How it stands", values)
 
 

@@ -27,7 +27,8 @@ WHOLE = ("position", "policy", "age", "years", "premiums_paid", "amount_cents", 
 # the position behind all
 NEVER = MOST_COMMANDS + 1
 # what a list is sorted by where it is long, each with an index
-INDEXED = ("issued", "plan", "status", "amount_cents", "premium_cents", "paid_to", "next_due", "last_posted", "premiums_paid")
+INDEXED = ("policy", "issued", "plan", "status", "age", "amount_cents", "premium_cents", "paid_to", "next_due", "last_posted",
+           "premiums_paid", "outstanding_cents")
 EACH = 1 << 14
 
 
@@ -156,7 +157,8 @@ def make_orders(path: str) -> None:
     """Orders by which a long list is sorted at once."""
     with closing(written(path)) as database:
         for name in INDEXED:
-            database.execute(f"create index if not exists policy_{name} on policy ({name}, policy)")
+            # with all by which rows are passed over, so that these needn't be read
+            database.execute(f"create index if not exists policy_by_{name} on policy ({name}, policy, since, until)")
 
 
 # --- further records ---
