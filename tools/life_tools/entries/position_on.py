@@ -15,6 +15,7 @@ from life_tools.commands import Command, words_of
 from life_tools.formats import day_in, remark
 from life_tools.journals import journal_at
 from life_tools.positions import OnDay, on_day
+from life_tools.wholeness import demand_undamaged, tell
 
 MOST_TOLD = 10
 
@@ -36,10 +37,11 @@ def tell_astray(commands: list[Command], found: OnDay, is_last: bool, day: str) 
 
 def run(options: argparse.Namespace) -> int:
     day, book = day_in(options.day), journal_at(options.journal).book
+    status = tell(demand_undamaged(options.journal))
     days = [number_at(command.day) if command.day else 0 for command in book.commands]
     found = on_day(days, number_at(day), book.upgrade)
     print(found.at(options.last), flush=True)
     if not found.astray(options.last):
-        return 0
+        return status
     tell_astray(book.commands, found, options.last, options.day)
     return 1
