@@ -1,43 +1,34 @@
 """How many commands a book has left, how fast they are used, and what its policies will still need.
 
-Days are numbers from 1970-01-01. What reads a journal hands in the days of the commands, and of each policy what is left of
-its contract; nothing else is asked of it.
+Days are numbers from 1970-01-01.
 """
 from __future__ import annotations
 
 import datetime
 import os
 import re
-from collections import Counter
-from itertools import accumulate
-from typing import Iterable, Iterator, NamedTuple, Sequence
+from typing import Iterable, Iterator, NamedTuple
 
-from life_tools.bulk import Bulk, anniversary_at, day_at, number_at, spelled, text_at
+from life_tools.arrays import Array, np
+from life_tools.columns import Columns
+from life_tools.day_columns import anniversaries, day_at, number_at
 from life_tools.formats import LAST_DAY, MOST_COMMANDS, Wrong, bytes_of, number_of, rows_in
-from life_tools.rules import Policy, payments_of, years_of
+from life_tools.policy_columns import INFORCE, MADE_PAIDUP, TERM, Policies
 
 YEAR = 365
+# more days than from any today to the end of any policy
+MOST_DAYS = 200_000
 # a book is told so many days before it is full, where nothing else is asked for
 AHEAD = 2 * YEAR
 DAY_IN_NAME = re.compile(r"(?<![0-9])[0-9]{4}-[0-9]{2}-[0-9]{2}(?![0-9])")
 
 
-class Left(NamedTuple):
-    """What is left of a policy's contract: its premiums from one to another, its end, and the commands that this takes."""
-
-    issued: int
-    paid: int
-    payments: int
-    cover: int
-    at_end: int
-
-
 class Needed(NamedTuple):
-    """The commands that policies still need, by their days: premiums, and maturities and settlements at the end."""
+    """The commands that policies still need: premiums; maturities and settlements at the end; and all by days from today on."""
 
     premiums: int
     at_end: int
-    by_day: Counter[int]
+    by_day: Array
 
 
 class Room(NamedTuple):
@@ -65,7 +56,7 @@ class Room(NamedTuple):
         days = [day for day in (self.full, self.full_alone) if day is not None]
         if days and min(days) <= today + within:
             yield (f"{self.left} commands are left, {self.used} were used in the last year, and it is full on "
-                   f"{text_at(min(days))}: life-tools books split divides it")
+                   f"{day_at(min(days))}: life-tools books split divides it")
 
 
 HEAD = "commands,left,in_last_year,full,premiums,at_end,full_without_issues"
@@ -74,76 +65,35 @@ HEAD = "commands,left,in_last_year,full,premiums,at_end,full_without_issues"
 def until(day: int | None) -> str:
     if day is None:
         return "never"
-    return text_at(day) if day <= number_at(LAST_DAY) else f"after {LAST_DAY}"
+    return str(day_at(day)) if day <= number_at(LAST_DAY) else f"after {LAST_DAY}"
 
 
 # --- what policies need ---
 
-def left_of(policy: Policy) -> Left | None:
-    """What is left of a policy that not only premiums befell."""
-    issued, at_end = number_at(policy.issued), 1 if policy.plan == "term" else 2
-    if policy.outstanding:
-        return Left(issued, 0, 0, 0, 1)
-    if policy.status == "paidup":
-        return Left(issued, 0, 0, years_of(policy), at_end)
-    if policy.status == "inforce":
-        return Left(issued, policy.paid, payments_of(policy), years_of(policy), at_end)
-    return None
+def needed_by(policies: Policies, today: int) -> Needed:
+    """What policies need, each command on its day, or today where that has gone by."""
+    is_insured = (policies.status == INFORCE) | (policies.status == MADE_PAIDUP)
+    at_end = np.where(is_insured, np.where(policies.plan == TERM, 1, 2), 0) + (policies.outstanding > 0)
+    by_day = counted(np.where(is_insured, policies.end, today), today, at_end)
+    paying = np.flatnonzero((policies.status == INFORCE) & (policies.paid < policies.payments))
+    issued, paid, payments = policies.issued[paying], policies.paid[paying], policies.payments[paying]
+    premiums = int((payments - paid).sum())
+    while len(paid):
+        by_day += counted(anniversaries(issued, paid), today)
+        is_paying = paid + 1 < payments
+        issued, paid, payments = issued[is_paying], paid[is_paying] + 1, payments[is_paying]
+    return Needed(premiums, int(at_end.sum()), by_day)
 
 
-def contracts_in(book: Bulk) -> Iterator[Left]:
-    """What is left of each policy of a book."""
-    for place, (head, _, issued, _, _) in enumerate(book.issues):
-        if place not in book.others:
-            plan, _, _, cover, payments = spelled(head)
-            yield Left(issued, book.paid[place], payments, cover, 1 if plan == "term" else 2)
-    for policy in book.others.values():
-        left = left_of(policy)
-        if left:
-            yield left
+def counted(days: Array, today: int, each: Array | None = None) -> Array:
+    """How many commands fall on each day from today on; those of days before fall on today."""
+    return np.bincount(np.maximum(days - today, 0), each, MOST_DAYS).astype(np.int64)
 
 
-def needed_from(today: int, contracts: Iterable[Left]) -> Needed:
-    """What contracts need, each command on its day, or today where that has gone by.
-
-    Premiums of one day of the calendar are counted by the years in which they begin and end, and not one by one.
-    """
-    by_day: Counter[int] = Counter()
-    changes: dict[tuple[int, int], Counter[int]] = {}
-    premiums = at_end = 0
-    for it in contracts:
-        by_day[max(today, anniversary_at(it.issued, it.cover))] += it.at_end
-        at_end += it.at_end
-        if it.paid < it.payments:
-            premiums += it.payments - it.paid
-            issued = day_at(it.issued)
-            of_day = changes.setdefault((issued.month, issued.day), Counter())
-            of_day[issued.year + it.paid] += 1
-            of_day[issued.year + it.payments] -= 1
-    for (month, day), of_day in changes.items():
-        for year, count in by_year(of_day):
-            by_day[max(today, number_at(day_of_year(year, month, day)))] += count
-    return Needed(premiums, at_end, by_day)
-
-
-def by_year(changes: Counter[int]) -> Iterator[tuple[int, int]]:
-    """Each year with its number, from the changes of it."""
-    years = range(min(changes), max(changes))
-    return zip(years, accumulate(changes[year] for year in years))
-
-
-def day_of_year(year: int, month: int, day: int) -> datetime.date:
-    """An anniversary: of a 29 February the 28th in a year that has none."""
-    try:
-        return datetime.date(year, month, day)
-    except ValueError:
-        return datetime.date(year, month, 28)
-
-
-def first_beyond(by_day: Counter[int], left: int) -> int | None:
+def first_beyond(by_day: Array, left: int, today: int) -> int | None:
     """The day of the first command that finds no room."""
-    days = sorted(by_day)
-    return next((day for day, sum_ in zip(days, accumulate(by_day[day] for day in days)) if sum_ > left), None)
+    is_beyond = by_day.cumsum() > left
+    return today + int(is_beyond.argmax()) if is_beyond.any() else None
 
 
 # --- how fast commands are used ---
@@ -155,9 +105,9 @@ class Recorded(NamedTuple):
     commands: int
 
 
-def used_in_year(days: Sequence[int], today: int, recorded: Iterable[Recorded]) -> int:
+def used_in_year(days: Array, today: int, recorded: Iterable[Recorded]) -> int:
     """The commands of the last year: by their days, or by what was noted of the count, whichever are more."""
-    by_days = sum(today - YEAR < day <= today for day in days)
+    by_days = int(((days > today - YEAR) & (days <= today)).sum())
     noted = sorted(it for it in recorded if it.day <= today and it.commands <= len(days))
     before = [it for it in noted if it.day <= today - YEAR]
     base = before[-1] if before else noted[0] if noted else None
@@ -195,8 +145,9 @@ def recorded_at(path: str) -> dict[str, Recorded]:
     return found
 
 
-def room_of(days: Sequence[int], contracts: Iterable[Left], recorded: Iterable[Recorded], today: int) -> Room:
-    """The room of a book, by the days of its commands, what is left of its policies, and the counts that were noted."""
-    left, used, needed = MOST_COMMANDS - len(days), used_in_year(days, today, recorded), needed_from(today, contracts)
-    return Room(len(days), used, today + left * YEAR // used if used else None, needed.premiums, needed.at_end,
-                first_beyond(needed.by_day, left))
+def room_of(book: Columns, recorded: Iterable[Recorded], today: int) -> Room:
+    """The room of a book, with the counts that were noted of it."""
+    left, needed = MOST_COMMANDS - book.count, needed_by(book.policies, today)
+    used = used_in_year(book.records.day, today, recorded)
+    return Room(book.count, used, today + left * YEAR // used if used else None, needed.premiums, needed.at_end,
+                first_beyond(needed.by_day, left, today))

@@ -17,11 +17,11 @@ import datetime
 import os
 from typing import NamedTuple
 
-from life_tools.bulk import bulk_at, many_objects, number_at
+from life_tools.columns import columns_at
+from life_tools.day_columns import number_at
 from life_tools.formats import MOST_COMMANDS, Wrong, day_in, number_of, remark
-from life_tools.headroom import AHEAD, HEAD, Recorded, Room, contracts_in, recorded_at, recorded_in_log, room_of
+from life_tools.headroom import AHEAD, HEAD, Recorded, Room, recorded_at, recorded_in_log, room_of
 from life_tools.holders import holder_of
-from life_tools.record_columns import columns_at
 from life_tools.wholeness import LOG, demand_undamaged, tell
 
 MOST_DAYS = 36525
@@ -53,9 +53,7 @@ def room_at(path: str, name: str, wanted: Wanted) -> tuple[Room, int]:
         remark(f"{path} is held by {holder}, and may have more commands by now")
     noted = [each[name] for each in wanted.recorded if name in each]
     noted += recorded_in_log(os.path.join(os.path.dirname(path), LOG))
-    with many_objects():
-        book, _ = bulk_at(path)
-        return room_of(columns_at(path, book.count).days(), contracts_in(book), noted, wanted.today), 1 if holder else status
+    return room_of(columns_at(path), noted, wanted.today), 1 if holder else status
 
 
 def told_of(name: str, room: Room, wanted: Wanted) -> int:
