@@ -16,6 +16,7 @@ from life_tools.book_totals import Text, text_in
 from life_tools.copied_folder import copy_basis
 from life_tools.export_tables import VALUATION, valuation_rows
 from life_tools.formats import Wrong, bytes_of, demand
+from life_tools.program import program_beside
 from life_tools.record_columns import BadJournal, beginnings_at, copy_front, front_count, front_sum, places_in
 from life_tools.wholeness import demand_undamaged
 
@@ -82,7 +83,9 @@ def program_of(task: Task) -> list[str]:
     """The program's words; of a worker elsewhere the program is one of the sum told, wherever it lies."""
     if not task.program_sum:
         return list(task.life)
-    places = [os.environ.get("LIFE_PROGRAM"), *task.life[-1:], shutil.which("life"), os.path.expanduser("~/.local/bin/life")]
+    found = shutil.which("life")
+    folders = [*([os.path.dirname(os.path.realpath(found))] if found else []), os.path.expanduser("~/.local/bin")]
+    places = [os.environ.get("LIFE_PROGRAM"), *task.life[-1:], *map(program_beside, folders)]
     for place in filter(None, places):
         if os.path.isfile(place) and sum_of(bytes_of(place)) == task.program_sum:
             return [place]
