@@ -30,6 +30,6 @@ def run(options: argparse.Namespace) -> int:
     shape = shape_with(options.journal, options.checkpoint or checkpoint, options.log or log, options.seal)
     print(f"count,{shape.count}\nlength,{shape.length}")
     for noted in shape.noted:
-        print(f"noted,{noted.by},{noted.count}")
+        print(f"noted,{noted.by},{noted.commands}")
     print(shape.verdict, flush=True)
     return tell(shape)
