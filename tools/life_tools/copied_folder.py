@@ -13,6 +13,9 @@ from life_tools.formats import Wrong, bytes_of, remark, rows_in
 from life_tools.tables import NAME
 
 JOURNAL = "journal.life"
+MEMORY = "/dev/shm"
+# what postings to a copy may add to it
+ROOM = 2**26
 
 
 def journal_bytes(folder: str) -> bytes | None:
@@ -44,10 +47,17 @@ def copy_basis(folder: str, name: str, to: str) -> None:
         shutil.copyfile(os.path.join(folder, each), os.path.join(to, each))
 
 
+def place_to_post(size: int) -> str | None:
+    """Memory, where a posting waits for no disk, unless TMPDIR tells another place or memory has no room for the copy."""
+    if os.environ.get("TMPDIR") or not os.access(MEMORY, os.W_OK | os.X_OK):
+        return None
+    return MEMORY if shutil.disk_usage(MEMORY).free >= size + ROOM else None
+
+
 @contextmanager
-def desk_of(journal: bytes | None, folder: str, basis: str) -> Iterator[str]:
+def desk_of(journal: bytes | None, folder: str, basis: str, place: str | None = None) -> Iterator[str]:
     """A folder for a while, with this journal and with the folder's basis."""
-    with tempfile.TemporaryDirectory(prefix="life-tools-") as desk:
+    with tempfile.TemporaryDirectory(prefix="life-tools-", dir=place) as desk:
         if journal is not None:
             with open(os.path.join(desk, JOURNAL), "wb") as file:
                 file.write(journal)
@@ -69,7 +79,7 @@ def dry_run(script: str, journal: bytes | None, folder: str, basis: str, life: S
     if journal is None:
         remark(f"there is no {os.path.join(folder, JOURNAL)}: the script is run on an empty journal")
     try:
-        with open(script, "rb") as rows, desk_of(journal, folder, basis) as desk:
+        with open(script, "rb") as rows, desk_of(journal, folder, basis, place_to_post(len(journal or b""))) as desk:
             return run_in(desk, life, ["run", "--basis", basis], rows)
     except OSError as error:
         raise Wrong(f"{script}: {error.strerror}") from error
