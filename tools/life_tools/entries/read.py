@@ -3,6 +3,9 @@
 A file that the program refuses is answered with the program's own line, `badjournal,..`, and on standard error with the
 reason; the status is then 2. An unfinished creation, as a crash may leave it, is a journal without records. Each record
 is judged by the rules anew, as the program does when it opens the file.
+
+A file of which commands are gone behind a gate that has turned, as `verify` finds it, isn't listed, and gives 1. So does
+one with bytes behind its end that may be what a crash left; it is listed.
 """
 from __future__ import annotations
 
@@ -13,6 +16,7 @@ from life_tools.commands import Command, words_of
 from life_tools.formats import Wrong, bytes_of, money, remark
 from life_tools.journals import read_journal
 from life_tools.rules import balances_of, bookings
+from life_tools.wholeness import demand_undamaged, tell
 
 
 def arguments(parser: argparse.ArgumentParser) -> None:
@@ -43,10 +47,11 @@ def run(options: argparse.Namespace) -> int:
     if journal.refused:
         print(journal.refused, flush=True)
         raise Wrong(f"{options.journal}: {journal.why}")
+    status = tell(demand_undamaged(options.journal))
     if journal.is_unfinished:
         remark(f"{options.journal}: an unfinished creation, which the program makes a journal without records")
     if options.ledger:
         print_transactions(journal.commands)
     else:
         list_records(journal.commands)
-    return 0
+    return status
