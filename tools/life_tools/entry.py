@@ -24,6 +24,8 @@ ENTRIES: dict[str, tuple[str, str]] = {
     "explain": ("explain", "explain a refusal of a script or of a basis, or what is taken of a table"),
     "at": ("at", "what state, value or project print of the book as it stood at a position"),
     "position-on": ("position_on", "the position of a day"),
+    "verify": ("verify", "whether a journal's file is whole, by its length, a checkpoint, a log and seals"),
+    "headroom": ("headroom", "how many commands a book has left, and until when"),
     "read": ("read", "list the records of a journal"),
     "read-checkpoint": ("read_checkpoint", "print the books in a checkpoint, and compare them with a journal's"),
     "export": ("export", "a journal as CSV, as JSON lines, or as an SQLite file"),
@@ -55,16 +57,16 @@ def parser_of(names: Sequence[str]) -> argparse.ArgumentParser:
 def main(words: Sequence[str] | None = None) -> int:
     """Runs an entry: 0 all is well, 1 something was found wrong, 2 it could not be done."""
     given = list(sys.argv[1:] if words is None else words)
-    options = parser_of(given[:1]).parse_args(given)
     # millions of rows make no cycles, and looking for some among them takes as long as making them
     gc.disable()
     try:
+        options = parser_of(given[:1]).parse_args(given)
         status: int = options.run(options)
         sys.stdout.flush()
         return status
     except Wrong as wrong:
-        print(f"life-tools {options.entry}: {wrong}", file=sys.stderr)
-        return 2
+        print(f"life-tools {given[0]}: {wrong}", file=sys.stderr)
+        return wrong.status
     except BrokenPipeError:
         # whoever read has left; what is still held back must not complain at the end
         os.dup2(os.open(os.devnull, os.O_WRONLY), sys.stdout.fileno())

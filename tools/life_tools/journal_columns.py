@@ -6,7 +6,7 @@ n + 1. `commands.command_in` says the same of one record.
 from __future__ import annotations
 
 from dataclasses import dataclass, fields
-from typing import Iterator
+from typing import Iterable, Iterator
 
 from life_tools.commands import BODY_SIZE, LAST_AGE, OLDEST_AT_ISSUE, PLAN_CODES, Command
 from life_tools.day_columns import FIRST, LAST, day_at
@@ -130,3 +130,18 @@ def records_of(data: bytes, count: int) -> tuple[Records, int]:
             first = start + int(wrong.argmax())
             return records.front(first), first
     return records, count
+
+
+# --- some policies alone, of a file whose records aren't judged ---
+
+def places_in(data: bytes, count: int, numbers: Iterable[int]) -> Array:
+    """The places of the commands of these policies among a file's first records, whatever else these say."""
+    raw, wanted = np.frombuffer(data, RECORD, count, FIRST_GATE), np.array(sorted(set(numbers)), np.uint32)
+    found = [start + np.flatnonzero(np.isin(raw["number"][start:start + AT_ONCE].astype(np.uint32), wanted))
+             for start in range(0, count, AT_ONCE)]
+    return np.concatenate([np.empty(0, np.int64), *found])
+
+
+def upgrade_in(data: bytes, count: int) -> int:
+    """The position of the first upgrade among a file's first records, or 0."""
+    return data[FIRST_GATE + 1:FIRST_GATE + RECORD_SIZE * count:RECORD_SIZE].find(UPGRADE) + 1

@@ -9,8 +9,10 @@ What reads a journal hands in the days as numbers, in the order of the commands;
 """
 from __future__ import annotations
 
-from itertools import islice
-from typing import NamedTuple, Sequence
+from array import array
+from typing import NamedTuple, Union
+
+from life_tools.arrays import Array, np
 
 
 class OnDay(NamedTuple):
@@ -36,10 +38,14 @@ class OnDay(NamedTuple):
         return f"position {self.first} lacks commands of {day} or before, which were posted behind a later day's: {many}"
 
 
-def on_day(days: Sequence[int], day: int, upgrade: int = 0) -> OnDay:
+def on_day(days: Union[Array, array[int]], day: int, upgrade: int = 0) -> OnDay:
     """How the commands lie about a day; the upgrade's position is told, or 0."""
-    first = next((place for place, each in enumerate(days) if each > day and place + 1 != upgrade), len(days))
-    lacked = [place for place, each in enumerate(islice(days, first, None), first + 1) if each <= day and place != upgrade]
+    later = np.asarray(days) > day
+    before = ~later
+    if upgrade:
+        later[upgrade - 1] = before[upgrade - 1] = False
+    first = int(later.argmax()) if later.any() else len(later)
+    lacked = (np.flatnonzero(before[first:]) + first + 1).tolist()
     last = lacked[-1] if lacked else first
-    ahead = [place for place, each in enumerate(islice(days, first, last), first + 1) if each > day and place != upgrade]
+    ahead = (np.flatnonzero(later[first:last]) + first + 1).tolist()
     return OnDay(first, last, lacked, ahead)

@@ -4,8 +4,8 @@ The journal is copied, and the basis with its tables, into a folder of its own, 
 another run posts before the script is run in earnest changes what it is answered then. The status is 0 where the run
 ended well, whatever it refused, and 2 where it didn't: its own status is told on standard error.
 
-The copy lies in TMPDIR, and each posting waits for its syncs there. So a long script takes as long as it will take in
-earnest on such a disk; with TMPDIR=/dev/shm, in memory, it is done in seconds.
+The copy lies in memory (/dev/shm), or in TMPDIR where that is set or memory has no room for it: there each posting waits for
+its syncs, and a long script takes as long as it will take in earnest on such a disk.
 """
 from __future__ import annotations
 

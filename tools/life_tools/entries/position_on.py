@@ -10,11 +10,12 @@ from __future__ import annotations
 
 import argparse
 
-from life_tools.bulk import number_at
-from life_tools.commands import Command, words_of
+from life_tools.columns import Columns, columns_at
+from life_tools.commands import words_of
+from life_tools.day_columns import number_at
 from life_tools.formats import day_in, remark
-from life_tools.journals import journal_at
 from life_tools.positions import OnDay, on_day
+from life_tools.wholeness import demand_undamaged, tell
 
 MOST_TOLD = 10
 
@@ -25,21 +26,21 @@ def arguments(parser: argparse.ArgumentParser) -> None:
     parser.add_argument("journal", metavar="JOURNAL", help="the file, as journal.life")
 
 
-def tell_astray(commands: list[Command], found: OnDay, is_last: bool, day: str) -> None:
+def tell_astray(book: Columns, found: OnDay, is_last: bool, day: str) -> None:
     astray = found.astray(is_last)
     remark(found.told(is_last, day))
     for position in astray[:MOST_TOLD]:
-        remark(f"  {position},{','.join(words_of(commands[position - 1]))}")
+        remark(f"  {position},{','.join(words_of(book.records.command(position - 1)))}")
     if len(astray) > MOST_TOLD:
         remark(f"  and {len(astray) - MOST_TOLD} more")
 
 
 def run(options: argparse.Namespace) -> int:
-    day, book = day_in(options.day), journal_at(options.journal).book
-    days = [number_at(command.day) if command.day else 0 for command in book.commands]
-    found = on_day(days, number_at(day), book.upgrade)
+    day, book = day_in(options.day), columns_at(options.journal)
+    status = tell(demand_undamaged(options.journal))
+    found = on_day(book.records.day, number_at(day), book.upgrade)
     print(found.at(options.last), flush=True)
     if not found.astray(options.last):
-        return 0
-    tell_astray(book.commands, found, options.last, options.day)
+        return status
+    tell_astray(book, found, options.last, options.day)
     return 1
