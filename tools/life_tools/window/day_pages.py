@@ -12,7 +12,7 @@ from life_tools.window.due_lists import SAYS, SORTED, TITLES, DueOn, csv_rows, d
 from life_tools.window.find_pages import policy_cell
 from life_tools.window.lists import A_PAGE
 from life_tools.window.looked_at import LookedAt
-from life_tools.window.parts import RIGHT, Answer, Cell, File, Head, Page, Table, cells, link
+from life_tools.window.parts import RIGHT, Answer, Cell, File, Head, Page, Table, cells, link, sorting_head, turns
 
 WORDS = ("at", "day", "within")
 LIST_WORDS = (*WORDS, "what", "sort", "order", "page")
@@ -43,23 +43,20 @@ def day_list(book: LookedAt, asked: Asked, at: int) -> Answer:
     count, cents = it.sums.get(what, (0, 0))
     pages = max(-(-count // A_PAGE), 1)
     page = asked.number("page", 1, pages, 1)
-    words = {"day": it.day, "within": it.within or "", "what": what}
+    words: dict[str, object] = {"day": it.day, "within": it.within or "", "what": what}
     columns = (("policy", "policy", RIGHT), ("day", "day", ""), ("until", "until", ""), ("amount", "amount", RIGHT))
 
     def head(name: str, says: str, kind: str) -> Head:
-        order = "down" if sort == name and not is_falling else "up"
-        now = ("descending" if is_falling else "ascending") if sort == name else ""
-        return Head(says, kind, link(book.number, "day/list", at, **words, sort=name, order=order), now)
+        way = ("descending" if is_falling else "ascending") if sort == name else ""
+        return sorting_head(says, kind, way, lambda order: link(book.number, "day/list", at, **words, sort=name, order=order))
 
     rows = [[policy_cell(book, row["policy"], at), Cell(row["day"]), Cell(row["until"] or ""), Cell(money(row["cents"]))]
             for row in page_of(it, what, sort, is_falling, page, A_PAGE)]
     total = [Cell("all"), Cell(""), Cell(f"{count:,}"), Cell(money(cents))]
-    turned = {**words, "sort": sort, "order": "down" if is_falling else ""}
-    turns = [(says, link(book.number, "day/list", at, **turned, page=to))
-             for says, to in (("first", 1), ("before", page - 1), ("next", page + 1), ("last", pages)) if 1 <= to <= pages and to != page]
+    turned = dict(words, sort=sort, order="down" if is_falling else "")
     lines = list(islice(lines_to_send(it, what), LINES_SHOWN))
     values = {"table": Table(TITLES[what], [head(*each) for each in columns], rows, [total]), "day": it.day, "kind": TITLES[what],
-              "says": SAYS[what], "count": count, "page": page, "pages": pages, "turns": turns, "lines": lines,
+              "says": SAYS[what], "count": count, "page": page, "pages": pages, "turns": turns(book.number, "day/list", at, turned, page, pages), "lines": lines,
               "is_cut": count > len(lines), "as_it_stands": is_sent_as_it_stands(what),
               "csv": link(book.number, "day/list.csv", at, **words), "script": link(book.number, "day/lines.csv", at, **words),
               "back": link(book.number, "day", at, day=it.day, within=it.within or "")}

@@ -51,8 +51,8 @@ def due_on(book: LookedAt, day: datetime.date, within: int, position: int) -> Du
 
 
 def policy_of(row: sqlite3.Row) -> Policy:
-    days = [datetime.date.fromisoformat(row[name]) for name in ("issued", "last_posted")]
-    return Policy(row["policy"], row["plan"], row["age"], row["years"], row["amount_cents"], row["premium_cents"], *days,
+    issued, last = (datetime.date.fromisoformat(row[name]) for name in ("issued", "last_posted"))
+    return Policy(row["policy"], row["plan"], row["age"], row["years"], row["amount_cents"], row["premium_cents"], issued, last,
                   row["status"], row["premiums_paid"], row["outstanding_cents"])
 
 

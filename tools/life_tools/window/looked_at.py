@@ -114,11 +114,11 @@ class LookedAt:
         demand(front_sum(self.book.journal, first) == self.sums[first],
                f"{self.book.journal} isn't the journal any more of which this window was opened: open another one")
         self.take_copy()
-        last = front_count(self.journal) or 0
-        if last > first:
-            tables.bring_up_to_date(self.database, self.journal, first, last, job.at)
-            self.sums[last] = front_sum(self.journal, last)
-            self.positions.append(last)
+        if front_count(self.journal) == first:
+            return first
+        last = tables.bring_up_to_date(self.database, self.journal, first, job.at)
+        self.sums[last] = front_sum(self.journal, last)
+        self.positions.append(last)
         return last
 
     # --- what is asked of it ---

@@ -7,7 +7,7 @@ import re
 from life_tools.day_columns import number_at
 from life_tools.entries.report import HEADS
 from life_tools.formats import MEASURES
-from life_tools.groups import Groups, Sums
+from life_tools.groups import Groups
 from life_tools.positions import on_day
 from life_tools.report_pages import apart, money
 from life_tools.window import pictures
@@ -15,10 +15,10 @@ from life_tools.window.asked import Asked, BadRequest
 from life_tools.window.downloads import csv_parts, workbook
 from life_tools.window.lists import days_of, newest_day
 from life_tools.window.looked_at import LookedAt
-from life_tools.window.parts import RIGHT, Answer, Cell, File, Head, Page, Table, cells, heads, link
+from life_tools.window.parts import Answer, Cell, File, Head, Page, Table, cells, heads, link
 from life_tools.window.policy_pages import MEASURE_WORDS
 from life_tools.window.tool_runs import ToolRun, tool_run
-from life_tools.window.valuations import KEYS, Valuation, groups_of, valuation_of, whole_of, words_of
+from life_tools.window.valuations import Valuation, kept_valuation, words_of
 from life_tools.worked_rows import WORDS as WHY_NO_VALUE
 
 REPORT_WORDS = ("at", "on", "p", "measure")
@@ -57,19 +57,20 @@ def asked_valuation(book: LookedAt, asked: Asked, at: int) -> Valuation:
     on = asked.day_or_none("on")
     if on is None:
         raise BadRequest("on: the day of the valuation is wanted")
-    return valuation_of(book, on, asked.position("p", at, at), asked.one_of("measure", MEASURES, "terminal"))
+    return kept_valuation(book, on, asked.position("p", at, at), asked.one_of("measure", MEASURES, "terminal"))
 
 
 def column_names(it: Valuation) -> list[str]:
     return ["policies", "amount insured", *HEADS[len(it.total)], "words"]
 
 
-def group_table(it: Valuation, key: str, groups: Groups, total: Sums) -> Table:
+def group_table(it: Valuation, key: str) -> Table:
+    groups = it.groups[key]
     most = max((each.bounds[-1] for each in groups.values()), default=0)
     rows = [[Cell(", ".join(name)), *cells(sums.cells()), Cell("", picture=pictures.bar(sums.bounds[-1], most))]
             for name, sums in groups.items()]
     return Table(f"By {KEY_WORDS[key]}", [*heads((KEY_WORDS[key], *column_names(it))), Head("", "bar")], rows,
-                 [[Cell("added up"), *cells(total.cells()), Cell("")], printed_row(it)])
+                 [[Cell("added up"), *cells(it.whole.cells()), Cell("")], printed_row(it)])
 
 
 def printed_row(it: Valuation) -> list[Cell]:
@@ -79,13 +80,11 @@ def printed_row(it: Valuation) -> list[Cell]:
 
 def report(book: LookedAt, asked: Asked, at: int) -> Answer:
     it = asked_valuation(book, asked, at)
-    grouped = {key: groups_of(it, [key]) for key in KEYS}
-    total = whole_of(grouped["plan"], len(it.total))
     words = {"on": it.on, "p": it.position, "measure": it.measure if it.measure != "terminal" else ""}
     missing = [(word, WHY_NO_VALUE.get(word, ""), count, numbers) for word, count, numbers in words_of(it, NAMED)]
-    values = {"it": it, "facts": facts(it, total), "tables": [group_table(it, key, groups, total) for key, groups in grouped.items()],
+    values = {"it": it, "facts": facts(it), "tables": [group_table(it, key) for key in it.groups],
               "missing": missing, "balances": [(name, money(cents)) for name, cents in it.balances.items()],
-              "insured": insured(grouped["status"]),
+              "insured": insured(it.groups["status"]),
               "csv": link(book.number, "report.csv", at, **words), "xlsx": link(book.number, "report.xlsx", at, **words),
               "other": [(MEASURE_WORDS[each], link(book.number, "report", at, on=it.on, p=it.position, measure=each))
                         for each in MEASURES if each != it.measure]}
@@ -96,9 +95,9 @@ def insured(by_status: Groups) -> int:
     return sum(sums.policies for (status,), sums in by_status.items() if status in ("inforce", "paidup"))
 
 
-def facts(it: Valuation, total: Sums) -> list[tuple[str, str, bool]]:
+def facts(it: Valuation) -> list[tuple[str, str, bool]]:
     """The headline figures, and whether the program printed each."""
-    found = [("policies", f"{it.policies:,}", True), ("amount insured", money(total.amount), False)]
+    found = [("policies", f"{it.policies:,}", True), ("amount insured", money(it.whole.amount), False)]
     found += [(name, money(cents), True) for name, cents in zip(HEADS[len(it.total)], it.total)]
     return [*found, ("rows with a word, in no sum", f"{it.words:,}", True)]
 
@@ -110,10 +109,9 @@ def file_name(it: Valuation) -> str:
 def report_rows(it: Valuation) -> list[list[str]]:
     """As `report --csv` writes them."""
     rows = [["by", "group", *column_names(it)]]
-    for key in KEYS:
-        groups = groups_of(it, [key])
+    for key, groups in it.groups.items():
         rows += [[key, ",".join(name), *sums.cells()] for name, sums in groups.items()]
-    return [*rows, ["all", "total", *whole_of(groups_of(it, ["plan"]), len(it.total)).cells()]]
+    return [*rows, ["all", "total", *it.whole.cells()]]
 
 
 def report_csv(book: LookedAt, asked: Asked, at: int) -> Answer:
@@ -125,10 +123,9 @@ def report_xlsx(book: LookedAt, asked: Asked, at: int) -> Answer:
     """A sheet for each grouping, and one that tells of what the workbook is."""
     it = asked_valuation(book, asked, at)
     sheets = [("about", about(book, it))]
-    for key in KEYS:
-        groups = groups_of(it, [key])
+    for key, groups in it.groups.items():
         rows = [[KEY_WORDS[key], *column_names(it)], *([", ".join(name), *sums.cells()] for name, sums in groups.items())]
-        sheets.append((KEY_WORDS[key], [*rows, ["total", *whole_of(groups, len(it.total)).cells()]]))
+        sheets.append((KEY_WORDS[key], [*rows, ["total", *it.whole.cells()]]))
     return File(f"{file_name(it)}.xlsx", XLSX, workbook(sheets))
 
 

@@ -2,7 +2,7 @@
 from __future__ import annotations
 
 from dataclasses import dataclass, field
-from typing import Any, Iterable, Mapping, Sequence, Union
+from typing import Any, Callable, Iterable, Mapping, Sequence, Union
 from urllib.parse import urlencode
 
 from life_tools.report_pages import apart
@@ -85,5 +85,13 @@ def link(book: int, page: str, at: int | None = None, /, **words: object) -> str
     return f"/{book}/{page}" + (f"?{urlencode(told)}" if told else "")
 
 
-def counted(count: int, name: str, many: str = "") -> str:
-    return f"{count:,} {name if count == 1 else many or name + 's'}"
+def turns(book: int, page: str, at: int, words: Mapping[str, object], now: int, last: int) -> list[tuple[str, str]]:
+    """The links to other pages of a list, with what they say."""
+    places = (("first", 1), ("before", now - 1), ("next", now + 1), ("last", last))
+    return [(says, link(book, page, at, **dict(words, page=to))) for says, to in places if 1 <= to <= last and to != now]
+
+
+def sorting_head(says: str, kind: str, way: str, address: Callable[[str], str]) -> Head:
+    """The head of a column by which a list is sorted; `way` tells how it is sorted by it now, or nothing."""
+    return Head(says, kind, address("down" if way == "ascending" else "up"), way)
+

@@ -15,7 +15,7 @@ from life_tools.window.formulas import explained
 from life_tools.window.looked_at import LookedAt
 from life_tools.window.parts import RIGHT, Answer, Cell, Head, Page, Table, cells, heads, link
 from life_tools.window.policies import Known, curve_of, due_on, policy_at, standing_of, terms_of
-from life_tools.window.valuations import row_of, valuation_of
+from life_tools.window.valuations import kept_valuation, row_of
 
 WORDS = ("at", "number", "on", "day", "measure")
 MEASURE_WORDS = {"terminal": "terminal", "mean": "mean", "deficiency": "with the minimum (deficiency)"}
@@ -61,7 +61,7 @@ def anniversaries_near(known: Known, book: LookedAt, at: int, day: datetime.date
 
 def reserve_of(book: LookedAt, known: Known, at: int, on: datetime.date, measure: str) -> dict[str, Any]:
     """The printed row of the whole book's valuation, and the same worked out."""
-    valuation = valuation_of(book, on, at, measure)
+    valuation = kept_valuation(book, on, at, measure)
     row = row_of(valuation, known.policy.number)
     if row is None:
         raise BadRequest(f"number: the valuation has no row of policy {known.policy.number}")
