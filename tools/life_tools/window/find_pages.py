@@ -6,7 +6,7 @@ from typing import Any, Sequence
 from life_tools.formats import PLANS, STATUSES
 from life_tools.report_pages import money
 from life_tools.window.asked import Asked
-from life_tools.window.lists import A_PAGE, SORTED, WORDS, Sought, counts_by, found_in, newest_day, sought_in
+from life_tools.window.lists import A_PAGE, SORTED, WORDS, Sought, counts_by, found_in, has_policy, newest_day, sought_in
 from life_tools.window.looked_at import LookedAt
 from life_tools.window.parts import RIGHT, Answer, Cell, Head, Page, Table, cells, heads, link, sorting_head, turns
 from life_tools.window.policies import STATUSES as STATUS_WORDS
@@ -52,16 +52,18 @@ def policy_cell(book: LookedAt, number: int | None, at: int) -> Cell:
 
 
 def find(book: LookedAt, asked: Asked, at: int) -> Answer:
-    """A list of policies; the whole number of one leads to it at once from the list's first row."""
+    """A list of policies; where some have a part of the number, the one that has just this number is told apart."""
     asked.only(("at", *WORDS))
     sought = sought_in(asked)
     with book.tables() as database:
         found = found_in(database, sought, at)
+        is_one = bool(sought.number) and found.count > 1 and has_policy(database, int(sought.number), at)
     table = Table("Policies", [head(book, sought, at, *column) for column in COLUMNS],
                   [[cell(book, row, name, at) for name, _, _ in COLUMNS] for row in found.rows])
     page = min(sought.page, found.pages)
     first = (page - 1) * A_PAGE
-    values = {"table": table, "sought": sought, "count": found.count, "page": page, "pages": found.pages, "turns": turns(book.number, "find", at, sought.words(), page, found.pages),
+    exact = link(book.number, "policy", at, number=int(sought.number)) if is_one else ""
+    values = {"table": table, "sought": sought, "exact": exact, "count": found.count, "page": page, "pages": found.pages, "turns": turns(book.number, "find", at, sought.words(), page, found.pages),
               "first": first + 1 if found.count else 0, "last": first + len(found.rows), "plans": list(PLANS.values()),
               "statuses": [(each, STATUS_WORDS[each]) for each in STATUSES]}
     return Page("find.html", "Find a policy", values)

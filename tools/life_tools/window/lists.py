@@ -93,6 +93,11 @@ def found_in(database: sqlite3.Connection, sought: Sought, position: int) -> Fou
     return Found(found[::-1] if is_back else found, count)
 
 
+def has_policy(database: sqlite3.Connection, number: int, position: int) -> bool:
+    row = database.execute("select 1 from policy where policy = ? and since <= ? and until > ?", (number, position, position))
+    return row.fetchone() is not None
+
+
 def counts_by(database: sqlite3.Connection, position: int) -> list[sqlite3.Row]:
     """How many policies there are of each plan and status, and their amounts."""
     return database.execute("select plan, status, count(*) as policies, sum(amount_cents) as amount_cents from policy "

@@ -5,6 +5,7 @@ import datetime
 import os
 import pkgutil
 from typing import Any, Callable
+from urllib.parse import quote, urlencode
 
 from life_tools.entries.version import built_with
 from life_tools.formats import Wrong
@@ -32,7 +33,7 @@ PAGES: dict[str, Show] = {
 MENU = (("", "Book"), ("find", "Find"), ("day", "The day"), ("month", "Month and year"), ("audit", "Audit"), ("stands", "How it stands"))
 UNDER = {"policy": "find", "report": "month", "movement": "month", "day/list": "day"}
 # what a page shows again by itself while it waits
-REFRESH = "1"
+REFRESH = 1
 
 
 def file_of_package(name: str) -> bytes:
@@ -134,7 +135,10 @@ class Site:
 
     def waiting(self, book: LookedAt, job: Job) -> Any:
         response = self.rendered("working.html", "One moment", {"book": book, "job": job}, 202)
-        response.headers["Refresh"] = REFRESH
+        # told with its address, since a page that was come to by a place within it would else not be fetched again
+        request = self.flask.request
+        words = urlencode(list(request.args.items(multi=True)))
+        response.headers["Refresh"] = f"{REFRESH}; url={quote(request.path)}?{words}"
         return response
 
     def told(self, status: int, what: str, why: str, book: LookedAt | None = None) -> Any:
