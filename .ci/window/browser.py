@@ -39,6 +39,12 @@ return [...document.querySelectorAll('tbody td')].filter(cell => cell.textConten
 """
 
 
+CELLS = """
+const table = [...document.querySelectorAll('table')].find(each => each.caption.textContent.trim() === arguments[0]);
+return table ? [...table.querySelectorAll(arguments[1] + ' tr')].map(row => [...row.cells].map(cell => cell.innerText.trim())) : null;
+"""
+
+
 class Wrong(Exception):
     pass
 
@@ -139,11 +145,9 @@ class Browser:
 
     def rows(self, caption, part="tbody"):
         """The cells of a table's rows, as they are read."""
-        for each in self.driver.find_elements(By.TAG_NAME, "table"):
-            if each.find_element(By.TAG_NAME, "caption").get_attribute("textContent").strip() == caption:
-                return [[cell.text.strip() for cell in row.find_elements(By.TAG_NAME, "td")]
-                        for row in each.find_elements(By.CSS_SELECTOR, f"{part} tr")]
-        raise Wrong(f"there is no table {caption!r}")
+        found = self.driver.execute_script(CELLS, caption, part)
+        demand(found is not None, f"there is no table {caption!r}")
+        return found
 
     # --- how it looks ---
 

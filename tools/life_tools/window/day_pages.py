@@ -50,8 +50,8 @@ def day_list(book: LookedAt, asked: Asked, at: int) -> Answer:
         way = ("descending" if is_falling else "ascending") if sort == name else ""
         return sorting_head(says, kind, way, lambda order: link(book.number, "day/list", at, **words, sort=name, order=order))
 
-    rows = [[policy_cell(book, row["policy"], at), Cell(row["day"]), Cell(row["until"] or ""), Cell(money(row["cents"]))]
-            for row in page_of(it, what, sort, is_falling, page, A_PAGE)]
+    rows = [[policy_cell(book, item.policy, at), Cell(str(item.day)), Cell(str(item.until or "")), Cell(money(item.cents))]
+            for item in page_of(it, what, sort, is_falling, page, A_PAGE)]
     total = [Cell("all"), Cell(""), Cell(f"{count:,}"), Cell(money(cents))]
     turned = dict(words, sort=sort, order="down" if is_falling else "")
     lines = list(islice(lines_to_send(it, what), LINES_SHOWN))

@@ -12,18 +12,23 @@ import shutil
 import sqlite3
 import threading
 from contextlib import contextmanager
+from dataclasses import fields
 from typing import Callable, Iterator
 
 from life_tools.book_lists import ListedBook
+from life_tools.columns import Columns
 from life_tools.copied_folder import JOURNAL, basis_files, copy_basis
 from life_tools.formats import bytes_of, demand
 from life_tools.journals import EMPTY, count_of
+from life_tools.policy_columns import Policies
 from life_tools.record_columns import copy_front, front_count, front_sum
 from life_tools.window import tables
 from life_tools.window.jobs import Job, Jobs
+from life_tools.window.kept_columns import keep, kept
 
 # so many results are kept of a book
 MOST_KEPT = 24
+POLICIES = tuple(column.name for column in fields(Policies))
 
 
 class LookedAt:
@@ -70,10 +75,21 @@ class LookedAt:
     def make(self, job: Job) -> str:
         job.at("copying the journal")
         self.take_copy()
-        position = tables.make(self.database, self.journal, job.at)
-        self.sums[position] = front_sum(self.journal, position)
-        self.positions.append(position)
+        self.take_book(tables.make(self.database, self.journal, job.at))
         return self.database
+
+    def take_book(self, book: Columns) -> None:
+        """From now on the position can be looked at."""
+        keep(self.policies_at(book.count), POLICIES, book.policies)
+        self.sums[book.count] = front_sum(self.journal, book.count)
+        self.positions.append(book.count)
+
+    def policies_at(self, position: int) -> str:
+        return os.path.join(self.folder, f"policies-{position}")
+
+    def policies(self, position: int) -> Policies:
+        """The policies of a position that the tables were made for, as columns."""
+        return Policies(*kept(self.policies_at(position), POLICIES))
 
     def take_copy(self) -> None:
         """Copies the front of the journal, as far as it goes now, and the basis."""
@@ -116,10 +132,8 @@ class LookedAt:
         self.take_copy()
         if front_count(self.journal) == first:
             return first
-        last = tables.bring_up_to_date(self.database, self.journal, first, job.at)
-        self.sums[last] = front_sum(self.journal, last)
-        self.positions.append(last)
-        return last
+        self.take_book(tables.bring_up_to_date(self.database, self.journal, first, job.at))
+        return self.newest
 
     # --- what is asked of it ---
 

@@ -5,14 +5,13 @@ import datetime
 import os
 from typing import Iterator, NamedTuple
 
-from life_tools.day_columns import day_at, number_at
 from life_tools.commands import UPGRADE, Command
-from life_tools.entries.due import WHATS, Items
 from life_tools.formats import LAST_DAY, MOST_VALUATIONS, demand
 from life_tools.journals import file_of
 from life_tools.printed_books import ValuedRow, row_of
 from life_tools.report_pages import money
 from life_tools.rules import GRACE, Policy, anniversary, booking_of, due_of, end_of, payments_of, years_of
+from life_tools.window.due_lists import Item
 from life_tools.window.jobs import Job
 from life_tools.window.looked_at import LookedAt
 from life_tools.window.runs import lines_of, printed_by
@@ -88,15 +87,8 @@ DUE_WORDS = {
 }
 
 
-def due_on(policy: Policy, day: datetime.date) -> list[tuple[str, str]]:
-    """What is due of a policy on a day, each with its words."""
-    items = Items(number_at(day), 0)
-    items.other(policy)
-    found = []
-    for what, when, _, until, cents, _ in sorted(items.found):
-        words = {"amount": money(cents), "day": str(day_at(when)), "until": "" if until is None else str(day_at(until))}
-        found.append((WHATS[what], DUE_WORDS[WHATS[what]].format(**words)))
-    return found
+def due_words(what: str, it: Item) -> str:
+    return DUE_WORDS[what].format(amount=money(it.cents), day=it.day, until=it.until or "")
 
 
 # --- the reserve over the years ---

@@ -11,10 +11,11 @@ from life_tools.rules import completed
 from life_tools.tables import read_basis
 from life_tools.window import pictures
 from life_tools.window.asked import Asked, BadRequest
+from life_tools.window.due_lists import of_policy
 from life_tools.window.formulas import explained
 from life_tools.window.looked_at import LookedAt
 from life_tools.window.parts import RIGHT, Answer, Cell, Head, Page, Table, cells, heads, link
-from life_tools.window.policies import Known, curve_of, due_on, policy_at, standing_of, terms_of
+from life_tools.window.policies import Known, curve_of, due_words, policy_at, standing_of, terms_of
 from life_tools.window.valuations import kept_valuation, row_of
 
 WORDS = ("at", "number", "on", "day", "measure")
@@ -34,7 +35,7 @@ def policy(book: LookedAt, asked: Asked, at: int) -> Answer:
         raise BadRequest(f"number: there is no policy {number} at position {at:,}")
     reserve = reserve_of(book, known, at, on, measure) if on else {}
     values = {"policy": known.policy, "terms": terms_of(known.policy), "standing": standing_of(known.policy),
-              "postings": postings_of(known), "due": due_on(known.policy, day), "day": day, "on": on, "measure": measure,
+              "postings": postings_of(known), "due": [(what, due_words(what, it)) for what, it in of_policy(book, number, at, day)], "day": day, "on": on, "measure": measure,
               "measures": [(each, MEASURE_WORDS[each]) for each in MEASURES], **picture_of(book, known, at, on), **reserve,
               "anniversaries": anniversaries_near(known, book, at, day, measure)}
     return Page("policy.html", f"Policy {number}", values)

@@ -12,12 +12,13 @@ from dataclasses import fields, replace
 from typing import Any, Callable, Iterable, Iterator, Sequence
 
 from life_tools.arrays import np
-from life_tools.columns import columns_at
+from life_tools.columns import Columns, columns_at
 from life_tools.commands import Command
-from life_tools.export_tables import COMMAND, POLICY, TableRow, command_rows, policy_rows
+from life_tools.export_tables import COMMAND, POLICY, command_rows, policy_rows
 from life_tools.formats import MOST_COMMANDS, Wrong
 from life_tools.journal_columns import Records
 from life_tools.rules import Policy, Refusal, decide
+from life_tools.valuation_rows import TableRow
 
 Tell = Callable[[str, int, "int | None"], None]
 WHOLE = ("position", "policy", "age", "years", "premiums_paid", "amount_cents", "premium_cents", "outstanding_cents")
@@ -61,8 +62,8 @@ def told(tell: Tell, doing: str, rows: Iterable[TableRow], whole: int) -> Iterat
         yield row
 
 
-def make(path: str, journal: str, tell: Tell) -> int:
-    """Makes the tables of a journal's file; gives its position."""
+def make(path: str, journal: str, tell: Tell) -> Columns:
+    """Makes the tables of a journal's file; gives its book."""
     tell("reading the journal", 0, None)
     book = columns_at(journal)
     with closing(written(path, "off")) as database:
@@ -79,7 +80,7 @@ def make(path: str, journal: str, tell: Tell) -> int:
         database.execute("commit")
         # from now on somebody reads while more is written
         database.execute("pragma journal_mode = wal")
-        return book.count
+        return book
 
 
 def make_orders(path: str) -> None:
@@ -96,8 +97,8 @@ def behind(records: Records, first: int) -> Records:
     return Records(*(getattr(records, column.name)[first:] for column in fields(records)))
 
 
-def bring_up_to_date(path: str, journal: str, first: int, tell: Tell) -> int:
-    """Takes the records behind a position; gives the new one."""
+def bring_up_to_date(path: str, journal: str, first: int, tell: Tell) -> Columns:
+    """Takes the records behind a position; gives the book as it is now."""
     tell("reading the journal", 0, None)
     book = columns_at(journal)
     changed = np.unique(book.place[first:])
@@ -111,7 +112,7 @@ def bring_up_to_date(path: str, journal: str, first: int, tell: Tell) -> int:
                          "(select policy from command where position > ?)", (book.count, NEVER, first))
         insert(database, "policy", len(POLICY) + 2, ((*row, book.count, NEVER) for row in policy_rows(policies)))
         database.execute("commit")
-    return book.count
+    return book
 
 
 # --- one policy ---

@@ -17,6 +17,7 @@ from life_tools.printed_books import ValuedRow
 from life_tools.printed_columns import NO_WORDS, Rows, state_of, valuation_of
 from life_tools.tables import read_basis
 from life_tools.window.jobs import Job
+from life_tools.window.kept_columns import keep, kept
 from life_tools.window.looked_at import LookedAt
 from life_tools.window.runs import printed_by
 
@@ -44,7 +45,7 @@ class Valuation:
 
     def rows(self) -> Rows:
         """The rows, of which only what is asked for is read."""
-        return Rows(*(np.load(os.path.join(self.path, f"{name}.npy"), "r") for name in COLUMNS))
+        return Rows(*kept(self.path, COLUMNS))
 
 
 def kept_valuation(book: LookedAt, on: datetime.date, position: int, measure: str) -> Valuation:
@@ -81,9 +82,7 @@ def valued(book: LookedAt, on: datetime.date, position: int, measure: str, job: 
         groups[key] = grouped(rows, [key])
         demand_whole(groups[key], [key], valuation)
     path = book.new_file()
-    os.mkdir(path, 0o700)
-    for name in COLUMNS:
-        np.save(os.path.join(path, f"{name}.npy"), getattr(valuation.rows, name))
+    keep(path, COLUMNS, valuation.rows)
     return Valuation(path, valuation.on, valuation.position, valuation.measure, valuation.total, valuation.words, whole(rows), groups,
                      state.balances)
 
