@@ -11,6 +11,7 @@ from life_tools.packages import package  # noqa: E402
 webdriver = package("selenium.webdriver", "python3-selenium")
 By = package("selenium.webdriver.common.by", "python3-selenium").By
 Keys = package("selenium.webdriver.common.keys", "python3-selenium").Keys
+Stale = package("selenium.common.exceptions", "python3-selenium").StaleElementReferenceException
 Fault = package("selenium.common.exceptions", "python3-selenium").WebDriverException
 Service = package("selenium.webdriver.chrome.service", "python3-selenium").Service
 
@@ -100,7 +101,14 @@ class Browser:
             time.sleep(0.1)
 
     def press(self, words):
-        """A link or a button by its words."""
+        """A link or a button by its words; once more where the page came anew meanwhile."""
+        for last in (False, False, True):
+            try:
+                return self.press_once(words)
+            except Stale:
+                demand(not last, f"what says {words!r} goes away again and again")
+
+    def press_once(self, words):
         for kind in ("main button", "main a, main summary", "a"):
             for each in self.driver.find_elements(By.CSS_SELECTOR, kind):
                 if each.text.strip() == words:

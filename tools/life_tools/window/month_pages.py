@@ -170,17 +170,22 @@ def moved_rows(run: ToolRun) -> tuple[list[list[str]], list[str]]:
 
 def movement(book: LookedAt, asked: Asked, at: int) -> Answer:
     run, words = asked_movement(book, asked, at)
+    closing_day = asked.day_or_none("on2")
+    assert closing_day is not None
+    valuation = kept_valuation(book, closing_day, int(words[3]), "terminal")
     rows, said = moved_rows(run)
     opening, *between, closing = rows
     most = max((abs(cents_of(row[3])) for row in between), default=0)
     moved = [[*cells(row), Cell("", picture=pictures.bar(cents_of(row[3]), most))] for row in between]
     table = Table("What moved", [*heads(("line", "policies", "lower bounds", "upper bounds")), Head("", "bar")],
-                  [[*cells(opening), Cell("")], *moved], [[*cells(closing), Cell("")]])
+                  [[*cells(opening), Cell("")], *moved],
+                  [[*cells(closing), Cell("")],
+                   [Cell("printed by life"), *cells((valuation.policies, *map(money, valuation.total))), Cell("")]])
     on1, p1, on2, p2 = words
     told = {"on1": on1, "p1": p1, "on2": on2, "p2": p2}
     added = [sum(cents_of(row[place]) for row in rows[:-1]) for place in (2, 3)]
     values = {"table": table, "said": said, "on1": on1, "p1": int(p1), "on2": on2, "p2": int(p2),
-              "adds_up": added == [cents_of(closing[2]), cents_of(closing[3])], "added": [money(each) for each in added],
+              "adds_up": added == [cents_of(closing[2]), cents_of(closing[3])] == list(valuation.total), "added": [money(each) for each in added],
               "closing": [apart(closing[2]), apart(closing[3])],
               "opening_report": link(book.number, "report", at, on=on1, p=p1), "closing_report": link(book.number, "report", at, on=on2, p=p2),
               "csv": link(book.number, "movement.csv", at, **told), "xlsx": link(book.number, "movement.xlsx", at, **told),

@@ -66,6 +66,8 @@ class Table:
     heads: Sequence[Head]
     rows: Sequence[Sequence[Cell]]
     totals: Sequence[Sequence[Cell]] = field(default_factory=list)
+    # of each row whether it is a sum of those above
+    is_sum: Sequence[bool] = ()
 
 
 def cells(texts: Iterable[object]) -> list[Cell]:

@@ -10,7 +10,7 @@ from urllib.parse import quote, urlencode
 from life_tools.entries.version import built_with
 from life_tools.formats import Wrong
 from life_tools.packages import package
-from life_tools.window import audit_pages, day_pages, find_pages, month_pages, policy_pages, stand_pages
+from life_tools.window import audit_pages, day_pages, find_pages, month_pages, policy_pages, stand_pages, statement_pages
 from life_tools.window.asked import Asked, BadRequest
 from life_tools.window.door import Application
 from life_tools.window.jobs import Failed, Job, TooMuch, Working
@@ -26,12 +26,16 @@ PAGES: dict[str, Show] = {
     "month": month_pages.month, "report": month_pages.report, "report.csv": month_pages.report_csv,
     "report.xlsx": month_pages.report_xlsx, "movement": month_pages.movement, "movement.csv": month_pages.movement_csv,
     "movement.xlsx": month_pages.movement_xlsx, "movement-policies.csv": month_pages.movement_policies,
-    "audit": audit_pages.audit, "seal.txt": audit_pages.seal_file,
+    "statement": statement_pages.statement, "statement.csv": statement_pages.statement_csv,
+    "statement.xlsx": statement_pages.statement_xlsx,
+    "audit": audit_pages.audit, "seal.txt": audit_pages.seal_file, "flags": audit_pages.flags, "flags.csv": audit_pages.flags_csv,
+    "sample": audit_pages.sample, "sample.txt": audit_pages.sample_file, "papers.html": audit_pages.papers,
+    "letters.csv": audit_pages.letters,
     "stands": stand_pages.stands, "newest": stand_pages.newest,
 }
 # the pages that lead to the others
 MENU = (("", "Book"), ("find", "Find"), ("day", "The day"), ("month", "Month and year"), ("audit", "Audit"), ("stands", "How it stands"))
-UNDER = {"policy": "find", "report": "month", "movement": "month", "day/list": "day"}
+UNDER = {"policy": "find", "report": "month", "movement": "month", "statement": "month", "day/list": "day", "flags": "audit", "sample": "audit"}
 # what a page shows again by itself while it waits
 REFRESH = 1
 

@@ -29,9 +29,12 @@ class ToolRun:
         return os.path.join(self.path, name)
 
 
-def tool_run(book: LookedAt, words: Sequence[str], title: str, is_wrong_shown: bool = True) -> ToolRun:
-    """A run of a tool; `OUT/` in its words is the private folder of its own. Raises Working while it runs."""
-    found = book.kept(("tool", *words), title, lambda job: ran(book, words, job, is_wrong_shown))
+def tool_run(book: LookedAt, words: Sequence[str], title: str, is_wrong_shown: bool = True, of: tuple[int, ...] = ()) -> ToolRun:
+    """A run of a tool; `OUT/` in its words is a private folder of its own. Raises Working while it runs.
+
+    What it is `of` beside its words is asked anew where that changes.
+    """
+    found = book.kept(("tool", *words, *of), title, lambda job: ran(book, words, job, is_wrong_shown))
     assert isinstance(found, ToolRun)
     return found
 
