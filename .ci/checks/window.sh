@@ -1,6 +1,7 @@
 #!/bin/sh
 # The window on a book: a clerk's, an administrator's, an actuary's, an auditor's and an operator's way through it in
 # Chromium, at a desk's width and a phone's; hostile requests; and what is left when it is closed.
+# By the clock: a browser waits no longer than a person would.
 . "$(dirname "$0")/../common.sh"
 
 # what has to be there where all is tried
@@ -45,7 +46,7 @@ printf '1900-01-01,g.xml,400\n2020-01-01,q.xml,0\n2020-02-01,g.xml,400\n' >basis
 cp journal.life backups/no.backup && echo 0 >log/2024-01-02T100000-tuesday/status
 cd ..
 open_window book
-TMPDIR=$work/browser timeout 110 python3 "$root/.ci/window/ways.py" "$(cat address)" "$PWD/book" "$life" "$shots" >said 2>times || complain "$(cat said; tail -n 5 times)"
+TMPDIR=$work/browser timeout 160 python3 "$root/.ci/window/ways.py" "$(cat address)" "$PWD/book" "$life" "$shots" >said 2>times || complain "$(cat said; tail -n 5 times)"
 
 go_on "hostile requests"
 timeout 60 python3 "$root/.ci/window/hostile.py" "$(cat address)" book >said || complain "$(cat said)"

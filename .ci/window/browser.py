@@ -40,6 +40,7 @@ return [...document.querySelectorAll('tbody td')].filter(cell => cell.textConten
 """
 
 
+WAITS = "return Boolean(window.isLeft) || document.readyState !== 'complete' || !document.querySelector('h1') || document.title.startsWith('One moment')"
 CELLS = """
 const table = [...document.querySelectorAll('table')].find(each => each.caption.textContent.trim() === arguments[0]);
 return table ? [...table.querySelectorAll(arguments[1] + ' tr')].map(row => [...row.cells].map(cell => cell.innerText.trim())) : null;
@@ -96,8 +97,9 @@ class Browser:
     def settle(self):
         """Waits until the page has come by itself."""
         ends = time.monotonic() + PATIENCE
-        while self.driver.title.startswith("One moment"):
-            demand(time.monotonic() < ends, f"after {PATIENCE} seconds the page still waits: {self.text()}")
+        while self.driver.execute_script(WAITS):
+            if time.monotonic() > ends:
+                raise Wrong(f"after {PATIENCE} seconds the page still waits: {self.driver.title}")
             time.sleep(0.1)
 
     def press(self, words):
@@ -112,6 +114,7 @@ class Browser:
         for kind in ("main button", "main a, main summary", "a"):
             for each in self.driver.find_elements(By.CSS_SELECTOR, kind):
                 if each.text.strip() == words:
+                    self.leave(each.tag_name != "summary")
                     each.click()
                     self.settle()
                     return
@@ -126,8 +129,19 @@ class Browser:
     def type(self, label, text, is_sent=False):
         field = self.field(label)
         field.clear()
-        field.send_keys(text + (Keys.ENTER if is_sent else ""))
+        field.send_keys(text)
+        if is_sent:
+            self.send(field)
+
+    def send(self, field):
+        """Sends the form of a field by the key for it."""
+        self.leave()
+        field.send_keys(Keys.ENTER)
         self.settle()
+
+    def leave(self, is_left=True):
+        """The page that is there now is waited away, so that what is read next is the one that comes."""
+        self.driver.execute_script("window.isLeft = arguments[0]", is_left)
 
     def choose(self, label, words):
         for each in self.field(label).find_elements(By.TAG_NAME, "option"):

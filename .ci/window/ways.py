@@ -190,8 +190,8 @@ def reads_reserve(browser, base):
     fields = [each for each in browser.driver.find_elements(By.TAG_NAME, "label") if each.text.strip() == label]
     field = browser.driver.find_element(By.ID, fields[1].get_attribute("for"))
     field.clear()
-    field.send_keys("2021-01-01" + Keys.ENTER)
-    browser.settle()
+    field.send_keys("2021-01-01")
+    browser.send(field)
     demand(list(browser.facts().values())[:2] == ["127.22", "127.23"], f"the reserve of 7001 is {browser.facts()}")
     browser.says("Row of the basis from 2020-01-01: table q.xml, interest of 0 %.", "Printed: 127.22,127.23: the same.",
                  "Its limit, whole life at age 1 on 4 premiums")
