@@ -19,10 +19,14 @@ mkdir -p "$shots"
 export LIFE_PROGRAM="$program" TMPDIR="$work/tmp"
 mkdir "$TMPDIR" "$work/browser"
 
+# the tools as they are installed, one file beside the program
+mkdir "$work/bin" && cp "$program" "$work/bin/life" && python3 "$tools/launcher/pack_tools.py" "$tools/life_tools" "$work/bin/life-tools" \
+    0123456789abcdef "a kit" "$(sha256sum <"$program" | cut -d ' ' -f 1)" && chmod +x "$work/bin/life-tools" || exit 2
+
 # a window on the folder book, whose address comes to `address`
 open_window() {
     : >address
-    python3 "$tools/life-tools" browse --folder "$1" --port 0 >address 2>remarks &
+    "$work/bin/life-tools" browse "$@" --port 0 >address 2>remarks &
     window=$!
     until [ -s address ] || ! kill -0 "$window" 2>/dev/null; do sleep 0.1; done
 }
@@ -45,15 +49,48 @@ printf '1900-01-01,g.xml,400\n2020-01-01,q.xml,0\n2020-02-01,g.xml,400\n' >basis
 } | "$life" run >../transcript || complain "the book couldn't be made"
 cp journal.life backups/no.backup && echo 0 >log/2024-01-02T100000-tuesday/status
 cd ..
-open_window book
+open_window --folder book
 TMPDIR=$work/browser timeout 160 python3 "$root/.ci/window/ways.py" "$(cat address)" "$PWD/book" "$life" "$shots" >said 2>times || complain "$(cat said; tail -n 5 times)"
 
 go_on "hostile requests"
 timeout 60 python3 "$root/.ci/window/hostile.py" "$(cat address)" book >said || complain "$(cat said)"
 [ "$(stat -c %a "$TMPDIR"/life-window-*)" = 700 ] || complain "the private folder is open: $(ls -ld "$TMPDIR"/*)"
-[ "$(ss -Hltn "sport = :$(sed 's/.*:\([0-9]*\).*/\1/' address)" | awk '{print $4}' | sed 's/:.*//' | sort -u)" = 127.0.0.1 ] ||
-    complain "it listens elsewhere, too"
 close_window
-cmp -s book/journal.life book/journal.life || complain "the journal changed"
+
+go_on "a book that is held, and several"
+hold book/journal.life
+printf 'one,book,basis.csv\ntwo,other,basis.csv\n' >books.csv
+mkdir other && cp book/*.xml book/basis.csv other && printf '%s\n' "$policy" | (cd other && "$life" run >../transcript)
+cksum book/journal.life other/journal.life >before
+open_window --books books.csv
+python3 "$root/.ci/window/pages.py" "$(cat address)" "/=one" "/1/=834 postings" "/2/=1 policy" \
+    "/2/find?number=7001=in force" "/2/policy?number=7001&on=2021-01-01=127.22" >said || complain "$(cat said)"
+close_window
+let_go
+cksum book/journal.life other/journal.life | cmp -s - before || complain "a journal changed"
+
+go_on "what can't be opened"
+# words that must end with 2, say this, and leave nothing behind
+refuses() {
+    words=$1
+    shift
+    timeout 20 "$work/bin/life-tools" browse "$@" >out 2>remarks
+    status=$?
+    { [ "$status" = 2 ] && grep -q -e "$words" remarks && [ ! -s out ] && [ -z "$(ls -A "$TMPDIR")" ]; } ||
+        complain "$*: status $status: $(cat out remarks)"
+}
+refuses "nowhere/journal.life: No such file or directory" --folder nowhere
+refuses "1023: 0, or 1024 to 65535 is wanted" --folder book --port 1023
+refuses "../basis.csv is no name of a basis file" --folder book --basis ../basis.csv
+refuses "nowhere: No such file or directory" --books nowhere
+open_window --folder book
+port=$(sed 's/.*:\([0-9]*\).*/\1/' address)
+mkdir "$work/second"
+TMPDIR=$work/second refuses "port $port can't be had" --folder book --port "$port"
+close_window
+head -c 100 book/journal.life >other/journal.life
+open_window --folder other
+python3 "$root/.ci/window/pages.py" "$(cat address)" "/1/=409 badjournal,badrecord,1: record 1: it is cut short" >said || complain "$(cat said)"
+close_window
 
 end "five ways at two widths, hostile requests, and nothing left behind"

@@ -84,6 +84,16 @@ def kept(folder):
     return found
 
 
+def listening(port):
+    """The addresses on which something listens at a port, as the system has them."""
+    found = set()
+    for name in ("tcp", "tcp6"):
+        with open(f"/proc/net/{name}") as file:
+            lines = [line.split() for line in file][1:]
+        found.update(line[1].split(":")[0] for line in lines if line[3] == "0A" and int(line[1].split(":")[1], 16) == port)
+    return found
+
+
 HEADERS = {"content-security-policy": "default-src 'none'; style-src 'self'; img-src 'self'; form-action 'self'; base-uri 'none'; "
            "frame-ancestors 'none'", "referrer-policy": "no-referrer", "cache-control": "no-store"}
 
@@ -109,6 +119,8 @@ def main(address, folder):
         wrong.append(f"the window doesn't answer any more as it must: {status}")
     if window.asks("/1/", "HEAD")[0] != 200:
         wrong.append("HEAD isn't answered")
+    if listening(window.port) != {"0100007F"}:
+        wrong.append(f"it listens on {listening(window.port)}")
     if kept(folder) != before:
         wrong.append("the book's folder was changed")
     print("\n".join(wrong) or f"{tried} hostile requests, each answered by 4xx")

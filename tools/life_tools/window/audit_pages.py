@@ -31,7 +31,8 @@ def sealed(book: LookedAt, at: int) -> ToolRun:
 def verified(book: LookedAt) -> ToolRun:
     """What `verify` says of the journal as it lies there now."""
     stat = os.stat(book.book.journal)
-    return tool_run(book, ["verify", book.book.journal], "whether the journal's file is whole", True, (stat.st_size, stat.st_mtime_ns))
+    now = stat.st_size, stat.st_mtime_ns
+    return tool_run(book, ["verify", book.book.journal], "whether the journal's file is whole", True, now)
 
 
 def audit(book: LookedAt, asked: Asked, at: int) -> Answer:
@@ -94,8 +95,9 @@ def drawn(book: LookedAt, asked: Asked, at: int) -> tuple[ToolRun, dict[str, obj
         raise BadRequest("on: the day of the valuation is wanted")
     count, seed = asked.number("count", 1, MOST_ROWS, 50), asked.number("seed", 0, MOST_COMMANDS, 1)
     by = asked.one_of("by", SIZES, SIZES[0])
-    words = ["audit", "sample", str(count), "--seed", str(seed), "--on", str(on), "--at", str(at), "--by", by, "--basis", book.book.basis]
-    return tool_run(book, words, f"a sample of {count} by {SIZE_WORDS[by]}"), {"count": count, "seed": seed, "on": on, "by": by}
+    words = ["audit", "sample", str(count), "--seed", str(seed), "--on", str(on), "--at", str(at), "--by", by]
+    run = tool_run(book, [*words, "--basis", book.book.basis], f"a sample of {count} by {SIZE_WORDS[by]}")
+    return run, {"count": count, "seed": seed, "on": on, "by": by}
 
 
 def sample_rows(run: ToolRun) -> list[Sequence[str]]:

@@ -8,7 +8,8 @@ from life_tools.entries.due import MOST_DAYS, WHATS
 from life_tools.report_pages import money
 from life_tools.window.asked import Asked
 from life_tools.window.downloads import csv_parts
-from life_tools.window.due_lists import SAYS, SORTED, TITLES, DueOn, csv_rows, due_on, is_sent_as_it_stands, lines_to_send, page_of
+from life_tools.window.due_lists import (SAYS, SORTED, TITLES, DueOn, csv_rows, due_on, is_sent_as_it_stands, lines_to_send,
+                                         page_of)
 from life_tools.window.find_pages import policy_cell
 from life_tools.window.lists import A_PAGE
 from life_tools.window.looked_at import LookedAt
@@ -56,7 +57,8 @@ def day_list(book: LookedAt, asked: Asked, at: int) -> Answer:
     turned = dict(words, sort=sort, order="down" if is_falling else "")
     lines = list(islice(lines_to_send(it, what), LINES_SHOWN))
     values = {"table": Table(TITLES[what], [head(*each) for each in columns], rows, [total]), "day": it.day, "kind": TITLES[what],
-              "says": SAYS[what], "count": count, "page": page, "pages": pages, "turns": turns(book.number, "day/list", at, turned, page, pages), "lines": lines,
+              "says": SAYS[what], "count": count, "page": page, "pages": pages,
+              "turns": turns(book.number, "day/list", at, turned, page, pages), "lines": lines,
               "is_cut": count > len(lines), "as_it_stands": is_sent_as_it_stands(what),
               "csv": link(book.number, "day/list.csv", at, **words), "script": link(book.number, "day/lines.csv", at, **words),
               "back": link(book.number, "day", at, day=it.day, within=it.within or "")}

@@ -63,7 +63,8 @@ def find(book: LookedAt, asked: Asked, at: int) -> Answer:
     page = min(sought.page, found.pages)
     first = (page - 1) * A_PAGE
     exact = link(book.number, "policy", at, number=int(sought.number)) if is_one else ""
-    values = {"table": table, "sought": sought, "exact": exact, "count": found.count, "page": page, "pages": found.pages, "turns": turns(book.number, "find", at, sought.words(), page, found.pages),
+    values = {"table": table, "sought": sought, "exact": exact, "count": found.count, "page": page, "pages": found.pages,
+              "turns": turns(book.number, "find", at, sought.words(), page, found.pages),
               "first": first + 1 if found.count else 0, "last": first + len(found.rows), "plans": list(PLANS.values()),
               "statuses": [(each, STATUS_WORDS[each]) for each in STATUSES]}
     return Page("find.html", "Find a policy", values)

@@ -124,7 +124,8 @@ class Steps:
                         row(number(discount), sign("·"), number(rate)), number(it.first_year)))
         self.say("The level premium for what follows (A)",
                  *equal(LEVEL, over(row(BENEFITS, sign("−"), FIRST), row(ANNUITY, sign("−"), whole(1))),
-                        over(row(number(benefits), sign("−"), number(it.first_year)), row(number(annuity_due), sign("−"), whole(1))),
+                        over(row(number(benefits), sign("−"), number(it.first_year)),
+                             row(number(annuity_due), sign("−"), whole(1))),
                         number(it.renewal)))
         self.limit(it)
         self.say("What it is above the first year's, where it is: the excess",
@@ -186,9 +187,10 @@ class Steps:
     def times_amount(self, says: str, name: str, worth: Fraction) -> None:
         exact = self.policy.amount * worth
         low, high = cents_about(exact)
-        self.say(says, math(amount(self.policy.amount), sign("·"), sub(name, whole(self.year)), sign("="),
-                            amount(self.policy.amount), sign("·"), number(worth), sign("="), f"<mn>{decimal(exact / 100)}</mn>"),
-                 *([math(amount(low), sign("≤"), f"<mn>{decimal(exact / 100)}</mn>", sign("≤"), amount(high))] if low < high else []))
+        insured, made = amount(self.policy.amount), f"<mn>{decimal(exact / 100)}</mn>"
+        bounds = [math(amount(low), sign("≤"), made, sign("≤"), amount(high))] if low < high else []
+        self.say(says, math(insured, sign("·"), sub(name, whole(self.year)), sign("="), insured, sign("·"), number(worth),
+                            sign("="), made), *bounds)
 
 
 def steps_of(policy: Policy, terms: Terms, insured: Insured, year: int, measure: str) -> list[Line]:
@@ -219,7 +221,8 @@ def rates_of(policy: Policy, terms: Terms, insured: Insured) -> list[tuple[int, 
     return [(year, policy.age + year, decimal(insured.cover.rates[year])) for year in range(terms.years)]
 
 
-def explained(policy: Policy, position: int, on: datetime.date, basis: Sequence[BasisRow], measure: str, printed: ValuedRow) -> Explained:
+def explained(policy: Policy, position: int, on: datetime.date, basis: Sequence[BasisRow], measure: str,
+              printed: ValuedRow) -> Explained:
     """The row worked out anew, beside the printed one."""
     worked = Worked(policy, position, on, basis, measure)
     status, line = compared(worked, printed)

@@ -82,13 +82,15 @@ def found_in(database: sqlite3.Connection, sought: Sought, position: int) -> Fou
     pages = max(-(-count // A_PAGE), 1)
     page = min(sought.page, pages)
     begin = (page - 1) * A_PAGE
-    size = min(A_PAGE, count - begin)
+    size = max(min(A_PAGE, count - begin), 0)
     is_back = begin > count // 2
     falling = sought.is_falling != is_back
     column, way = SORTED[sought.sort], "desc" if falling else "asc"
     order = f"{column} {way}" if column == "policy" else f"{column} {way}, policy {way}"
     skipped = count - begin - size if is_back else begin
-    rows = database.execute(f"select * from policy where {where} order by {order} limit ? offset ?", [*values, max(size, 0), skipped])
+    # of the rows that are passed over only their places are read
+    places = f"select rowid from policy where {where} order by {order} limit ? offset ?"
+    rows = database.execute(f"select * from policy where rowid in ({places}) order by {order}", [*values, size, skipped])
     found = rows.fetchall()
     return Found(found[::-1] if is_back else found, count)
 

@@ -175,4 +175,3 @@ class LookedAt:
     def kept(self, key: tuple[object, ...], title: str, work: Callable[[Job], object]) -> object:
         """The result of some work by the basis as it is."""
         return self.jobs.asked((self.basis_sum, *key), title, work)
-

@@ -25,7 +25,8 @@ REPORT_WORDS = ("at", "on", "p", "measure")
 MOVEMENT_WORDS = ("at", "on1", "p1", "on2", "p2")
 XLSX = "application/vnd.openxmlformats-officedocument.spreadsheetml.sheet"
 NAMED = 20
-KEY_WORDS = {"plan": "plan", "status": "status", "issue-year": "year of issue", "age-band": "age at issue", "basis-row": "row of the basis"}
+KEY_WORDS = {"plan": "plan", "status": "status", "issue-year": "year of issue", "age-band": "age at issue",
+             "basis-row": "row of the basis"}
 
 
 # --- which day, and at which position ---
@@ -75,7 +76,7 @@ def group_table(it: Valuation, key: str) -> Table:
 
 def printed_row(it: Valuation) -> list[Cell]:
     """The total as the program printed it; it prints no amount insured."""
-    return [Cell("printed by life"), *cells((it.policies,)), Cell(""), *cells(map(money, it.total)), *cells((it.words,)), Cell("")]
+    return [Cell("printed by life"), *cells((it.policies, "", *map(money, it.total), it.words, ""))]
 
 
 def report(book: LookedAt, asked: Asked, at: int) -> Answer:
@@ -130,9 +131,10 @@ def report_xlsx(book: LookedAt, asked: Asked, at: int) -> Answer:
 
 
 def about(book: LookedAt, it: Valuation) -> list[list[str]]:
-    return [["what", "is"], ["book", book.book.name], ["day", str(it.on)], ["position", str(it.position)], ["measure", it.measure],
-            ["basis", book.book.basis], ["journal, SHA-256 of the front looked at", book.sum_at(book.newest)],
-            ["printed by life", ", ".join(money(cents) for cents in it.total)], ["made", f"{datetime.datetime.now():%Y-%m-%d %H:%M}"]]
+    return [["what", "is"], ["book", book.book.name], ["day", str(it.on)], ["position", str(it.position)],
+            ["measure", it.measure], ["basis", book.book.basis], ["journal, SHA-256 of the front looked at", book.sum_at(book.newest)],
+            ["printed by life", ", ".join(map(money, it.total))],
+            ["made", f"{datetime.datetime.now():%Y-%m-%d %H:%M}"]]
 
 
 # --- a movement ---
@@ -185,9 +187,11 @@ def movement(book: LookedAt, asked: Asked, at: int) -> Answer:
     told = {"on1": on1, "p1": p1, "on2": on2, "p2": p2}
     added = [sum(cents_of(row[place]) for row in rows[:-1]) for place in (2, 3)]
     values = {"table": table, "said": said, "on1": on1, "p1": int(p1), "on2": on2, "p2": int(p2),
-              "adds_up": added == [cents_of(closing[2]), cents_of(closing[3])] == list(valuation.total), "added": [money(each) for each in added],
+              "adds_up": added == [cents_of(closing[2]), cents_of(closing[3])] == list(valuation.total),
+              "added": [*map(money, added)],
               "closing": [apart(closing[2]), apart(closing[3])],
-              "opening_report": link(book.number, "report", at, on=on1, p=p1), "closing_report": link(book.number, "report", at, on=on2, p=p2),
+              "opening_report": link(book.number, "report", at, on=on1, p=p1),
+              "closing_report": link(book.number, "report", at, on=on2, p=p2),
               "csv": link(book.number, "movement.csv", at, **told), "xlsx": link(book.number, "movement.xlsx", at, **told),
               "policies": link(book.number, "movement-policies.csv", at, **told)}
     return Page("movement.html", f"Movement to {on2}", values)
@@ -217,4 +221,3 @@ def movement_policies(book: LookedAt, asked: Asked, at: int) -> Answer:
     run, words = asked_movement(book, asked, at)
     with open(run.file("policies.csv"), "rb") as file:
         return File(f"movement-{words[0]}-{words[2]}-policies.csv", "text/csv", file.read())
-

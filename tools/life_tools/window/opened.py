@@ -117,10 +117,9 @@ def serve(books: list[LookedAt], port: int) -> None:
     # a window stays open for days, and each request leaves cycles
     gc.enable()
     print(door.address, flush=True)
-    remark("The window is open: the address above holds its key, and leads in once from a browser of this machine. Ctrl-C ends it.")
+    remark("The window is open: the address holds its key, and leads in from a browser of this machine. Ctrl-C closes it.")
     threading.Thread(target=tell_progress, args=(books[0],), daemon=True).start()
     try:
         server.serve_forever()
     finally:
         server.server_close()
-

@@ -96,4 +96,3 @@ def turns(book: int, page: str, at: int, words: Mapping[str, object], now: int, 
 def sorting_head(says: str, kind: str, way: str, address: Callable[[str], str]) -> Head:
     """The head of a column by which a list is sorted; `way` tells how it is sorted by it now, or nothing."""
     return Head(says, kind, address("down" if way == "ascending" else "up"), way)
-

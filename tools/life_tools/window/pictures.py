@@ -1,4 +1,4 @@
-"""Pictures in a page, as SVG within it: a policy's reserve over the years, and bars beside sums. Colours are the style sheet's."""
+"""Pictures in a page, as SVG within it: a reserve over the years, and bars beside sums. Colours are the style sheet's."""
 from __future__ import annotations
 
 from html import escape
@@ -64,8 +64,8 @@ class Curve:
 
     def svg(self) -> str:
         line = " ".join(f"{self.across(year):.1f},{self.up(cents):.1f}" for year, cents, _ in self.points)
-        dots = [f'<circle cx="{self.across(year):.1f}" cy="{self.up(cents):.1f}" r="2.5"><title>{escape(day)}: {money(cents)}</title></circle>'
-                for year, cents, day in self.points]
+        dots = [f'<circle cx="{self.across(year):.1f}" cy="{self.up(cents):.1f}" r="2.5">'
+                f"<title>{escape(day)}: {money(cents)}</title></circle>" for year, cents, day in self.points]
         return "\n".join([f'<svg class="picture" viewBox="0 0 {WIDTH} {HEIGHT}" role="img" aria-label="{escape(self.says)}">',
                           *self.grid(), f'<polyline points="{line}"/>', *dots, *self.mark(), "</svg>"])
 
@@ -73,5 +73,6 @@ class Curve:
 def bar(cents: int, most: int) -> str:
     """A bar to the scale of the most, for a cell; what is below 0 has a colour of its own."""
     permille = 1000 * abs(cents) // most if most > 0 else 0
-    return ('<svg class="bar" viewBox="0 0 1000 60" preserveAspectRatio="none" aria-hidden="true"><rect class="ground" width="1000" '
-            f'height="60"/><rect class="{"less" if cents < 0 else "more"}" width="{permille}" height="60"/></svg>')
+    return ('<svg class="bar" viewBox="0 0 1000 60" preserveAspectRatio="none" aria-hidden="true">'
+            '<rect class="ground" width="1000" height="60"/>'
+            f'<rect class="{"less" if cents < 0 else "more"}" width="{permille}" height="60"/></svg>')

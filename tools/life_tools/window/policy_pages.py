@@ -35,7 +35,8 @@ def policy(book: LookedAt, asked: Asked, at: int) -> Answer:
         raise BadRequest(f"number: there is no policy {number} at position {at:,}")
     reserve = reserve_of(book, known, at, on, measure) if on else {}
     values = {"policy": known.policy, "terms": terms_of(known.policy), "standing": standing_of(known.policy),
-              "postings": postings_of(known), "due": [(what, due_words(what, it)) for what, it in of_policy(book, number, at, day)], "day": day, "on": on, "measure": measure,
+              "postings": postings_of(known), "day": day, "on": on, "measure": measure,
+              "due": [(what, due_words(what, it)) for what, it in of_policy(book, number, at, day)],
               "measures": [(each, MEASURE_WORDS[each]) for each in MEASURES], **picture_of(book, known, at, on), **reserve,
               "anniversaries": anniversaries_near(known, book, at, day, measure)}
     return Page("policy.html", f"Policy {number}", values)
@@ -48,8 +49,8 @@ def postings_of(known: Known) -> Table:
         booked = ", ".join(f"{account} {money(cents)}" for account, cents in step.booked.items())
         rows.append([*cells((step.position,)), Cell(str(it.day)), Cell(it.kind), Cell(money(it.amount) if it.amount else ""),
                      Cell(money(it.premium) if it.premium else ""), Cell(booked or "nothing")])
-    return Table("Postings", [Head("position", RIGHT), Head("day"), Head("posting"), Head("amount", RIGHT), Head("premium", RIGHT),
-                              Head("booked", "says")], rows)
+    names = [Head("position", RIGHT), Head("day"), Head("posting"), Head("amount", RIGHT), Head("premium", RIGHT)]
+    return Table("Postings", [*names, Head("booked", "says")], rows)
 
 
 def anniversaries_near(known: Known, book: LookedAt, at: int, day: datetime.date, measure: str) -> list[tuple[str, str]]:
@@ -69,8 +70,9 @@ def reserve_of(book: LookedAt, known: Known, at: int, on: datetime.date, measure
     names = ("lower bound", "upper bound", "minimum, lower", "minimum, upper")
     basis = read_basis(os.path.join(book.desk, book.book.basis))
     worked = explained(known.policy, at, on, basis, measure, row)
-    rates = Table("Rates of death", heads(("year", "age", "rate"), 0), [cells((year + 1, age, rate)) for year, age, rate in worked.rates])
-    return {"row": row, "bounds": [(name, money(cents)) for name, cents in zip(names, row.bounds)], "worked": worked, "rates": rates}
+    rates = Table("Rates of death", heads(("year", "age", "rate"), 0), [cells((it[0] + 1, *it[1:])) for it in worked.rates])
+    bounds = [(name, money(cents)) for name, cents in zip(names, row.bounds)]
+    return {"row": row, "bounds": bounds, "worked": worked, "rates": rates}
 
 
 def picture_of(book: LookedAt, known: Known, at: int, on: datetime.date | None) -> dict[str, Any]:
@@ -78,13 +80,13 @@ def picture_of(book: LookedAt, known: Known, at: int, on: datetime.date | None) 
     if it.status not in ("inforce", "paidup"):
         return {"picture": "", "curve": None}
     curve = curve_of(book, known, at)
-    points = [(row.year if row.year or not place else place, row.bounds[1], str(day)) for place, (day, row) in enumerate(curve.rows)
-              if not row.word]
+    points = [(place, row.bounds[1], str(day)) for place, (day, row) in enumerate(curve.rows) if not row.word]
     if len(points) < 2:
         return {"picture": "", "curve": None}
     chosen = min(completed(it.issued, on), points[-1][0]) if on and on >= it.issued else None
     says = f"The reserve of policy {it.number} by policy years, from {money(points[0][1])} to {money(points[-1][1])}"
-    table = Table("The reserve on each anniversary", [Head("year", RIGHT), Head("anniversary"), Head("lower bound", RIGHT), Head("upper bound", RIGHT)],
+    names = [Head("year", RIGHT), Head("anniversary"), Head("lower bound", RIGHT), Head("upper bound", RIGHT)]
+    table = Table("The reserve on each anniversary", names,
                   [[*cells((place,)), Cell(str(day)), *cells(map(money, row.bounds) if not row.word else (row.word, ""))]
                    for place, (day, row) in enumerate(curve.rows)])
     return {"picture": pictures.Curve(points, chosen, says).svg(), "curve": table}

@@ -34,8 +34,9 @@ PAGES: dict[str, Show] = {
     "stands": stand_pages.stands, "newest": stand_pages.newest,
 }
 # the pages that lead to the others
-MENU = (("", "Book"), ("find", "Find"), ("day", "The day"), ("month", "Month and year"), ("audit", "Audit"), ("stands", "How it stands"))
-UNDER = {"policy": "find", "report": "month", "movement": "month", "statement": "month", "day/list": "day", "flags": "audit", "sample": "audit"}
+MENU = {"": "Book", "find": "Find", "day": "The day", "month": "Month and year", "audit": "Audit", "stands": "How it stands"}
+UNDER = {"policy": "find", "report": "month", "movement": "month", "statement": "month", "day/list": "day", "flags": "audit",
+         "sample": "audit"}
 # what a page shows again by itself while it waits
 REFRESH = 1
 
@@ -61,7 +62,8 @@ class Site:
         jinja: Any = package("jinja2", "python3-jinja2")
         self.books, self.port, self.revision = books, port, revision()
         nowhere = os.path.join(os.path.dirname(books[0].folder), "nothing")
-        self.app: Any = self.flask.Flask(PACKAGE, static_folder=None, template_folder=None, root_path=nowhere, instance_path=nowhere)
+        self.app: Any = self.flask.Flask(PACKAGE, static_folder=None, template_folder=None, root_path=nowhere,
+                                         instance_path=nowhere)
         self.app.jinja_env.loader = jinja.FunctionLoader(lambda name: file_of_package(f"templates/{name}").decode())
         self.app.jinja_env.trim_blocks = self.app.jinja_env.lstrip_blocks = True
         self.app.add_url_rule("/", "books", self.first)
@@ -127,10 +129,10 @@ class Site:
         with book.tables() as database:
             day = newest_day(database, at)
         under = UNDER.get(name, name)
-        menu = [(says, link(book.number, page, at), page == under) for page, says in MENU]
+        menu = [(says, link(book.number, page, at), page == under) for page, says in MENU.items()]
+        newer = link(book.number, name if name in MENU else "") if at != book.newest else ""
         frame = {"menu": menu, "book": book, "at": at, "at_day": day, "behind": book.behind() if at == book.newest else 0,
-                 "newest_link": link(book.number, "newest"), "now": f"{datetime.datetime.now():%Y-%m-%d %H:%M}",
-                 "newer": link(book.number, name if name in ("", "find", "day", "month", "audit", "stands") else "") if at != book.newest else ""}
+                 "newest_link": link(book.number, "newest"), "now": f"{datetime.datetime.now():%Y-%m-%d %H:%M}", "newer": newer}
         return self.rendered(answer.template, answer.title, {**frame, **answer.values})
 
     def rendered(self, template: str, title: str, values: dict[str, Any], status: int = 200) -> Any:

@@ -9,6 +9,7 @@ from life_tools.copied_folder import JOURNAL
 from life_tools.journals import EMPTY, FIRST_GATE
 from life_tools.record_columns import front_count, front_sum
 
+OWN = (JOURNAL, "checkpoint.life")
 MOST_RUNS = 5
 MOST_BACKUPS = 20
 MOST_LOOKED_AT = 2000
@@ -46,9 +47,12 @@ def logged_runs(folder: str) -> tuple[list[LoggedRun], int]:
     log = os.path.join(folder, "log")
     names = [name for name in folders_in(log) if not name.startswith(".")]
     open_ones = sum(not os.path.exists(os.path.join(log, name, "done")) for name in names)
-    runs = [LoggedRun(name, first_line(os.path.join(log, name, "status")) or "none", first_line(os.path.join(log, name, "before")),
-                      os.path.exists(os.path.join(log, name, "done"))) for name in names[:MOST_RUNS]]
-    return runs, open_ones
+    return [logged_run(name, os.path.join(log, name)) for name in names[:MOST_RUNS]], open_ones
+
+
+def logged_run(name: str, folder: str) -> LoggedRun:
+    status, before = (first_line(os.path.join(folder, each)) for each in ("status", "before"))
+    return LoggedRun(name, status or "none", before, os.path.exists(os.path.join(folder, "done")))
 
 
 @dataclass(frozen=True)
@@ -74,8 +78,8 @@ def backups_near(folder: str, journal: str, newest: int) -> list[Backup]:
 def files_in(place: str) -> list[str]:
     try:
         with os.scandir(place) as found:
-            return [each.path for each in found if each.is_file(follow_symlinks=False) and each.name not in (JOURNAL, "checkpoint.life")
-                    ][:MOST_LOOKED_AT]
+            names = [each.path for each in found if each.is_file(follow_symlinks=False) and each.name not in OWN]
+            return names[:MOST_LOOKED_AT]
     except OSError:
         return []
 
@@ -91,4 +95,3 @@ def backup_at(path: str, journal: str, newest: int) -> Backup | None:
     except OSError:
         return None
     return Backup(path, f"{made:%Y-%m-%d %H:%M}", count or 0, is_front)
-

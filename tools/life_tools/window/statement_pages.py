@@ -9,7 +9,7 @@ from life_tools.window.asked import Asked, BadRequest
 from life_tools.window.downloads import csv_parts, is_number
 from life_tools.window.looked_at import LookedAt
 from life_tools.window.month_pages import XLSX
-from life_tools.window.parts import RIGHT, Answer, Cell, File, Head, Page, Table, cells, link
+from life_tools.window.parts import RIGHT, Answer, File, Head, Page, Table, cells, link
 from life_tools.window.tool_runs import ToolRun, tool_run
 from life_tools.window.valuations import Valuation, kept_valuation
 
@@ -36,7 +36,8 @@ def asked_words(asked: Asked, at: int) -> dict[str, str]:
 
 def written(book: LookedAt, words: dict[str, str], form: str, to: str) -> ToolRun:
     """A run of `statement`, which ends with 1 where it doesn't add up, and then writes nothing."""
-    told = ["statement", words["on1"], words["p1"], words["on2"], words["p2"], "--basis", book.book.basis, "--title", book.book.name]
+    told = ["statement", *(words[name] for name in ("on1", "p1", "on2", "p2"))]
+    told += ["--basis", book.book.basis, "--title", book.book.name]
     measure = ["--mean"] if words["measure"] == "mean" else []
     title = f"the statement from {words['on1']} to {words['on2']}"
     return tool_run(book, [*told, *measure, form, f"OUT/{to}"], title, False)
@@ -52,7 +53,7 @@ def sheet_table(name: str, rows: list[list[str]]) -> Table:
     names, lines = rows[0], rows[1:]
     numeric = [all(is_number(row[place]) or not row[place] for row in lines) and place > 0 for place in range(len(names))]
     heads = [Head(text.replace(": ", ", "), RIGHT if right else "") for text, right in zip(names, numeric)]
-    return Table(TITLES[name], heads, [[Cell(apart(text)) for text in row] for row in lines], is_sum=[row[0] in TOTALS for row in lines])
+    return Table(TITLES[name], heads, [cells(row) for row in lines], is_sum=[row[0] in TOTALS for row in lines])
 
 
 def closing_row(rows: list[list[str]]) -> list[str]:
@@ -67,11 +68,11 @@ def statement(book: LookedAt, asked: Asked, at: int) -> Answer:
     valuation: Valuation = kept_valuation(book, on2, int(words["p2"]), words["measure"])
     run = written(book, words, "--csv", "sheets")
     sheets = {name: sheet_in(run, name) for name in TITLES}
-    closing, printed = closing_row(sheets["increase"]), [money(cents) for cents in valuation.total]
+    closing, printed = [*map(apart, closing_row(sheets["increase"]))], [*map(money, valuation.total)]
     told: dict[str, object] = dict(words)
     values = {"tables": [(name, sheet_table(name, rows), link(book.number, "statement.csv", at, **told, sheet=name))
                          for name, rows in sheets.items()],
-              "closing": [apart(each) for each in closing], "printed": printed, "is_equal": [apart(each) for each in closing] == printed,
+              "closing": closing, "printed": printed, "is_equal": closing == printed,
               "facts": sheet_in(run, "facts")[1:], "words": words, "xlsx": link(book.number, "statement.xlsx", at, **told),
               "report": link(book.number, "report", at, on=words["on2"], p=words["p2"], measure=words["measure"]),
               "balances": cells(money(cents) for cents in valuation.balances.values())}

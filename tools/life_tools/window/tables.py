@@ -139,4 +139,3 @@ def steps_of(postings: Iterable[tuple[int, Command]]) -> Iterator[tuple[int, Com
             raise Wrong(f"posting {position} can't follow: {','.join(after.words())}")
         policy = after
         yield position, command, policy
-

@@ -1,6 +1,7 @@
 """Valuations that the program printed, kept with the sums of their groups; their rows lie in the private folder.
 
-They are read, joined with the printed state and added up as `report` does it: what doesn't add up to the printed total isn't kept.
+They are read, joined with the printed state and added up as `report` does it: what doesn't add up to the printed total isn't
+kept.
 """
 from __future__ import annotations
 
@@ -83,8 +84,8 @@ def valued(book: LookedAt, on: datetime.date, position: int, measure: str, job: 
         demand_whole(groups[key], [key], valuation)
     path = book.new_file()
     keep(path, COLUMNS, valuation.rows)
-    return Valuation(path, valuation.on, valuation.position, valuation.measure, valuation.total, valuation.words, whole(rows), groups,
-                     state.balances)
+    return Valuation(path, valuation.on, valuation.position, valuation.measure, valuation.total, valuation.words, whole(rows),
+                     groups, state.balances)
 
 
 def row_of(it: Valuation, number: int) -> ValuedRow | None:
