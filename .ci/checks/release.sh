@@ -101,12 +101,12 @@ lintian --allow-root --fail-on error "$package" >found 2>&1 || complain "lintian
 begin "the tar file, elsewhere"
 tar -xzf "$packed" || complain "it isn't whole"
 top=$PWD/life-$version
-cmp -s "$program" "$top/bin/life" || complain "it has another program"
+cmp -s "$program" "$top/libexec/life/life-program" || complain "it has another program"
 mkdir bin && ln -s "$top/bin/life-tools" bin && "$top/bin/life" run <"$examples/first-issues.csv" >out
 judge $? 0 "$examples/first-issues.transcript"
 PATH=$PWD/bin:$PATH life-tools version >out 2>&1 || complain "the tools: $(cat out)"
-grep -qx "version: $version" out && grep -q "bin/life has this sum$" out || complain "the tools: $(cat out)"
-echo more >>"$top/bin/life"
+grep -qx "version: $version" out && grep -q "life-program has this sum$" out || complain "the tools: $(cat out)"
+echo more >>"$top/libexec/life/life-program"
 PATH=$PWD/bin:$PATH life-tools version >out 2>&1
 [ $? = 1 ] && grep -q "^wrong: " out || complain "a changed program isn't found: $(cat out)"
 python3 "$root/.ci/documents/follow_links.py" "$top/share/doc/life/html" 150 >out || complain "links: $(cat out)"
@@ -135,7 +135,7 @@ LINES
 inside "life run <first-minute.csv"
 judge $? 0 wanted
 shows "life-wait 5 state" 0 "^count,3$"
-shows "life-tools version" 0 "^program: /usr/bin/life has this sum$"
+shows "life-tools version" 0 "^program: /usr/libexec/life/life-program has this sum$"
 shows "life-tools at 3 state 7001" 0 "^entry,3,premium,"
 shows "life-tools report 2021-01-01" 0 "^endowment  *1  *1000.00  *127.22  *127.23  *0$"
 shows "bash -c '. /usr/share/bash-completion/completions/life-wait && COMP_WORDS=(life-wait 5 che) COMP_CWORD=2 &&

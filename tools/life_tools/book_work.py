@@ -9,7 +9,7 @@ from typing import Callable
 
 from life_tools.book_cluster import Cluster, Make
 from life_tools.book_lists import ListedBook
-from life_tools.book_runs import JOURNAL, Outcome, Parts, Task, demand_journal, failure, run_once, sum_of
+from life_tools.book_runs import JOURNAL, Outcome, Parts, Task, demand_journal, doubt_of, failure, run_once, sum_of
 from life_tools.copied_folder import basis_files
 from life_tools.formats import Wrong, bytes_of, demand, remark
 from life_tools.program import demand_as_installed, life_command, program_file
@@ -68,7 +68,8 @@ def names_of_basis(asked: Asked, book: ListedBook) -> list[str]:
 def made_elsewhere(asked: Asked, book: ListedBook, program: str, program_sum: str) -> Task | Outcome:
     try:
         demand_journal(book.folder)
-        return task_elsewhere(asked, book, program, program_sum)
+        task = task_elsewhere(asked, book, program, program_sum)
+        return replace(task, doubt=doubt_of(book.folder)) if asked.are_sent else task
     except Wrong as wrong:
         return failure(book.name, wrong)
 
@@ -98,6 +99,8 @@ class Told:
         self.progress.end()
         if outcome.status:
             remark(f"{outcome.name}: status {outcome.status}: {outcome.line}")
+        elif outcome.doubt:
+            remark(f"{outcome.name}: {outcome.doubt}")
         self.done += 1
         self.progress.at(self.done)
 

@@ -16,7 +16,7 @@ from packing.tree import NAME, Release, lay, settle, write
 RECOMMENDED = ("python3 (>= 3.11)", "python3-flask", "python3-numpy", "python3-openpyxl", "python3-pandas")
 SUGGESTED = ("python3-distributed", "chromium", "libreoffice-calc")
 OVERRIDES = """# The bytes of the program are those that were proved and built, and whose sum proved.txt tells: it isn't stripped.
-life: unstripped-binary-or-object [usr/bin/life]
+life: unstripped-binary-or-object [usr/libexec/life/life-program]
 """
 # The tools are compiled once, for all users; what Python made of them goes when they go.
 AFTER_INSTALLING = """#!/bin/sh

@@ -33,6 +33,11 @@ command -v python3 >/dev/null || {
 here=$(dirname "$(readlink -f -- "$0")")
 exec python3 "$here/../share/life/life-tools.py" "$@"
 """
+# what begins the program, and the parts of the launcher that it is made of, as tools/launcher/install.sh does
+COMMANDS = {
+    "life": ("launcher/folder.sh", "installed/life.sh"),
+    "life-wait": ("launcher/folder.sh", "launcher/waiting.sh", "installed/life-wait.sh"),
+}
 
 
 @dataclass
@@ -85,17 +90,20 @@ logic: {release.logic}
 program: {release.program_sum}
 sources: {release.sources_sum}
 
-These are SHA-256 sums: of bin/life as it was proved and built, and of the list of all sources, contracts, proofs and
-wrong bodies that `python3 tools/packing/sources.py --list` prints. With this kit, `sh life prove` and `sh life pack` in a clone
-of this revision make the same bytes.
+These are SHA-256 sums: of libexec/life/life-program as it was proved and built, and of the list of all sources,
+contracts, proofs and wrong bodies that `python3 tools/packing/sources.py --list` prints. With this kit, `sh life prove`
+and `sh life pack` in a clone of this revision make the same bytes.
 """
 
 
 def lay_programs(release: Release, top: str) -> None:
+    """The program with those that begin it in one folder, as `life install` lays them, and its commands as links there."""
     with open(release.program, "rb") as file:
-        write(f"{top}/bin/life", file.read(), 0o755)
-    waiting = text_of(release, "tools", "launcher", "waiting.sh") + text_of(release, "tools", "installed", "life-wait.sh")
-    write(f"{top}/bin/life-wait", "#!/bin/sh\n" + waiting, 0o755)
+        write(f"{top}/libexec/life/life-program", file.read(), 0o755)
+    for name, parts in COMMANDS.items():
+        text = "".join(text_of(release, "tools", *part.split("/")) for part in parts)
+        write(f"{top}/libexec/life/{name}", "#!/bin/sh\n" + text, 0o755)
+        link(f"{top}/bin/{name}", f"../libexec/life/{name}")
     write(f"{top}/bin/life-tools", TOOLS, 0o755)
 
 
@@ -105,7 +113,7 @@ def lay_tools(release: Release, top: str) -> None:
     for name, content in contents_of(os.path.join(release.root, "tools", "life_tools"), built).items():
         write(f"{top}/share/life/{name}", content)
     write(f"{top}/share/life/life-tools.py", text_of(release, "tools", "life-tools").partition("\n")[2])
-    link(f"{top}/share/life/life", "../../bin/life")
+    link(f"{top}/share/life/life-program", "../../libexec/life/life-program")
 
 
 def lay_manuals(release: Release, top: str) -> None:

@@ -13,7 +13,8 @@ import re
 import subprocess
 import sys
 
-from life_tools.formats import Wrong, bytes_of, demand
+from life_tools.formats import Wrong, bytes_of
+from life_tools.program import program_beside
 
 # whether a clone's program is newer than each of its sources, as its launcher decides that
 IS_CURRENT = 'root=$0; . "$root/tools/launcher/shared.sh"; is_current "$1"'
@@ -67,8 +68,10 @@ def tell_of_clone(clone: str) -> int:
 def tell_of_installed(here: str, built: dict[str, str]) -> int:
     for name in ("version", "revision", "kit", "sum"):
         print(f"{name}: {built[name]}")
-    program = os.path.realpath(os.path.join(here, "life"))
-    demand(os.path.isfile(program), f"{program} isn't there")
+    program = program_beside(here)
+    if program is None:
+        raise Wrong(f"there is no program in {here}")
+    program = os.path.realpath(program)
     found = hashlib.sha256(bytes_of(program)).hexdigest()
     if found != built["sum"]:
         print(f"wrong: {program} has the sum {found}")

@@ -1,0 +1,201 @@
+"""A real browser on the window: what a person reads, types and presses, at a desk's width and at a phone's."""
+import os
+import re
+import sys
+import time
+
+sys.path.insert(0, os.path.join(os.path.dirname(os.path.abspath(__file__)), "..", "..", "tools"))
+
+from life_tools.packages import package  # noqa: E402
+
+webdriver = package("selenium.webdriver", "python3-selenium")
+By = package("selenium.webdriver.common.by", "python3-selenium").By
+Keys = package("selenium.webdriver.common.keys", "python3-selenium").Keys
+Stale = package("selenium.common.exceptions", "python3-selenium").StaleElementReferenceException
+Fault = package("selenium.common.exceptions", "python3-selenium").WebDriverException
+Service = package("selenium.webdriver.chrome.service", "python3-selenium").Service
+
+PATIENCE = 60
+DESK, PHONE = (1280, 900), (390, 844)
+OPTIONS = ("--headless=new", "--no-sandbox", "--disable-gpu", "--hide-scrollbars", "--disable-dev-shm-usage", "--no-first-run",
+           "--disable-background-networking")
+# the text and the ground of each element that has words of its own, as red, green, blue
+COLOURS = """
+const found = [];
+for (const each of document.querySelectorAll('body *')) {
+  const own = [...each.childNodes].some(node => node.nodeType === 3 && node.data.trim());
+  if (!own || !each.getClientRects().length) continue;
+  let ground = each;
+  while (ground && getComputedStyle(ground).backgroundColor === 'rgba(0, 0, 0, 0)') ground = ground.parentElement;
+  if (each.closest('svg')) continue;
+  found.push([each.textContent.trim().slice(0, 40), getComputedStyle(each).color,
+              ground ? getComputedStyle(ground).backgroundColor : 'rgb(255, 255, 255)']);
+}
+return found;
+"""
+# cells that don't say by which head they belong, where a table is narrow
+UNNAMED = """
+return [...document.querySelectorAll('tbody td')].filter(cell => cell.textContent.trim() && !cell.classList.contains('bar') &&
+  getComputedStyle(cell, '::before').content.replaceAll('"', '') !== cell.dataset.head).map(cell => cell.textContent);
+"""
+
+
+WAITS = "return Boolean(window.isLeft) || document.readyState !== 'complete' || !document.querySelector('h1') || document.title.startsWith('One moment')"
+CELLS = """
+const table = [...document.querySelectorAll('table')].find(each => each.caption.textContent.trim() === arguments[0]);
+return table ? [...table.querySelectorAll(arguments[1] + ' tr')].map(row => [...row.cells].map(cell => cell.innerText.trim())) : null;
+"""
+
+
+class Wrong(Exception):
+    pass
+
+
+def demand(right, what):
+    if not right:
+        raise Wrong(what)
+
+
+def luminance(colour):
+    parts = [int(each) / 255 for each in re.findall("[0-9]+", colour)[:3]]
+    linear = [each / 12.92 if each <= 0.04045 else ((each + 0.055) / 1.055) ** 2.4 for each in parts]
+    return 0.2126 * linear[0] + 0.7152 * linear[1] + 0.0722 * linear[2]
+
+
+def contrast(one, other):
+    light, dark = sorted((luminance(one), luminance(other)), reverse=True)
+    return (light + 0.05) / (dark + 0.05)
+
+
+class Browser:
+    """A window of Chromium of one width."""
+
+    def __init__(self, size, shots):
+        options = webdriver.ChromeOptions()
+        for each in OPTIONS:
+            options.add_argument(each)
+        options.binary_location = "/usr/bin/chromium"
+        self.driver = webdriver.Chrome(service=Service("/usr/bin/chromedriver"), options=options)
+        self.driver.set_page_load_timeout(PATIENCE)
+        self.size, self.shots, self.kept = size, shots, 0
+        self.measure(size[1])
+
+    def measure(self, height):
+        told = {"width": self.size[0], "height": height, "deviceScaleFactor": 1, "mobile": self.size == PHONE}
+        self.driver.execute_cdp_cmd("Emulation.setDeviceMetricsOverride", told)
+
+    @property
+    def is_phone(self):
+        return self.size == PHONE
+
+    # --- what a person does ---
+
+    def open(self, address):
+        self.driver.get(address)
+        self.settle()
+
+    def settle(self):
+        """Waits until the page has come by itself."""
+        ends = time.monotonic() + PATIENCE
+        while self.driver.execute_script(WAITS):
+            if time.monotonic() > ends:
+                raise Wrong(f"after {PATIENCE} seconds the page still waits: {self.driver.title}")
+            time.sleep(0.1)
+
+    def press(self, words):
+        """A link or a button by its words; once more where the page came anew meanwhile."""
+        for last in (False, False, True):
+            try:
+                return self.press_once(words)
+            except Stale:
+                demand(not last, f"what says {words!r} goes away again and again")
+
+    def press_once(self, words):
+        for kind in ("main button", "main a, main summary", "a"):
+            for each in self.driver.find_elements(By.CSS_SELECTOR, kind):
+                if each.text.strip() == words:
+                    self.leave(each.tag_name != "summary")
+                    each.click()
+                    self.settle()
+                    return
+        raise Wrong(f"nothing can be pressed that says {words!r}; the page says: {self.text()[:600]}")
+
+    def field(self, label):
+        for each in self.driver.find_elements(By.TAG_NAME, "label"):
+            if each.text.strip() == label:
+                return self.driver.find_element(By.ID, each.get_attribute("for"))
+        raise Wrong(f"no field is labelled {label!r}")
+
+    def type(self, label, text, is_sent=False):
+        field = self.field(label)
+        field.clear()
+        field.send_keys(text)
+        if is_sent:
+            self.send(field)
+
+    def send(self, field):
+        """Sends the form of a field by the key for it."""
+        self.leave()
+        field.send_keys(Keys.ENTER)
+        self.settle()
+
+    def leave(self, is_left=True):
+        """The page that is there now is waited away, so that what is read next is the one that comes."""
+        self.driver.execute_script("window.isLeft = arguments[0]", is_left)
+
+    def choose(self, label, words):
+        for each in self.field(label).find_elements(By.TAG_NAME, "option"):
+            if each.text.strip() == words:
+                each.click()
+                return
+        raise Wrong(f"{label} has no choice {words!r}")
+
+    # --- what a person reads ---
+
+    def text(self):
+        return self.driver.find_element(By.TAG_NAME, "main").text
+
+    def says(self, *words):
+        said = " ".join(self.text().split())
+        for each in words:
+            demand(each in said, f"the page {self.driver.title!r} doesn't say {each!r}: {said[:1500]}")
+
+    def facts(self):
+        """The figures at a page's head by their names."""
+        names = [each.text.strip() for each in self.driver.find_elements(By.TAG_NAME, "dt")]
+        return dict(zip(names, [each.text.strip() for each in self.driver.find_elements(By.TAG_NAME, "dd")]))
+
+    def rows(self, caption, part="tbody"):
+        """The cells of a table's rows, as they are read."""
+        found = self.driver.execute_script(CELLS, caption, part)
+        demand(found is not None, f"there is no table {caption!r}")
+        return found
+
+    # --- how it looks ---
+
+    def look(self, name):
+        """Keeps a picture, and demands what holds of each page: no sideways scrolling, contrast, labels, one heading."""
+        driver = self.driver
+        width = driver.execute_script("return document.documentElement.scrollWidth")
+        demand(width <= self.size[0], f"{name}: the page is {width} wide on {self.size[0]}")
+        for words, colour, ground in driver.execute_script(COLOURS):
+            demand(contrast(colour, ground) >= 4.5, f"{name}: {words!r} is hard to read: {colour} on {ground}")
+        demand(len(driver.find_elements(By.TAG_NAME, "h1")) == 1, f"{name}: not one heading")
+        levels = [int(each.tag_name[1]) for each in driver.find_elements(By.CSS_SELECTOR, "h1, h2, h3")]
+        demand(all(after - before <= 1 for before, after in zip(levels, levels[1:])), f"{name}: a level of headings is left out")
+        for each in driver.find_elements(By.CSS_SELECTOR, "input:not([type=hidden]), select"):
+            demand(driver.find_elements(By.CSS_SELECTOR, f"label[for='{each.get_attribute('id')}']"), f"{name}: a field has no label")
+        if self.is_phone:
+            unnamed = driver.execute_script(UNNAMED)
+            demand(not unnamed, f"{name}: cells without the name of their column: {unnamed[:5]}")
+        self.keep(name)
+
+    def keep(self, name):
+        height = self.driver.execute_script("return document.documentElement.scrollHeight")
+        self.measure(min(height, 6000))
+        self.driver.save_screenshot(os.path.join(self.shots, f"window-{name}-{self.size[0]}.png"))
+        self.measure(self.size[1])
+        self.kept += 1
+
+    def close(self):
+        self.driver.quit()

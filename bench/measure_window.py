@@ -1,0 +1,140 @@
+#!/usr/bin/env python3
+"""The times and the memory of a window on a large book: its first page, pages that ask the program something new, all others.
+
+usage: measure_window.py [COMMANDS [POLICIES]]
+
+The book has so many commands (1,000,000) on so many policies (a quarter): issues and premiums of three years. The program is
+the proved one, or LIFE_PROGRAM. The memory is what the window and all that it runs have together, without what they share.
+"""
+import http.client
+import os
+import subprocess
+import sys
+import tempfile
+import threading
+import time
+from urllib.parse import urlsplit
+
+import timing
+import workload
+from figures_opening import paid_policies
+from timing import Folder
+
+MILLION = 1000000
+TOOLS = os.path.join(timing.ROOT, "tools", "life-tools")
+DAY = "2023-01-01"
+NEW = (f"/1/policy?number=77777&on={DAY}", f"/1/report?on={DAY}&measure=mean", f"/1/day?day={DAY}",
+       "/1/movement?on1=2021-01-01&p1={half}&on2=2022-01-01&p2={most}", "/1/audit", "/1/stands")
+OTHERS = ("/1/", "/1/find", "/1/find?sort=amount&order=down", "/1/find?number=999&page=3", "/1/find?page=2500&sort=issued",
+          "/1/find?plan=endowment&sort=age&order=down&page=2000", f"/1/policy?number=77777&on={DAY}", f"/1/report?on={DAY}&measure=mean",
+          f"/1/day?day={DAY}", f"/1/day/list?day={DAY}&what=lapse&page=4000", "/1/month", "/1/audit", "/1/stands")
+
+
+class Memory(threading.Thread):
+    """The most memory that a process and its children have had together, in MiB, and what they share counted once."""
+
+    def __init__(self, process):
+        super().__init__(daemon=True)
+        self.process, self.most = process, 0
+
+    def run(self):
+        while True:
+            self.most = max(self.most, sum(map(own, family(self.process))))
+            time.sleep(0.05)
+
+
+def family(process):
+    """A process and all below it."""
+    below = {}
+    for name in filter(str.isdigit, os.listdir("/proc")):
+        try:
+            with open(f"/proc/{name}/stat") as file:
+                parent = int(file.read().rsplit(")", 1)[1].split()[1])
+        except OSError:
+            continue
+        below.setdefault(parent, []).append(int(name))
+    found = [process]
+    for each in found:
+        found += below.get(each, [])
+    return found
+
+
+def own(process):
+    try:
+        with open(f"/proc/{process}/smaps_rollup") as file:
+            return next(int(line.split()[1]) for line in file if line.startswith("Pss:")) / 1024
+    except (OSError, StopIteration):
+        return 0
+
+
+class Window:
+    """A window on a folder, as a browser talks to it."""
+
+    def __init__(self, folder, program):
+        self.begun = time.perf_counter()
+        words = [sys.executable, "-B", TOOLS, "browse", "--folder", folder, "--port", "0", "--life", program]
+        self.run = subprocess.Popen(words, stdout=subprocess.PIPE, stderr=subprocess.DEVNULL, text=True)
+        self.memory = Memory(self.run.pid)
+        self.memory.start()
+        self.address = urlsplit(self.run.stdout.readline().strip())
+        self.cookie = ""
+        self.cookie = self.ask(f"/?{self.address.query}")[1].getheader("Set-Cookie").split(";")[0]
+
+    def ask(self, path):
+        line = http.client.HTTPConnection(self.address.hostname, self.address.port, timeout=600)
+        line.request("GET", path, headers={"Cookie": self.cookie})
+        answer = line.getresponse()
+        text = answer.read()
+        if answer.status >= 400:
+            sys.exit(f"wrong: {path} is answered by {answer.status}: {text[-400:].decode()}")
+        line.close()
+        return answer.status, answer
+
+    def seconds(self, path):
+        """Until the page is there, as often as it has to be asked for; and the longest single answer."""
+        begun, longest = time.perf_counter(), 0
+        while True:
+            asked = time.perf_counter()
+            status, _ = self.ask(path)
+            now = time.perf_counter()
+            longest = max(longest, now - asked)
+            if status != 202:
+                return now - begun, longest
+            time.sleep(0.05)
+
+    def close(self):
+        self.run.terminate()
+        self.run.wait()
+
+
+def measured(folder, program, commands):
+    state = timing.timed([program, "state"], folder.path).clock
+    window = Window(folder.path, program)
+    window.seconds("/1/")
+    first = time.perf_counter() - window.begun
+    half = {"half": commands // 2, "most": commands * 3 // 4}
+    print(f"{commands:,} commands: `state` {state:.2f} s; the first page {first:.1f} s, {window.memory.most:.0f} MiB")
+    longest = []
+    for path in NEW:
+        seconds, most = window.seconds(path.format(**half))
+        longest.append(most)
+        print(f"  new: {path}: {seconds:.2f} s")
+    for path in OTHERS:
+        seconds, most = min((window.seconds(path) for _ in range(3)), key=lambda each: each[0])
+        longest.append(most)
+        print(f"  again: {path}: {seconds:.3f} s")
+    print(f"  the longest single answer {max(longest):.2f} s; the most memory {window.memory.most:.0f} MiB")
+    window.close()
+
+
+def main(commands=MILLION, policies=None):
+    timing.watch()
+    program = os.environ.get("LIFE_PROGRAM") or os.path.join(timing.ROOT, "crates", "life_cli", "out", "life_cli")
+    policies = policies or commands // 4
+    with Folder(tempfile.gettempdir()) as folder:
+        workload.write_journal(folder.journal, list(paid_policies(policies))[:commands])
+        measured(folder, program, commands)
+
+
+if __name__ == "__main__":
+    main(*map(int, sys.argv[1:]))

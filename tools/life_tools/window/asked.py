@@ -1,0 +1,83 @@
+"""The words of a request, each with its limits: what is no day, number, position or known word is refused with its reason."""
+from __future__ import annotations
+
+import datetime
+from typing import Iterable, Mapping, Sequence
+
+from life_tools.formats import FIRST_DAY, LAST_DAY, MOST_COMMANDS, Wrong, day_of, number_of
+
+
+class BadRequest(Wrong):
+    """A word of a request isn't as it must be; the text says which, and what is wanted."""
+
+
+# longer words are no number, day or name of anything here
+MOST_LETTERS = 40
+
+
+def shown(text: str) -> str:
+    """A word of a request in a reason: not longer than one reads."""
+    return text if len(text) <= MOST_LETTERS else text[:MOST_LETTERS] + "…"
+
+
+class Asked:
+    """The words of one request."""
+
+    def __init__(self, words: Iterable[tuple[str, str]]) -> None:
+        self.words: dict[str, str] = {}
+        for name, text in words:
+            if name in self.words:
+                raise BadRequest(f"{shown(name)} stands twice")
+            self.words[name] = text.strip()
+
+    def only(self, names: Sequence[str]) -> None:
+        """Refuses words that the page doesn't know."""
+        for name in self.words:
+            if name not in names:
+                raise BadRequest(f"{shown(name)} is no word of this page")
+
+    def text(self, name: str) -> str:
+        return self.words.get(name, "")
+
+    def number(self, name: str, least: int, most: int, otherwise: int) -> int:
+        text = self.text(name)
+        if not text:
+            return otherwise
+        found = number_of(text, least, most)
+        if found is None:
+            raise BadRequest(f"{name}: {shown(text)} is no whole number from {least} to {most}")
+        return found
+
+    def position(self, name: str, newest: int, otherwise: int) -> int:
+        text = self.text(name)
+        found = number_of(text, 0, MOST_COMMANDS) if text else otherwise
+        if found is None or found > newest:
+            raise BadRequest(f"{name}: {shown(text)} is no position of this book, which goes to {newest}")
+        return found
+
+    def day(self, name: str, otherwise: datetime.date) -> datetime.date:
+        return self.day_or_none(name) or otherwise
+
+    def day_or_none(self, name: str) -> datetime.date | None:
+        text = self.text(name)
+        if not text:
+            return None
+        found = day_of(text)
+        if found is None:
+            raise BadRequest(f"{name}: {shown(text)} is no day YYYY-MM-DD from {FIRST_DAY} to {LAST_DAY}")
+        return found
+
+    def one_of(self, name: str, known: Sequence[str] | Mapping[str, object], otherwise: str = "") -> str:
+        text = self.text(name)
+        if not text:
+            return otherwise
+        if text not in known:
+            raise BadRequest(f"{name}: {shown(text)} is none of {', '.join(known)}")
+        return text
+
+    def digits(self, name: str, most: int) -> str:
+        """Some digits of a number."""
+        text = self.text(name)
+        if text and not (text.isascii() and text.isdigit() and len(text) <= most):
+            raise BadRequest(f"{name}: {shown(text)} is no number, and no part of one: up to {most} digits")
+        return text

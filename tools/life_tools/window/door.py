@@ -1,0 +1,98 @@
+"""The door of the window: who is let in, by which names and words, and the headers with which each answer goes out.
+
+It stands before everything else, so that a request is refused before any page, path or word of it is looked at.
+"""
+from __future__ import annotations
+
+import hmac
+import secrets
+from dataclasses import dataclass, field
+from html import escape
+from http.cookies import CookieError, SimpleCookie
+from typing import Any, Callable, Iterable
+from urllib.parse import parse_qsl
+
+Environment = dict[str, Any]
+StartResponse = Callable[..., Any]
+Application = Callable[[Environment, StartResponse], Iterable[bytes]]
+
+TOKEN_BYTES = 16
+# a path with its words that is longer is no page's
+MOST_LETTERS = 1024
+POLICY = ("default-src 'none'; style-src 'self'; img-src 'self'; form-action 'self'; base-uri 'none'; "
+          "frame-ancestors 'none'")
+HEADERS = (("Content-Security-Policy", POLICY), ("Referrer-Policy", "no-referrer"), ("Cache-Control", "no-store"),
+           ("X-Content-Type-Options", "nosniff"), ("Cross-Origin-Resource-Policy", "same-origin"))
+REASONS = {303: "See Other", 403: "Forbidden", 404: "Not Found", 405: "Method Not Allowed", 414: "URI Too Long"}
+
+
+def new_secret() -> str:
+    return secrets.token_hex(TOKEN_BYTES)
+
+
+def same(one: str, other: str) -> bool:
+    """Whether two secrets are equal, in a time that doesn't tell where they differ."""
+    return hmac.compare_digest(one.encode("utf-8", "replace"), other.encode("utf-8", "replace"))
+
+
+@dataclass
+class Door:
+    """An application behind a door: the port tells by which names it is called, the token who may come in."""
+
+    inside: Application
+    port: int
+    token: str = field(default_factory=new_secret)
+    cookie: str = field(default_factory=new_secret)
+
+    @property
+    def cookie_name(self) -> str:
+        return f"life-window-{self.port}"
+
+    @property
+    def address(self) -> str:
+        return f"http://127.0.0.1:{self.port}/?token={self.token}"
+
+    def __call__(self, environ: Environment, start: StartResponse) -> Iterable[bytes]:
+        def guarded(status: str, headers: list[tuple[str, str]], *failure: Any) -> Any:
+            names = {name.lower() for name, _ in HEADERS}
+            return start(status, [each for each in headers if each[0].lower() not in names] + list(HEADERS), *failure)
+
+        answer = self.refusal(environ) or self.exchange(environ)
+        if answer is None:
+            return self.inside(environ, guarded)
+        status, words, more = answer
+        page = f"<!doctype html><html lang=\"en\"><title>life</title><p>{escape(words)}</p></html>\n".encode()
+        headers = [("Content-Type", "text/html; charset=utf-8"), ("Content-Length", str(len(page))), *more]
+        guarded(f"{status} {REASONS[status]}", headers)
+        return [b"" if environ.get("REQUEST_METHOD") == "HEAD" else page]
+
+    def refusal(self, environ: Environment) -> tuple[int, str, list[tuple[str, str]]] | None:
+        """Why a request isn't let in, whoever sends it."""
+        if environ.get("HTTP_HOST") not in (f"127.0.0.1:{self.port}", f"localhost:{self.port}"):
+            return 403, f"This window is called 127.0.0.1:{self.port} or localhost:{self.port}.", []
+        if environ.get("REQUEST_METHOD") not in ("GET", "HEAD"):
+            return 405, "This window only looks: GET and HEAD.", [("Allow", "GET, HEAD")]
+        if len(environ.get("PATH_INFO", "")) + len(environ.get("QUERY_STRING", "")) > MOST_LETTERS:
+            return 414, "No page has so long an address.", []
+        if "//" in environ.get("PATH_INFO", ""):
+            return 404, "No page has such an address.", []
+        return None
+
+    def exchange(self, environ: Environment) -> tuple[int, str, list[tuple[str, str]]] | None:
+        """Whoever brings the token gets the cookie for it, and an address without the token; others need the cookie."""
+        words = parse_qsl(environ.get("QUERY_STRING", ""), keep_blank_values=True)
+        if [name for name, _ in words] == ["token"] and environ.get("PATH_INFO") == "/":
+            if not same(words[0][1], self.token):
+                return 403, "That isn't this window's token.", []
+            kept = f"{self.cookie_name}={self.cookie}; HttpOnly; SameSite=Strict; Path=/"
+            return 303, "Come in.", [("Location", "/"), ("Set-Cookie", kept)]
+        if not same(self.brought(environ), self.cookie):
+            return 403, "Open the window by the address that life-tools browse printed.", []
+        return None
+
+    def brought(self, environ: Environment) -> str:
+        try:
+            cookies: SimpleCookie[str] = SimpleCookie(environ.get("HTTP_COOKIE", ""))
+        except CookieError:
+            return ""
+        return cookies[self.cookie_name].value if self.cookie_name in cookies else ""

@@ -1,0 +1,114 @@
+"""What is due on a day, by kind: found by `due` among the policies of a position, and kept for the pages of its lists."""
+from __future__ import annotations
+
+import datetime
+from dataclasses import dataclass
+from typing import Iterator
+
+from life_tools.arrays import Array, np
+from life_tools.day_columns import NEVER, day_at, number_at
+from life_tools.entries.due import SENT, WHATS, Due, Items
+from life_tools.formats import money
+from life_tools.window.jobs import Job
+from life_tools.window.kept_columns import keep, kept
+from life_tools.window.looked_at import LookedAt
+
+# what the lines to send need beside the day: the amount
+WITH_AMOUNT = ("premium", "grace", "reinstate", "settle")
+KIND_OF = {"grace": "premium"}
+TITLES = {"premium": "Premiums due", "grace": "In the days of grace", "lapse": "To be lapsed", "mature": "Maturities",
+          "reinstate": "May be reinstated", "settle": "To be settled"}
+SAYS = {
+    "premium": "Due on the day or within the days asked for.",
+    "grace": "Was due before the day, and can still be paid on it.",
+    "lapse": "No premium can be paid any more: the policy is in arrears.",
+    "mature": "The insurance has ended, or ends within the days asked for.",
+    "reinstate": "Lapsed, and can be put in force on the day for the amount.",
+    "settle": "Outstanding of a claim or a maturity.",
+}
+SORTED = {"policy": "number", "day": "day", "until": "until", "amount": "cents"}
+
+
+@dataclass
+class DueOn:
+    """What is due: the folder with the items, and of each kind how many there are and their sum."""
+
+    path: str
+    day: datetime.date
+    within: int
+    sums: dict[str, tuple[int, int]]
+
+    def items(self, what: str) -> Due:
+        """Those of a kind."""
+        found = Due(*kept(self.path, Due._fields))
+        chosen = np.flatnonzero(found.what == WHATS.index(what))
+        return Due(*(column[chosen] for column in found))
+
+
+@dataclass(frozen=True)
+class Item:
+    """One item: the policy, the day, the last day or none, and cents."""
+
+    policy: int
+    day: datetime.date
+    until: datetime.date | None
+    cents: int
+    first: datetime.date
+
+
+def due_on(book: LookedAt, day: datetime.date, within: int, position: int) -> DueOn:
+    found = book.kept(("due", day, within, position), f"what is due on {day}", lambda job: made(book, day, within, position, job))
+    assert isinstance(found, DueOn)
+    return found
+
+
+def made(book: LookedAt, day: datetime.date, within: int, position: int, job: Job) -> DueOn:
+    job.at("looking through the policies")
+    items = Items(book.policies(position), number_at(day), within).find_all()
+    sums = {}
+    for code, what in enumerate(WHATS):
+        cents = items.cents[items.what == code]
+        sums[what] = len(cents), int(cents.sum())
+    path = book.new_file()
+    keep(path, Due._fields, items)
+    return DueOn(path, day, within, sums)
+
+
+def items_in(found: Due, places: Array) -> Iterator[Item]:
+    columns = (column[places].tolist() for column in (found.number, found.day, found.until, found.cents, found.first))
+    for number, day, until, cents, first in zip(*columns):
+        yield Item(number, day_at(day), None if until == NEVER else day_at(until), cents, day_at(first))
+
+
+def page_of(it: DueOn, what: str, sort: str, is_falling: bool, page: int, size: int) -> list[Item]:
+    found = it.items(what)
+    order = np.lexsort((found.number, getattr(found, SORTED[sort])))
+    order = order[::-1] if is_falling else order
+    return list(items_in(found, order[(page - 1) * size:page * size]))
+
+
+def csv_rows(it: DueOn, what: str) -> Iterator[list[str]]:
+    """As `due` prints them."""
+    found = it.items(what)
+    yield ["what", "policy", "day", "until", "amount"]
+    for item in items_in(found, np.arange(len(found.what))):
+        yield [what, str(item.policy), str(item.day), str(item.until or ""), money(item.cents)]
+
+
+def lines_to_send(it: DueOn, what: str) -> Iterator[str]:
+    """The lines of a script; of a kind that brings or takes money they are true once the money has come or gone."""
+    found = it.items(what)
+    for item in items_in(found, np.lexsort((found.number, found.first))):
+        amount = [money(item.cents)] if what in WITH_AMOUNT else []
+        yield ",".join(["1", KIND_OF.get(what, what), str(item.policy), str(item.first), *amount])
+
+
+def is_sent_as_it_stands(what: str) -> bool:
+    return what in SENT
+
+
+def of_policy(book: LookedAt, number: int, position: int, day: datetime.date) -> list[tuple[str, Item]]:
+    """What is due of one policy on a day."""
+    policies = book.policies(position)
+    found = Items(policies.at(np.flatnonzero(policies.number == number)), number_at(day), 0).find_all()
+    return [(WHATS[what], item) for what, item in zip(found.what.tolist(), items_in(found, np.arange(len(found.what))))]

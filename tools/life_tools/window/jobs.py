@@ -1,0 +1,120 @@
+"""Work that takes longer than a page may: one piece at a time, with its progress, and its result kept for the next asker."""
+from __future__ import annotations
+
+import threading
+import time
+from collections import OrderedDict, deque
+from typing import Any, Callable, Hashable
+
+from life_tools.formats import Wrong
+
+MOST_WAITING = 8
+# an answer that is there within so many seconds is shown at once
+AT_ONCE = 0.3
+
+
+class TooMuch(Wrong):
+    """More is asked than is done at a time."""
+
+
+class Failed(Wrong):
+    """A piece of work couldn't be done; the text says why."""
+
+
+class Working(Exception):
+    """The answer isn't there yet."""
+
+    def __init__(self, job: Job) -> None:
+        super().__init__(job.title)
+        self.job = job
+
+
+class Job:
+    """A piece of work: how far it is, and its result or why there is none."""
+
+    def __init__(self, key: Hashable, title: str, work: Callable[[Job], Any]) -> None:
+        self.key, self.title, self.work = key, title, work
+        self.begun = time.monotonic()
+        self.doing = "waiting for what was asked before"
+        self.done = 0
+        self.whole: int | None = None
+        self.ended = threading.Event()
+        self.result: Any = None
+        self.failure = ""
+
+    def at(self, doing: str, done: int = 0, whole: int | None = None) -> None:
+        self.doing, self.done, self.whole = doing, done, whole
+
+    @property
+    def seconds(self) -> int:
+        return int(time.monotonic() - self.begun)
+
+    def do(self) -> None:
+        try:
+            self.result = self.work(self)
+        except Wrong as wrong:
+            self.failure = str(wrong)
+        except OSError as error:
+            self.failure = f"{error.strerror}"
+        except Exception as error:
+            self.failure = f"it ended with {type(error).__name__}: {error}"
+        self.ended.set()
+
+
+class Jobs:
+    """One worker, those who wait for it, and the newest results; what falls out is thrown away by `forget`."""
+
+    def __init__(self, most_kept: int, forget: Callable[[Any], None]) -> None:
+        self.most_kept, self.forget = most_kept, forget
+        self.known: OrderedDict[Hashable, Job] = OrderedDict()
+        self.waiting: deque[Job] = deque()
+        self.changed = threading.Condition()
+        threading.Thread(target=self.serve, daemon=True).start()
+
+    def serve(self) -> None:
+        while True:
+            with self.changed:
+                self.changed.wait_for(lambda: self.waiting)
+                job = self.waiting.popleft()
+            job.do()
+            self.throw_away()
+
+    def throw_away(self) -> None:
+        """Forgets the results that were asked for longest ago, where there are too many."""
+        with self.changed:
+            ended = [key for key, job in self.known.items() if job.ended.is_set()]
+            dropped = [self.known.pop(key) for key in ended[:max(len(ended) - self.most_kept, 0)]]
+        for job in dropped:
+            if not job.failure:
+                self.forget(job.result)
+
+    def job(self, key: Hashable, title: str, work: Callable[[Job], Any]) -> Job:
+        """The work of this key, begun now where it isn't known."""
+        with self.changed:
+            job = self.known.get(key)
+            if job is None:
+                if len(self.waiting) >= MOST_WAITING:
+                    raise TooMuch(f"{MOST_WAITING} questions wait for the program already: ask again when they are answered")
+                job = Job(key, title, work)
+                self.known[key] = job
+                self.waiting.append(job)
+                self.changed.notify()
+            self.known.move_to_end(key)
+        return job
+
+    def asked(self, key: Hashable, title: str, work: Callable[[Job], Any]) -> Any:
+        """The result of the work; raises Working where it takes longer, and Failed, once, where it couldn't be done."""
+        job = self.job(key, title, work)
+        if not job.ended.wait(AT_ONCE):
+            raise Working(job)
+        if job.failure:
+            with self.changed:
+                self.known.pop(key, None)
+            raise Failed(job.failure)
+        return job.result
+
+    def is_known(self, key: Hashable) -> bool:
+        """Whether the result is there already."""
+        with self.changed:
+            job = self.known.get(key)
+        return job is not None and job.ended.is_set() and not job.failure

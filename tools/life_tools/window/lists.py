@@ -1,0 +1,123 @@
+"""Lists of policies: what is looked for, by what they are sorted, and a page of fifty of them."""
+from __future__ import annotations
+
+import sqlite3
+from dataclasses import dataclass
+from typing import Any
+
+from life_tools.arrays import Array, np
+from life_tools.formats import MOST_COMMANDS, PLANS, STATUSES
+from life_tools.journal_columns import RECORD, UPGRADE
+from life_tools.journals import FIRST_GATE
+from life_tools.window.asked import Asked
+
+A_PAGE = 50
+SORTED = {"policy": "policy", "status": "status", "plan": "plan", "age": "age", "amount": "amount_cents",
+          "premium": "premium_cents", "issued": "issued", "paid": "premiums_paid", "paid_to": "paid_to", "next_due": "next_due",
+          "outstanding": "outstanding_cents", "last": "last_posted"}
+WORDS = ("number", "from", "to", "plan", "status", "sort", "order", "page")
+MOST_DIGITS = 10
+
+
+@dataclass(frozen=True)
+class Sought:
+    """What is looked for; empty what doesn't matter."""
+
+    number: str
+    issued_from: str
+    issued_to: str
+    plan: str
+    status: str
+    sort: str
+    is_falling: bool
+    page: int
+
+    def words(self) -> dict[str, str]:
+        """As the words of a request."""
+        found = {"number": self.number, "from": self.issued_from, "to": self.issued_to, "plan": self.plan, "status": self.status,
+                 "sort": self.sort if self.sort != "policy" else "", "order": "down" if self.is_falling else "",
+                 "page": str(self.page) if self.page > 1 else ""}
+        return {name: text for name, text in found.items() if text}
+
+
+@dataclass(frozen=True)
+class Found:
+    """A page of a list: its rows, and how many there are of all."""
+
+    rows: list[sqlite3.Row]
+    count: int
+
+    @property
+    def pages(self) -> int:
+        return max(-(-self.count // A_PAGE), 1)
+
+
+def sought_in(asked: Asked) -> Sought:
+    first, last = asked.day_or_none("from"), asked.day_or_none("to")
+    return Sought(asked.digits("number", MOST_DIGITS), str(first or ""), str(last or ""),
+                  asked.one_of("plan", list(PLANS.values())), asked.one_of("status", STATUSES),
+                  asked.one_of("sort", SORTED, "policy"), asked.one_of("order", ("up", "down")) == "down",
+                  asked.number("page", 1, MOST_COMMANDS, 1))
+
+
+def condition(sought: Sought, position: int) -> tuple[str, list[Any]]:
+    """What holds of the rows; the words of a request are parameters alone."""
+    parts, given = ["since <= ?", "until > ?"], [position, position]
+    values: list[Any] = list(given)
+    if sought.number:
+        parts.append("cast(policy as text) like ?")
+        values.append(f"%{sought.number}%")
+    for text, part in ((sought.issued_from, "issued >= ?"), (sought.issued_to, "issued <= ?"), (sought.plan, "plan = ?"),
+                       (sought.status, "status = ?")):
+        if text:
+            parts.append(part)
+            values.append(text)
+    return " and ".join(parts), values
+
+
+def found_in(database: sqlite3.Connection, sought: Sought, position: int) -> Found:
+    """The page; one behind the middle of a long list is read from its end, which is as quick as its beginning."""
+    where, values = condition(sought, position)
+    count: int = database.execute(f"select count(*) from policy where {where}", values).fetchone()[0]
+    pages = max(-(-count // A_PAGE), 1)
+    page = min(sought.page, pages)
+    begin = (page - 1) * A_PAGE
+    size = max(min(A_PAGE, count - begin), 0)
+    is_back = begin > count // 2
+    falling = sought.is_falling != is_back
+    column, way = SORTED[sought.sort], "desc" if falling else "asc"
+    order = f"{column} {way}" if column == "policy" else f"{column} {way}, policy {way}"
+    skipped = count - begin - size if is_back else begin
+    # of the rows that are passed over only their places are read
+    places = f"select rowid from policy where {where} order by {order} limit ? offset ?"
+    rows = database.execute(f"select * from policy where rowid in ({places}) order by {order}", [*values, size, skipped])
+    found = rows.fetchall()
+    return Found(found[::-1] if is_back else found, count)
+
+
+def has_policy(database: sqlite3.Connection, number: int, position: int) -> bool:
+    row = database.execute("select 1 from policy where policy = ? and since <= ? and until > ?", (number, position, position))
+    return row.fetchone() is not None
+
+
+def counts_by(database: sqlite3.Connection, position: int) -> list[sqlite3.Row]:
+    """How many policies there are of each plan and status, and their amounts."""
+    return database.execute("select plan, status, count(*) as policies, sum(amount_cents) as amount_cents from policy "
+                            "where since <= ? and until > ? group by plan, status order by plan, status",
+                            (position, position)).fetchall()
+
+
+def newest_day(database: sqlite3.Connection, position: int) -> str | None:
+    """The day of the last posting that has one, at a position."""
+    row = database.execute("select day from command where position <= ? and day is not null order by position desc limit 1",
+                           (position,)).fetchone()
+    return row[0] if row else None
+
+
+def days_of(journal: str, count: int) -> tuple[Array, int]:
+    """The days of the first records of a journal's file, as numbers, and the upgrade's position, or 0."""
+    if not count:
+        return np.zeros(0, np.int32), 0
+    records = np.memmap(journal, RECORD, "r", FIRST_GATE, count)
+    upgrades = np.flatnonzero(records["head"] >> 24 == UPGRADE)
+    return records["day"].astype(np.int32), int(upgrades[0]) + 1 if len(upgrades) else 0

@@ -1,0 +1,78 @@
+"""Pictures in a page, as SVG within it: a reserve over the years, and bars beside sums. Colours are the style sheet's."""
+from __future__ import annotations
+
+from html import escape
+from typing import Sequence
+
+from life_tools.report_pages import money
+
+WIDTH, HEIGHT = 720, 300
+LEFT, RIGHT, TOP, BOTTOM = 110, 20, 16, 40
+# the steps of an axis are one of these times a power of ten
+ROUND = (1, 2, 5, 10)
+
+
+def step_of(most: int) -> int:
+    """A round step of which some four make the most."""
+    step = 1
+    while True:
+        for each in ROUND:
+            if most <= 4 * step * each:
+                return step * each
+        step *= 10
+
+
+def text(x: float, y: float, words: str, kind: str) -> str:
+    return f'<text x="{x:.1f}" y="{y:.1f}" class="{kind}">{escape(words)}</text>'
+
+
+class Curve:
+    """Points over years: a year, an amount in cents, and the words of the day."""
+
+    def __init__(self, points: Sequence[tuple[int, int, str]], chosen: int | None, says: str) -> None:
+        self.points, self.chosen, self.says = points, chosen, says
+        most = max((cents for _, cents, _ in points), default=0)
+        self.step = step_of(max(most, 100))
+        self.top = max(-(-most // self.step), 1) * self.step
+        self.years = max(points[-1][0] if points else 1, 1)
+
+    def across(self, year: int) -> float:
+        return LEFT + (WIDTH - LEFT - RIGHT) * year / self.years
+
+    def up(self, cents: int) -> float:
+        return HEIGHT - BOTTOM - (HEIGHT - TOP - BOTTOM) * cents / self.top
+
+    def grid(self) -> list[str]:
+        parts = []
+        for cents in range(0, self.top + 1, self.step):
+            y = self.up(cents)
+            parts.append(f'<line class="grid" x1="{LEFT}" x2="{WIDTH - RIGHT}" y1="{y:.1f}" y2="{y:.1f}"/>')
+            parts.append(text(LEFT - 10, y + 5, f"{cents // 100:,}", "left"))
+        every = max(step_of(self.years), 1)
+        for year in range(0, self.years + 1, every):
+            parts.append(text(self.across(year), HEIGHT - BOTTOM + 22, str(year), "middle"))
+        return parts
+
+    def mark(self) -> list[str]:
+        found = [point for point in self.points if point[0] == self.chosen]
+        if not found:
+            return []
+        year, cents, _ = found[0]
+        x, y = self.across(year), self.up(cents)
+        return [f'<line class="chosen" x1="{x:.1f}" x2="{x:.1f}" y1="{y:.1f}" y2="{HEIGHT - BOTTOM}"/>',
+                f'<circle class="chosen" cx="{x:.1f}" cy="{y:.1f}" r="5"/>']
+
+    def svg(self) -> str:
+        line = " ".join(f"{self.across(year):.1f},{self.up(cents):.1f}" for year, cents, _ in self.points)
+        dots = [f'<circle cx="{self.across(year):.1f}" cy="{self.up(cents):.1f}" r="2.5">'
+                f"<title>{escape(day)}: {money(cents)}</title></circle>" for year, cents, day in self.points]
+        return "\n".join([f'<svg class="picture" viewBox="0 0 {WIDTH} {HEIGHT}" role="img" aria-label="{escape(self.says)}">',
+                          *self.grid(), f'<polyline points="{line}"/>', *dots, *self.mark(), "</svg>"])
+
+
+def bar(cents: int, most: int) -> str:
+    """A bar to the scale of the most, for a cell; what is below 0 has a colour of its own."""
+    permille = 1000 * abs(cents) // most if most > 0 else 0
+    return ('<svg class="bar" viewBox="0 0 1000 60" preserveAspectRatio="none" aria-hidden="true">'
+            '<rect class="ground" width="1000" height="60"/>'
+            f'<rect class="{"less" if cents < 0 else "more"}" width="{permille}" height="60"/></svg>')

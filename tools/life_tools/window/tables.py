@@ -1,0 +1,141 @@
+"""The tables of a book in SQLite, as `export sqlite` has them: made once, and brought up to date by the records behind them.
+
+A policy that changes keeps its row for the positions before: each row tells since which position it is so, and until which
+it was, so that a page of an earlier position stays what it was.
+"""
+from __future__ import annotations
+
+import datetime
+import sqlite3
+from contextlib import closing
+from dataclasses import fields, replace
+from typing import Any, Callable, Iterable, Iterator, Sequence
+
+from life_tools.arrays import np
+from life_tools.columns import Columns, columns_at
+from life_tools.commands import Command
+from life_tools.export_tables import COMMAND, POLICY, command_rows, policy_rows
+from life_tools.formats import MOST_COMMANDS, Wrong
+from life_tools.journal_columns import Records
+from life_tools.rules import Policy, Refusal, decide
+from life_tools.valuation_rows import TableRow
+
+Tell = Callable[[str, int, "int | None"], None]
+WHOLE = ("position", "policy", "age", "years", "premiums_paid", "amount_cents", "premium_cents", "outstanding_cents")
+# the position behind all
+NEVER = MOST_COMMANDS + 1
+# what a list is sorted by where it is long, each with an index
+INDEXED = ("policy", "issued", "plan", "status", "age", "amount_cents", "premium_cents", "paid_to", "next_due", "last_posted",
+           "premiums_paid", "outstanding_cents")
+EACH = 1 << 14
+
+
+def definition(name: str) -> str:
+    return f"{name} {'integer' if name in WHOLE else 'text'}"
+
+
+def opened(path: str) -> sqlite3.Connection:
+    """A database for reading alone."""
+    database = sqlite3.connect(f"file:{path}?mode=ro", uri=True, timeout=30)
+    database.row_factory = sqlite3.Row
+    return database
+
+
+def written(path: str, log: str = "wal") -> sqlite3.Connection:
+    """A database for writing; it is thrown away with the window, so nothing waits for a disk."""
+    database = sqlite3.connect(path, isolation_level=None, timeout=30)
+    for pragma in (f"journal_mode = {log}", "synchronous = off", "cache_size = -16000"):
+        database.execute(f"pragma {pragma}")
+    return database
+
+
+def insert(database: sqlite3.Connection, table: str, columns: int, rows: Iterable[TableRow]) -> None:
+    database.executemany(f"insert into {table} values ({','.join('?' * columns)})", rows)
+
+
+# --- the tables of a position ---
+
+def told(tell: Tell, doing: str, rows: Iterable[TableRow], whole: int) -> Iterator[TableRow]:
+    for at, row in enumerate(rows):
+        if not at % EACH:
+            tell(doing, at, whole)
+        yield row
+
+
+def make(path: str, journal: str, tell: Tell) -> Columns:
+    """Makes the tables of a journal's file; gives its book."""
+    tell("reading the journal", 0, None)
+    book = columns_at(journal)
+    with closing(written(path, "off")) as database:
+        database.execute("begin")
+        database.execute(f"create table policy ({', '.join(map(definition, POLICY))}, since integer, until integer)")
+        database.execute(f"create table command (position integer primary key, {', '.join(map(definition, COMMAND[1:]))})")
+        policies = ((*row, 0, NEVER) for row in policy_rows(book))
+        insert(database, "policy", len(POLICY) + 2, told(tell, "policies", policies, len(book.policies)))
+        insert(database, "command", len(COMMAND), told(tell, "postings", command_rows(book), book.count))
+        tell("an order of policies", 0, None)
+        database.execute("create index policy_number on policy (policy, since)")
+        tell("an order of postings", 0, None)
+        database.execute("create index command_policy on command (policy)")
+        database.execute("commit")
+        # from now on somebody reads while more is written
+        database.execute("pragma journal_mode = wal")
+        return book
+
+
+def make_orders(path: str) -> None:
+    """Orders by which a long list is sorted at once."""
+    with closing(written(path)) as database:
+        for name in INDEXED:
+            # with all by which rows are passed over, so that these needn't be read
+            database.execute(f"create index if not exists policy_by_{name} on policy ({name}, policy, since, until)")
+
+
+# --- further records ---
+
+def behind(records: Records, first: int) -> Records:
+    return Records(*(getattr(records, column.name)[first:] for column in fields(records)))
+
+
+def bring_up_to_date(path: str, journal: str, first: int, tell: Tell) -> Columns:
+    """Takes the records behind a position; gives the book as it is now."""
+    tell("reading the journal", 0, None)
+    book = columns_at(journal)
+    changed = np.unique(book.place[first:])
+    policies = replace(book, policies=book.policies.at(changed[changed >= 0]))
+    commands = replace(book, records=behind(book.records, first))
+    with closing(written(path)) as database:
+        tell("taking what was posted", 0, None)
+        database.execute("begin")
+        insert(database, "command", len(COMMAND), ((int(str(row[0])) + first, *row[1:]) for row in command_rows(commands)))
+        database.execute("update policy set until = ? where until = ? and policy in "
+                         "(select policy from command where position > ?)", (book.count, NEVER, first))
+        insert(database, "policy", len(POLICY) + 2, ((*row, book.count, NEVER) for row in policy_rows(policies)))
+        database.execute("commit")
+    return book
+
+
+# --- one policy ---
+
+def command_of(row: Sequence[Any]) -> Command:
+    """The command of a row of the table."""
+    _, kind, number, day, plan, age, years, amount, premium = row
+    return Command(kind, number, datetime.date.fromisoformat(day), plan or "", age or 0, years or 0, amount or 0, premium or 0)
+
+
+def postings_of(database: sqlite3.Connection, number: int, position: int) -> list[tuple[int, Command]]:
+    """The postings of a policy up to a position, with their positions."""
+    rows = database.execute(f"select {', '.join(COMMAND)} from command where policy = ? and position <= ? order by position",
+                            (number, position))
+    return [(row[0], command_of(row)) for row in rows]
+
+
+def steps_of(postings: Iterable[tuple[int, Command]]) -> Iterator[tuple[int, Command, Policy]]:
+    """Each posting with the policy that it left, by the rules."""
+    policy: Policy | None = None
+    for position, command in postings:
+        after = decide(policy, command)
+        if isinstance(after, Refusal):
+            raise Wrong(f"posting {position} can't follow: {','.join(after.words())}")
+        policy = after
+        yield position, command, policy

@@ -1,0 +1,50 @@
+"""Other tools of the package, asked in the private folder: what they print and write is shown as it is."""
+from __future__ import annotations
+
+import os
+from dataclasses import dataclass
+from typing import Sequence
+
+from life_tools.formats import Wrong
+from life_tools.window.jobs import Job
+from life_tools.window.looked_at import LookedAt
+from life_tools.window.runs import run_to, tool_words
+
+
+@dataclass
+class ToolRun:
+    """What a tool left: a private folder with what it wrote, its status, what it printed and what it remarked."""
+
+    path: str
+    status: int
+    remarks: str
+
+    @property
+    def printed(self) -> str:
+        with open(os.path.join(self.path, "printed"), encoding="utf-8", errors="replace") as file:
+            return file.read()
+
+    def file(self, name: str) -> str:
+        """A file that the tool wrote; the name is one of the window's own."""
+        return os.path.join(self.path, name)
+
+
+def tool_run(book: LookedAt, words: Sequence[str], title: str, is_wrong_shown: bool = True, of: tuple[int, ...] = ()) -> ToolRun:
+    """A run of a tool; `OUT/` in its words is a private folder of its own. Raises Working while it runs.
+
+    What it is `of` beside its words is asked anew where that changes.
+    """
+    found = book.kept(("tool", *words, *of), title, lambda job: ran(book, words, job, is_wrong_shown))
+    assert isinstance(found, ToolRun)
+    return found
+
+
+def ran(book: LookedAt, words: Sequence[str], job: Job, is_wrong_shown: bool) -> ToolRun:
+    folder = book.new_file()
+    os.mkdir(folder, 0o700)
+    job.at(f"life-tools {words[0]}")
+    told = [word.replace("OUT/", folder + os.sep) for word in words]
+    status, remarks = run_to(os.path.join(folder, "printed"), [*tool_words(), *told], book.desk, book.scratch)
+    if status not in (0, 1) or (status and not is_wrong_shown):
+        raise Wrong(remarks.removeprefix(f"life-tools {words[0]}: ") or f"life-tools {words[0]} ended with status {status}")
+    return ToolRun(folder, status, remarks.replace(folder + os.sep, "").replace(book.desk, book.book.folder))

@@ -1,0 +1,107 @@
+"""Valuations that the program printed, kept with the sums of their groups; their rows lie in the private folder.
+
+They are read, joined with the printed state and added up as `report` does it: what doesn't add up to the printed total isn't
+kept.
+"""
+from __future__ import annotations
+
+import datetime
+import os
+from dataclasses import dataclass
+from typing import Iterator
+
+from life_tools.arrays import np
+from life_tools.entries.why import measure_words
+from life_tools.fronts import WORKERS
+from life_tools.groups import KEYS, Groups, Sums, demand_whole, grouped, joined, whole
+from life_tools.printed_books import ValuedRow
+from life_tools.printed_columns import NO_WORDS, Rows, state_of, valuation_of
+from life_tools.tables import read_basis
+from life_tools.window.jobs import Job
+from life_tools.window.kept_columns import keep, kept
+from life_tools.window.looked_at import LookedAt
+from life_tools.window.runs import printed_by
+
+AT_ONCE = 1 << 18
+COLUMNS = ("number", "status", "year", "word", "bounds")
+
+
+@dataclass
+class Valuation:
+    """A kept valuation: what it is of, the printed total in cents, the sums of its groups, and the folder with its rows."""
+
+    path: str
+    on: datetime.date
+    position: int
+    measure: str
+    total: tuple[int, ...]
+    words: int
+    whole: Sums
+    groups: dict[str, Groups]
+    balances: dict[str, int]
+
+    @property
+    def policies(self) -> int:
+        return self.whole.policies
+
+    def rows(self) -> Rows:
+        """The rows, of which only what is asked for is read."""
+        return Rows(*kept(self.path, COLUMNS))
+
+
+def kept_valuation(book: LookedAt, on: datetime.date, position: int, measure: str) -> Valuation:
+    """The valuation of a day at a position; raises Working while the program is asked."""
+    title = f"the {measure} reserves on {on} at position {position:,}"
+    found = book.kept(("value", on, position, measure), title, lambda job: valued(book, on, position, measure, job))
+    assert isinstance(found, Valuation)
+    return found
+
+
+def parts_of(path: str, doing: str, job: Job) -> Iterator[bytes]:
+    whole_size, done = os.path.getsize(path), 0
+    with open(path, "rb") as file:
+        while part := file.read(AT_ONCE):
+            job.at(doing, done >> 10, whole_size >> 10)
+            yield part
+            done += len(part)
+
+
+def valued(book: LookedAt, on: datetime.date, position: int, measure: str, job: Job) -> Valuation:
+    job.at("copying the front of the journal")
+    with book.desk_at(position) as desk:
+        job.at("life value")
+        words = ["value", str(on), "--at", str(position), "--basis", book.book.basis, *measure_words(measure), *WORKERS]
+        value = printed_by(book.life, words, desk, book.scratch, os.path.join(desk, "value"))
+        valuation = valuation_of(parts_of(value, "reading the valuation, KiB", job))
+        job.at("life state")
+        printed = printed_by(book.life, ["state"], desk, book.scratch, os.path.join(desk, "state"))
+        state = state_of(parts_of(printed, "reading the state, KiB", job))
+        rows = joined(valuation, state, read_basis(os.path.join(desk, book.book.basis)))
+    groups = {}
+    for key in KEYS:
+        job.at(f"adding up by {key}")
+        groups[key] = grouped(rows, [key])
+        demand_whole(groups[key], [key], valuation)
+    path = book.new_file()
+    keep(path, COLUMNS, valuation.rows)
+    return Valuation(path, valuation.on, valuation.position, valuation.measure, valuation.total, valuation.words, whole(rows),
+                     groups, state.balances)
+
+
+def row_of(it: Valuation, number: int) -> ValuedRow | None:
+    """The row of a policy, as it was printed."""
+    rows = it.rows()
+    places = np.flatnonzero(rows.number == number)
+    return rows.row(int(places[0])) if len(places) else None
+
+
+def words_of(it: Valuation, most: int) -> list[tuple[str, int, list[int]]]:
+    """Each word in place of bounds: how many policies have it, and the first numbers."""
+    if not it.words:
+        return []
+    rows, found = it.rows(), []
+    for code, word in enumerate(NO_WORDS[1:], 1):
+        places = np.flatnonzero(rows.word == code)
+        if len(places):
+            found.append((word, len(places), rows.number[places[:most]].tolist()))
+    return found
