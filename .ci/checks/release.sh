@@ -144,6 +144,21 @@ shows "gzip -dc /usr/share/man/man1/life-wait.1.gz" 0 "^.TH LIFE 1"
 shows "gzip -dc /usr/share/man/man1/life-tools.1.gz" 0 "^.SS position"
 shows "ls /usr/share/doc/life/html" 0 "^index.html$"
 
+go_on "the window, in a browser beside the fresh Debian"
+env -i PATH=/usr/sbin:/usr/bin:/sbin:/bin HOME=/root chroot "$fresh" /bin/sh -c \
+    "cd /root/book && exec life-tools browse --port 0" >address 2>remarks &
+window=$!
+tries=0
+until [ -s address ] || ! kill -0 "$window" 2>/dev/null || [ "$tries" -gt 300 ]; do
+    sleep 0.1
+    tries=$((tries + 1))
+done
+timeout 100 /usr/bin/python3 "$root/.ci/release/opened.py" "$(cat address)" 7001 2021-01-01 127.22 127.23 >said 2>&1 ||
+    complain "the window: $(cat said remarks)"
+kill "$window"
+wait "$window"
+rm -rf fresh/tmp/*
+
 go_on "what the tools miss, each by its name"
 shows "life-tools export pandas journal.life frames" 2 "apt-get install python3-pandas"
 shows "life-tools report 2021-01-01 --xlsx book.xlsx" 2 "apt-get install python3-openpyxl"

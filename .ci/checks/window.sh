@@ -20,7 +20,7 @@ export LIFE_PROGRAM="$program" TMPDIR="$work/tmp"
 mkdir "$TMPDIR" "$work/browser"
 
 # the tools as they are installed, one file beside the program
-mkdir "$work/bin" && cp "$program" "$work/bin/life" && python3 "$tools/launcher/pack_tools.py" "$tools/life_tools" "$work/bin/life-tools" \
+mkdir "$work/bin" && cp "$program" "$work/bin/life" && python3 "$tools/packing/tools_file.py" "$tools/life_tools" "$work/bin/life-tools" \
     0123456789abcdef "a kit" "$(sha256sum <"$program" | cut -d ' ' -f 1)" && chmod +x "$work/bin/life-tools" || exit 2
 
 # a window on the folder book, whose address comes to `address`
