@@ -18,7 +18,7 @@
 PATH=${LIFE_BIN:-$HOME/.local/bin}:$PATH
 # how long to wait for somebody else who has the book, in seconds
 patience=${LIFE_WAIT:-600}
-new='' looked_at='' told=0
+new='' looked_at='' room='' told=0
 
 say() {
     echo "day: $1" >&2
@@ -67,7 +67,7 @@ is_whole() {
     [ -e journal.life ] || return 0
     verdict=$(life-tools verify 2>log/.told | tail -n 1)
     [ ! -s log/.told ] || say_lines log/.told
-    case $verdict in whole | undecided) ;; *) return 1 ;; esac
+    case $verdict in whole | undecided) ;; *) room=untold; return 1 ;; esac
 }
 
 # Looks a script over, and divides it into what is sent and what is held back; a bad script is left to the program, which
@@ -118,7 +118,8 @@ send() {
     script=$1
     [ -f "$script" ] || { say "$script is no file"; return 1; }
     sum=$(sha256sum <"$script" | cut -d ' ' -f 1)
-    earlier=$(grep -lxF "$sum" log/*/sum 2>/dev/null | head -n 1)
+    # where all rows of a script were held back, they have its checksum
+    earlier=$(grep -lxF "$sum" log/*/sum 2>/dev/null | grep -vxF "${script%/held.csv}/sum" | head -n 1)
     [ -z "$earlier" ] || { say "$script isn't sent, since it was sent before: ${earlier%/sum}"; return 1; }
     is_whole || { say "$script isn't sent, since the book can't be taken as whole: docs/OPERATIONS.md tells how to go on"; return 1; }
     before=$(count)
@@ -133,7 +134,7 @@ send() {
 
 # how many commands are left, where they are fewer than a year's
 tell_room() {
-    [ -e journal.life ] || return 0
+    [ -e journal.life ] && [ -z "$room" ] || return 0
     life-tools headroom --within 365 >/dev/null 2>log/.told
     case $? in
         0) ;;
