@@ -221,15 +221,15 @@ begin "the proved program"
 mkdir -p "$copy/crates/life_cli/out" && cp "$program" "$built"
 launch run <"$first.csv"
 judge "$status" 0 "$first.transcript"
-[ ! -s notes ] || complain "the launcher says: $(cat notes)"
+[ "$(cat notes)" = "life: there is no journal.life in $(pwd -P), so a new book is begun" ] || complain "the launcher says: $(cat notes)"
 [ -e journal.life ] || complain "no journal was made"
 launch prove </dev/null
 [ "$status" = 0 ] || complain "a proved program is proved again"
 
 go_on "what a program is older than"
-# no word is answered where it isn't current, and `state` is where it is
+# no word is answered where it isn't current, and `generate`, which needs no book, is where it is
 answers() {
-    launch state </dev/null
+    launch generate 1 1 1 </dev/null
     if [ "$1" = current ]; then
         [ "$status" = 0 ] && [ ! -s notes ] || complain "$2: it isn't taken as current: $(cat notes)"
     else
@@ -330,7 +330,7 @@ grep -qx checkpoint out || complain "the completion gives: $(cat out)"
 
 go_on "a second installation while the first one runs, and without the clone"
 mkfifo script
-"$bin/life" run <script >transcript &
+"$bin/life" run <script >transcript 2>begun &
 running=$!
 exec 6>script
 launch install "$bin" </dev/null

@@ -12,6 +12,7 @@ from life_tools.copied_folder import JOURNAL, copy_basis, desk_of, journal_bytes
 from life_tools.formats import Wrong
 from life_tools.journals import count_of, front_of
 from life_tools.program import life_command
+from life_tools.wholeness import tell_doubt
 
 
 class Front:
@@ -37,6 +38,7 @@ def front(folder: str, position: int | None, bases: Sequence[str], life: str | N
     journal = journal_bytes(folder)
     if journal is None:
         raise Wrong(f"{path}: No such file or directory")
+    tell_doubt(path)
     command = life_command(life)
     if position is None:
         position = count_of(journal, path)

@@ -201,6 +201,21 @@ def demand_undamaged(path: str) -> Shape:
     return shape
 
 
+def doubt_of(path: str) -> str:
+    """What is to be told of a book that may not be whole; what is no journal is left to who reads it."""
+    try:
+        return demand_undamaged(path).told()
+    except BadJournal:
+        return ""
+
+
+def tell_doubt(path: str) -> None:
+    """Tells it, of a book of which nothing shows to be gone, or of none."""
+    doubt = doubt_of(path) if os.path.isfile(path) else ""
+    if doubt:
+        remark(doubt)
+
+
 def tell(shape: Shape) -> int:
     """Tells what isn't as in a whole book: 1, or 0 where nothing is told."""
     for reason in shape.reasons():

@@ -17,6 +17,7 @@ from life_tools.copied_folder import JOURNAL, desk_of, journal_bytes, run_in
 from life_tools.formats import MOST_COMMANDS, Wrong, demand, number_of, remark
 from life_tools.journals import front_of
 from life_tools.program import life_command
+from life_tools.wholeness import tell_doubt
 
 WORDS = ("state", "value", "project")
 
@@ -48,6 +49,7 @@ def run(options: argparse.Namespace) -> int:
     journal = journal_bytes(options.folder)
     if journal is None:
         raise Wrong(f"{path}: No such file or directory")
+    tell_doubt(path)
     front = front_of(journal, position, path)
     with desk_of(front, options.folder, basis_in(words)) as desk:
         status, text = run_in(desk, life_command(options.life), words)

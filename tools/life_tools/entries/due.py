@@ -21,6 +21,7 @@ from typing import Iterator
 from life_tools.bulk import ISSUES, Bulk, anniversary_at, bulk_at, day_at, many_objects, number_at, text_at
 from life_tools.formats import LAST_DAY, Wrong, day_in, demand, money, number_of, remark
 from life_tools.rules import GRACE, REINSTATEMENT_ANNIVERSARIES, Policy, due_of, end_of, missed_by, years_of
+from life_tools.wholeness import tell_doubt
 
 WHATS = ("premium", "grace", "lapse", "mature", "reinstate", "settle")
 PREMIUM, IN_GRACE, LAPSE, MATURE, REINSTATE, SETTLE = range(len(WHATS))
@@ -153,6 +154,7 @@ def run(options: argparse.Namespace) -> int:
     within = number_of(options.within, 0, MOST_DAYS)
     if within is None:
         raise Wrong(f"--within {options.within}: a number of days from 0 to {MOST_DAYS} is wanted")
+    tell_doubt(options.journal)
     book, _ = bulk_at(options.journal)
     with many_objects():
         items = due_in(book, number_at(day), within)

@@ -33,6 +33,7 @@ from life_tools.formats import FIELDS, Wrong, demand
 from life_tools.journals import Journal, journal_at
 from life_tools.packages import package
 from life_tools.progress import Progress
+from life_tools.wholeness import tell_doubt
 
 COLUMNS = ("position", "kind", "policy", "day", "plan", "age", "years", "amount", "premium")
 TABLES = {"command": COMMAND, "booking": BOOKING, "policy": POLICY, "valuation": VALUATION}
@@ -161,6 +162,7 @@ def arguments(parser: argparse.ArgumentParser) -> None:
 
 
 def run(options: argparse.Namespace) -> int:
+    tell_doubt(options.journal)
     if options.form in ("sqlite", "pandas"):
         try:
             write_tables(options)
