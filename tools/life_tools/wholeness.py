@@ -15,6 +15,7 @@ from typing import Iterator, NamedTuple, Sequence
 
 from life_tools.checkpoints import HEADER as CHECKPOINT_HEADER
 from life_tools.formats import MOST_COMMANDS, Wrong, bytes_of, demand, number_of, remark
+from life_tools.holders import holder_of
 from life_tools.journals import EMPTY, FIRST_GATE, OPEN, RECORD_SIZE, Journal, gate_of, is_unfinished_creation, records_in
 from life_tools.record_columns import BadJournal
 from life_tools.seals import front_difference, seal_at
@@ -221,5 +222,6 @@ def tell(shape: Shape) -> int:
     for reason in shape.reasons():
         remark(reason)
     if shape.verdict == UNDECIDED:
-        remark(f"{shape.path}: whether a command is gone is undecided")
+        holder = holder_of(shape.path)
+        remark(f"{shape.path}: whether a command is gone is undecided" + (f", while {holder} has it" if holder else ""))
     return 0 if shape.verdict == WHOLE else 1
