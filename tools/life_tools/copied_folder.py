@@ -18,19 +18,33 @@ MEMORY = "/dev/shm"
 ROOM = 2**26
 
 
+@contextmanager
+def reading(path: str) -> Iterator[IO[bytes]]:
+    """A journal's file, which no run has meanwhile."""
+    try:
+        file = open(path, "rb")
+    except OSError as error:
+        raise Wrong(f"{path}: {error.strerror}") from error
+    with file:
+        try:
+            fcntl.flock(file, fcntl.LOCK_SH | fcntl.LOCK_NB)
+        except BlockingIOError as error:
+            raise Wrong(f"{path} is held by another run") from error
+        yield file
+
+
 def journal_bytes(folder: str) -> bytes | None:
     """The folder's journal, read while no run has it; none where there is no such file."""
     path = os.path.join(folder, JOURNAL)
     if not os.path.exists(path):
         return None
-    try:
-        with open(path, "rb") as file:
-            fcntl.flock(file, fcntl.LOCK_SH | fcntl.LOCK_NB)
-            return file.read()
-    except BlockingIOError as error:
-        raise Wrong(f"{path} is held by another run") from error
-    except OSError as error:
-        raise Wrong(f"{path}: {error.strerror}") from error
+    with reading(path) as file:
+        return file.read()
+
+
+def written(path: str, data: bytes) -> None:
+    with open(path, "wb") as file:
+        file.write(data)
 
 
 def basis_files(folder: str, name: str) -> list[str]:
@@ -59,8 +73,7 @@ def desk_of(journal: bytes | None, folder: str, basis: str, place: str | None = 
     """A folder for a while, with this journal and with the folder's basis."""
     with tempfile.TemporaryDirectory(prefix="life-tools-", dir=place) as desk:
         if journal is not None:
-            with open(os.path.join(desk, JOURNAL), "wb") as file:
-                file.write(journal)
+            written(os.path.join(desk, JOURNAL), journal)
         copy_basis(folder, basis, desk)
         yield desk
 

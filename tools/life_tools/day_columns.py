@@ -2,6 +2,7 @@
 from __future__ import annotations
 
 import datetime
+from functools import lru_cache
 
 from life_tools.commands import EPOCH
 from life_tools.formats import FIRST_DAY, LAST_DAY
@@ -61,9 +62,18 @@ def completed_years(issued: Array, on: Array | int) -> Array:
     return whole
 
 
-def texts_at(days: Array) -> Array:
-    """The texts YYYY-MM-DD of days of the calendar, as bytes."""
-    first = STARTS[0]
-    known = np.arange(first, first + len(YEAR), dtype="datetime64[D]")
-    texts: Array = np.datetime_as_string(known).astype("S10")[days - first]
+@lru_cache(maxsize=None)
+def all_texts() -> Array:
+    first = int(STARTS[0])
+    texts: Array = np.datetime_as_string(np.arange(first, first + len(YEAR), dtype="datetime64[D]")).astype(object)
     return texts
+
+
+def texts_at(days: Array) -> list[str]:
+    """The texts YYYY-MM-DD of days of the calendar."""
+    texts: list[str] = all_texts()[days - STARTS[0]].tolist()
+    return texts
+
+
+def text_at(number: int) -> str:
+    return str(day_at(number))

@@ -1,16 +1,21 @@
 """The tables of a journal and of printed valuations: their columns, and their rows without an object a command."""
 from __future__ import annotations
 
+import itertools
 from dataclasses import dataclass
-from typing import Iterable, Iterator, Union
+from typing import Iterable, Iterator, Union, cast
 
-from life_tools.bulk import ISSUE, PREMIUM, RECORD, Bulk, anniversary_at, number_at, spelled, text_at
-from life_tools.commands import Command
-from life_tools.formats import FIELDS, KINDS, Wrong, demand, measure_of, money, printed_cents
-from life_tools.rules import GRACE, Policy, booking_of, due_of, end_of, payments_of
+from life_tools.arrays import Array, np
+from life_tools.columns import Columns
+from life_tools.day_columns import NEVER, texts_at
+from life_tools.formats import PLANS, STATUSES, Wrong, demand, measure_of, money, printed_cents
+from life_tools.policy_columns import INFORCE
+from life_tools.record_texts import AT_ONCE, BOOKED, HELD, column_of, in_order
+from life_tools.rules import GRACE
 
 Value = Union[int, str, None]
 TableRow = tuple[Value, ...]
+CENTS_OF = ("amount", "premium")
 COMMAND = ("position", "kind", "policy", "day", "plan", "age", "years", "amount_cents", "premium_cents")
 BOOKING = ("position", "account", "cents")
 POLICY = ("policy", "status", "plan", "age", "years", "amount_cents", "premium_cents", "issued", "premiums_paid",
@@ -21,59 +26,50 @@ VALUATION = ("day", "position", "measure", "policy", "status", "year", "lower_ce
 
 # --- commands and what they book ---
 
-def held_by(command: Command) -> tuple[Value, ...]:
-    return tuple(getattr(command, name) if name in FIELDS[command.kind] else None
-                 for name in ("plan", "age", "years", "amount", "premium"))
+def command_rows(book: Columns) -> Iterator[TableRow]:
+    def made(kind: str, places: Array) -> Iterator[TableRow]:
+        held = HELD[kind]
+        columns = {name: column_of(book.records, name, places) for name in held if name not in CENTS_OF}
+        columns.update({name: getattr(book.records, name)[places].tolist() for name in held if name in CENTS_OF})
+        nothing = itertools.repeat(None)
+        names = ("policy", "day", "plan", "age", "years", "amount", "premium")
+        rows = zip(columns["position"], itertools.repeat(kind), *(columns.get(name, nothing) for name in names))
+        return cast(Iterator[TableRow], rows)
+
+    return itertools.chain.from_iterable(in_order(book.records, made, "reading commands"))
 
 
-def command_rows(book: Bulk, records: memoryview) -> Iterator[TableRow]:
-    for position, (head, number, day, amount, premium) in enumerate(RECORD.iter_unpack(records), 1):
-        if head == PREMIUM:
-            yield position, "premium", number, text_at(day), None, None, None, amount, None
-        elif head >> 24 == ISSUE:
-            plan, age, years, _, _ = spelled(head)
-            yield position, "issue", number, text_at(day), plan, age, years, amount, premium
-        else:
-            command, _ = book.events[position]
-            yield position, KINDS[head >> 24], number or None, str(command.day) if command.day else None, *held_by(command)
+def booking_rows(book: Columns) -> Iterator[TableRow]:
+    def made(kind: str, places: Array) -> Iterator[tuple[TableRow, ...]]:
+        if kind not in BOOKED:
+            return (() for _ in places)
+        first, sign, second = BOOKED[kind]
+        return (((position, first, sign * cents), (position, second, -sign * cents)) if cents else ()
+                for position, cents in zip((places + 1).tolist(), book.booked[places].tolist()))
 
-
-def booking_rows(book: Bulk, records: memoryview) -> Iterator[TableRow]:
-    for position, (head, _, _, amount, _) in enumerate(RECORD.iter_unpack(records), 1):
-        if head == PREMIUM:
-            yield position, "cash", amount
-            yield position, "premiums", -amount
-        elif head >> 24 != ISSUE:
-            for account, cents in booking_of(*book.events[position]).items():
-                yield position, account, cents
+    for block in in_order(book.records, made, "reading bookings"):
+        yield from itertools.chain.from_iterable(block)
 
 
 # --- policies ---
 
-def plain_row(book: Bulk, place: int) -> TableRow:
-    """Of a policy that only premiums befell."""
-    head, number, issued, amount, premium = book.issues[place]
-    plan, age, years, cover, payments = spelled(head)
-    paid, end = book.paid[place], anniversary_at(issued, cover)
-    due = anniversary_at(issued, paid) if paid < payments else None
-    awaited = (None, None) if due is None else (text_at(due), text_at(due + GRACE.days))
-    return (number, "inforce", plan, age, years, amount, premium, text_at(issued), paid, 0, text_at(book.last[place]),
-            text_at(end), text_at(end if due is None else due), *awaited)
-
-
-def other_row(it: Policy) -> TableRow:
-    due = due_of(it) if it.status == "inforce" else None
-    is_paid = it.status == "paidup" or it.paid >= payments_of(it)
-    paid_to = str(end_of(it)) if is_paid else text_at(anniversary_at(number_at(it.issued), it.paid))
-    awaited = (None, None) if due is None else (str(due), str(due + GRACE))
-    return (it.number, it.status, it.plan, it.age, it.years, it.amount, it.premium, str(it.issued), it.paid, it.outstanding,
-            str(it.last), str(end_of(it)), paid_to, *awaited)
-
-
-def policy_rows(book: Bulk) -> Iterator[TableRow]:
+def policy_rows(book: Columns) -> Iterator[TableRow]:
     """In order of issue. A premium is next due of a policy in force alone; paid up or in full it is paid to its end."""
-    for place in range(len(book.issues)):
-        yield other_row(book.others[place]) if place in book.others else plain_row(book, place)
+    for start in range(0, len(book.policies), AT_ONCE):
+        of = book.policies.at(slice(start, start + AT_ONCE))
+        due, is_paid = of.due, of.due == NEVER
+        is_awaited = (of.status == INFORCE) & ~is_paid
+        # whoever awaits none has a day there that isn't looked at
+        next_due = np.where(is_awaited, due, of.end)
+        awaited = [(day, grace) if each else (None, None)
+                   for each, day, grace in zip(is_awaited.tolist(), texts_at(next_due), texts_at(next_due + GRACE.days))]
+        names = [STATUSES[code - 1] for code in of.status.tolist()], [PLANS[code] for code in of.plan.tolist()]
+        columns = (of.age, of.years, of.amount, of.premium)
+        days = texts_at(of.last), texts_at(of.end), texts_at(np.where(is_paid, of.end, due))
+        rows = zip(of.number.tolist(), *names, *(each.tolist() for each in columns), texts_at(of.issued), of.paid.tolist(),
+                   of.outstanding.tolist(), *days, awaited)
+        for *row, (day, grace) in rows:
+            yield (*row, day, grace)
 
 
 # --- valuations ---

@@ -117,10 +117,14 @@ def has_idle_bytes(raw: Array) -> Array:
     return found
 
 
+def raw_records(data: bytes, count: int) -> Array:
+    """A file's first records as they stand in it."""
+    return np.frombuffer(data, RECORD, count, FIRST_GATE) if count else np.empty(0, RECORD)
+
+
 def records_of(data: bytes, count: int) -> tuple[Records, int]:
     """The columns of a file's first records, and the place of the first one that spells no command, or their count."""
-    raw = np.frombuffer(data, RECORD, count, FIRST_GATE)
-    records = blank(count)
+    raw, records = raw_records(data, count), blank(count)
     for start in range(0, count, AT_ONCE):
         some = slice(start, start + AT_ONCE)
         block = Records(*(getattr(records, column.name)[some] for column in fields(Records)))
@@ -136,7 +140,7 @@ def records_of(data: bytes, count: int) -> tuple[Records, int]:
 
 def places_in(data: bytes, count: int, numbers: Iterable[int]) -> Array:
     """The places of the commands of these policies among a file's first records, whatever else these say."""
-    raw, wanted = np.frombuffer(data, RECORD, count, FIRST_GATE), np.array(sorted(set(numbers)), np.uint32)
+    raw, wanted = raw_records(data, count), np.array(sorted(set(numbers)), np.uint32)
     found = [start + np.flatnonzero(np.isin(raw["number"][start:start + AT_ONCE].astype(np.uint32), wanted))
              for start in range(0, count, AT_ONCE)]
     return np.concatenate([np.empty(0, np.int64), *found])

@@ -6,8 +6,8 @@ from html import escape
 from typing import Sequence
 
 from life_tools.formats import money as plain_money
-from life_tools.groups import Groups, Joined, Sums
-from life_tools.printed_books import PrintedValuation
+from life_tools.groups import Groups, Sums
+from life_tools.printed_columns import NO_WORDS, ColumnValuation, Rows
 from life_tools.worked_rows import WORDS
 
 # at most so many policies are named beside a word
@@ -65,7 +65,7 @@ def picture(groups: Groups, place: int) -> str:
     return "\n".join([*lines, "</div>"])
 
 
-def facts(valuation: PrintedValuation, total: Sums, heads: Sequence[str]) -> str:
+def facts(valuation: ColumnValuation, total: Sums, heads: Sequence[str]) -> str:
     told = [("day", str(valuation.on)), ("position", f"{valuation.position:,}"), ("measure", valuation.measure),
             ("policies", f"{total.policies:,}"), ("amount insured", money(total.amount))]
     told += [(name, money(each)) for name, each in zip(heads, valuation.total)]
@@ -74,22 +74,20 @@ def facts(valuation: PrintedValuation, total: Sums, heads: Sequence[str]) -> str
                                              for name, value in told) + "</div>"
 
 
-def words_of(rows: Sequence[Joined]) -> str:
+def words_of(rows: Rows) -> str:
     """The policies without bounds, by their word."""
-    by_word: dict[str, list[int]] = {}
-    for it in rows:
-        if it.row.word:
-            by_word.setdefault(it.row.word, []).append(it.policy.number)
-    if not by_word:
-        return "<p>Each policy has bounds.</p>"
     cells = []
-    for word, numbers in sorted(by_word.items()):
-        named = ", ".join(map(str, numbers[:NAMED])) + (f" and {len(numbers) - NAMED:,} more" if len(numbers) > NAMED else "")
-        cells.append([word, WORDS.get(word, ""), f"{len(numbers):,}", named])
+    for word in sorted(WORDS):
+        numbers = rows.number[rows.word == NO_WORDS.index(word)]
+        if len(numbers):
+            more = f" and {len(numbers) - NAMED:,} more" if len(numbers) > NAMED else ""
+            cells.append([word, WORDS[word], f"{len(numbers):,}", ", ".join(map(str, numbers[:NAMED].tolist())) + more])
+    if not cells:
+        return "<p>Each policy has bounds.</p>"
     return table(["word", "why there is no value", "policies", "numbers"], cells)
 
 
-def page(valuation: PrintedValuation, rows: Sequence[Joined], total: Sums, tables: Sequence[tuple[Sequence[str], Groups]],
+def page(valuation: ColumnValuation, total: Sums, tables: Sequence[tuple[Sequence[str], Groups]],
          heads: Sequence[str], checks: Sequence[str]) -> str:
     """The whole page."""
     title = f"Valuation on {valuation.on} at position {valuation.position}"
@@ -104,6 +102,6 @@ def page(valuation: PrintedValuation, rows: Sequence[Joined], total: Sums, table
         parts.append(picture(groups, len(valuation.total) - 1))
         cells = [[", ".join(name), *map(apart, sums.cells())] for name, sums in groups.items()]
         parts.append(table([", ".join(keys), *columns], cells, ["total", *map(apart, total.cells())]))
-    parts += ["<h2>Words in place of bounds</h2>", words_of(rows), "<h2>Checks that were made</h2><ul>"]
+    parts += ["<h2>Words in place of bounds</h2>", words_of(valuation.rows), "<h2>Checks that were made</h2><ul>"]
     parts += [f"<li>{escape(each)}</li>" for each in checks]
     return "\n".join([*parts, "</ul></body></html>", ""])

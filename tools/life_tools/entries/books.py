@@ -31,7 +31,7 @@ from life_tools.book_lists import ALL, ListedBook, books_at, positions_at
 from life_tools.book_runs import Outcome, Parts, failure, named
 from life_tools.book_totals import total_of
 from life_tools.book_work import Asked, processors, work
-from life_tools.bulk import number_at, text_at
+from life_tools.day_columns import number_at, text_at
 from life_tools.entries.headroom import Wanted, add_arguments, room_at, told_of, wanted_of
 from life_tools.formats import MOST_WORKERS, MOST_YEARS, Wrong, day_in, demand, number_of, remark
 from life_tools.headroom import HEAD

@@ -16,9 +16,9 @@ from typing import Callable
 
 from life_tools.entries.why import measure_words, position_in
 from life_tools.formats import Wrong, day_in, demand, remark
-from life_tools.fronts import front
+from life_tools.fronts import WORKERS, front
 from life_tools.groups import KEYS, Groups, Joined, demand_whole, grouped, joined, whole
-from life_tools.printed_books import PrintedValuation, state_in, valuation_in
+from life_tools.printed_columns import ColumnValuation, state_of, valuation_of
 from life_tools.report_files import lines_of, write_csv, write_workbook
 from life_tools.report_pages import page
 from life_tools.tables import read_basis
@@ -67,12 +67,12 @@ def written_whole(path: str, write: Callable[[str], None]) -> None:
             os.remove(part)
 
 
-def read_both(options: argparse.Namespace) -> tuple[PrintedValuation, list[Joined]]:
+def read_both(options: argparse.Namespace) -> tuple[ColumnValuation, Joined]:
     """The valuation, and its rows with their policies, of one copy."""
     with front(options.folder, position_in(options.at), [options.basis], options.life) as copy:
         words = ["value", options.on, "--at", str(copy.position), "--basis", options.basis]
-        valuation = valuation_in(copy.asks(*words, *measure_words(options.measure)))
-        state = state_in(copy.asks("state"))
+        valuation = valuation_of(copy.streams(*words, *measure_words(options.measure), *WORKERS))
+        state = state_of(copy.streams("state"))
         basis = read_basis(os.path.join(copy.folder, options.basis))
     return valuation, joined(valuation, state, basis)
 
@@ -81,7 +81,7 @@ def run(options: argparse.Namespace) -> int:
     day_in(options.on)
     wanted = keys_in(options.by)
     valuation, rows = read_both(options)
-    total = whole(rows, len(valuation.total))
+    total = whole(rows)
     tables: list[tuple[list[str], Groups]] = [(keys, grouped(rows, keys)) for keys in wanted]
     try:
         for keys, groups in tables:
@@ -98,7 +98,7 @@ def run(options: argparse.Namespace) -> int:
     elif options.html:
         checks = ["The rows add up to the printed total.", "Each row is that of the policy that the state prints in its place.",
                   *(f"The groups by {', '.join(keys)} add up to the printed total." for keys, _ in tables)]
-        text = page(valuation, rows, total, tables, heads, checks)
+        text = page(valuation, total, tables, heads, checks)
         written_whole(options.html, lambda path: write_text(path, text))
     else:
         print(f"{valuation.on} at position {valuation.position}, {valuation.measure}")
