@@ -96,6 +96,7 @@ cat >inbox/b.csv <<'ROWS'
 2,premium,5,2025-02-01,1.00
 1,"settle",1,2026-09-02,60.00
 ROWS
+cp inbox/b.csv .
 echo 1,premium,2,2025-03-01,1.00 >inbox/c.csv
 printf '1,issue,1,2025-01-10,whole,30,0,60.00,1.00\n1,issue,4,2025-03-01,whole,30,0,60.00,1.00\n' >inbox/d.csv
 day 1 inbox/*.csv <<'LINES'
@@ -109,19 +110,7 @@ LINES
 counts 6
 printf '1,premium,1,2025-01-10,1.00\n1,issue,2,2025-02-01,whole,30,0,60.00,1.00\n2,issue,5,2025-02-01,whole,30,0,60.00,1.00\n2,premium,5,2025-02-01,1.00\n' |
     cmp -s - log/*-b/script || complain "it sent $(cat log/*-b/script)"
-sed -n '2p; 3p; 7,9p; 11p' <<'ROWS' >wanted
-1,premium,1,2025-01-10,1.00
-1,issue,3,2099-02-01,whole,30,0,60.00,1.00
-1,premium,3,2025-02-01,1.00
-1,issue,2,2025-02-01,whole,30,0,60.00,1.00
-2,issue,5,2025-02-01,whole,30,0,60.00,1.00
-
-1,issue,2,2025-02-01,whole,40,0,90.00,3.00
-1,premium,2,2025-02-01,1.00
-1,claim,1,2026-09-01
-2,premium,5,2025-02-01,1.00
-1,"settle",1,2026-09-02,60.00
-ROWS
+sed -n '2p; 3p; 7,9p; 11p' b.csv >wanted
 cmp -s wanted log/*-b/held.csv || complain "it held $(diff wanted log/*-b/held.csv)"
 for words in "3.*:its day is behind today" "2.*:its number is used already" "2.*:a row of its number is held back" "1.*:its day is more than 400 days from 2025-01-10"; do
     grep -A 9 "^line [0-9]* of inbox/b.csv: [12],[a-z\"]*,${words%%:*}" log/*-b/checked | grep -q "it is held back: ${words#*:}" || complain "${words#*:}: $(cat log/*-b/checked)"
