@@ -11,7 +11,7 @@ mkdir "$bin" && cp "$program" "$bin/life-program" || exit 2
 { echo '#!/bin/sh' && cat "$tools/launcher/folder.sh" "$tools/launcher/waiting.sh" "$tools/installed/life-wait.sh"; } >"$bin/life-wait"
 printf '#!/bin/sh\nexec python3 "%s" "$@"\n' "$tools/life-tools" >"$bin/life-tools"
 chmod +x "$bin"/*
-LIFE_BIN=$bin LIFE_WAIT=5 LIFE_PROGRAM=$program
+LIFE_BIN=$bin LIFE_WAIT=1 LIFE_PROGRAM=$program
 export LIFE_BIN LIFE_WAIT LIFE_PROGRAM
 
 # day.sh with these words: the status, and what it says, in which ... stands for the second of a folder's name
@@ -188,6 +188,22 @@ printf '1,premium,2,2026-02-01,1.00\n' >inbox/i.csv
 day 0 inbox/*.csv <<'LINES'
 day: inbox/i.csv: 1 accepted, 0 refused: log/..-i
 LINES
+
+go_on "a book that somebody has"
+printf '1,premium,4,2026-03-01,1.00\n' >inbox/j.csv
+hold journal.life
+day 1 inbox/*.csv <<LINES
+day: life-tools verify: journal.life is held by process $holder: what is behind its end shows once it has ended
+day: inbox/j.csv isn't sent, since the book can't be taken as whole: docs/OPERATIONS.md tells how to go on
+day: what is behind inbox/j.csv isn't sent
+LINES
+LIFE_WAIT=60
+(sleep 2 && let_go) &
+day 0 inbox/*.csv <<'LINES'
+day: inbox/j.csv: 1 accepted, 0 refused: log/..-j
+LINES
+wait
+LIFE_WAIT=1
 
 begin "a book that fills up"
 # 19 commands are left; a stand-in for the program takes them, as it would, and reads nothing
