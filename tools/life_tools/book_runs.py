@@ -14,10 +14,10 @@ from typing import IO, Iterator
 
 from life_tools.book_totals import Text, text_in
 from life_tools.copied_folder import copy_basis
-from life_tools.export_tables import VALUATION, valuation_rows
 from life_tools.formats import Wrong, bytes_of, demand
 from life_tools.program import program_beside
 from life_tools.record_columns import BadJournal, beginnings_at, copy_front, front_count, front_sum, places_in
+from life_tools.valuation_rows import VALUATION, valuation_rows
 from life_tools.wholeness import doubt_of
 
 JOURNAL = "journal.life"

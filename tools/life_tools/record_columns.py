@@ -10,7 +10,7 @@ from array import array
 from dataclasses import dataclass
 from itertools import compress
 
-from life_tools.commands import CODES, EPOCH
+from life_tools.commands import CODES, number_at
 from life_tools.formats import FIRST_DAY, MOST_COMMANDS, Wrong, bytes_of, demand
 from life_tools.journals import EMPTY, FIRST_GATE, OPEN, RECORD_SIZE, Journal, gate_of, is_unfinished_creation, records_in
 
@@ -58,7 +58,7 @@ class Columns:
         days, kinds = self.whole(DAY, "i"), self.kinds()
         at = kinds.find(CODES["upgrade"])
         if at >= 0:
-            days[at] = days[at - 1] if at else (FIRST_DAY - EPOCH).days
+            days[at] = days[at - 1] if at else number_at(FIRST_DAY)
         return days
 
     def upgrade(self) -> int:

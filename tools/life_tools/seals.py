@@ -18,7 +18,7 @@ import os
 from dataclasses import dataclass
 from typing import NamedTuple, Sequence
 
-from life_tools.day_columns import day_at
+from life_tools.commands import day_at
 from life_tools.copied_folder import JOURNAL
 from life_tools.formats import MOST_COMMANDS, Wrong, bytes_of, day_in, demand, number_of
 from life_tools.journals import FIRST_GATE, RECORD_SIZE, gate_of

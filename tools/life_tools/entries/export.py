@@ -24,12 +24,12 @@ import tempfile
 from typing import Iterable, Iterator
 
 from life_tools.columns import Columns, columns_at
-from life_tools.export_tables import (BOOKING, COMMAND, POLICY, VALUATION, TableRow, booking_rows, command_rows, policy_rows,
-                                      valuation_rows)
+from life_tools.export_tables import BOOKING, COMMAND, POLICY, booking_rows, command_rows, policy_rows
 from life_tools.formats import Wrong, demand
 from life_tools.packages import package
 from life_tools.progress import Progress
 from life_tools.record_texts import HELD, TEXTS, lines_of
+from life_tools.valuation_rows import VALUATION, TableRow, valuation_rows
 from life_tools.wholeness import tell_doubt
 
 COLUMNS = ("position", "kind", "policy", "day", "plan", "age", "years", "amount", "premium")
