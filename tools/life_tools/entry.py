@@ -19,6 +19,7 @@ ENTRIES: dict[str, tuple[str, str]] = {
     "why": ("why", "one row of a valuation, worked out as a colleague reads it"),
     "report": ("report", "a valuation by plan, status, issue year, age or basis row, added up exactly"),
     "movement": ("movement", "what moved between two valuations, line by line, adding up exactly"),
+    "statement": ("statement", "the sheets of a statement between two moments, each adding up to what the program prints"),
     "dry-run": ("dry_run", "run a script on a copy of the journal, and print what it would be answered"),
     "rest": ("rest", "the rows of a script that a killed run didn't reach"),
     "explain": ("explain", "explain a refusal of a script or of a basis, or what is taken of a table"),
