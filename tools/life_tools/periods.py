@@ -10,13 +10,14 @@ import os
 from dataclasses import dataclass, replace
 from typing import Iterator, NamedTuple, Sequence
 
-from life_tools.bulk import RECORD, command_at, records_in
+from life_tools.arrays import np
 from life_tools.class_bases import BasisRows, Bases, valued
+from life_tools.columns import columns_at
 from life_tools.commands import Command
 from life_tools.copied_folder import JOURNAL
-from life_tools.formats import Wrong, bytes_of, demand
+from life_tools.formats import Wrong, demand
 from life_tools.fronts import Front, front
-from life_tools.journals import RECORD_SIZE
+from life_tools.journal_columns import Records
 from life_tools.printed_books import PrintedState, PrintedValuation, state_in
 from life_tools.progress import Progress
 from life_tools.rules import Policy, changed, decide, due_of
@@ -101,21 +102,21 @@ def moment(copy: Front, on: datetime.date, asked: Asked) -> Moment:
     return Moment(on, copy.position, state, valuation, minimum)
 
 
-def records_of(copy: Front) -> memoryview:
-    return records_in(bytes_of(os.path.join(copy.folder, JOURNAL)))
+def records_of(copy: Front) -> Records:
+    return columns_at(os.path.join(copy.folder, JOURNAL)).records
 
 
-def commands_behind(records: memoryview, first: int) -> list[Command]:
+def commands_behind(records: Records, first: int) -> list[Command]:
     """The commands behind the first so many."""
-    return [command_at(records, place) for place in range(first, len(records) // RECORD_SIZE)]
+    return list(records.commands(np.arange(first, len(records))))
 
 
-def commands_of(records: memoryview, numbers: set[int]) -> dict[int, list[tuple[int, Command]]]:
+def commands_of(records: Records, numbers: set[int]) -> dict[int, list[tuple[int, Command]]]:
     """The commands of some policies, each with its position."""
     found: dict[int, list[tuple[int, Command]]] = {}
-    for position, record in enumerate(RECORD.iter_unpack(records), 1):
-        if record[1] in numbers:
-            found.setdefault(record[1], []).append((position, command_at(records, position - 1)))
+    places = np.flatnonzero(np.isin(records.number, sorted(numbers)))
+    for place, command in zip(places.tolist(), records.commands(places)):
+        found.setdefault(command.number, []).append((place + 1, command))
     return found
 
 

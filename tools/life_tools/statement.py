@@ -5,8 +5,10 @@ from dataclasses import dataclass
 from typing import Sequence
 
 from life_tools.basis_sheet import basis_sheet
+from life_tools.claim_sheet import Claims, claim_sheet
 from life_tools.exhibits import LifeExhibit, exhibit_sheet
 from life_tools.formats import demand
+from life_tools.increase_sheet import Increase, increase_sheet
 from life_tools.periods import Asked, Period, period_of, steps_of
 from life_tools.sheets import Sheet, added
 
@@ -26,10 +28,12 @@ def facts_of(asked: Asked) -> dict[str, str]:
 
 def sheets_of(period: Period) -> list[Sheet]:
     """All sheets; raises NotWhole where a sum isn't what the program printed."""
-    exhibit = LifeExhibit()
+    exhibit, increase, claims = LifeExhibit(), Increase(period), Claims()
     for step in steps_of(period):
         exhibit.take(step)
-    return [exhibit_sheet(period, exhibit), basis_sheet(period)]
+        increase.take(step)
+        claims.take(step)
+    return [exhibit_sheet(period, exhibit), basis_sheet(period), increase_sheet(period, increase), claim_sheet(period, claims)]
 
 
 def statement_of(asked: Asked) -> Statement:
