@@ -10,6 +10,7 @@ from life_tools.exhibits import LifeExhibit, exhibit_sheet
 from life_tools.formats import demand
 from life_tools.increase_sheet import Increase, increase_sheet
 from life_tools.periods import Asked, Period, period_of, steps_of
+from life_tools.premium_sheet import Collected, premium_sheet
 from life_tools.sheets import Sheet, added
 
 
@@ -28,12 +29,14 @@ def facts_of(asked: Asked) -> dict[str, str]:
 
 def sheets_of(period: Period) -> list[Sheet]:
     """All sheets; raises NotWhole where a sum isn't what the program printed."""
-    exhibit, increase, claims = LifeExhibit(), Increase(period), Claims()
+    exhibit, increase, claims, collected = LifeExhibit(), Increase(period), Claims(), Collected()
     for step in steps_of(period):
         exhibit.take(step)
         increase.take(step)
         claims.take(step)
-    return [exhibit_sheet(period, exhibit), basis_sheet(period), increase_sheet(period, increase), claim_sheet(period, claims)]
+        collected.take(step)
+    return [exhibit_sheet(period, exhibit), basis_sheet(period), premium_sheet(period, collected, increase.worth),
+            increase_sheet(period, increase), claim_sheet(period, claims)]
 
 
 def statement_of(asked: Asked) -> Statement:
