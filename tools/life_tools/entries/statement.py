@@ -12,10 +12,13 @@ import argparse
 import sys
 
 from life_tools.class_bases import bases_in
+from life_tools.entries.report import write_text, written_whole
 from life_tools.entries.why import position_in
 from life_tools.formats import day_in, remark
 from life_tools.periods import Asked, NotWhole
-from life_tools.sheet_files import lines_of
+from life_tools.provenance import provenance
+from life_tools.sheet_files import lines_of, write_csvs, write_folder, write_policies, write_workbook
+from life_tools.sheet_pages import page
 from life_tools.statement import Statement, statement_of
 
 
@@ -24,27 +27,57 @@ def arguments(parser: argparse.ArgumentParser) -> None:
     parser.add_argument("p1", metavar="P1", help="the opening position")
     parser.add_argument("on2", metavar="DAY2", help="the closing day")
     parser.add_argument("p2", metavar="P2", help="the closing position")
-    parser.add_argument("--basis", metavar="NAME", help="the basis file in the folder (basis.csv)")
     parser.add_argument("--mean", dest="measure", action="store_const", const="mean", default="terminal", help="mean reserves")
+    basis_arguments(parser)
     parser.add_argument("--folder", metavar="FOLDER", default=".", help="where journal.life, the bases and tables lie (.)")
     parser.add_argument("--life", metavar="PROGRAM", help="the program to ask")
+    parser.add_argument("--title", metavar="TEXT", help="the company and the book (the folder's name)")
+    files = parser.add_mutually_exclusive_group()
+    files.add_argument("--csv", metavar="FOLDER", help="a new folder with a CSV of each sheet")
+    files.add_argument("--xlsx", metavar="FILE", help="a workbook (python3-openpyxl)")
+    files.add_argument("--html", metavar="FILE", help="one page, which needs no network")
+    parser.add_argument("--policies", metavar="FOLDER", help="a new folder with each policy's part of the sheets, as CSV")
+
+
+def basis_arguments(parser: argparse.ArgumentParser) -> None:
+    """What values the policies."""
+    parser.add_argument("--basis", metavar="NAME", help="the basis file in the folder (basis.csv)")
+    parser.add_argument("--classes", metavar="FILE", help="a CSV: number or range, class")
+    parser.add_argument("--bases", metavar="FILE", help="a CSV: class, basis file in the folder")
 
 
 def asked_in(options: argparse.Namespace) -> Asked:
     first, last = position_in(options.p1), position_in(options.p2)
     assert first is not None and last is not None
-    bases = bases_in(options.basis, None, None)
+    bases = bases_in(options.basis, options.classes, options.bases)
     return Asked(options.folder, day_in(options.on1), first, day_in(options.on2), last, bases, options.measure, options.life)
 
 
 def run(options: argparse.Namespace) -> int:
+    asked = asked_in(options)
     try:
-        statement = statement_of(asked_in(options))
+        statement = statement_of(asked)
     except NotWhole as wrong:
         remark(f"wrong: {wrong}")
         return 1
-    show(statement)
+    statement.facts.update(provenance(asked.folder, asked.last, options.title, asked.life))
+    write(statement, options)
     return 0
+
+
+def write(statement: Statement, options: argparse.Namespace) -> None:
+    """Writes what was asked for, or prints the sheets."""
+    facts, sheets, title = statement.facts, statement.sheets, f"Statement of {statement.facts['book']}"
+    if options.csv:
+        write_folder(options.csv, lambda folder: write_csvs(folder, facts, sheets))
+    elif options.xlsx:
+        written_whole(options.xlsx, lambda path: write_workbook(path, title, facts, sheets))
+    elif options.html:
+        written_whole(options.html, lambda path: write_text(path, page(title, facts, sheets)))
+    else:
+        show(statement)
+    if options.policies:
+        write_folder(options.policies, lambda folder: write_policies(folder, sheets))
 
 
 def show(statement: Statement) -> None:
