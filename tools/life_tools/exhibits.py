@@ -81,8 +81,8 @@ def remarks(moment: Moment) -> list[str]:
     """Policies that are in force by their status alone."""
     ended = sum(is_insured(policy) and end_of(policy) <= moment.on for policy in moment.policies)
     later = sum(is_insured(policy) and policy.issued > moment.on for policy in moment.policies)
-    return ([f"in force on {moment.on}, of which the cover has ended and no maturity is posted: {ended}"] if ended else []) + (
-        [f"in force on {moment.on}, but issued after that day: {later}"] if later else [])
+    return ([f"In force on {moment.on}, of which the cover has ended and no maturity is posted: {ended}"] if ended else []) + (
+        [f"In force on {moment.on}, but issued after that day: {later}"] if later else [])
 
 
 def exhibit_sheet(period: Period, exhibit: LifeExhibit) -> Sheet:

@@ -122,9 +122,14 @@ def fill(page: Any, sheet: Sheet, styles: Any) -> None:
     for at, text in enumerate((*sheet.notes, *sheet.checks), len(sheet.rows) + 5):
         page.cell(at, 1, text)
     page.freeze_panes = "B4"
+    fit(page)
+    widen(page, sheet)
+
+
+def fit(page: Any) -> None:
+    """As wide as a sheet of paper."""
     page.page_setup.orientation, page.page_setup.fitToWidth, page.page_setup.fitToHeight = "landscape", 1, 0
     page.sheet_properties.pageSetUpPr = styles_of("worksheet.properties").PageSetupProperties(fitToPage=True)
-    widen(page, sheet)
 
 
 def styles_of(part: str) -> Any:
@@ -143,6 +148,7 @@ def write_workbook(path: str, title: str, facts: Facts, sheets: Sequence[Sheet])
         first.cell(at, 2).value = text
         first.cell(at, 2).data_type = "s"
     first.column_dimensions["A"].width, first.column_dimensions["B"].width = 14, 100
+    fit(first)
     for sheet in sheets:
         fill(book.create_sheet(sheet.name), sheet, styles)
     book.save(path)

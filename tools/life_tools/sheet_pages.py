@@ -23,7 +23,7 @@ tr.total td { font-weight: 600; border-top: 2px solid #1b1f23 }
   tr { border: 1px solid #d9dee3; border-radius: .4rem; margin: .5rem 0; padding: .4rem .6rem } tr.total { border: 2px solid #1b1f23 }
   td, tr.total td { display: flex; justify-content: space-between; gap: 1rem; border: 0; padding: .1rem 0; font-size: .9rem }
   td::before { content: attr(data-name); color: #57606a; font-weight: 400 } td:first-child { font-weight: 600 }
-  td:first-child::before, td.none { display: none }
+  td:first-child::before, td.none, tr.total td.none { display: none }
 }
 @media print { body { max-width: none } section { break-inside: avoid } }
 """
