@@ -93,7 +93,10 @@ class Increase:
         if units is None:
             return None
         way = self.ways[policy.number] = Way(units, year, policy.amount)
-        if is_new:
+        if is_new and policy.status == "paidup":
+            # the opening book has it paid up already, though its issue is of a later day
+            self.put(PAID_UP, policy.number, way.reserve)
+        elif is_new:
             self.grow(policy.number, way, None, 0)
         return way
 
