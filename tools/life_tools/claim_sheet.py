@@ -58,7 +58,8 @@ def age_name(days: int) -> str:
 def outstanding(moment: Moment) -> list[Policy]:
     found = [policy for policy in moment.policies if policy.outstanding]
     owed, payable = sum(policy.outstanding for policy in found), -moment.state.balances["payable"]
-    demand_whole(owed == payable, f"claims: {money(owed)} is outstanding on {moment.on}, and the account payable has {money(payable)}")
+    said = f"claims: {money(owed)} is outstanding on {moment.on}, and the account payable has {money(payable)}"
+    demand_whole(owed == payable, said)
     return found
 
 

@@ -9,6 +9,7 @@ basis file of the folder values a class:
 """
 from __future__ import annotations
 
+import argparse
 import os
 from bisect import bisect_right
 from dataclasses import dataclass
@@ -123,11 +124,26 @@ def bases_in(basis: str | None, classes: str | None, bases: str | None) -> Bases
     return Bases(tuple(dict.fromkeys(used.values())), tuple(ranges), tuple(used.items()))
 
 
+def basis_arguments(parser: argparse.ArgumentParser) -> None:
+    """What values the policies."""
+    parser.add_argument("--basis", metavar="NAME", help="the basis file in the folder (basis.csv)")
+    class_arguments(parser)
+
+
+def class_arguments(parser: argparse.ArgumentParser) -> None:
+    parser.add_argument("--classes", metavar="FILE", help="a CSV of classes: number or range of policies, class")
+    parser.add_argument("--bases", metavar="FILE", help="a CSV of their bases: class, basis file in the folder")
+
+
 # --- what is valued by them ---
+
+def measure_words(measure: str) -> list[str]:
+    return [] if measure == "terminal" else [f"--{measure}"]
+
 
 def valued(copy: Asks, on: str, bases: Bases, measure: str) -> PrintedValuation:
     """The program's valuation of a copy; of several bases one for each, of which each policy's row is that of its own."""
-    words = ["--at", str(copy.position), *([] if measure == "terminal" else [f"--{measure}"])]
+    words = ["--at", str(copy.position), *measure_words(measure)]
     made = {name: valuation_in(copy.asks("value", on, *words, "--basis", name)) for name in bases.names}
     return of_classes(made, bases)
 

@@ -17,6 +17,7 @@ ENTRIES: dict[str, tuple[str, str]] = {
     "import": ("import_book", "a CSV of another system as a script of issues and premiums"),
     "books": ("books", "value, project, state or checkpoint of many books, with their total"),
     "why": ("why", "one row of a valuation, worked out as a colleague reads it"),
+    "value": ("value", "a valuation, by one basis or by one for each class of lives"),
     "report": ("report", "a valuation by plan, status, issue year, age or basis row, added up exactly"),
     "movement": ("movement", "what moved between two valuations, line by line, adding up exactly"),
     "statement": ("statement", "the sheets of a statement between two moments, each adding up to what the program prints"),

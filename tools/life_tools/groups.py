@@ -8,7 +8,7 @@ from life_tools.formats import demand, money
 from life_tools.printed_books import PrintedState, PrintedValuation, ValuedRow
 from life_tools.reserves import row_for
 from life_tools.rules import Policy
-from life_tools.tables import BasisRow
+from life_tools.class_bases import BasisRows
 
 AGES_IN_A_BAND = 10
 
@@ -36,25 +36,28 @@ KEYS: dict[str, Callable[[Joined], str]] = {
 }
 
 
-def joined(valuation: PrintedValuation, state: PrintedState, basis: Sequence[BasisRow]) -> list[Joined]:
+def joined(valuation: PrintedValuation, state: PrintedState, bases: BasisRows) -> list[Joined]:
     """Each row with its policy, which the state has in the same place."""
     demand(valuation.position == state.count, f"the valuation is of position {valuation.position}, the state of {state.count}")
     demand(len(valuation.rows) == len(state.policies), "the valuation and the state have another number of policies")
-    names = {row.day: f"{row.day} {row.name} {row.points} bp" for row in basis}
+    names = {(name, row.day): f"{name} " * (len(bases.rows) > 1) + f"{row.day} {row.name} {row.points} bp"
+             for name, basis in bases.rows.items() for row in basis}
     found: list[Joined] = []
-    for row, policy in zip(valuation.rows, state.policies):
+    picked = bases.of([row.number for row in valuation.rows])
+    for row, policy, (name, basis) in zip(valuation.rows, state.policies, picked):
         same = row.number == policy.number and row.status == policy.status
         demand(same, f"the row of policy {row.number}, {row.status}, stands where the state has {policy.number}, {policy.status}")
         which = row_for(basis, policy.issued)
-        found.append(Joined(policy, row, names[which.day] if which else "none"))
+        found.append(Joined(policy, row, names[name, which.day] if which else "none"))
     return found
 
 
 @dataclass
 class Sums:
-    """Of some policies: how many, the amounts insured of those in force or paid up, the bounds, the rows with a word."""
+    """Of some policies: how many, those in force or paid up and their amounts insured, the bounds, the rows with a word."""
 
     policies: int = 0
+    insured: int = 0
     amount: int = 0
     bounds: list[int] = field(default_factory=list)
     words: int = 0
@@ -62,12 +65,13 @@ class Sums:
     def add(self, it: Joined) -> None:
         self.policies += 1
         if it.policy.status in ("inforce", "paidup"):
+            self.insured += 1
             self.amount += it.policy.amount
         self.bounds = [one + other for one, other in zip(self.bounds, it.row.bounds)] if self.bounds else list(it.row.bounds)
         self.words += it.row.word != ""
 
     def cells(self) -> list[str]:
-        return [str(self.policies), money(self.amount), *(money(each) for each in self.bounds), str(self.words)]
+        return [str(self.policies), str(self.insured), money(self.amount), *(money(each) for each in self.bounds), str(self.words)]
 
 
 Groups = dict[tuple[str, ...], Sums]

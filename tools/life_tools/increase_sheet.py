@@ -121,7 +121,8 @@ class Increase:
 
     def demand_held(self, policy: Policy, row: ValuedRow, way: Way | None) -> None:
         """Demands that a printed row holds the exact value, within the last of thirty decimals."""
-        demand_whole((way is None) == (row.word != ""), f"increase: policy {policy.number} is printed with {row.word or 'bounds'}")
+        said = row.word or "bounds"
+        demand_whole((way is None) == (row.word != ""), f"increase: policy {policy.number} is printed with {said}")
         if way is not None:
             low, high = row.bounds[0] * ONE, row.bounds[1] * ONE
             slack = way.amount * 1000

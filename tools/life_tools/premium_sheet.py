@@ -104,7 +104,8 @@ def amounts_paid(period: Period, moment: Moment, policy: Policy) -> list[int]:
             premium = command.premium
         elif command.kind in ("premium", "reinstate"):
             amounts += [premium] * (command.amount // premium)
-    demand_whole(len(amounts) == policy.paid, f"premiums: policy {policy.number} has paid {policy.paid}, and {len(amounts)} are posted")
+    said = f"premiums: policy {policy.number} has paid {policy.paid}, and {len(amounts)} are posted"
+    demand_whole(len(amounts) == policy.paid, said)
     return amounts
 
 
@@ -130,7 +131,8 @@ def parts_of(period: Period, moment: Moment, net: NetPremiums) -> Iterator[Part]
 def demand_account(period: Period, collected: Collected) -> None:
     before, after = period.opening.state.balances, period.closing.state.balances
     moved = before["premiums"] - after["premiums"]
-    demand_whole(collected.gross == moved, f"premiums: {money(collected.gross)} were collected, and the account moved by {money(moved)}")
+    said = f"premiums: {money(collected.gross)} were collected, and the account moved by {money(moved)}"
+    demand_whole(collected.gross == moved, said)
 
 
 def income_of(collected: Collected, sums: dict[tuple[str, str], Sums]) -> int:

@@ -12,7 +12,7 @@ from fractions import Fraction
 from typing import Sequence
 
 from life_tools.formats import demand
-from life_tools.reserves import Cover, InForce, Insured, PaidUp, insured_by, terms_of
+from life_tools.reserves import Cover, InForce, Insured, insured_by, terms_of
 from life_tools.rules import Policy, completed
 from life_tools.tables import FINEST, BasisRow, Table
 
@@ -103,7 +103,7 @@ def units_of(insured: Insured, measure: str) -> Units:
     year begins, and half of the others."""
     years = Years(insured)
     if measure != "mean":
-        return Units(years.terminal, *(summed(steps) for steps in (years.net, years.interest, years.cost, years.held)), years.net)
+        return Units(years.terminal, summed(years.net), summed(years.interest), summed(years.cost), summed(years.held), years.net)
     begun = summed(years.net)
     premiums = [*begun[1:], begun[-1]]
     interest, cost, held = (halves(steps) for steps in (years.interest, years.cost, years.held))
@@ -132,6 +132,3 @@ class Worth:
 
 def year_of(policy: Policy, on: datetime.date, units: Units) -> int:
     return min(completed(policy.issued, on), units.years)
-
-
-__all__ = ["ONE", "Column", "PaidUp", "Units", "Worth", "units_of", "year_of"]

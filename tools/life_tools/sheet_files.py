@@ -46,7 +46,8 @@ def harmless(text: str) -> str:
 
 def csv_rows(sheet: Sheet) -> list[list[str]]:
     head, *rows = texts_of(sheet)
-    return [head, *([harmless(cell) if column.kind == TEXT else cell for cell, column in zip(row, sheet.columns)] for row in rows)]
+    kinds = [column.kind for column in sheet.columns]
+    return [head, *([harmless(cell) if kind == TEXT else cell for cell, kind in zip(row, kinds)] for row in rows)]
 
 
 def write_rows(path: str, rows: Sequence[Sequence[str]]) -> None:
@@ -113,7 +114,8 @@ def fill(page: Any, sheet: Sheet, styles: Any) -> None:
     for place, column in enumerate(sheet.columns, 1):
         head = page.cell(3, place, column.name)
         head.font = bold
-        head.alignment = styles.Alignment(horizontal="left" if column.kind == TEXT else "right", wrap_text=True, vertical="bottom")
+        side = "left" if column.kind == TEXT else "right"
+        head.alignment = styles.Alignment(horizontal=side, wrap_text=True, vertical="bottom")
     for at, row in enumerate(sheet.rows, 4):
         for place, (cell, column) in enumerate(zip(row.cells, sheet.columns), 1):
             put(page, at, place, cell, column, bold if row.is_total else None)

@@ -12,7 +12,8 @@ STYLE = """
 * { box-sizing: border-box }
 body { font: 16px/1.45 system-ui, sans-serif; color: #1b1f23; background: #fff; margin: 0 auto; padding: 1rem; max-width: 92rem }
 h1 { font-size: 1.5rem; margin: .2rem 0 } h2 { font-size: 1.15rem; margin: 2rem 0 .5rem } p { margin: .3rem 0 }
-dl { display: grid; grid-template-columns: max-content 1fr; gap: .1rem 1rem; font-size: .9rem } dd { margin: 0; overflow-wrap: anywhere }
+dl { display: grid; grid-template-columns: max-content 1fr; gap: .1rem 1rem; font-size: .9rem }
+dd { margin: 0; overflow-wrap: anywhere }
 dt, p, li { color: #57606a } p, li { font-size: .85rem }
 table { border-collapse: collapse; width: 100%; font-size: .8rem; font-variant-numeric: tabular-nums }
 th, td { padding: .25rem .4rem; text-align: right; border-bottom: 1px solid #d9dee3; vertical-align: bottom }
@@ -20,7 +21,8 @@ td { white-space: nowrap } td.text, th.text { text-align: left; white-space: nor
 tr.total td { font-weight: 600; border-top: 2px solid #1b1f23 }
 @media (max-width: 62rem) {
   body { padding: .6rem } thead { display: none } table, tbody, tr { display: block }
-  tr { border: 1px solid #d9dee3; border-radius: .4rem; margin: .5rem 0; padding: .4rem .6rem } tr.total { border: 2px solid #1b1f23 }
+  tr { border: 1px solid #d9dee3; border-radius: .4rem; margin: .5rem 0; padding: .4rem .6rem }
+  tr.total { border: 2px solid #1b1f23 }
   td, tr.total td { display: flex; justify-content: space-between; gap: 1rem; border: 0; padding: .1rem 0; font-size: .9rem }
   td::before { content: attr(data-name); color: #57606a; font-weight: 400 } td:first-child { font-weight: 600 }
   td:first-child::before, td.none, tr.total td.none { display: none }
@@ -50,8 +52,8 @@ def section(sheet: Sheet) -> str:
     """A sheet with its notes and checks."""
     heads = "".join(head_cell(column.name, column.kind) for column in sheet.columns)
     rows = [f"<tr{' class=total' if row.is_total else ''}>{row_cells(row, sheet)}</tr>" for row in sheet.rows]
-    return "\n".join([f"<section id=\"{escape(sheet.name)}\"><h2>{escape(sheet.title)}</h2>", f"<table><thead><tr>{heads}</tr></thead>",
-                      "<tbody>", *rows, "</tbody></table>", *(f"<p>{escape(note)}</p>" for note in sheet.notes),
+    return "\n".join([f"<section id=\"{escape(sheet.name)}\"><h2>{escape(sheet.title)}</h2>",
+                      f"<table><thead><tr>{heads}</tr></thead>", "<tbody>", *rows, "</tbody></table>", *(f"<p>{escape(note)}</p>" for note in sheet.notes),
                       "<ul>", *(f"<li>{escape(check)}</li>" for check in sheet.checks), "</ul></section>"])
 
 
@@ -61,6 +63,6 @@ def page(title: str, facts: dict[str, str], sheets: Sequence[Sheet]) -> str:
     return "\n".join(["<!doctype html>", "<html lang=\"en\"><head><meta charset=\"utf-8\">",
                       "<meta name=\"viewport\" content=\"width=device-width, initial-scale=1\">",
                       f"<title>{escape(title)}</title><style>{STYLE}</style></head><body>", f"<h1>{escape(title)}</h1>",
-                      f"<dl>{told}</dl>", "<p>Amounts in the journal's currency. What the program printed is proved; what was added "
-                      "to it is compared with its printed totals, as is told below each sheet.</p>",
+                      f"<dl>{told}</dl>", "<p>Amounts in the journal's currency. What the program printed is proved; what was "
+                      "added to it is compared with its printed totals, as is told below each sheet.</p>",
                       *(section(sheet) for sheet in sheets), "</body></html>", ""])

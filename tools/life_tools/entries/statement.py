@@ -11,7 +11,7 @@ from __future__ import annotations
 import argparse
 import sys
 
-from life_tools.class_bases import bases_in
+from life_tools.class_bases import basis_arguments, bases_in
 from life_tools.entries.report import write_text, written_whole
 from life_tools.entries.why import position_in
 from life_tools.formats import day_in, remark
@@ -37,13 +37,6 @@ def arguments(parser: argparse.ArgumentParser) -> None:
     files.add_argument("--xlsx", metavar="FILE", help="a workbook (python3-openpyxl)")
     files.add_argument("--html", metavar="FILE", help="one page, which needs no network")
     parser.add_argument("--policies", metavar="FOLDER", help="a new folder with each policy's part of the sheets, as CSV")
-
-
-def basis_arguments(parser: argparse.ArgumentParser) -> None:
-    """What values the policies."""
-    parser.add_argument("--basis", metavar="NAME", help="the basis file in the folder (basis.csv)")
-    parser.add_argument("--classes", metavar="FILE", help="a CSV: number or range, class")
-    parser.add_argument("--bases", metavar="FILE", help="a CSV: class, basis file in the folder")
 
 
 def asked_in(options: argparse.Namespace) -> Asked:
