@@ -71,7 +71,8 @@ class Sums:
         self.words += it.row.word != ""
 
     def cells(self) -> list[str]:
-        return [str(self.policies), str(self.insured), money(self.amount), *(money(each) for each in self.bounds), str(self.words)]
+        bounds = [money(each) for each in self.bounds]
+        return [str(self.policies), str(self.insured), money(self.amount), *bounds, str(self.words)]
 
 
 Groups = dict[tuple[str, ...], Sums]

@@ -53,7 +53,8 @@ def section(sheet: Sheet) -> str:
     heads = "".join(head_cell(column.name, column.kind) for column in sheet.columns)
     rows = [f"<tr{' class=total' if row.is_total else ''}>{row_cells(row, sheet)}</tr>" for row in sheet.rows]
     return "\n".join([f"<section id=\"{escape(sheet.name)}\"><h2>{escape(sheet.title)}</h2>",
-                      f"<table><thead><tr>{heads}</tr></thead>", "<tbody>", *rows, "</tbody></table>", *(f"<p>{escape(note)}</p>" for note in sheet.notes),
+                      f"<table><thead><tr>{heads}</tr></thead>", "<tbody>", *rows, "</tbody></table>",
+                      *(f"<p>{escape(note)}</p>" for note in sheet.notes),
                       "<ul>", *(f"<li>{escape(check)}</li>" for check in sheet.checks), "</ul></section>"])
 
 
