@@ -4,6 +4,7 @@ from __future__ import annotations
 from typing import Sequence
 
 from life_tools.periods import Moment, Period, demand_whole, is_insured
+from life_tools.printed_books import PrintedValuation
 from life_tools.reserves import row_for
 from life_tools.rules import Policy
 from life_tools.sheets import COUNT, TEXT, Column, Sheet
@@ -32,14 +33,14 @@ def key_of(policy: Policy, name: str, basis: Sequence[BasisRow], word: str, meas
     return row.name, percent(row.points), method, str(row.day), f"before {last}" if last else ""
 
 
-def sums_by_basis(period: Period, moment: Moment) -> tuple[dict[Key, list[int]], dict[Key, list[int]]]:
+def sums_by_basis(period: Period, moment: Moment, minimum: PrintedValuation) -> tuple[dict[Key, list[int]], dict[Key, list[int]]]:
     """The sums of those that are valued, and of those that have no value."""
     valued: dict[Key, list[int]] = {}
     others: dict[Key, list[int]] = {}
     places = [place for place, policy in enumerate(moment.policies) if is_insured(policy)]
     picked = period.rows.of([moment.policies[place].number for place in places])
     for place, (name, basis) in zip(places, picked):
-        policy, row, least = moment.policies[place], moment.valuation.rows[place], moment.minimum.rows[place]
+        policy, row, least = moment.policies[place], moment.valuation.rows[place], minimum.rows[place]
         key = key_of(policy, name, basis, row.word, period.asked.measure)
         sums = (others if row.word else valued).setdefault(key, [0] * 5)
         excess = 0 if row.word else least.bounds[3] - least.bounds[1]
@@ -48,21 +49,21 @@ def sums_by_basis(period: Period, moment: Moment) -> tuple[dict[Key, list[int]],
     return valued, others
 
 
-def demand_printed(moment: Moment, total: list[int], without: int) -> None:
+def demand_printed(moment: Moment, minimum: PrintedValuation, total: list[int], without: int) -> None:
     """Demands that the sums are the program's own."""
-    minimum = moment.minimum.total
-    printed = [*moment.valuation.total[:2], minimum[3] - minimum[1]]
+    printed = [*moment.valuation.total[:2], minimum.total[3] - minimum.total[1]]
     demand_whole(total[2:] == printed, f"reserves: the sums are {total[2:]} cents, and {printed} are printed")
-    demand_whole(without == moment.valuation.words == moment.minimum.words,
+    demand_whole(without == moment.valuation.words == minimum.words,
                  f"reserves: {without} policies have a word, and {moment.valuation.words} are printed")
 
 
 def basis_sheet(period: Period) -> Sheet:
-    moment = period.closing
+    moment, minimum = period.closing, period.closing.minimum
+    assert minimum is not None
     sheet = Sheet("reserves", f"Reserves by valuation basis on {moment.on}, gross", list(COLUMNS))
-    valued, others = sums_by_basis(period, moment)
+    valued, others = sums_by_basis(period, moment, minimum)
     total = [sum(sums[at] for sums in valued.values()) for at in range(5)]
-    demand_printed(moment, total, sum(sums[0] for sums in others.values()))
+    demand_printed(moment, minimum, total, sum(sums[0] for sums in others.values()))
     for key, sums in sorted(valued.items()):
         sheet.add(*key, *sums)
     sheet.add("total", "", "", "", "", *total, is_total=True)

@@ -56,6 +56,7 @@ class Increase:
         self.parts: dict[int, list[int]] = {}
         self.exact = [0, 0]
         policies = period.opening.policies
+        self.opened = {policy.number for policy in policies}
         for policy, row in zip(policies, period.opening.valuation.rows):
             self.open(policy, row)
 
@@ -157,7 +158,8 @@ class Increase:
     def revive(self, after: Policy, day: datetime.date) -> None:
         way = self.begin(after, 0, False)
         if way is not None:
-            way.year = year_of(after, max(min(day, self.on2), after.issued), way.units)
+            begun = self.on1 if after.number in self.opened else after.issued
+            way.year = year_of(after, max(min(day, self.on2), begun, after.issued), way.units)
             self.count(REVIVED, after.number, way.reserve)
 
     def change(self, before: Policy, after: Policy, day: datetime.date) -> None:

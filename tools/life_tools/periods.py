@@ -47,13 +47,13 @@ class Asked(NamedTuple):
 
 @dataclass(frozen=True)
 class Moment:
-    """A day and a position: the book, its valuation by the measure, and the one by `deficiency`."""
+    """A day and a position: the book, and its valuation by the measure; at the closing also the one by `deficiency`."""
 
     on: datetime.date
     position: int
     state: PrintedState
     valuation: PrintedValuation
-    minimum: PrintedValuation
+    minimum: PrintedValuation | None = None
 
     @property
     def policies(self) -> list[Policy]:
@@ -91,10 +91,11 @@ def is_insured(policy: Policy) -> bool:
 
 # --- reading ---
 
-def moment(copy: Front, on: datetime.date, asked: Asked) -> Moment:
+def moment(copy: Front, on: datetime.date, asked: Asked, is_closing: bool) -> Moment:
     state = state_in(copy.asks("state"))
-    valuation = valued(copy, str(on), asked.bases, asked.measure)
-    minimum = valued(copy, str(on), asked.bases, "deficiency")
+    minimum = valued(copy, str(on), asked.bases, "deficiency") if is_closing else None
+    # which has the terminal reserve in front of the minimum
+    valuation = minimum if minimum and asked.measure == "terminal" else valued(copy, str(on), asked.bases, asked.measure)
     demand(valuation.position == state.count, f"the valuation is of position {valuation.position}, the state of {state.count}")
     alike = len(valuation.rows) == len(state.policies) and all(
         row.number == policy.number and row.status == policy.status for row, policy in zip(valuation.rows, state.policies))
@@ -136,9 +137,9 @@ def period_of(asked: Asked) -> Period:
     demand(asked.on1 <= asked.on2, f"the closing day {asked.on2} is before the opening one, {asked.on1}")
     demand(asked.first <= asked.last, f"the closing position {asked.last} is before the opening one, {asked.first}")
     with front(asked.folder, asked.first, asked.bases.names, asked.life) as copy:
-        opening = moment(copy, asked.on1, asked)
+        opening = moment(copy, asked.on1, asked, False)
     with front(asked.folder, asked.last, asked.bases.names, asked.life) as copy:
-        closing = moment(copy, asked.on2, asked)
+        closing = moment(copy, asked.on2, asked, True)
         rows = BasisRows(copy.folder, asked.bases)
         records = records_of(copy)
         numbers = looked_at(asked.on1, opening.policies) | looked_at(asked.on2, closing.policies)

@@ -7,6 +7,7 @@ from typing import Sequence
 from life_tools.report_pages import apart
 from life_tools.sheets import TEXT, Row, Sheet, cell_text
 
+MANY = 10
 STYLE = """
 :root { color-scheme: light }
 * { box-sizing: border-box }
@@ -17,15 +18,15 @@ dd { margin: 0; overflow-wrap: anywhere }
 dt, p, li { color: #57606a } p, li { font-size: .85rem }
 table { border-collapse: collapse; width: 100%; font-size: .8rem; font-variant-numeric: tabular-nums }
 th, td { padding: .25rem .4rem; text-align: right; border-bottom: 1px solid #d9dee3; vertical-align: bottom }
-td { white-space: nowrap } td.text, th.text { text-align: left; white-space: normal }
+td { white-space: nowrap } td span { display: none } td.text, th.text { text-align: left; white-space: normal }
 tr.total td { font-weight: 600; border-top: 2px solid #1b1f23 }
 @media (max-width: 62rem) {
   body { padding: .6rem } thead { display: none } table, tbody, tr { display: block }
   tr { border: 1px solid #d9dee3; border-radius: .4rem; margin: .5rem 0; padding: .4rem .6rem }
   tr.total { border: 2px solid #1b1f23 }
   td, tr.total td { display: flex; justify-content: space-between; gap: 1rem; border: 0; padding: .1rem 0; font-size: .9rem }
-  td::before { content: attr(data-name); color: #57606a; font-weight: 400 } td:first-child { font-weight: 600 }
-  td:first-child::before, td.none, tr.total td.none { display: none }
+  td span { display: inline; color: #57606a; font-weight: 400; white-space: normal } td:first-child { font-weight: 600 }
+  td:first-child span, td.none, tr.total td.none { display: none }
 }
 @media print { body { max-width: none } section { break-inside: avoid } }
 """
@@ -42,9 +43,11 @@ def row_cells(row: Row, sheet: Sheet) -> str:
         text = cell_text(cell, column)
         shown = text if column.kind == TEXT else apart(text)
         # what is 0 in a wide table is left out of a card
-        kinds = [*(["text"] if column.kind == TEXT else []), *(["none"] if cell in (None, "", 0) else [])]
+        is_none = cell in (None, "") or cell == 0 and len(sheet.columns) > MANY
+        kinds = [*(["text"] if column.kind == TEXT else []), *(["none"] if is_none else [])]
         named = f" class=\"{' '.join(kinds)}\"" if kinds else ""
-        cells.append(f"<td{named} data-name=\"{escape(column.name)}\">{escape(shown)}</td>")
+        # a card names what a table has in its head
+        cells.append(f"<td{named}><span>{escape(column.name)}</span>{escape(shown)}</td>")
     return "".join(cells)
 
 
