@@ -51,7 +51,7 @@ def write_workbook(path: str, tables: Tables, total: Sums, columns: Sequence[str
         sheet.append(["total", *map(cell_of, total.cells())])
         sheet.column_dimensions["A"].width = 32
         sheet.freeze_panes = "B2"
-        for row in sheet.iter_rows(min_row=2, min_col=3, max_col=len(columns)):
+        for row in sheet.iter_rows(min_row=2, min_col=4, max_col=len(columns)):
             for cell in row:
                 cell.number_format = "#,##0.00"
     book.save(path)

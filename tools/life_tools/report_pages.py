@@ -67,7 +67,8 @@ def picture(groups: Groups, place: int) -> str:
 
 def facts(valuation: ColumnValuation, total: Sums, heads: Sequence[str]) -> str:
     told = [("day", str(valuation.on)), ("position", f"{valuation.position:,}"), ("measure", valuation.measure),
-            ("policies", f"{total.policies:,}"), ("amount insured", money(total.amount))]
+            ("policies", f"{total.policies:,}"), ("of these insured", f"{total.insured:,}"),
+            ("amount insured", money(total.amount))]
     told += [(name, money(each)) for name, each in zip(heads, valuation.total)]
     told.append(("rows with a word, in no sum", apart(str(valuation.words))))
     return "<div class=\"facts\">" + "".join(f"<div><span>{escape(name)}</span><b>{escape(value)}</b></div>"
@@ -96,7 +97,7 @@ def page(valuation: ColumnValuation, total: Sums, tables: Sequence[tuple[Sequenc
              f"<title>{escape(title)}</title><style>{STYLE}</style></head><body>", f"<h1>{escape(title)}</h1>",
              "<p>Amounts in the journal's currency. The exact reserve lies between the lower and the upper bound.</p>",
              facts(valuation, total, heads)]
-    columns = ["policies", "amount insured", *heads, "words"]
+    columns = ["policies", "insured", "amount insured", *heads, "words"]
     for keys, groups in tables:
         parts.append(f"<h2>By {escape(', '.join(keys))}</h2>")
         parts.append(picture(groups, len(valuation.total) - 1))
