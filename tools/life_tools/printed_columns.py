@@ -23,7 +23,7 @@ LINE_END, COMMA, POINT, MINUS, ZERO = b"\n,.-0"
 BLOCK = 1 << 20
 MOST_DIGITS = 18
 NO_WORDS = ("", *WORDS)
-ENOUGH = ("short", "enough", "close")
+PREMIUMS = ("", "short", "enough", "close")
 
 
 def blocks_of(parts: Iterable[bytes]) -> Iterator[bytes]:
@@ -158,13 +158,15 @@ class Rows:
     word: Array
     # a column for each bound, 0 where there is a word
     bounds: Cents
+    # by `deficiency` what the premium is, by its code
+    premium: Array
 
     def __len__(self) -> int:
         return len(self.number)
 
     def row(self, place: int) -> ValuedRow:
         return ValuedRow(int(self.number[place]), STATUSES[int(self.status[place]) - 1], int(self.year[place]),
-                         tuple(self.bounds[place].tolist()), NO_WORDS[int(self.word[place])])
+                         tuple(self.bounds[place].tolist()), NO_WORDS[int(self.word[place])], PREMIUMS[int(self.premium[place])])
 
 
 class ColumnValuation(NamedTuple):
@@ -191,7 +193,7 @@ def rows_in(block: bytes, bounds: int) -> Rows:
     found = fields_in(block)
     count = sum(len(each.lines) for each in found.values())
     made = Rows(np.zeros(count, np.uint32), np.zeros(count, np.uint8), np.zeros(count, np.uint8), np.zeros(count, np.uint8),
-                np.zeros((count, bounds), np.int64))
+                np.zeros((count, bounds), np.int64), np.zeros(count, np.uint8))
     usual = 4 + bounds + (bounds == 4)
     for many, each in found.items():
         each.wrong(each.codes(0, ("row",)) == 0)
@@ -206,7 +208,8 @@ def rows_in(block: bytes, bounds: int) -> Rows:
         for place in range(bounds):
             made.bounds[lines, place] = each.cents(4 + place)
         if bounds == 4:
-            each.codes(8, ENOUGH)
+            made.premium[lines] = each.codes(8, PREMIUMS)
+            each.wrong(made.premium[lines] > 0)
     return made
 
 
