@@ -5,8 +5,10 @@ import datetime
 from typing import Callable, Iterator
 
 from life_tools.commands import Command
+from life_tools.deaths import standing
 from life_tools.formats import money
-from life_tools.rules import Book, Policy, Refusal, due_of, end_of
+from life_tools.remedies import remedy_of
+from life_tools.rules import Book, Policy, Refusal, anniversary, due_of, end_of
 from life_tools.script_lines import Line
 
 # a posting lies at most so far from what came before it, unless it is warned of
@@ -20,6 +22,7 @@ class Desk:
         self.book, self.today = book, today
         self.positions = {command: position for position, command in reversed(list(enumerate(book.commands, 1)))}
         self.days: dict[int, datetime.date] = {}
+        self.reinstated = {command.number: command.on for command in book.commands if command.kind == "reinstate"}
 
     def warnings(self, line: Line, command: Command) -> list[str]:
         """What may be wrong with the next posting of its lane."""
@@ -35,6 +38,15 @@ class Desk:
         if not isinstance(after, Refusal):
             self.book.take(command, after)
             self.positions.setdefault(command, len(self.book.commands))
+            if command.kind == "reinstate":
+                self.reinstated[command.number] = command.on
+
+    def advice(self, line: Line, refused: list[str]) -> list[str]:
+        """What to do about a line that was refused with these words; of a claim by what its policy's journal says, too."""
+        command, what = line.command, remedy_of(line.kind, refused).what
+        if command and command.kind == "claim" and (refused[0] == "beforelast" or refused == ["wrongstatus", "lapsed"]):
+            what = standing([each for each in self.book.commands if each.number == command.number], command)
+        return [f"to do: {what}"]
 
 
 Look = Callable[[Desk, Line, Command, "Policy | None"], Iterator[str]]
@@ -91,4 +103,10 @@ def is_right_amount(desk: Desk, line: Line, command: Command, policy: Policy | N
         yield f"{money(policy.outstanding)} is outstanding"
 
 
-LOOKS: tuple[Look, ...] = (is_known, is_near, is_in_order, is_new, is_right_amount)
+def is_long_in_force(desk: Desk, line: Line, command: Command, policy: Policy | None) -> Iterator[str]:
+    day = desk.reinstated.get(command.number) if command.kind == "claim" else None
+    if day and command.on <= anniversary(day, 1):
+        yield f"the policy was reinstated on {day}: is it known that the insured lived then?"
+
+
+LOOKS: tuple[Look, ...] = (is_known, is_near, is_in_order, is_new, is_right_amount, is_long_in_force)
