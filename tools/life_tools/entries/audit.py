@@ -1,0 +1,104 @@
+"""What an auditor looks at: postings that are rare or doubtful, a sample of the policies, papers and letters on it.
+
+    audit flags [--after P0] [--at P]             postings for people to look at, as CSV
+    audit sample N --seed S --on DAY > SAMPLE     a monetary unit sample of a valuation's rows
+    audit papers SAMPLE --html FILE | --pdf FILE  a page to print for each policy of a sample
+    audit letters SAMPLE                          what a letter of confirmation says of each, as CSV
+
+`audit flags --help` and so on tell the words of each.
+"""
+from __future__ import annotations
+
+import argparse
+import csv
+import sys
+from collections import Counter
+
+from life_tools.entries.why import position_in
+from life_tools.flags import DAYS_LATE, FLAGS, Flag, flags_at
+from life_tools.copied_folder import JOURNAL
+from life_tools.formats import Wrong, day_in, money, number_of, remark
+from life_tools.samples import BY, MEASURED, sample_of, text_of
+from life_tools.sampling import asked_in, seed_in
+
+MOST_DAYS = 36_500
+
+
+def folder_arguments(parser: argparse.ArgumentParser) -> None:
+    parser.add_argument("--folder", metavar="FOLDER", default=".", help="where journal.life, the basis and the tables lie (.)")
+
+
+# --- flags ---
+
+def flags_arguments(parser: argparse.ArgumentParser) -> None:
+    parser.add_argument("--after", metavar="P0", help="only postings behind this position, as that of the last year's end")
+    parser.add_argument("--at", metavar="P", help="only the first P postings (all)")
+    parser.add_argument("--late", metavar="DAYS", default=str(DAYS_LATE), help="a maturity is told where it is more than so many "
+                        f"days behind the end ({DAYS_LATE})")
+    folder_arguments(parser)
+    parser.set_defaults(piece=run_flags)
+
+
+def row_of(flag: Flag) -> list[str]:
+    return [flag.flag, str(flag.position), str(flag.policy), flag.kind, str(flag.day), money(flag.cents), str(flag.since), flag.why]
+
+
+def run_flags(options: argparse.Namespace) -> int:
+    days = number_of(options.late, 0, MOST_DAYS)
+    if days is None:
+        raise Wrong(f"--late {options.late}: 0 to {MOST_DAYS} days are wanted")
+    after = position_in(options.after) or 0
+    found = [each for each in flags_at(f"{options.folder}/{JOURNAL}", position_in(options.at), days) if each.position > after]
+    writer = csv.writer(sys.stdout, lineterminator="\n")
+    writer.writerow(["flag", "position", "policy", "kind", "day", "amount", "since", "why"])
+    writer.writerows(map(row_of, found))
+    sys.stdout.flush()
+    counts = Counter(each.flag for each in found)
+    remark("; ".join(f"{flag}: {counts[flag]}" for flag in FLAGS))
+    return 1 if found else 0
+
+
+# --- a sample ---
+
+def sample_arguments(parser: argparse.ArgumentParser) -> None:
+    parser.add_argument("count", metavar="N", help="how many rows are wished for; fewer come where rows are above the interval")
+    parser.add_argument("--seed", metavar="S", required=True, help="a whole number: the same seed draws the same rows")
+    parser.add_argument("--on", metavar="DAY", required=True, help="the day of the valuation")
+    parser.add_argument("--at", metavar="P", help="the position (the newest)")
+    parser.add_argument("--by", choices=BY, default="reserve", help="the size of a row: the amount insured on the day, or the "
+                        "reserve's upper bound (reserve)")
+    parser.add_argument("--basis", metavar="NAME", default="basis.csv", help="the basis file in the folder (basis.csv)")
+    parser.add_argument("--mean", dest="measure", action="store_const", const=MEASURED[1], default=MEASURED[0],
+                        help="by mean reserves")
+    parser.add_argument("--life", metavar="PROGRAM", help="the program to ask")
+    folder_arguments(parser)
+    parser.set_defaults(piece=run_sample)
+
+
+def run_sample(options: argparse.Namespace) -> int:
+    """The status is 1 where rows have a word: they count for nothing by a reserve, though the policies are insured."""
+    asked, seed, on = asked_in(options.count), seed_in(options.seed), day_in(options.on)
+    drawn = sample_of(options.folder, on, asked, seed, options.by, position_in(options.at), options.basis, options.measure,
+                      options.life)
+    sys.stdout.write(text_of(drawn.sample))
+    sys.stdout.flush()
+    for line in drawn.told():
+        remark(line)
+    return 1 if drawn.words and options.by == "reserve" else 0
+
+
+def arguments(parser: argparse.ArgumentParser) -> None:
+    pieces = parser.add_subparsers(dest="what", metavar="PIECE", required=True)
+    for name, (tell, does) in PIECES.items():
+        tell(pieces.add_parser(name, help=does, description=does))
+
+
+PIECES = {
+    "flags": (flags_arguments, "postings that are rare or doubtful, for people to look at; the status is 1 where there are any"),
+    "sample": (sample_arguments, "a monetary unit sample of a valuation's rows"),
+}
+
+
+def run(options: argparse.Namespace) -> int:
+    status: int = options.piece(options)
+    return status
