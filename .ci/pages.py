@@ -15,11 +15,11 @@ TOP = pathlib.Path(__file__).resolve().parent.parent
 # The most words of each page.
 LIMITS = {
     "README.md": 700,
-    "docs/CLERK.md": 3200,
-    "docs/VALUATION.md": 4000,
-    "docs/AUDIT.md": 2200,
-    "docs/OPERATIONS.md": 1500,
-    "docs/FORMATS.md": 6000,
+    "docs/CLERK.md": 3300,
+    "docs/VALUATION.md": 4300,
+    "docs/AUDIT.md": 2700,
+    "docs/OPERATIONS.md": 2100,
+    "docs/FORMATS.md": 6150,
     "docs/ARCHITECTURE.md": 4500,
     "docs/PROOF.md": 8000,
     "docs/DECISIONS.md": 4000,

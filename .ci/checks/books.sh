@@ -63,7 +63,8 @@ echo all,checkpoint,720,3,3 >>wanted
 cmp -s wanted out || complain "checkpoints: $(cat out)"
 
 go_on "positions of a day, and the books there"
-books books.csv position-on 2004-06-30 || complain "status $?: $(cat remarks)"
+# drawn days don't rise, so that each position lacks a command
+ends 1 "^book3: position [0-9]* lacks commands" books.csv position-on 2004-06-30
 for book in book1 book2 book3; do
     echo "$book,$(python3 "$tools/life-tools" position-on 2004-06-30 $book/journal.life 2>remarks)"
 done >wanted

@@ -109,13 +109,8 @@ for day in 2021-01-19 2022-01-20 2024-03-12 2199-12-31; do
     prints wanted
 done
 refuses "2021-02-29 is no day" position-on 2021-02-29 journal.life
-# a command of an earlier day, posted after one of a later day, is told
 printf '1,issue,1,2020-05-01,whole,30,0,60.00,1.00\n1,issue,2,2020-04-01,whole,30,0,60.00,1.00\n' >late.csv
 mkdir late && (cd late && "$life" run <../late.csv >transcript)
-says position-on 2020-04-30 late/journal.life
-echo 0 >wanted
-prints wanted
-grep -q '2,issue,2,2020-04-01' remarks || complain "position-on says nothing of the later posted command"
 
 go_on "values"
 "$life" value 2024-03-12 </dev/null >block

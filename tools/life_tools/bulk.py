@@ -192,8 +192,8 @@ def front_of(records: memoryview, at: int | None, path: str) -> memoryview:
     return records if at is None else records[:at * RECORD_SIZE]
 
 
-def book_of(records: memoryview, into: Bulk | None = None) -> Bulk:
-    book, progress = into or Bulk(), Progress("reading commands", len(records) // RECORD_SIZE)
+def book_of(records: memoryview) -> Bulk:
+    book, progress = Bulk(), Progress("reading commands", len(records) // RECORD_SIZE)
     for start in range(0, len(records), AT_ONCE * RECORD_SIZE):
         book.take(records[start:start + AT_ONCE * RECORD_SIZE])
         progress.at(book.count)
@@ -201,12 +201,12 @@ def book_of(records: memoryview, into: Bulk | None = None) -> Bulk:
     return book
 
 
-def bulk_at(path: str, at: int | None = None, into: Bulk | None = None) -> tuple[Bulk, memoryview]:
-    """The book of a journal's file, or of its first commands, and their records; it goes into an empty one that is given."""
+def bulk_at(path: str, at: int | None = None) -> tuple[Bulk, memoryview]:
+    """The book of a journal's file, or of its first commands, and their records."""
     data = bytes_of(path)
     try:
         with many_objects():
             records = front_of(records_in(data), at, path)
-            return book_of(records, into), records
+            return book_of(records), records
     except BadRecord:
         raise judged_anew(path, data) from None

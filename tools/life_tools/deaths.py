@@ -11,7 +11,7 @@ from typing import Sequence
 from life_tools.commands import Command
 from life_tools.formats import money
 from life_tools.remedies import REFER
-from life_tools.rules import Policy, Refusal, anniversary, changed, decide
+from life_tools.rules import Policy, Refusal, anniversary, changed, decide, issued
 
 # what leaves a policy insured as it was, but perhaps for another amount
 HARMLESS = ("premium", "alter", "paidup")
@@ -21,11 +21,7 @@ def after(commands: Sequence[Command]) -> Policy | None:
     """The policy that its accepted commands leave, from its issue on."""
     policy: Policy | None = None
     for command in commands:
-        if policy:
-            policy = changed(policy, command)
-        else:
-            made = decide(None, command)
-            policy = made if isinstance(made, Policy) else None
+        policy = changed(policy, command) if policy else issued(command)
     return policy
 
 

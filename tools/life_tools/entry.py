@@ -55,15 +55,15 @@ def parser_of(names: Sequence[str]) -> argparse.ArgumentParser:
 def main(words: Sequence[str] | None = None) -> int:
     """Runs an entry: 0 all is well, 1 something was found wrong, 2 it could not be done."""
     given = list(sys.argv[1:] if words is None else words)
-    options = parser_of(given[:1]).parse_args(given)
     # millions of rows make no cycles, and looking for some among them takes as long as making them
     gc.disable()
     try:
+        options = parser_of(given[:1]).parse_args(given)
         status: int = options.run(options)
         sys.stdout.flush()
         return status
     except Wrong as wrong:
-        print(f"life-tools {options.entry}: {wrong}", file=sys.stderr)
+        print(f"life-tools {given[0]}: {wrong}", file=sys.stderr)
         return 2
     except BrokenPipeError:
         # whoever read has left; what is still held back must not complain at the end

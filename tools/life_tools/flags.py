@@ -10,11 +10,16 @@ from __future__ import annotations
 
 import datetime
 from dataclasses import dataclass, field
-from typing import NamedTuple
+from operator import attrgetter
+from typing import Iterator, NamedTuple
 
-from life_tools.bulk import Bulk, bulk_at
+from life_tools.arrays import Array, np
+from life_tools.columns import Columns, columns_at
 from life_tools.commands import Command
-from life_tools.rules import REINSTATEMENT_ANNIVERSARIES, Policy, anniversary, end_of
+from life_tools.day_columns import NEVER
+from life_tools.journal_columns import CLAIM, MATURE, REINSTATE, SETTLE
+from life_tools.progress import Progress
+from life_tools.rules import REINSTATEMENT_ANNIVERSARIES, Policy, anniversary, changed, end_of, issued
 
 FLAGS = ("soon-after-reinstatement", "on-last-day", "paid-at-once", "last-day-of-right", "late-maturity")
 SOON, ON_LAST_DAY, AT_ONCE, LAST_DAY_OF_RIGHT, LATE = FLAGS
@@ -88,24 +93,54 @@ class Watch:
             self.flag(LATE, position, command, after.outstanding, end, f"{late} days after the end")
 
 
-class Flagged(Bulk):
-    """A book that is read in bulk, with a watch over its postings that are no plain issues and premiums."""
+# --- a journal ---
 
-    def __init__(self, watch: Watch) -> None:
-        super().__init__()
-        self.watch = watch
+def days_before(book: Columns) -> Array:
+    """Of each posting the day of its policy's posting before it."""
+    day, order = book.records.day, np.argsort(book.place, kind="stable")
+    found = np.full(book.count, NEVER)
+    follows = np.flatnonzero(np.diff(book.place[order]) == 0)
+    found[order[follows + 1]] = day[order[follows]]
+    return found
 
-    def other(self, position: int, command: Command) -> None:
-        place = self.place_of.get(command.number)
-        before = None if place is None else self.policy_at(place)
-        super().other(position, command)
-        after = self.events[position][1]
-        if before and after:
-            self.watch.see(position, command, before, after)
+
+def candidates(book: Columns) -> Array:
+    """The places of the policies of which a posting may be flagged: few, since each of their postings is looked at."""
+    kind, day, place = book.records.kind, book.records.day, book.place
+    claims, settled, matured = (np.flatnonzero(kind == code) for code in (CLAIM, SETTLE, MATURE))
+    claimed = np.full(len(book.policies), NEVER)
+    claimed[place[claims]] = day[claims]
+    at_once = settled[day[settled] == claimed[place[settled]]]
+    late = matured[day[matured] > book.policies.end[place[matured]]]
+    on_last = claims[days_before(book)[claims] == day[claims]]
+    return np.unique(place[np.concatenate([on_last, np.flatnonzero(kind == REINSTATE), at_once, late])])
+
+
+def postings_of(book: Columns, policies: Array) -> Iterator[Array]:
+    """The places of the postings of each of these policies, which rise."""
+    is_one = np.zeros(len(book.policies) + 1, bool)
+    is_one[policies] = True
+    postings = np.flatnonzero(is_one[book.place])
+    order = postings[np.argsort(book.place[postings], kind="stable")]
+    starts = np.flatnonzero(np.diff(book.place[order], prepend=-1))
+    yield from np.split(order, starts[1:]) if len(order) else []
+
+
+def flags_of(book: Columns, days_late: int = DAYS_LATE) -> list[Flag]:
+    """The flagged postings of a book, in their order."""
+    watch, progress = Watch(days_late), Progress("looking at policies")
+    for done, postings in enumerate(postings_of(book, candidates(book))):
+        policy: Policy | None = None
+        for posting, command in zip(postings.tolist(), book.records.commands(postings)):
+            after = changed(policy, command) if policy else issued(command)
+            if policy:
+                watch.see(posting + 1, command, policy, after)
+            policy = after
+        progress.at(done)
+    progress.end()
+    return sorted(watch.found, key=attrgetter("position"))
 
 
 def flags_at(path: str, at: int | None = None, days_late: int = DAYS_LATE) -> list[Flag]:
-    """The flagged postings of a journal's file, or of its first ones, in their order."""
-    watch = Watch(days_late)
-    bulk_at(path, at, Flagged(watch))
-    return watch.found
+    """The flagged postings of a journal's file, or of its first ones."""
+    return flags_of(columns_at(path, at), days_late)

@@ -61,13 +61,12 @@ def records_in(data: bytes) -> int | Journal:
         return Journal(refused="badjournal,notajournal", why=f"it has {len(data)} bytes, and an empty journal has {len(EMPTY)}")
     if data[:FIRST_GATE] != EMPTY[:FIRST_GATE]:
         return Journal(refused="badjournal,notajournal", why="its first 17 bytes aren't those of a journal")
-    count = 0
-    while data[gate_of(count)] == OPEN:
-        if count == MOST_COMMANDS:
-            return bad_record(count, "a journal has at most so many")
-        if gate_of(count + 1) >= len(data):
-            return bad_record(count, f"it is cut short at byte {len(data)}")
-        count += 1
+    gates = data[FIRST_GATE::RECORD_SIZE]
+    count = len(gates) - len(gates.lstrip(bytes([OPEN])))
+    if count > MOST_COMMANDS:
+        return bad_record(MOST_COMMANDS, "a journal has at most so many")
+    if count == len(gates):
+        return bad_record(count - 1, f"it is cut short at byte {len(data)}")
     return count
 
 

@@ -27,7 +27,10 @@ def package(module: str, debian: str) -> ModuleType:
     So this is called before anything is read or written.
     """
     try:
-        return importlib.import_module(module)
+        found = importlib.import_module(module)
+        # what this one starts may begin anew as well
+        os.environ.pop(ANEW, None)
+        return found
     except ImportError:
         if ANEW not in os.environ and is_seen_by_debians(module):
             sys.stdout.flush()

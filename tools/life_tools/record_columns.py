@@ -62,6 +62,10 @@ class Columns:
             days[at] = days[at - 1] if at else number_at(FIRST_DAY)
         return days
 
+    def upgrade(self) -> int:
+        """The position of the upgrade, or 0."""
+        return self.kinds().find(CODES["upgrade"]) + 1
+
     def front(self) -> bytes:
         """The file of these commands alone, its last gate closed."""
         return self.data[:gate_of(self.count)] + bytes(1)

@@ -83,6 +83,7 @@ def is_refused(answer: str) -> bool:
 
 def explain_refusal(answer: str) -> None:
     lane, kind, number, _, *words = answer.split(",")
-    demand(number_of(lane, 1, MOST_LANES) and kind in KIND_WORDS, f"{answer} isn't LANE,KIND,ID,refused,REASON as a run prints it")
+    is_line = number_of(lane, 1, MOST_LANES) and kind in KIND_WORDS
+    demand(is_line, f"{answer} isn't LANE,KIND,ID,refused,REASON as a run prints it")
     remedy = remedy_of(kind, words)
     print(f"the {kind} of {number} was refused: {','.join(words)}\nmeans:  {remedy.means}\nto do:  {remedy.what}")

@@ -131,8 +131,8 @@ def sample_in(text: str) -> Sample:
     rows = tuple(row_of(line, BOUNDS) for line in lines[2:])
     numbers = {row.number for row in rows}
     demand(rows and len(numbers) == len(rows) <= policies, "a sample has each of its policies once")
-    return Sample(day_in(head[2]), position, policies, measure, told[6], told[1], asked_in(told[2]), seed_in(told[3]), total, start,
-                  rows)
+    asked, seed = asked_in(told[2]), seed_in(told[3])
+    return Sample(day_in(head[2]), position, policies, measure, told[6], told[1], asked, seed, total, start, rows)
 
 
 def sample_at(path: str) -> Sample:

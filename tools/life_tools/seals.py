@@ -85,8 +85,8 @@ def seal_of(folder: str, position: int | None = None, bases: Sequence[str] = ("b
     days = front.days()
     with memoryview(front.data) as data:
         found = sum_of(data[:gate_of(front.count)])
-    return Seal(datetime.datetime.now(datetime.timezone.utc).date(), front.count, whole.count, day_at(max(days)) if days else None,
-                found, sealed_files(folder, bases))
+    made, newest = datetime.datetime.now(datetime.timezone.utc).date(), day_at(max(days)) if days else None
+    return Seal(made, front.count, whole.count, newest, found, sealed_files(folder, bases))
 
 
 def text_of(seal: Seal) -> str:

@@ -40,7 +40,8 @@ def flags_arguments(parser: argparse.ArgumentParser) -> None:
 
 
 def row_of(flag: Flag) -> list[str]:
-    return [flag.flag, str(flag.position), str(flag.policy), flag.kind, str(flag.day), money(flag.cents), str(flag.since), flag.why]
+    numbers = [str(flag.position), str(flag.policy), flag.kind, str(flag.day), money(flag.cents), str(flag.since)]
+    return [flag.flag, *numbers, flag.why]
 
 
 def run_flags(options: argparse.Namespace) -> int:

@@ -4,7 +4,7 @@
   books LIST project ON YEARS [--workers N]                  a projection of each, and its total
   books LIST state                                           the policies and balances of each, and their total
   books LIST checkpoint                                      a checkpoint of each
-  books LIST position-on DAY                                 the position of a day in each, for --at
+  books LIST position-on DAY [--last]                        the position of a day in each, for --at
   books headroom LIST                                        how many commands are left in each, and until when
 
 Each line has the book's name before it; `all` stands before the totals, which end with the number of books that they
@@ -32,6 +32,7 @@ from life_tools.book_totals import total_of
 from life_tools.book_work import Asked, processors, work
 from life_tools.bulk import number_at, text_at
 from life_tools.formats import LAST_DAY, MOST_COMMANDS, MOST_WORKERS, MOST_YEARS, Wrong, day_in, demand, number_of, remark
+from life_tools.positions import on_day
 from life_tools.record_columns import columns_at
 
 WORDS = ("value", "project", "state", "checkpoint", "position-on", "headroom")
@@ -51,6 +52,7 @@ def program_words(options: argparse.Namespace) -> tuple[str, ...]:
         day_in(given[0])
     demand(word != "project" or number_of(given[1], 1, MOST_YEARS), f"{' '.join(given[1:])}: 1 to {MOST_YEARS} years are wanted")
     measures = [f"--{measure}" for measure in ("mean", "deficiency") if getattr(options, measure)]
+    demand(not options.last or word == "position-on", "--last belongs to position-on")
     demand(not measures or word == "value", f"{' '.join(measures)} belongs to value")
     demand(len(measures) < 2, "of --mean and --deficiency one stands")
     demand(options.workers is None or word in ("value", "project"), "--workers belongs to value and project")
@@ -161,18 +163,18 @@ def run_program(options: argparse.Namespace, books: list[ListedBook]) -> int:
 
 # --- positions and headroom ---
 
-def run_position_on(books: list[ListedBook], day: int) -> int:
-    """The position of a day in each book, all of them or none."""
-    lines = []
+def run_position_on(books: list[ListedBook], day: int, is_last: bool) -> int:
+    """The position of a day in each book, all of them or none; 1 where one lacks a command, or has one too many."""
+    lines, status = [], 0
     for book in books:
-        days = columns_at(book.journal).days()
-        position = next((place for place, each in enumerate(days) if each > day), len(days))
-        later = sum(each <= day for each in itertools.islice(days, position, None))
-        if later:
-            remark(f"{book.name}: {later} commands of {text_at(day)} or before were posted after position {position}")
-        lines.append(f"{book.name},{position}\n")
+        columns = columns_at(book.journal)
+        found = on_day(columns.days(), day, columns.upgrade())
+        if found.astray(is_last):
+            remark(f"{book.name}: {found.told(is_last, text_at(day))}")
+            status = 1
+        lines.append(f"{book.name},{found.at(is_last)}\n")
     sys.stdout.writelines(lines)
-    return 0
+    return status
 
 
 def headroom_of(book: ListedBook) -> str:
@@ -195,6 +197,7 @@ def run_headroom(books: list[ListedBook]) -> int:
 def arguments(parser: argparse.ArgumentParser) -> None:
     parser.add_argument("list", metavar="LIST", help="the list of books")
     parser.add_argument("words", metavar="WORDS", nargs="+", help=" or ".join(WORDS))
+    parser.add_argument("--last", action="store_true", help="position-on: the position of the last command of the day or before")
     parser.add_argument("--at", metavar="LIST2", help="a position for each book: rows of a name and a position")
     parser.add_argument("--mean", action="store_true", help="value by mean reserves")
     parser.add_argument("--deficiency", action="store_true", help="value with the minimum reserves")
@@ -215,5 +218,7 @@ def run(options: argparse.Namespace) -> int:
     books = books_at(options.list)
     if word in ("position-on", "headroom"):
         words = program_words(options)
-        return run_headroom(books) if word == "headroom" else run_position_on(books, number_at(day_in(words[1])))
+        if word == "headroom":
+            return run_headroom(books)
+        return run_position_on(books, number_at(day_in(words[1])), options.last)
     return run_program(options, books)

@@ -2,42 +2,43 @@
 
 It is what `life value .. --at POSITION` takes to value the book as it stood at the end of the day. The days of one
 policy's commands never fall, but those of different policies may stand in any order. So behind the position there may
-be commands of the day or before it, that were posted after one of a later day. The book at the position doesn't have
-them, and no position has just the commands up to the day; they are told on standard error.
+be commands of the day or before it, that were posted after one of a later day. The book at the position lacks them: they
+are told on standard error, and the status is 1. With --last it is the position of the last command of the day or before,
+and commands of later days that stand before it are told, with 1.
 """
 from __future__ import annotations
 
 import argparse
-import datetime
 
-from life_tools.commands import Command, words_of
+from life_tools.columns import Columns, columns_at
+from life_tools.commands import words_of
+from life_tools.day_columns import number_at
 from life_tools.formats import day_in, remark
-from life_tools.journals import journal_at
-from life_tools.positions import later_posted, position_on
+from life_tools.positions import OnDay, on_day
 
 MOST_TOLD = 10
 
 
 def arguments(parser: argparse.ArgumentParser) -> None:
+    parser.add_argument("--last", action="store_true", help="the position of the last command of the day or before")
     parser.add_argument("day", metavar="DAY", help="YYYY-MM-DD")
     parser.add_argument("journal", metavar="JOURNAL", help="the file, as journal.life")
 
 
-def tell_later(commands: list[Command], day: datetime.date) -> None:
-    later = later_posted(commands, day)
-    if not later:
-        return
-    first = position_on(commands, day) + 1
-    remark(f"commands of {day} or before that were posted after command {first} of {commands[first - 1].day}: {len(later)}")
-    for position in later[:MOST_TOLD]:
-        remark(f"  {position},{','.join(words_of(commands[position - 1]))}")
-    if len(later) > MOST_TOLD:
-        remark(f"  and {len(later) - MOST_TOLD} more")
+def tell_astray(book: Columns, found: OnDay, is_last: bool, day: str) -> None:
+    astray = found.astray(is_last)
+    remark(found.told(is_last, day))
+    for position in astray[:MOST_TOLD]:
+        remark(f"  {position},{','.join(words_of(book.records.command(position - 1)))}")
+    if len(astray) > MOST_TOLD:
+        remark(f"  and {len(astray) - MOST_TOLD} more")
 
 
 def run(options: argparse.Namespace) -> int:
-    day = day_in(options.day)
-    commands = journal_at(options.journal).commands
-    print(position_on(commands, day))
-    tell_later(commands, day)
-    return 0
+    day, book = day_in(options.day), columns_at(options.journal)
+    found = on_day(book.records.day, number_at(day), book.upgrade)
+    print(found.at(options.last), flush=True)
+    if not found.astray(options.last):
+        return 0
+    tell_astray(book, found, options.last, options.day)
+    return 1

@@ -1,0 +1,132 @@
+"""The records of a journal as columns, and which of them spell no command.
+
+Each column has a value for each record, in their order: the record of place n, counted from 0, is the command of position
+n + 1. `commands.command_in` says the same of one record.
+"""
+from __future__ import annotations
+
+from dataclasses import dataclass, fields
+from typing import Iterator
+
+from life_tools.commands import BODY_SIZE, LAST_AGE, OLDEST_AT_ISSUE, PLAN_CODES, Command
+from life_tools.day_columns import FIRST, LAST, day_at
+from life_tools.formats import FIELDS, KINDS, MOST_CENTS, MOST_REINSTATEMENT_CENTS, PLANS
+from life_tools.journals import FIRST_GATE, RECORD_SIZE
+from life_tools.arrays import Array, Cents, np
+
+# a record as it stands in the file; the bytes behind its premium are 0 of every kind
+RECORD = np.dtype([("gate", "u1"), ("head", ">u4"), ("number", ">u4"), ("day", ">i4"), ("amount", ">u8"), ("premium", ">u8"),
+                   ("idle", ">u8", 4), ("rest", ">u4")])
+assert RECORD.itemsize == RECORD_SIZE == BODY_SIZE + 1
+# so many records that they lie in a processor's cache while they are looked at
+AT_ONCE = 1 << 14
+ISSUE, PREMIUM, ALTER, LAPSE, REINSTATE, CLAIM, SETTLE, MATURE, UPGRADE, PAIDUP = KINDS
+WHOLE = PLAN_CODES["whole"]
+
+
+@dataclass(frozen=True)
+class Records:
+    """Kinds by their codes; plan, age and years of an issue, else 0; days from 1970-01-01; cents. An upgrade has a kind alone."""
+
+    kind: Array
+    plan: Array
+    age: Array
+    years: Array
+    number: Array
+    day: Array
+    amount: Cents
+    premium: Cents
+
+    def __len__(self) -> int:
+        return len(self.kind)
+
+    def front(self, count: int) -> Records:
+        return Records(*(getattr(self, column.name)[:count] for column in fields(self)))
+
+    def command(self, place: int) -> Command:
+        """The command of a place, as an object."""
+        return next(self.commands(np.array([place])))
+
+    def commands(self, places: Array) -> Iterator[Command]:
+        """The commands of some places, as objects."""
+        columns = (getattr(self, column.name)[places].tolist() for column in fields(self))
+        for kind, plan, age, years, number, day, amount, premium in zip(*columns):
+            on = None if kind == UPGRADE else day_at(day)
+            yield Command(KINDS[kind], number, on, PLANS[plan] if plan else "", age, years, amount, premium)
+
+    def places_of(self, number: int) -> Array:
+        """The places of a policy's commands."""
+        return np.flatnonzero(self.number == number)
+
+
+def blank(count: int) -> Records:
+    kinds = (np.uint8, np.uint8, np.uint8, np.uint8, np.uint32, np.int32, np.int64, np.int64)
+    return Records(*(np.empty(count, kind) for kind in kinds))
+
+
+def limits(of: dict[str, tuple[int, int]]) -> tuple[Array, Array]:
+    """The least and the most of a field by the kinds' codes; of one that a kind doesn't hold, 0."""
+    pairs = [of.get(KINDS.get(code, ""), (0, 0)) for code in range(256)]
+    return np.array([least for least, _ in pairs], np.int64), np.array([most for _, most in pairs], np.int64)
+
+
+AMOUNTS = limits({kind: (1, MOST_REINSTATEMENT_CENTS if kind == "reinstate" else MOST_CENTS)
+                  for kind, held in FIELDS.items() if "amount" in held})
+PREMIUMS = limits({kind: (1, MOST_CENTS) for kind, held in FIELDS.items() if "premium" in held})
+
+
+def is_within(values: Array, kinds: Array, of: tuple[Array, Array]) -> Array:
+    least, most = of
+    right: Array = (least[kinds] <= values) & (values <= most[kinds])
+    return right
+
+
+def is_issue_right(block: Records) -> Array:
+    """Whether plan, age and years fit, of issues."""
+    of_whole = block.plan == WHOLE
+    years = np.where(of_whole, block.years == 0, (block.years >= 2) & (block.years <= LAST_AGE - block.age.astype(np.int16)))
+    right: Array = (block.plan >= 1) & (block.plan <= len(PLANS)) & (block.age <= OLDEST_AT_ISSUE) & years
+    return right
+
+
+def is_right(block: Records) -> Array:
+    """Whether each record spells a valid command, by all but what stands behind its premium."""
+    kind = block.kind
+    issue, upgrade = kind == ISSUE, kind == UPGRADE
+    right = (kind >= ISSUE) & (kind <= PAIDUP) & is_within(block.amount, kind, AMOUNTS) & is_within(block.premium, kind, PREMIUMS)
+    right &= np.where(issue, is_issue_right(block), (block.plan | block.age | block.years) == 0)
+    dated = (block.number >= 1) & (block.day >= FIRST) & (block.day <= LAST)
+    right &= np.where(upgrade, (block.number == 0) & (block.day == 0), dated)
+    return right
+
+
+def take_block(raw: Array, block: Records) -> None:
+    """Takes the columns of some records of the file."""
+    head = raw["head"].astype(np.uint32)
+    for column, shift in ((block.kind, 24), (block.plan, 16), (block.age, 8), (block.years, 0)):
+        np.copyto(column, head >> shift, casting="unsafe")
+    block.number[:] = raw["number"]
+    block.day[:] = raw["day"]
+    # an amount of 2^63 or more is below 0 here, and so outside its limits as well
+    block.amount[:] = raw["amount"].astype(np.uint64).view(np.int64)
+    block.premium[:] = raw["premium"].astype(np.uint64).view(np.int64)
+
+
+def has_idle_bytes(raw: Array) -> Array:
+    found: Array = (raw["idle"] != 0).any(axis=1) | (raw["rest"] != 0)
+    return found
+
+
+def records_of(data: bytes, count: int) -> tuple[Records, int]:
+    """The columns of a file's first records, and the place of the first one that spells no command, or their count."""
+    raw = np.frombuffer(data, RECORD, count, FIRST_GATE)
+    records = blank(count)
+    for start in range(0, count, AT_ONCE):
+        some = slice(start, start + AT_ONCE)
+        block = Records(*(getattr(records, column.name)[some] for column in fields(Records)))
+        take_block(raw[some], block)
+        wrong = ~is_right(block) | has_idle_bytes(raw[some])
+        if wrong.any():
+            first = start + int(wrong.argmax())
+            return records.front(first), first
+    return records, count
