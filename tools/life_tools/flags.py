@@ -113,7 +113,8 @@ def candidates(book: Columns) -> Array:
     at_once = settled[day[settled] == claimed[place[settled]]]
     late = matured[day[matured] > book.policies.end[place[matured]]]
     on_last = claims[days_before(book)[claims] == day[claims]]
-    return np.unique(place[np.concatenate([on_last, np.flatnonzero(kind == REINSTATE), at_once, late])])
+    found: Array = np.unique(place[np.concatenate([on_last, np.flatnonzero(kind == REINSTATE), at_once, late])])
+    return found
 
 
 def postings_of(book: Columns, policies: Array) -> Iterator[Array]:

@@ -172,7 +172,8 @@ def changed(policy: Policy, command: Command) -> Policy:
 
 def issued(command: Command) -> Policy:
     """The policy that an issue opens."""
-    return Policy(command.number, command.plan, command.age, command.years, command.amount, command.premium, command.on, command.on)
+    day = command.on
+    return Policy(command.number, command.plan, command.age, command.years, command.amount, command.premium, day, day)
 
 
 def decide(policy: Policy | None, command: Command) -> Refusal | Policy:

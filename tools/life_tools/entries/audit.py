@@ -11,14 +11,20 @@ from __future__ import annotations
 
 import argparse
 import csv
+import os
 import sys
 from collections import Counter
 
+from life_tools.copied_folder import JOURNAL
+from life_tools.entries.report import write_text, written_whole
 from life_tools.entries.why import position_in
 from life_tools.flags import DAYS_LATE, FLAGS, Flag, flags_at
-from life_tools.copied_folder import JOURNAL
 from life_tools.formats import Wrong, day_in, money, number_of, remark
-from life_tools.samples import BY, MEASURED, sample_of, text_of
+from life_tools.letters import HEADS, letters_of
+from life_tools.paper_pages import page
+from life_tools.papers import NotTheSample, papers_of
+from life_tools.printing import demand_printer, write_pdf
+from life_tools.samples import BY, MEASURED, sample_at, sample_of, text_of
 from life_tools.sampling import asked_in, seed_in
 
 MOST_DAYS = 36_500
@@ -49,7 +55,8 @@ def run_flags(options: argparse.Namespace) -> int:
     if days is None:
         raise Wrong(f"--late {options.late}: 0 to {MOST_DAYS} days are wanted")
     after = position_in(options.after) or 0
-    found = [each for each in flags_at(f"{options.folder}/{JOURNAL}", position_in(options.at), days) if each.position > after]
+    flags = flags_at(os.path.join(options.folder, JOURNAL), position_in(options.at), days)
+    found = [each for each in flags if each.position > after]
     writer = csv.writer(sys.stdout, lineterminator="\n")
     writer.writerow(["flag", "position", "policy", "kind", "day", "amount", "since", "why"])
     writer.writerows(map(row_of, found))
@@ -88,6 +95,50 @@ def run_sample(options: argparse.Namespace) -> int:
     return 1 if drawn.words and options.by == "reserve" else 0
 
 
+# --- papers and letters on a sample ---
+
+def papers_arguments(parser: argparse.ArgumentParser) -> None:
+    parser.add_argument("sample", metavar="SAMPLE", help="what audit sample printed")
+    files = parser.add_mutually_exclusive_group(required=True)
+    files.add_argument("--html", metavar="FILE", help="one page, which needs no network")
+    files.add_argument("--pdf", metavar="FILE", help="the page as PDF, by Chromium or LibreOffice, where one is there")
+    parser.add_argument("--life", metavar="PROGRAM", help="the program to ask")
+    folder_arguments(parser)
+    parser.set_defaults(piece=run_papers)
+
+
+def run_papers(options: argparse.Namespace) -> int:
+    """Writes nothing where the seed draws other rows of this book; a row that isn't right is written, and told."""
+    sample = sample_at(options.sample)
+    if options.pdf:
+        demand_printer()
+    try:
+        papers = papers_of(sample, options.folder, options.life)
+    except NotTheSample as other:
+        remark(f"wrong: {options.sample}: {other}")
+        return 1
+    text = page(papers)
+    written_whole(options.pdf or options.html, lambda path: write_pdf(path, text) if options.pdf else write_text(path, text))
+    for number in papers.wrong:
+        remark(f"wrong: the printed row of policy {number} isn't what was worked out")
+    return 1 if papers.wrong else 0
+
+
+def letters_arguments(parser: argparse.ArgumentParser) -> None:
+    parser.add_argument("sample", metavar="SAMPLE", help="what audit sample printed")
+    folder_arguments(parser)
+    parser.set_defaults(piece=run_letters)
+
+
+def run_letters(options: argparse.Namespace) -> int:
+    book = os.path.basename(os.path.realpath(options.folder))
+    rows = letters_of(sample_at(options.sample), os.path.join(options.folder, JOURNAL), book)
+    writer = csv.writer(sys.stdout, lineterminator="\n")
+    writer.writerow(HEADS)
+    writer.writerows(rows)
+    return 0
+
+
 def arguments(parser: argparse.ArgumentParser) -> None:
     pieces = parser.add_subparsers(dest="what", metavar="PIECE", required=True)
     for name, (tell, does) in PIECES.items():
@@ -97,6 +148,8 @@ def arguments(parser: argparse.ArgumentParser) -> None:
 PIECES = {
     "flags": (flags_arguments, "postings that are rare or doubtful, for people to look at; the status is 1 where there are any"),
     "sample": (sample_arguments, "a monetary unit sample of a valuation's rows"),
+    "papers": (papers_arguments, "a page to print for each policy of a sample: its row worked out, its postings, its basis row"),
+    "letters": (letters_arguments, "what a letter of confirmation says of each policy of a sample, as CSV"),
 }
 
 

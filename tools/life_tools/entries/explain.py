@@ -19,7 +19,7 @@ from life_tools.remedies import explain_refusal, is_refused
 
 
 def arguments(parser: argparse.ArgumentParser) -> None:
-    parser.add_argument("answer", metavar="ANSWER", help="a refused line, badscript,.. or badbasis,.. as printed; or a table's file")
+    parser.add_argument("answer", metavar="ANSWER", help="a refused line, badscript,.. or badbasis,.. as printed; or a table")
     parser.add_argument("files", metavar="SCRIPT | FOLDER", nargs="?", help="the script, or the folder of the basis")
 
 
