@@ -21,7 +21,7 @@ pre { font: .8rem/1.4 ui-monospace, monospace; white-space: pre-wrap; overflow-w
 .sign { display: grid; grid-template-columns: repeat(auto-fit, minmax(12rem, 1fr)); gap: 1rem; margin: 1rem 0 }
 .sign div { border-bottom: 1px solid #1b1f23; padding-top: 1.6rem; color: #57606a; font-size: .85rem }
 .wrong { color: #b00020; font-weight: 600 }
-@media (max-width: 30rem) { table { font-size: .68rem } th, td { padding: .3rem .2rem } }
+@media (max-width: 30rem) { table { font-size: .68rem } th, td { padding: .3rem .2rem } th { white-space: normal } }
 @media print {
   body { max-width: none; padding: 0; font-size: 10pt } section { border: 0; margin: 0 } pre { font-size: 8pt }
   .wide { overflow: visible } table { font-size: 8.5pt } th, td { padding: .15rem .35rem }
@@ -49,9 +49,9 @@ def verdict(paper: Paper) -> str:
 def front_of(papers: Papers) -> list[str]:
     sample, draw = papers.sample, papers.draw
     told = [("book", papers.book), ("day", str(sample.on)), ("position", apart(str(sample.position))),
-            ("measure", sample.measure), ("policies", apart(str(sample.policies))), ("drawn by", sample.by), ("rows wished for", apart(str(sample.asked))),
-            ("seed", str(sample.seed)), (f"total {sample.by}", money(sample.total)),
-            ("interval", f"{money(sample.total)} / {sample.asked}"),
+            ("measure", sample.measure), ("policies", apart(str(sample.policies))), ("drawn by", sample.by),
+            ("rows wished for", apart(str(sample.asked))), ("seed", str(sample.seed)),
+            (f"total {sample.by}", money(sample.total)), ("interval", f"{money(sample.total)} / {sample.asked}"),
             ("start", f"{plain_money(sample.start)} / {sample.asked}"), ("rows drawn", apart(str(len(sample.rows)))),
             ("certain rows", apart(str(draw.certain))), ("rows of 0, not drawn", apart(str(draw.nothing))),
             ("revision of the tools", revision()), ("made", made_now())]

@@ -39,7 +39,7 @@ REMEDIES = (
     Remedy("wrongstatus,claimed", (), POSTED, ONLY_SETTLE),
     Remedy("wrongstatus,matured", (), POSTED, ONLY_SETTLE),
     Remedy("wrongstatus,paidup", (), "it is paid up", "`claim` or `mature`"),
-    Remedy("wrongstatus,inforce", (), "it is in force", "nothing to reinstate or to settle"),
+    Remedy("wrongstatus,inforce", (), "it is in force already", "nothing"),
     Remedy("wrongstatus,settled", (), OVER, NOTHING_MORE),
     Remedy("wrongstatus,expired", (), OVER, NOTHING_MORE),
     Remedy("termover", ("claim",), "the insurance ended on this day: not insured then",
