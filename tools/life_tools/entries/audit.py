@@ -146,7 +146,10 @@ def arguments(parser: argparse.ArgumentParser) -> None:
 
 
 PIECES = {
-    "flags": (flags_arguments, "postings that are rare or doubtful, for people to look at; the status is 1 where there are any"),
+    "flags": (flags_arguments, "postings that are rare or doubtful, for people to look at; the status is 1 where there are any: "
+              "claims within a year of a reinstatement, claims on the very day of the policy's posting before them, claims that "
+              "are settled to the cent on their own day, reinstatements on the last day of the right, maturities long after the "
+              "end"),
     "sample": (sample_arguments, "a monetary unit sample of a valuation's rows"),
     "papers": (papers_arguments, "a page to print for each policy of a sample: its row worked out, its postings, its basis row"),
     "letters": (letters_arguments, "what a letter of confirmation says of each policy of a sample, as CSV"),
