@@ -11,7 +11,7 @@ from typing import Iterator
 from xml.parsers import expat
 from xml.sax.saxutils import escape, quoteattr
 
-from life_tools.formats import Wrong, bytes_of, demand
+from life_tools.formats import Wrong, demand, read_whole
 from life_tools.tables import MARK, MOST_DEPTH, SIXTEEN, WHITE, Element
 
 MOST_BYTES = 16 * 2**20
@@ -127,12 +127,7 @@ def document_of(data: bytes) -> Document:
 
 
 def document_at(path: str) -> Document:
-    data = bytes_of(path)
-    demand(len(data) <= MOST_BYTES, f"{path} has {len(data)} bytes, and {MOST_BYTES} are read")
-    try:
-        return document_of(data)
-    except Wrong as wrong:
-        raise Wrong(f"{path}: {wrong}") from wrong
+    return read_whole(path, MOST_BYTES, document_of)
 
 
 # --- as text ---

@@ -11,7 +11,7 @@ import datetime
 from dataclasses import dataclass
 from typing import Sequence
 
-from life_tools.formats import MOST_NUMBER, Wrong, bytes_of, day_in, demand, measure_of, money, number_of
+from life_tools.formats import MOST_NUMBER, Wrong, day_in, demand, measure_of, money, number_of, read_whole
 from life_tools.fronts import front
 from life_tools.printed_books import PrintedValuation, ValuedRow, row_of, state_in, valuation_in
 from life_tools.rules import Policy
@@ -136,9 +136,4 @@ def sample_in(text: str) -> Sample:
 
 
 def sample_at(path: str) -> Sample:
-    data = bytes_of(path)
-    demand(len(data) <= MOST_SAMPLE_BYTES, f"{path} has {len(data)} bytes: it is no sample")
-    try:
-        return sample_in(data.decode("ascii", "replace"))
-    except Wrong as wrong:
-        raise Wrong(f"{path}: {wrong}") from wrong
+    return read_whole(path, MOST_SAMPLE_BYTES, lambda data: sample_in(data.decode("ascii", "replace")))

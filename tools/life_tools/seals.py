@@ -20,7 +20,7 @@ from typing import NamedTuple, Sequence
 
 from life_tools.bulk import day_at
 from life_tools.copied_folder import JOURNAL
-from life_tools.formats import MOST_COMMANDS, Wrong, bytes_of, day_in, demand, number_of
+from life_tools.formats import MOST_COMMANDS, Wrong, bytes_of, day_in, demand, number_of, read_whole
 from life_tools.journals import FIRST_GATE, RECORD_SIZE, gate_of
 from life_tools.record_columns import BadJournal, columns_at
 from life_tools.tables import NAME, basis_rows, file_in
@@ -133,12 +133,7 @@ def seal_in(text: str) -> Seal:
 
 
 def seal_at(path: str) -> Seal:
-    data = bytes_of(path)
-    demand(len(data) <= MOST_SEAL_BYTES, f"{path} has {len(data)} bytes: it is no seal")
-    try:
-        return seal_in(data.decode("ascii", "replace"))
-    except Wrong as wrong:
-        raise Wrong(f"{path}: {wrong}") from wrong
+    return read_whole(path, MOST_SEAL_BYTES, lambda data: seal_in(data.decode("ascii", "replace")))
 
 
 # --- whether a book is still that of a seal ---

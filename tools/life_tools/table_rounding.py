@@ -6,7 +6,7 @@ from fractions import Fraction
 
 from life_tools.formats import Wrong, demand
 from life_tools.table_changes import NUMBER, Rounding, rate_text, rounded_units
-from life_tools.tables import (FINEST, WHITE, Element, is_select, issue_axes_of, path_of, root_of, rows_by_duration,
+from life_tools.tables import (FINEST, WHITE, Element, NotXml, is_select, issue_axes_of, path_of, root_of, rows_by_duration,
                                ultimate_rows_of)
 
 # the tag with which a row begins, and its text
@@ -27,7 +27,11 @@ def rows_of(root: Element) -> list[tuple[str, Element]]:
 def rounded_file(data: bytes) -> tuple[bytes, Rounding]:
     """The bytes of a file, with each rate that has more than nine places rounded to the nearest; and what that changed."""
     rounding, parts, done = Rounding(), [], 0
-    for where, row in sorted(rows_of(root_of(data)), key=lambda pair: pair[1].at):
+    try:
+        root = root_of(data)
+    except NotXml as wrong:
+        raise Wrong(f"{wrong}; table convert reads more") from wrong
+    for where, row in sorted(rows_of(root), key=lambda pair: pair[1].at):
         text = row.text.strip(WHITE)
         if not row.is_plain or not NUMBER.fullmatch(text) or "," in text:
             continue

@@ -16,7 +16,7 @@ import os
 from life_tools.entries.report import written_whole
 from life_tools.explanations import CURES, WANTED, line_and_column, shown
 from life_tools.foreign_tables import MOST_BYTES, document_at, document_of
-from life_tools.formats import Wrong, bytes_of, demand, remark
+from life_tools.formats import Wrong, demand, read_whole, remark
 from life_tools.table_changes import FACTORS, converted, joined
 from life_tools.table_parts import lines_of
 from life_tools.table_remarks import kind_of, remarks_on, whose
@@ -35,12 +35,6 @@ def arguments(parser: argparse.ArgumentParser) -> None:
             piece.add_argument("--factor", choices=FACTORS, help="what a ScalingFactor is for, where the rates don't tell")
         piece.add_argument("--life", metavar="PROGRAM", help="the program to ask")
         piece.set_defaults(piece=run_it)
-
-
-def table_bytes(path: str) -> bytes:
-    data = bytes_of(path)
-    demand(len(data) <= MOST_BYTES, f"{path} has {len(data)} bytes, and {MOST_BYTES} are read")
-    return data
 
 
 # --- check ---
@@ -78,7 +72,7 @@ def tell_taken(path: str, data: bytes) -> int:
 
 
 def run_check(options: argparse.Namespace) -> int:
-    data = table_bytes(options.file)
+    data = read_whole(options.file, MOST_BYTES, bytes)
     verdict = verdict_on(data, name_for(options.file), options.life)
     if not verdict:
         return tell_taken(options.file, data)
@@ -105,18 +99,12 @@ def write_table(path: str, data: bytes, changes: list[str], life: str | None) ->
 
 
 def run_convert(options: argparse.Namespace) -> int:
-    try:
-        data, changes = converted(document_at(options.file), options.factor)
-    except Wrong as wrong:
-        raise Wrong(f"{options.file}: {wrong}") from wrong
+    data, changes = read_whole(options.file, MOST_BYTES, lambda found: converted(document_of(found), options.factor))
     return write_table(options.out, data, changes, options.life)
 
 
 def run_round(options: argparse.Namespace) -> int:
-    try:
-        data, rounding = rounded_file(table_bytes(options.file))
-    except Wrong as wrong:
-        raise Wrong(f"{options.file}: {wrong}; table convert reads more") from wrong
+    data, rounding = read_whole(options.file, MOST_BYTES, rounded_file)
     return write_table(options.out, data, [rounding.line()] if rounding.count else [], options.life)
 
 
