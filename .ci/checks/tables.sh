@@ -2,21 +2,7 @@
 # Tables before a book is valued by them: six in the layouts of known ones, and the forms that others write; looked at,
 # converted, rounded, joined, and refused where a rate would have to be invented.
 . "$(dirname "$0")/../common.sh"
-export LIFE_PROGRAM="$program"
-
-says() {
-    "$tools/life-tools" "$@" >out 2>remarks || complain "$*: status $?: $(cat out remarks)"
-}
-
-refuses() {
-    wanted=$1 words=$2
-    shift 2
-    "$tools/life-tools" "$@" >out 2>remarks
-    status=$?
-    { [ "$status" = "$wanted" ] && cat out remarks | grep -q -e "$words" && ! grep -q Traceback remarks; } ||
-        complain "$*: status $status: $(cat out remarks)"
-    [ ! -e written ] || complain "$*: a file was written"
-}
+. "$root/.ci/said.sh"
 
 begin "tables of others"
 python3 "$root/.ci/tools/foreign_tables.py" "$root" "$program" >said 2>&1 || complain "$(cat said)"
