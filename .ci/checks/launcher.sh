@@ -20,6 +20,12 @@ launch help </dev/null
 for word in run state checkpoint value project generate --wait try prove test install pack doc tools help; do
     grep -q "sh life $word" out || complain "$word isn't told"
 done
+# the installed program tells the same of its words
+cat "$root/tools/launcher/folder.sh" "$root/tools/launcher/words.sh" "$root/tools/installed/life.sh" >life-installed
+cp "$(command -v true)" life-program
+sh life-installed help >told || complain "the installed help ended with $?"
+sed -n 's/^  sh life \([a-z]\)/  life \1/p' out | sed '/^  life \(try\|prove\|test\|install\|pack\|doc\|tools\)/d; s/  */ /g' >wanted
+sed 's/  */ /g' told | grep '^ life ' | cmp -s - wanted || complain "the installed help tells $(cat told)"
 
 begin "nothing is proved"
 for words in run state "state 7001" checkpoint "value 2021-01-01" "project 2021-01-01 2" "generate 1 1 1" \
@@ -55,7 +61,7 @@ begin "the proved program"
 mkdir -p "$copy/crates/life_cli/out" && cp "$program" "$built"
 launch run <"$first.csv"
 judge "$status" 0 "$first.transcript"
-[ ! -s notes ] || complain "the launcher says: $(cat notes)"
+[ "$(cat notes)" = "life: there is no journal.life in $(pwd -P), so a new book is begun" ] || complain "the launcher says: $(cat notes)"
 [ -e journal.life ] || complain "no journal was made"
 launch prove </dev/null
 [ "$status" = 0 ] || complain "a proved program is proved again"

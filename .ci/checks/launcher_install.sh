@@ -11,9 +11,9 @@ launch install "$bin" </dev/null
 [ "$status" = 0 ] || complain "status $status: $(cat notes)"
 sum=$(sha256sum <"$program" | cut -d ' ' -f 1)
 grep -q "^sum: $sum$" out && grep -q "^revision: " out && grep -q "^kit: " out || complain "it says: $(cat out)"
-cmp -s "$program" "$bin/life" || complain "it is another program"
+cmp -s "$program" "$bin/life-program" || complain "it is another program"
 ls -A "$bin" | tr '\n' ' ' >found
-echo "life life-tools life-wait " | tr -d '\n' >wanted
+echo "life life-program life-tools life-wait " | tr -d '\n' >wanted
 cmp -s wanted found || complain "there are: $(cat found)"
 completion=$work/home/share/bash-completion/completions/life
 [ -f "$work/home/share/man/man1/life.1" ] && [ -f "$completion" ] || complain "no page"
@@ -23,7 +23,7 @@ grep -qx checkpoint out || complain "the completion gives: $(cat out)"
 
 go_on "a second installation while the first one runs, and without the clone"
 mkfifo script
-"$bin/life" run <script >transcript &
+"$bin/life" run <script >transcript 2>begun &
 running=$!
 exec 6>script
 launch install "$bin" </dev/null
@@ -46,11 +46,17 @@ mv "$copy.away" "$copy"
 echo usage >wanted
 "$bin/life-wait" x state >out 2>notes
 judge $? 2 wanted
-cp "$bin/life" kept
-echo more >>"$bin/life"
+cp "$bin/life-program" kept
+echo more >>"$bin/life-program"
 "$bin/life-tools" version >out 2>&1
 [ $? = 1 ] && grep -q "^wrong: " out || complain "a changed program isn't found: $(cat out)"
-cp kept "$bin/life"
+cp kept "$bin/life-program"
+mkdir elsewhere && (cd elsewhere && "$bin/life" state </dev/null >../out 2>../notes)
+[ $? = 66 ] && [ ! -s out ] && [ -z "$(ls elsewhere)" ] || complain "without a book: $(cat out notes)"
+notes_are "there is no journal.life in .*elsewhere, so nothing was run"
+mv "$bin/life-program" kept && "$bin/life" state </dev/null >out 2>notes
+[ $? = 69 ] && [ ! -s out ] || complain "without a program: $(cat out notes)"
+mv kept "$bin/life-program"
 
 go_on "an installation that fails leaves what was"
 # no room for the program: a device of half a megabyte, or else a limit on the size of files

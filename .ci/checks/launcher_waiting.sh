@@ -1,5 +1,5 @@
 #!/bin/sh
-# Who waits for a book gets it: alone, of many, and without keeping another off.
+# Who waits for a book gets it: alone, of many, and without keeping another off. A folder without a book is told.
 # By the clock: kills and waits.
 . "$(dirname "$0")/../common.sh"
 . "$root/.ci/launcher/common.sh"
@@ -41,5 +41,16 @@ rm journal.life
 launch --wait 0 generate 1 1 1 </dev/null
 [ "$status" = 0 ] || complain "what needs no book waits: $(cat notes)"
 leaves_none
+
+begin "a folder without a book"
+for words in state "state 7001" checkpoint "value 2021-01-01" "project 2021-01-01 2" "--wait 5 state"; do
+    # shellcheck disable=SC2086
+    says_alone 66 "^life: there is no journal.life in $(pwd -P), so nothing was run$" $words
+done
+launch run <"$first.csv"
+judge "$status" 0 "$first.transcript"
+notes_are "^life: there is no journal.life in $(pwd -P), so a new book is begun$"
+launch state </dev/null
+[ "$status" = 0 ] && [ ! -s notes ] || complain "status $status: $(cat notes)"
 
 end "who waits for a book gets it"

@@ -55,7 +55,7 @@ undone "nowhere is no journal, and no number of commands" rest small-office.csv 
 undone "badjournal,notajournal" rest small-office.csv journal.life strange
 undone "nowhere: $none" explain badscript,1,1 nowhere
 undone "badscript needs the script's file" explain badscript,1,1
-undone "nowhere: no such file, and no answer of a script or a basis" explain nowhere
+undone "nowhere: no such file, and no answer of a line, a script or a basis" explain nowhere
 undone "isn't badbasis,NAME,PLACE,WORD" explain badbasis,basis.csv
 undone "nowhere: $none" position-on 2021-01-01 nowhere
 undone "badjournal,notajournal" position-on 2021-01-01 strange

@@ -83,9 +83,9 @@ none_is_left() {
     done
 }
 
-# no word is answered where it isn't current, and `state` is where it is
+# no word is answered where it isn't current, and `generate`, which needs no book, is where it is
 answers() {
-    launch state </dev/null
+    launch generate 1 1 1 </dev/null
     if [ "$1" = current ]; then
         [ "$status" = 0 ] && [ ! -s notes ] || complain "$2: it isn't taken as current: $(cat notes)"
     else

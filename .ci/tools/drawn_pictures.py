@@ -40,8 +40,8 @@ def reserves(path: str, picture: Picture) -> None:
 
 
 def book(path: str, picture: Picture) -> None:
-    assert picture.words[0] == f"amounts insured, {len(rows_of(path, 'policy'))} policies", picture.words
-    assert "whole inforce 2" in picture.words and "25000.00" in picture.words, picture.words
+    assert picture.words[0] == f"amounts insured, {len(rows_of(path, 'policy'))} policies, in thousands", picture.words
+    assert "whole inforce 2" in picture.words and "25.00" in picture.words, picture.words
 
 
 def projection(path: str, picture: Picture) -> None:

@@ -35,7 +35,7 @@ exec python3 "$here/../share/life/life-tools.py" "$@"
 """
 # what begins the program, and the parts of the launcher that it is made of, as tools/launcher/install.sh does
 COMMANDS = {
-    "life": ("launcher/folder.sh", "installed/life.sh"),
+    "life": ("launcher/folder.sh", "launcher/words.sh", "installed/life.sh"),
     "life-wait": ("launcher/folder.sh", "launcher/waiting.sh", "installed/life-wait.sh"),
 }
 

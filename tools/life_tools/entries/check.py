@@ -3,7 +3,9 @@
 A row is told where its day is behind today, or before that of its lane's posting above; where it is more than 400 days from
 its policy's newest posting, a maturity from the end of the term, and a claim only while premiums are awaited; where its
 policy's number is unknown; where an accepted posting equals it, as where a settlement is sent twice; where its
-amount isn't the policy's premium, or more than is outstanding; and where the program refuses it on a copy of the journal.
+amount isn't the policy's premium, or more than is outstanding; where it is a claim within a year of a reinstatement; and
+where the program refuses it on a copy of the journal, with what to do. Of a claim that is refused it tells whether the policy
+was insured on the day of death: it never is a reason to reinstate.
 The rows are looked at in the order in which that dry run answered them. The status is 1 where a row is told. The copy lies
 where that of `dry-run` does.
 
@@ -26,6 +28,7 @@ from life_tools.program import life_command
 from life_tools.script_lines import Line, lanes_of, script_at
 from life_tools.script_warnings import Desk
 from life_tools.transcript_check import answers_in
+from life_tools.wholeness import tell_doubt
 
 
 def arguments(parser: argparse.ArgumentParser) -> None:
@@ -53,7 +56,7 @@ def look_over(lines: list[Line], transcript: str, desk: Desk, holding: Holding) 
         if answer[:1] == ["accepted"] and line.command:
             desk.take(line.command, number_of(answer[1], 1, MOST_COMMANDS) or 0)
         elif answer[:1] == ["refused"]:
-            told[line.row.number].append(f"it is refused: {','.join(answer[1:])}")
+            told[line.row.number] += [f"it is refused: {','.join(answer[1:])}", *desk.advice(line, answer[1:])]
     holding.end(lines)
     return told
 
@@ -71,6 +74,7 @@ def answered(options: argparse.Namespace, data: bytes | None) -> str:
 def run(options: argparse.Namespace) -> int:
     today = day_in(options.today) if options.today else datetime.date.today()
     lines, data = script_at(options.script), journal_bytes(options.folder)
+    tell_doubt(os.path.join(options.folder, JOURNAL))
     transcript, desk = answered(options, data), Desk(today)
     if data:
         desk.read(data, count_of(data, options.folder), {line.command.number for line in lines if line.command})

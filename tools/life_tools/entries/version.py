@@ -6,15 +6,14 @@ from __future__ import annotations
 
 import argparse
 import hashlib
-import json
 import os
-import pkgutil
 import re
 import subprocess
 import sys
 
 from life_tools.formats import Wrong, bytes_of
 from life_tools.program import program_beside
+from life_tools.revisions import built_with, of_clone
 
 # whether a clone's program is newer than each of its sources, as its launcher decides that
 IS_CURRENT = 'root=$0; . "$root/tools/launcher/shared.sh"; is_current "$1"'
@@ -22,15 +21,6 @@ IS_CURRENT = 'root=$0; . "$root/tools/launcher/shared.sh"; is_current "$1"'
 
 def arguments(parser: argparse.ArgumentParser) -> None:
     pass
-
-
-def built_with() -> dict[str, str] | None:
-    """What `life install` or the package noted; nothing in a clone."""
-    try:
-        noted = pkgutil.get_data("life_tools", "built.json")
-    except OSError:
-        return None
-    return json.loads(noted) if noted else None
 
 
 def version_of(clone: str) -> str:
@@ -41,18 +31,9 @@ def version_of(clone: str) -> str:
     return found[1]
 
 
-def revision_of(clone: str) -> str:
-    try:
-        asked = subprocess.run(["git", "-C", clone, "rev-parse", "HEAD"], stdout=subprocess.PIPE, stderr=subprocess.DEVNULL,
-                               check=False)
-    except OSError:
-        return "unknown"
-    return asked.stdout.decode().strip() or "unknown: there is no repository"
-
-
 def tell_of_clone(clone: str) -> int:
     print(f"version: {version_of(clone)}, not installed: the tools of the clone {clone}")
-    print(f"revision: {revision_of(clone)}")
+    print(f"revision: {of_clone() or 'unknown: there is no repository'}")
     program = os.path.join(clone, "crates", "life_cli", "out", "life_cli")
     if not os.path.isfile(program):
         print(f"wrong: there is no proved program {program}: sh life prove")
@@ -68,10 +49,10 @@ def tell_of_clone(clone: str) -> int:
 def tell_of_installed(here: str, built: dict[str, str]) -> int:
     for name in ("version", "revision", "kit", "sum"):
         print(f"{name}: {built[name]}")
-    program = program_beside(here)
-    if program is None:
+    beside = program_beside(here)
+    if beside is None:
         raise Wrong(f"there is no program in {here}")
-    program = os.path.realpath(program)
+    program = os.path.realpath(beside)
     found = hashlib.sha256(bytes_of(program)).hexdigest()
     if found != built["sum"]:
         print(f"wrong: {program} has the sum {found}")
