@@ -18,7 +18,7 @@
 PATH=${LIFE_BIN:-$HOME/.local/bin}:$PATH
 # how long to wait for somebody else who has the book, in seconds
 patience=${LIFE_WAIT:-600}
-new='' looked_at='' told=0
+new='' looked_at='' room='' told=0
 
 say() {
     echo "day: $1" >&2
@@ -62,12 +62,23 @@ name_of() {
     esac
 }
 
+# A tool with its words, once nobody else has the book, or at the end of the patience; what it tells goes to log/.told.
+patiently() {
+    until=$(($(date +%s) + patience))
+    while :; do
+        "$@" 2>log/.told
+        ended=$?
+        { [ "$ended" = 2 ] && grep -q " is held by " log/.told && [ "$(date +%s)" -lt "$until" ]; } || return "$ended"
+        sleep 1
+    done
+}
+
 # Whether nothing of the book shows to be gone. What a crash may have left is told, and no reason to stop.
 is_whole() {
     [ -e journal.life ] || return 0
-    verdict=$(life-tools verify 2>log/.told | tail -n 1)
+    verdict=$(patiently life-tools verify | tail -n 1)
     [ ! -s log/.told ] || say_lines log/.told
-    case $verdict in whole | undecided) ;; *) return 1 ;; esac
+    case $verdict in whole | undecided) ;; *) room=untold; return 1 ;; esac
 }
 
 # Looks a script over, and divides it into what is sent and what is held back; a bad script is left to the program, which
@@ -77,8 +88,8 @@ look_over() {
     [ -z "$looked_at" ] || { cp "$script" log/.next/script; return; }
     set --
     for held in log/*/held.csv; do [ ! -e "$held" ] || set -- "$@" --also-held "$held"; done
-    life-tools check "$script" --today "$(date +%F)" --hold log/.next/script log/.next/held.csv "$@" \
-        >log/.next/checked 2>log/.told
+    patiently life-tools check "$script" --today "$(date +%F)" --hold log/.next/script log/.next/held.csv "$@" \
+        >log/.next/checked
     [ $? -lt 2 ] || {
         grep -qF "$script is badscript," log/.told || { say_lines log/.told; return 1; }
         cp "$script" log/.next/script
@@ -118,12 +129,13 @@ send() {
     script=$1
     [ -f "$script" ] || { say "$script is no file"; return 1; }
     sum=$(sha256sum <"$script" | cut -d ' ' -f 1)
-    earlier=$(grep -lxF "$sum" log/*/sum 2>/dev/null | head -n 1)
+    # where all rows of a script were held back, they have its checksum
+    earlier=$(grep -lxF "$sum" log/*/sum 2>/dev/null | grep -vxF "${script%/held.csv}/sum" | head -n 1)
     [ -z "$earlier" ] || { say "$script isn't sent, since it was sent before: ${earlier%/sum}"; return 1; }
     is_whole || { say "$script isn't sent, since the book can't be taken as whole: docs/OPERATIONS.md tells how to go on"; return 1; }
+    look_over || { say "$script isn't sent, since it can't be looked over"; return 1; }
     before=$(count)
     [ -n "$before" ] || { say "$script isn't sent, since the book can't be read: life state tells why"; return 1; }
-    look_over || { say "$script isn't sent, since it can't be looked over"; return 1; }
     kept=$(new_folder "$(name_of "$script")")
     keep_script || { say "$script isn't sent, since log/ can't be written"; return 1; }
     life-wait "$patience" run <"$kept/script" >"$kept/transcript" 2>"$kept/remarks"
@@ -133,8 +145,8 @@ send() {
 
 # how many commands are left, where they are fewer than a year's
 tell_room() {
-    [ -e journal.life ] || return 0
-    life-tools headroom --within 365 >/dev/null 2>log/.told
+    [ -e journal.life ] && [ -z "$room" ] || return 0
+    patiently life-tools headroom --within 365 >/dev/null
     case $? in
         0) ;;
         1) while read -r line; do say "$line"; done <log/.told ;;

@@ -312,8 +312,8 @@ python3 - <<'PY' || complain "the drawing of the book isn't that of the state"
 import xml.dom.minidom
 words = [it.firstChild.data for it in xml.dom.minidom.parse("out").getElementsByTagName("text")]
 policies = [line.split(",") for line in open("state") if line.startswith("policy,")]
-assert words[0] == f"amounts insured, {len(policies)} policies"
-assert "whole inforce 2" in words and "25000.00" in words, words
+assert words[0] == f"amounts insured, {len(policies)} policies, in thousands"
+assert "whole inforce 2" in words and "25.00" in words, words
 PY
 refuses "isn't what life state prints" plot book transcript
 

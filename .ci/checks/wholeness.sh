@@ -39,11 +39,22 @@ both_tell() {
 # each tool that reads the book tells it, and prints nothing of it
 all_tell() {
     both_tell "$1"
-    for words in "read journal.life" "position-on 2024-12-31 journal.life" "seal --no-basis" "books books.csv position-on 2024-12-31"; do
+    while read -r words; do
         # shellcheck disable=SC2086
         ends 1 "$pattern" $words
         [ ! -s out ] || complain "$words printed $(head -n 3 out)"
-    done
+    done <<'WORDS'
+read journal.life
+position-on 2024-12-31 journal.life
+seal --no-basis
+books books.csv position-on 2024-12-31
+at 10 state
+report 2010-12-31
+export csv journal.life
+due 2010-12-31
+dry-run script
+check script
+WORDS
     for words in "value 2010-12-31" "project 2010-12-31 2"; do
         # shellcheck disable=SC2086
         ends 1 "$pattern" books books.csv $words
@@ -103,7 +114,9 @@ cp whole.life journal.life
 ends 0 "" verify
 printf 'count,40\nlength,2618\nnoted,checkpoint.life,40\nwhole\n' | cmp -s - out || complain "verify printed $(cat out)"
 turn "$(gate 39)" 0
-all_tell "journal.life has 39 commands, and had 40 by .*checkpoint.life"
+both_tell "journal.life has 39 commands, and had 40 by .*checkpoint.life"
+ends 1 "had 40 by checkpoint.life" read journal.life
+[ ! -s out ] || complain "read printed $(cat out)"
 # one that is none, or is of fewer, tells nothing
 cp checkpoint.life kept.life
 printf '\000' | dd of=checkpoint.life bs=1 conv=notrunc 2>/dev/null

@@ -160,10 +160,10 @@ def reads_report(browser, book, position):
     demand([facts["lower bound"], facts["upper bound"]] == total, f"the total is {total}, and the page says {facts}")
     for caption in ("By plan", "By status", "By year of issue", "By age at issue", "By row of the basis"):
         rows, (added, printed) = browser.rows(caption), browser.rows(caption, "tfoot")
-        for place in (3, 4):
-            demand(sum(cents(row[place]) for row in rows) == cents(printed[place]) == cents(total[place - 3]), f"{caption}: {printed}")
+        for place in (4, 5):
+            demand(sum(cents(row[place]) for row in rows) == cents(printed[place]) == cents(total[place - 4]), f"{caption}: {printed}")
         demand(sum(cents(row[1]) for row in rows) == cents(added[1]) == cents(printed[1]), f"{caption}: policies")
-        demand(sum(cents(row[2]) for row in rows) == cents(added[2]), f"{caption}: amounts")
+        demand(sum(cents(row[3]) for row in rows) == cents(added[3]), f"{caption}: amounts")
     balances = {it[1]: apart(it[2]) for it in (line.split(",") for line in book.tool("at", position, "state")[0].splitlines())
                 if it[0] == "balance" and not it[2].startswith("-")}
     demand(all(facts[name] == amount for name, amount in balances.items()), f"balances {balances}")

@@ -18,6 +18,6 @@ anywhere, and nothing of it touches a book:
   sh life tools NAME WORDS        one of the tools beside the program: sh life tools --help
   sh life help                    this
 
-status 69: no proved program is as new as its sources, and nothing was run. 70: the launcher failed. 130: it was
-stopped.
+status 66: the folder has no book. 69: no proved program is as new as its sources. Of both nothing was run. 70: the launcher
+failed. 130: it was stopped.
 WORDS

@@ -18,7 +18,7 @@ from life_tools.formats import Wrong, bytes_of, demand
 from life_tools.program import program_beside
 from life_tools.record_columns import BadJournal, beginnings_at, copy_front, front_count, front_sum, places_in
 from life_tools.valuation_rows import VALUATION, valuation_rows
-from life_tools.wholeness import demand_undamaged
+from life_tools.wholeness import doubt_of
 
 JOURNAL = "journal.life"
 # the status of what the program can't be asked, and the program's own of a file that is no journal
@@ -205,18 +205,9 @@ def look_at(task: Task, folder: str) -> Look:
     count = front_count(path) if task.is_copied else places_in(path)
     if count is None:
         return Look(0, frozenset(), (), "")
-    doubt = task.doubt if task.files else doubt_of(task.folder)
+    doubt = task.doubt if task.files else doubt_of(os.path.join(task.folder, JOURNAL))
     sums = tuple(sums_of(folder, count)) if task.is_copied and not task.sums else ()
     return Look(count, beginnings_at(path, count), sums, doubt)
-
-
-def doubt_of(folder: str) -> str:
-    """What has to be told of a book that may not be whole."""
-    try:
-        return demand_undamaged(os.path.join(folder, JOURNAL)).told()
-    except BadJournal:
-        # the program says so
-        return ""
 
 
 def sums_of(folder: str, count: int) -> Iterator[tuple[str, str]]:

@@ -9,12 +9,13 @@ from typing import Callable
 
 from life_tools.book_cluster import Cluster, Make
 from life_tools.book_lists import ListedBook
-from life_tools.book_runs import JOURNAL, Outcome, Parts, Task, demand_journal, doubt_of, failure, run_once, sum_of
+from life_tools.book_runs import JOURNAL, Outcome, Parts, Task, demand_journal, failure, run_once, sum_of
 from life_tools.copied_folder import basis_files
 from life_tools.formats import Wrong, bytes_of, demand, remark
 from life_tools.program import demand_as_installed, life_command, program_file
 from life_tools.progress import Progress
 from life_tools.record_columns import columns_at, front_sum
+from life_tools.wholeness import doubt_of
 
 
 @dataclass(frozen=True)
@@ -69,7 +70,7 @@ def made_elsewhere(asked: Asked, book: ListedBook, program: str, program_sum: st
     try:
         demand_journal(book.folder)
         task = task_elsewhere(asked, book, program, program_sum)
-        return replace(task, doubt=doubt_of(book.folder)) if asked.are_sent else task
+        return replace(task, doubt=doubt_of(book.journal)) if asked.are_sent else task
     except Wrong as wrong:
         return failure(book.name, wrong)
 

@@ -14,6 +14,7 @@ from life_tools.formats import Wrong, bytes_of, demand
 from life_tools.journals import EMPTY, count_of
 from life_tools.program import life_command
 from life_tools.record_columns import copy_front, front_count
+from life_tools.wholeness import tell_doubt
 
 # so many threads value, which change no byte of what is printed
 WORKERS = ("--workers", str(min(os.cpu_count() or 1, 4)))
@@ -78,6 +79,7 @@ def copied(path: str, position: int | None, to: str) -> int:
 def front(folder: str, position: int | None, bases: Sequence[str], life: str | None) -> Iterator[Front]:
     """A copy of the book at a position (the newest where none is told), with these basis files and their tables."""
     path, command = os.path.join(folder, JOURNAL), life_command(life)
+    tell_doubt(path)
     with desk_of(None, folder, bases[0]) as desk:
         position = copied(path, position, os.path.join(desk, JOURNAL))
         for basis in bases[1:]:

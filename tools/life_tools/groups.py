@@ -5,11 +5,11 @@ from dataclasses import dataclass, field
 from typing import Callable, NamedTuple, Sequence
 
 from life_tools.arrays import Array, Cents, np
-from life_tools.day_columns import FIRST_YEAR, LAST_YEAR, number_at, years_at
+from life_tools.class_columns import BasisColumn
+from life_tools.day_columns import FIRST_YEAR, LAST_YEAR, years_at
 from life_tools.formats import PLANS, STATUSES, Wrong, demand, money
 from life_tools.policy_columns import CODE_OF_STATUS
 from life_tools.printed_columns import ColumnState, ColumnValuation, Rows, StatePolicies
-from life_tools.tables import BasisRow
 
 AGES_IN_A_BAND = 10
 # as many bits of cents, of 4,000,000 policies, as a float adds up without rounding
@@ -53,25 +53,25 @@ def demand_same(valuation: ColumnValuation, state: ColumnState) -> None:
         raise Wrong(f"the row of policy {row.number}, {row.status}, stands where the state has {found}")
 
 
-def joined(valuation: ColumnValuation, state: ColumnState, basis: Sequence[BasisRow]) -> Joined:
+def joined(valuation: ColumnValuation, state: ColumnState, basis: BasisColumn) -> Joined:
     """Each row with its policy, which the state has in the same place."""
     demand_same(valuation, state)
-    days = np.array([number_at(row.day) for row in basis], np.int32)
-    names = ["none", *(f"{row.day} {row.name} {row.points} bp" for row in basis)]
-    return Joined(valuation.rows, state.policies, np.searchsorted(days, state.policies.issued, "right"), names)
+    return Joined(valuation.rows, state.policies, *basis)
 
 
 @dataclass
 class Sums:
-    """Of some policies: how many, the amounts insured of those in force or paid up, the bounds, the rows with a word."""
+    """Of some policies: how many, those in force or paid up and their amounts insured, the bounds, the rows with a word."""
 
     policies: int = 0
+    insured: int = 0
     amount: int = 0
     bounds: list[int] = field(default_factory=list)
     words: int = 0
 
     def cells(self) -> list[str]:
-        return [str(self.policies), money(self.amount), *(money(each) for each in self.bounds), str(self.words)]
+        bounds = [money(each) for each in self.bounds]
+        return [str(self.policies), str(self.insured), money(self.amount), *bounds, str(self.words)]
 
 
 Groups = dict[tuple[str, ...], Sums]
@@ -89,10 +89,12 @@ def sums_by(it: Joined, groups: Array, count: int) -> list[Sums]:
     """The sums of groups, which each policy's number tells."""
     insured = (it.rows.status == CODE_OF_STATUS["inforce"]) | (it.rows.status == CODE_OF_STATUS["paidup"])
     amounts = added(groups, count, np.where(insured, it.policies.amount, 0))
+    counts: list[int] = np.bincount(groups[insured], minlength=count).tolist()
     bounds = [added(groups, count, it.rows.bounds[:, place]) for place in range(it.rows.bounds.shape[1])]
     policies: list[int] = np.bincount(groups, minlength=count).tolist()
     words: list[int] = np.bincount(groups[it.rows.word > 0], minlength=count).tolist()
-    return [Sums(policies[place], amounts[place], [each[place] for each in bounds], words[place]) for place in range(count)]
+    return [Sums(policies[place], counts[place], amounts[place], [each[place] for each in bounds], words[place])
+            for place in range(count)]
 
 
 def grouped(it: Joined, keys: Sequence[str]) -> Groups:

@@ -49,10 +49,11 @@ class Records:
 
     def commands(self, places: Array) -> Iterator[Command]:
         """The commands of some places, as objects."""
-        columns = (getattr(self, column.name)[places].tolist() for column in fields(self))
-        for kind, plan, age, years, number, day, amount, premium in zip(*columns):
-            on = None if kind == UPGRADE else day_at(day)
-            yield Command(KINDS[kind], number, on, PLANS[plan] if plan else "", age, years, amount, premium)
+        for start in range(0, len(places), AT_ONCE):
+            columns = (getattr(self, column.name)[places[start:start + AT_ONCE]].tolist() for column in fields(self))
+            for kind, plan, age, years, number, day, amount, premium in zip(*columns):
+                on = None if kind == UPGRADE else day_at(day)
+                yield Command(KINDS[kind], number, on, PLANS[plan] if plan else "", age, years, amount, premium)
 
     def places_of(self, number: int) -> Array:
         """The places of a policy's commands."""
@@ -81,11 +82,10 @@ def is_within(values: Array, kinds: Array, of: tuple[Array, Array]) -> Array:
     return right
 
 
-def is_issue_right(block: Records) -> Array:
-    """Whether plan, age and years fit, of issues."""
-    of_whole = block.plan == WHOLE
-    years = np.where(of_whole, block.years == 0, (block.years >= 2) & (block.years <= LAST_AGE - block.age.astype(np.int16)))
-    right: Array = (block.plan >= 1) & (block.plan <= len(PLANS)) & (block.age <= OLDEST_AT_ISSUE) & years
+def is_issue_right(plan: Array, age: Array, years: Array) -> Array:
+    """Whether they fit, of issues."""
+    do_years = np.where(plan == WHOLE, years == 0, (years >= 2) & (years <= LAST_AGE - age.astype(np.int16)))
+    right: Array = (plan >= 1) & (plan <= len(PLANS)) & (age <= OLDEST_AT_ISSUE) & do_years
     return right
 
 
@@ -94,7 +94,7 @@ def is_right(block: Records) -> Array:
     kind = block.kind
     issue, upgrade = kind == ISSUE, kind == UPGRADE
     right = (kind >= ISSUE) & (kind <= PAIDUP) & is_within(block.amount, kind, AMOUNTS) & is_within(block.premium, kind, PREMIUMS)
-    right &= np.where(issue, is_issue_right(block), (block.plan | block.age | block.years) == 0)
+    right &= np.where(issue, is_issue_right(block.plan, block.age, block.years), (block.plan | block.age | block.years) == 0)
     dated = (block.number >= 1) & (block.day >= FIRST) & (block.day <= LAST)
     right &= np.where(upgrade, (block.number == 0) & (block.day == 0), dated)
     return right

@@ -15,6 +15,7 @@ from life_tools.day_columns import FIRST, LAST
 from life_tools.formats import (MOST_NUMBER, MOST_YEARS, PLANS, STATUSES, Wrong, day_in, demand, measure_of, money, number_of,
                                 printed_cents)
 from life_tools.printed_books import ValuedRow
+from life_tools.rules import ACCOUNTS
 from life_tools.worked_rows import WORDS
 
 LINE_END, COMMA, POINT, MINUS, ZERO = b"\n,.-0"
@@ -22,7 +23,7 @@ LINE_END, COMMA, POINT, MINUS, ZERO = b"\n,.-0"
 BLOCK = 1 << 20
 MOST_DIGITS = 18
 NO_WORDS = ("", *WORDS)
-ENOUGH = ("short", "enough", "close")
+PREMIUMS = ("", "short", "enough", "close")
 
 
 def blocks_of(parts: Iterable[bytes]) -> Iterator[bytes]:
@@ -157,13 +158,15 @@ class Rows:
     word: Array
     # a column for each bound, 0 where there is a word
     bounds: Cents
+    # by `deficiency` what the premium is, by its code
+    premium: Array
 
     def __len__(self) -> int:
         return len(self.number)
 
     def row(self, place: int) -> ValuedRow:
         return ValuedRow(int(self.number[place]), STATUSES[int(self.status[place]) - 1], int(self.year[place]),
-                         tuple(self.bounds[place].tolist()), NO_WORDS[int(self.word[place])])
+                         tuple(self.bounds[place].tolist()), NO_WORDS[int(self.word[place])], PREMIUMS[int(self.premium[place])])
 
 
 class ColumnValuation(NamedTuple):
@@ -190,7 +193,7 @@ def rows_in(block: bytes, bounds: int) -> Rows:
     found = fields_in(block)
     count = sum(len(each.lines) for each in found.values())
     made = Rows(np.zeros(count, np.uint32), np.zeros(count, np.uint8), np.zeros(count, np.uint8), np.zeros(count, np.uint8),
-                np.zeros((count, bounds), np.int64))
+                np.zeros((count, bounds), np.int64), np.zeros(count, np.uint8))
     usual = 4 + bounds + (bounds == 4)
     for many, each in found.items():
         each.wrong(each.codes(0, ("row",)) == 0)
@@ -205,7 +208,8 @@ def rows_in(block: bytes, bounds: int) -> Rows:
         for place in range(bounds):
             made.bounds[lines, place] = each.cents(4 + place)
         if bounds == 4:
-            each.codes(8, ENOUGH)
+            made.premium[lines] = each.codes(8, PREMIUMS)
+            each.wrong(made.premium[lines] > 0)
     return made
 
 
@@ -292,6 +296,11 @@ def policies_in(block: bytes) -> StatePolicies:
     demand(len(found) == 1 and each, f"{block[:80]!r} begins no policies of a state")
     assert each is not None
     each.wrong(each.codes(0, ("policy",)) == 0)
+    # what no group is made by is looked at alone
+    for field in (5, 9):
+        each.whole(field, MOST_YEARS)
+    for field in (7, 10):
+        each.cents(field)
     return StatePolicies(each.whole(1, MOST_NUMBER).astype(np.uint32), each.codes(2, STATUSES) + 1,
                          each.codes(3, tuple(PLANS.values())) + 1, each.whole(4, OLDEST_AT_ISSUE).astype(np.uint8), each.days(8),
                          each.cents(6))
@@ -312,11 +321,10 @@ def state_of(parts: Iterable[bytes]) -> ColumnState:
 
 
 def balances_in(text: bytes) -> tuple[dict[str, int], int]:
-    balances: dict[str, int] = {}
-    for line in text.decode("ascii", "replace").splitlines():
-        name, *values = line.split(",")
-        if name == "count" and len(values) == 1:
-            return balances, int(number_of(values[0], 0, MOST_NUMBER) or 0)
-        demand(name == "balance" and len(values) == 2, f"{line} is no line of a state")
-        balances[values[0]] = printed_cents(values[1])
-    raise Wrong("the state has no count")
+    """The balances and the count, which stand behind the policies."""
+    *lines, last = text.decode("ascii", "replace").splitlines() or [""]
+    count = number_of(last[6:], 0, MOST_NUMBER) if last.startswith("count,") else None
+    heads = [line.rpartition(",")[0] for line in lines]
+    if count is None or heads != [f"balance,{account}" for account in ACCOUNTS]:
+        raise Wrong("the state doesn't end with its balances and its count")
+    return {account: printed_cents(line.rpartition(",")[2]) for account, line in zip(ACCOUNTS, lines)}, count

@@ -6,8 +6,9 @@ from typing import Callable, Iterable, Iterator, Sequence, TypeVar
 from life_tools.arrays import Array, Cents, np
 from life_tools.columns import Columns
 from life_tools.day_columns import texts_at
-from life_tools.formats import FIELDS, KINDS, PLANS
+from life_tools.formats import FIELDS, KINDS, PLANS, STATUSES
 from life_tools.journal_columns import Records
+from life_tools.policy_columns import Policies
 from life_tools.progress import Progress
 
 # so many records are made at once
@@ -15,7 +16,7 @@ AT_ONCE = 1 << 15
 # the columns that a kind holds, by the names under which they are exported
 HELD = {kind: ("position", "policy", "day", *names) if kind != "upgrade" else ("position",) for kind, names in FIELDS.items()}
 TEXTS = ("day", "plan", "amount", "premium")
-# what a kind that books moves its cents from and to, the first account of both is named first: it takes them, or gives them
+# the accounts between which a kind moves its cents, and the sign of the first
 BOOKED = {"premium": ("cash", 1, "premiums"), "reinstate": ("cash", 1, "premiums"), "settle": ("cash", -1, "payable"),
           "claim": ("incurred", 1, "payable"), "mature": ("incurred", 1, "payable")}
 T = TypeVar("T")
@@ -87,3 +88,14 @@ def transactions_of(book: Columns) -> Iterator[str]:
 
     for block in in_order(book.records, made, "writing transactions"):
         yield "".join(block)
+
+
+def policy_lines(policies: Policies) -> Iterator[str]:
+    """The policies as `state` prints them, block by block."""
+    for start in range(0, len(policies), AT_ONCE):
+        of = policies.at(slice(start, start + AT_ONCE))
+        columns = (of.number, of.status, of.plan, of.age, of.years)
+        rows = zip(*(each.tolist() for each in columns), moneys(of.amount), moneys(of.premium), texts_at(of.issued),
+                   of.paid.tolist(), moneys(of.outstanding))
+        yield "".join(f"policy,{number},{STATUSES[status - 1]},{PLANS[plan]},{age},{years},{amount},{premium},{issued},{paid},"
+                      f"{outstanding}\n" for number, status, plan, age, years, amount, premium, issued, paid, outstanding in rows)

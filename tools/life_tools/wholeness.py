@@ -15,6 +15,7 @@ from typing import Iterator, NamedTuple, Sequence
 
 from life_tools.checkpoints import HEADER as CHECKPOINT_HEADER
 from life_tools.formats import MOST_COMMANDS, Wrong, bytes_of, demand, number_of, remark
+from life_tools.holders import holder_of
 from life_tools.journals import EMPTY, FIRST_GATE, OPEN, RECORD_SIZE, Journal, gate_of, is_unfinished_creation, records_in
 from life_tools.record_columns import BadJournal
 from life_tools.seals import front_difference, seal_at
@@ -201,10 +202,26 @@ def demand_undamaged(path: str) -> Shape:
     return shape
 
 
+def doubt_of(path: str) -> str:
+    """What is to be told of a book that may not be whole; what is no journal is left to who reads it."""
+    try:
+        return demand_undamaged(path).told()
+    except BadJournal:
+        return ""
+
+
+def tell_doubt(path: str) -> None:
+    """Tells it, of a book of which nothing shows to be gone, or of none."""
+    doubt = doubt_of(path) if os.path.isfile(path) else ""
+    if doubt:
+        remark(doubt)
+
+
 def tell(shape: Shape) -> int:
     """Tells what isn't as in a whole book: 1, or 0 where nothing is told."""
     for reason in shape.reasons():
         remark(reason)
     if shape.verdict == UNDECIDED:
-        remark(f"{shape.path}: whether a command is gone is undecided")
+        holder = holder_of(shape.path)
+        remark(f"{shape.path}: whether a command is gone is undecided" + (f", while {holder} has it" if holder else ""))
     return 0 if shape.verdict == WHOLE else 1

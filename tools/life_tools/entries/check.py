@@ -26,6 +26,7 @@ from life_tools.program import life_command
 from life_tools.script_lines import Line, lanes_of, script_at
 from life_tools.script_warnings import Desk
 from life_tools.transcript_check import answers_in
+from life_tools.wholeness import tell_doubt
 
 
 def arguments(parser: argparse.ArgumentParser) -> None:
@@ -71,6 +72,7 @@ def answered(options: argparse.Namespace, data: bytes | None) -> str:
 def run(options: argparse.Namespace) -> int:
     today = day_in(options.today) if options.today else datetime.date.today()
     lines, data = script_at(options.script), journal_bytes(options.folder)
+    tell_doubt(os.path.join(options.folder, JOURNAL))
     transcript, desk = answered(options, data), Desk(today)
     if data:
         desk.read(data, count_of(data, options.folder), {line.command.number for line in lines if line.command})

@@ -24,6 +24,7 @@ from life_tools.formats import Wrong, day_in, demand, money, number_of, remark
 from life_tools.policy_columns import LAPSED, TERM, Policies, is_insured, missed
 from life_tools.record_texts import moneys
 from life_tools.rules import GRACE, REINSTATEMENT_ANNIVERSARIES
+from life_tools.wholeness import tell_doubt
 
 WHATS = ("premium", "grace", "lapse", "mature", "reinstate", "settle")
 PREMIUM, IN_GRACE, LAPSE, MATURE, REINSTATE, SETTLE = range(len(WHATS))
@@ -131,6 +132,7 @@ def run(options: argparse.Namespace) -> int:
     within = number_of(options.within, 0, MOST_DAYS)
     if within is None:
         raise Wrong(f"--within {options.within}: a number of days from 0 to {MOST_DAYS} is wanted")
+    tell_doubt(options.journal)
     items = Items(columns_at(options.journal).policies, number_at(day), within).find_all()
     if kinds:
         chosen = np.isin(items.what, [WHATS.index(kind) for kind in kinds])

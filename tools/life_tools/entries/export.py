@@ -30,6 +30,7 @@ from life_tools.packages import package
 from life_tools.progress import Progress
 from life_tools.record_texts import HELD, TEXTS, lines_of
 from life_tools.valuation_rows import VALUATION, TableRow, valuation_rows
+from life_tools.wholeness import tell_doubt
 
 COLUMNS = ("position", "kind", "policy", "day", "plan", "age", "years", "amount", "premium")
 TABLES = {"command": COMMAND, "booking": BOOKING, "policy": POLICY, "valuation": VALUATION}
@@ -156,6 +157,7 @@ def arguments(parser: argparse.ArgumentParser) -> None:
 
 
 def run(options: argparse.Namespace) -> int:
+    tell_doubt(options.journal)
     if options.form in ("sqlite", "pandas"):
         try:
             write_tables(options)

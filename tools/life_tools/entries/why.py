@@ -10,6 +10,7 @@ import argparse
 import os
 
 from life_tools.arrays import np
+from life_tools.class_bases import measure_words
 from life_tools.formats import MOST_COMMANDS, MOST_NUMBER, Wrong, day_in, demand, money, number_of
 from life_tools.fronts import WORKERS, Front, front
 from life_tools.printed_books import ValuedRow, account_in
@@ -26,9 +27,14 @@ def arguments(parser: argparse.ArgumentParser) -> None:
     parser.add_argument("--folder", metavar="FOLDER", default=".", help="where journal.life, the basis and the tables lie (.)")
     parser.add_argument("--life", metavar="PROGRAM", help="the program to ask")
     parser.add_argument("--exact", action="store_true", help="print long exact fractions whole")
+    measure_arguments(parser)
+
+
+def measure_arguments(parser: argparse.ArgumentParser) -> None:
+    """What a valuation shows."""
     measure = parser.add_mutually_exclusive_group()
-    measure.add_argument("--mean", dest="measure", action="store_const", const="mean", default="terminal")
-    measure.add_argument("--deficiency", dest="measure", action="store_const", const="deficiency")
+    measure.add_argument("--mean", dest="measure", action="store_const", const="mean", default="terminal", help="mean reserves")
+    measure.add_argument("--deficiency", dest="measure", action="store_const", const="deficiency", help="minimum reserves beside")
 
 
 def position_in(text: str | None) -> int | None:
@@ -38,10 +44,6 @@ def position_in(text: str | None) -> int | None:
     position = number_of(text, 0, MOST_COMMANDS)
     demand(position is not None, f"{text} is no position")
     return position
-
-
-def measure_words(measure: str) -> list[str]:
-    return [] if measure == "terminal" else [f"--{measure}"]
 
 
 def row_in(valuation: ColumnValuation, number: int) -> ValuedRow:
