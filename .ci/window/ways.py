@@ -151,6 +151,9 @@ def actuary(browser, book, base):
     browser.press("Choose")
     browser.press(f"What moved from 2021-12-31 to {YEAR_END}")
     reads_movement(browser, book, position)
+    browser.open(base + "/1/month?before=2021-12-31&on=2024-06-30")
+    browser.press("State 2021-12-31 to 2024-06-30")
+    reads_statement(browser, book)
     reads_reserve(browser, base)
 
 
@@ -178,6 +181,24 @@ def reads_movement(browser, book, position):
         demand(added == signed(closing[place]) == cents(book.total(YEAR_END, "--at", position)[place - 2]), f"the movement: {closing}")
     browser.says("Checked: the lines add up to")
     browser.look("movement")
+
+
+def reads_statement(browser, book):
+    """Each sheet adds up in the words that are read, and ends with what the program prints."""
+    browser.says("Checked: the increase in reserves ends with just these")
+    last = book.tool("position-on", "2024-06-30", "journal.life")[0].strip()
+    total, increase = book.total("2024-06-30", "--at", last), browser.rows("Increase in reserves")
+    for place in (2, 3):
+        added = sum(signed(row[place]) for row in increase[:-1])
+        demand(added == signed(increase[-1][place]) == cents(total[place - 2]), f"the increase in reserves: {increase[-1]}, by life {total}")
+    exhibit, names = browser.rows("Exhibit of life insurance"), [row[0] for row in browser.rows("Exhibit of life insurance")]
+    begins, ends = names.index("in force at the beginning"), names.index("in force at the end")
+    for place in range(1, 13):
+        added = sum(signed(row[place]) for row in exhibit[begins:ends])
+        demand(added == signed(exhibit[ends][place]), f"column {place} of the exhibit: {added}, and not {exhibit[ends][place]}")
+    reserves = browser.rows("Reserves by valuation basis")
+    demand(sum(signed(row[-2]) for row in reserves[:-1]) == signed(reserves[-1][-2]) == cents(total[1]), "reserves by basis")
+    browser.look("statement")
 
 
 def signed(text):
@@ -215,11 +236,26 @@ def reads_reserve(browser, base):
 
 
 def auditor(browser, book, base):
-    """Keeps the seal, which is the one that the tool makes."""
+    """Keeps the seal, looks at flags, and draws a sample: all as the tools print them."""
     browser.open(base + "/1/audit")
     seal = book.tool("seal")[0].strip()
     demand(browser.driver.find_element(By.TAG_NAME, "pre").text.strip() == seal, "the seal is another one")
+    browser.says("whole")
     browser.look("audit")
+    browser.press("Show")
+    printed = [line.split(",") for line in book.tool("audit", "flags")[0].splitlines()[1:]]
+    browser.says(f"{len(printed)} posting")
+    demand([row[1] for row in browser.rows("Postings to look at")] == [row[1] for row in printed], "the flags")
+    browser.look("flags")
+    browser.press("Audit")
+    browser.type("Valued on", YEAR_END)
+    browser.type("Rows wished for", "20")
+    browser.press("Draw")
+    lines = book.tool("audit", "sample", "20", "--seed", "1", "--on", YEAR_END)[0].splitlines()
+    drawn = [line.split(",")[1:] for line in lines if line.startswith("row,")]
+    demand(len(drawn) > 10, f"only {len(drawn)} rows are drawn")
+    demand(browser.rows("The drawn rows") == [[*row[:3], *map(apart, row[3:5])] for row in drawn], "the sample is another one")
+    browser.look("sample")
 
 
 def operator(browser, book, base):

@@ -7,7 +7,6 @@ import re
 from life_tools.day_columns import number_at
 from life_tools.entries.report import HEADS
 from life_tools.formats import MEASURES
-from life_tools.groups import Groups
 from life_tools.positions import on_day
 from life_tools.report_pages import apart, money
 from life_tools.window import pictures

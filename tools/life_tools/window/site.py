@@ -7,7 +7,7 @@ import pkgutil
 from typing import Any, Callable
 from urllib.parse import quote, urlencode
 
-from life_tools.entries.version import built_with
+from life_tools.revisions import built_with
 from life_tools.formats import Wrong
 from life_tools.packages import package
 from life_tools.window import audit_pages, day_pages, find_pages, month_pages, policy_pages, stand_pages, statement_pages
