@@ -63,7 +63,7 @@ printf 'one,book,basis.csv\ntwo,other,basis.csv\n' >books.csv
 mkdir other && cp book/*.xml book/basis.csv other && printf '%s\n' "$policy" | (cd other && "$life" run >../transcript)
 cksum book/journal.life other/journal.life >before
 open_window --books books.csv
-python3 "$root/.ci/window/pages.py" "$(cat address)" "/=one" "/1/=834 postings" "/2/=1 policy" \
+python3 "$root/.ci/window/pages.py" "$(cat address)" "/=one" "/1/= postings, the last of 2024-04-05" "/2/=1 policy" \
     "/2/find?number=7001=in force" "/2/policy?number=7001&on=2021-01-01=127.22" >said || complain "$(cat said)"
 close_window
 let_go

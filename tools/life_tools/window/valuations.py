@@ -7,7 +7,7 @@ from __future__ import annotations
 
 import datetime
 import os
-from dataclasses import dataclass
+from dataclasses import dataclass, fields
 from typing import Iterator
 
 from life_tools.arrays import np
@@ -23,7 +23,7 @@ from life_tools.window.looked_at import LookedAt
 from life_tools.window.runs import printed_by
 
 AT_ONCE = 1 << 18
-COLUMNS = ("number", "status", "year", "word", "bounds")
+COLUMNS = tuple(column.name for column in fields(Rows))
 
 
 @dataclass
