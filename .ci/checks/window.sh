@@ -46,6 +46,9 @@ printf '1900-01-01,g.xml,400\n2020-01-01,q.xml,0\n2020-02-01,g.xml,400\n' >basis
     "$life" generate 1 400 1
     cat "$examples/first-minute.csv"
     sed -E 's/^(1,[a-z]+,)(1[1-7]),/\1700\2,/' "$examples/small-office.csv" | grep -v ,7001,
+    # a claim on the day of the posting before it, which is paid at once
+    echo 1,issue,70021,2024-04-04,term,40,20,1000.00,50.00
+    printf '1,%s\n' premium,70021,2024-04-04,50.00 claim,70021,2024-04-04 settle,70021,2024-04-04,1000.00
 } | "$life" run >../transcript || complain "the book couldn't be made"
 cp journal.life backups/no.backup && echo 0 >log/2024-01-02T100000-tuesday/status
 cd ..
@@ -68,6 +71,12 @@ python3 "$root/.ci/window/pages.py" "$(cat address)" "/=one" "/1/= postings, the
 close_window
 let_go
 cksum book/journal.life other/journal.life | cmp -s - before || complain "a journal changed"
+
+go_on "downloads of a book with a strange name"
+cp -r other "=1+1"
+open_window --folder "=1+1"
+timeout 60 python3 "$root/.ci/window/downloads.py" "$(cat address)" "=1+1" "$life" 2021-01-01 >said 2>&1 || complain "$(cat said)"
+close_window
 
 go_on "what can't be opened"
 # words that must end with 2, say this, and leave nothing behind
