@@ -22,12 +22,20 @@ class Book:
 
     def __init__(self, folder, program):
         self.folder, self.program = folder, program
+        self.told = {}
         self.begun = self.count()
 
     def life(self, *words, given=""):
         return subprocess.run([self.program, *words], cwd=self.folder, input=given, capture_output=True, text=True, check=True).stdout
 
     def tool(self, *words):
+        """What a tool prints, asked once of each state of the journal."""
+        key = os.path.getsize(os.path.join(self.folder, "journal.life")), words
+        if key not in self.told:
+            self.told[key] = self.ran(*words)
+        return self.told[key]
+
+    def ran(self, *words):
         told = [sys.executable, os.path.join(ROOT, "tools", "life-tools"), *words]
         ran = subprocess.run(told, cwd=self.folder, capture_output=True, text=True, env={**os.environ, "LIFE_PROGRAM": self.program})
         return ran.stdout, ran.stderr
