@@ -23,10 +23,11 @@ mkdir "$TMPDIR" "$work/browser"
 mkdir "$work/bin" && cp "$program" "$work/bin/life" && python3 "$tools/launcher/pack_tools.py" "$tools/life_tools" "$work/bin/life-tools" \
     0123456789abcdef "a kit" "$(sha256sum <"$program" | cut -d ' ' -f 1)" && chmod +x "$work/bin/life-tools" || exit 2
 
-# a window on the folder book, whose address comes to `address`
+under=
+# a window on a book, perhaps under another program, whose address comes to `address`
 open_window() {
     : >address
-    "$work/bin/life-tools" browse "$@" --port 0 >address 2>remarks &
+    $under "$work/bin/life-tools" browse "$@" --port 0 >address 2>remarks &
     window=$!
     until [ -s address ] || ! kill -0 "$window" 2>/dev/null; do sleep 0.1; done
 }
@@ -65,11 +66,18 @@ hold book/journal.life
 printf 'one,book,basis.csv\ntwo,other,basis.csv\n' >books.csv
 mkdir other && cp book/*.xml book/basis.csv other && printf '%s\n' "$policy" | (cd other && "$life" run >../transcript)
 cksum book/journal.life other/journal.life >before
+under=$(command -v strace) || owes strace
+under="$under -D -f -qq -o $PWD/calls -e trace=openat,unlink,unlinkat,rename,truncate,mkdir"
 open_window --books books.csv
+under=
 python3 "$root/.ci/window/pages.py" "$(cat address)" "/=one" "/1/= postings, the last of 2024-04-05" "/2/=1 policy" \
     "/2/find?number=7001=in force" "/2/policy?number=7001&on=2021-01-01=127.22" >said || complain "$(cat said)"
 close_window
 let_go
+grep 'openat(.*journal.life"' calls | grep -v "$TMPDIR" >opened
+[ -s opened ] && ! grep -E 'O_WRONLY|O_RDWR|O_CREAT' opened || complain "the journal isn't opened for reading alone: $(head -n 3 opened)"
+grep -E "\"$PWD/(book|other)/" calls | grep -E 'O_WRONLY|O_RDWR|O_CREAT|unlink|rename|mkdir|truncate' >written
+[ ! -s written ] || complain "something is written beside the book: $(head -n 3 written)"
 cksum book/journal.life other/journal.life | cmp -s - before || complain "a journal changed"
 
 go_on "downloads of a book with a strange name"
