@@ -27,7 +27,7 @@ NEW = (f"/1/policy?number=77777&on={DAY}", f"/1/report?on={DAY}&measure=mean", f
        "/1/movement?on1=2021-01-01&p1={half}&on2=2022-01-01&p2={most}", "/1/audit", "/1/stands")
 OTHERS = ("/1/", "/1/find", "/1/find?sort=amount&order=down", "/1/find?number=999&page=3", "/1/find?page=2500&sort=issued",
           "/1/find?plan=endowment&sort=age&order=down&page=2000", f"/1/policy?number=77777&on={DAY}", f"/1/report?on={DAY}&measure=mean",
-          f"/1/day?day={DAY}", f"/1/day/list?day={DAY}&what=lapse&page=4000", "/1/month", "/1/audit", "/1/stands")
+          f"/1/day?day={DAY}", f"/1/day/list?day={DAY}&what=premium", "/1/month", "/1/audit", "/1/stands")
 
 
 class Memory(threading.Thread):
@@ -110,6 +110,13 @@ class Window:
 def measured(folder, program, commands):
     state = timing.timed([program, "state"], folder.path).clock
     window = Window(folder.path, program)
+    try:
+        tell(window, state, commands)
+    finally:
+        window.close()
+
+
+def tell(window, state, commands):
     window.seconds("/1/")
     first = time.perf_counter() - window.begun
     half = {"half": commands // 2, "most": commands * 3 // 4}
@@ -124,7 +131,6 @@ def measured(folder, program, commands):
         longest.append(most)
         print(f"  again: {path}: {seconds:.3f} s")
     print(f"  the longest single answer {max(longest):.2f} s; the most memory {window.memory.most:.0f} MiB")
-    window.close()
 
 
 def main(commands=MILLION, policies=None):

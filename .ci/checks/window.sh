@@ -23,10 +23,11 @@ mkdir "$TMPDIR" "$work/browser"
 mkdir "$work/bin" && cp "$program" "$work/bin/life" && python3 "$tools/packing/tools_file.py" "$tools/life_tools" "$work/bin/life-tools" \
     0123456789abcdef "a kit" "$(sha256sum <"$program" | cut -d ' ' -f 1)" && chmod +x "$work/bin/life-tools" || exit 2
 
-# a window on the folder book, whose address comes to `address`
+under=
+# a window on a book, perhaps under another program, whose address comes to `address`
 open_window() {
     : >address
-    "$work/bin/life-tools" browse "$@" --port 0 >address 2>remarks &
+    $under "$work/bin/life-tools" browse "$@" --port 0 >address 2>remarks &
     window=$!
     until [ -s address ] || ! kill -0 "$window" 2>/dev/null; do sleep 0.1; done
 }
@@ -46,6 +47,9 @@ printf '1900-01-01,g.xml,400\n2020-01-01,q.xml,0\n2020-02-01,g.xml,400\n' >basis
     "$life" generate 1 400 1
     cat "$examples/first-minute.csv"
     sed -E 's/^(1,[a-z]+,)(1[1-7]),/\1700\2,/' "$examples/small-office.csv" | grep -v ,7001,
+    # a claim on the day of the posting before it, which is paid at once
+    echo 1,issue,70021,2024-04-04,term,40,20,1000.00,50.00
+    printf '1,%s\n' premium,70021,2024-04-04,50.00 claim,70021,2024-04-04 settle,70021,2024-04-04,1000.00
 } | "$life" run >../transcript || complain "the book couldn't be made"
 cp journal.life backups/no.backup && echo 0 >log/2024-01-02T100000-tuesday/status
 cd ..
@@ -62,12 +66,25 @@ hold book/journal.life
 printf 'one,book,basis.csv\ntwo,other,basis.csv\n' >books.csv
 mkdir other && cp book/*.xml book/basis.csv other && printf '%s\n' "$policy" | (cd other && "$life" run >../transcript)
 cksum book/journal.life other/journal.life >before
+under=$(command -v strace) || owes strace
+under="$under -D -f -qq -o $PWD/calls -e trace=openat,unlink,unlinkat,rename,truncate,mkdir"
 open_window --books books.csv
-python3 "$root/.ci/window/pages.py" "$(cat address)" "/=one" "/1/=834 postings" "/2/=1 policy" \
+under=
+python3 "$root/.ci/window/pages.py" "$(cat address)" "/=one" "/1/= postings, the last of 2024-04-05" "/2/=1 policy" \
     "/2/find?number=7001=in force" "/2/policy?number=7001&on=2021-01-01=127.22" >said || complain "$(cat said)"
 close_window
 let_go
+grep 'openat(.*journal.life"' calls | grep -v "$TMPDIR" >opened
+[ -s opened ] && ! grep -E 'O_WRONLY|O_RDWR|O_CREAT' opened || complain "the journal isn't opened for reading alone: $(head -n 3 opened)"
+grep -E "\"$PWD/(book|other)/" calls | grep -E 'O_WRONLY|O_RDWR|O_CREAT|unlink|rename|mkdir|truncate' >written
+[ ! -s written ] || complain "something is written beside the book: $(head -n 3 written)"
 cksum book/journal.life other/journal.life | cmp -s - before || complain "a journal changed"
+
+go_on "downloads of a book with a strange name"
+cp -r other "=1+1"
+open_window --folder "=1+1"
+timeout 60 python3 "$root/.ci/window/downloads.py" "$(cat address)" "=1+1" "$life" 2021-01-01 >said 2>&1 || complain "$(cat said)"
+close_window
 
 go_on "what can't be opened"
 # words that must end with 2, say this, and leave nothing behind

@@ -30,7 +30,7 @@ def main(address, *wanted):
     for each in wanted:
         path, _, words = each.rpartition("=")
         parts = re.fullmatch("([0-9]{3}) (.*)", words)
-        told, words = (int(parts[1]), parts[2]) if parts and int(parts[1]) >= 400 else (200, words)
+        told, words = (int(parts[1]), parts[2]) if parts and 400 <= int(parts[1]) < 600 else (200, words)
         status, text = page(window, path)
         if status != told or words not in text:
             wrong.append(f"{path}: {status}, without {words!r}: {text[:600]}")

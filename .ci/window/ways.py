@@ -22,11 +22,20 @@ class Book:
 
     def __init__(self, folder, program):
         self.folder, self.program = folder, program
+        self.told = {}
+        self.begun = self.count()
 
     def life(self, *words, given=""):
         return subprocess.run([self.program, *words], cwd=self.folder, input=given, capture_output=True, text=True, check=True).stdout
 
     def tool(self, *words):
+        """What a tool prints, asked once of each state of the journal."""
+        key = os.path.getsize(os.path.join(self.folder, "journal.life")), words
+        if key not in self.told:
+            self.told[key] = self.ran(*words)
+        return self.told[key]
+
+    def ran(self, *words):
         told = [sys.executable, os.path.join(ROOT, "tools", "life-tools"), *words]
         ran = subprocess.run(told, cwd=self.folder, capture_output=True, text=True, env={**os.environ, "LIFE_PROGRAM": self.program})
         return ran.stdout, ran.stderr
@@ -151,6 +160,9 @@ def actuary(browser, book, base):
     browser.press("Choose")
     browser.press(f"What moved from 2021-12-31 to {YEAR_END}")
     reads_movement(browser, book, position)
+    browser.open(base + "/1/month?before=2021-12-31&on=2024-06-30")
+    browser.press("State 2021-12-31 to 2024-06-30")
+    reads_statement(browser, book)
     reads_reserve(browser, base)
 
 
@@ -160,10 +172,10 @@ def reads_report(browser, book, position):
     demand([facts["lower bound"], facts["upper bound"]] == total, f"the total is {total}, and the page says {facts}")
     for caption in ("By plan", "By status", "By year of issue", "By age at issue", "By row of the basis"):
         rows, (added, printed) = browser.rows(caption), browser.rows(caption, "tfoot")
-        for place in (3, 4):
-            demand(sum(cents(row[place]) for row in rows) == cents(printed[place]) == cents(total[place - 3]), f"{caption}: {printed}")
+        for place in (4, 5):
+            demand(sum(cents(row[place]) for row in rows) == cents(printed[place]) == cents(total[place - 4]), f"{caption}: {printed}")
         demand(sum(cents(row[1]) for row in rows) == cents(added[1]) == cents(printed[1]), f"{caption}: policies")
-        demand(sum(cents(row[2]) for row in rows) == cents(added[2]), f"{caption}: amounts")
+        demand(sum(cents(row[3]) for row in rows) == cents(added[3]), f"{caption}: amounts")
     balances = {it[1]: apart(it[2]) for it in (line.split(",") for line in book.tool("at", position, "state")[0].splitlines())
                 if it[0] == "balance" and not it[2].startswith("-")}
     demand(all(facts[name] == amount for name, amount in balances.items()), f"balances {balances}")
@@ -178,6 +190,24 @@ def reads_movement(browser, book, position):
         demand(added == signed(closing[place]) == cents(book.total(YEAR_END, "--at", position)[place - 2]), f"the movement: {closing}")
     browser.says("Checked: the lines add up to")
     browser.look("movement")
+
+
+def reads_statement(browser, book):
+    """Each sheet adds up in the words that are read, and ends with what the program prints."""
+    browser.says("Checked: the increase in reserves ends with just these")
+    last = book.tool("position-on", "2024-06-30", "journal.life")[0].strip()
+    total, increase = book.total("2024-06-30", "--at", last), browser.rows("Increase in reserves")
+    for place in (2, 3):
+        added = sum(signed(row[place]) for row in increase[:-1])
+        demand(added == signed(increase[-1][place]) == cents(total[place - 2]), f"the increase in reserves: {increase[-1]}, by life {total}")
+    exhibit, names = browser.rows("Exhibit of life insurance"), [row[0] for row in browser.rows("Exhibit of life insurance")]
+    begins, ends = names.index("in force at the beginning"), names.index("in force at the end")
+    for place in range(1, 13):
+        added = sum(signed(row[place]) for row in exhibit[begins:ends])
+        demand(added == signed(exhibit[ends][place]), f"column {place} of the exhibit: {added}, and not {exhibit[ends][place]}")
+    reserves = browser.rows("Reserves by valuation basis")
+    demand(sum(signed(row[-2]) for row in reserves[:-1]) == signed(reserves[-1][-2]) == cents(total[1]), "reserves by basis")
+    browser.look("statement")
 
 
 def signed(text):
@@ -215,11 +245,26 @@ def reads_reserve(browser, base):
 
 
 def auditor(browser, book, base):
-    """Keeps the seal, which is the one that the tool makes."""
+    """Keeps the seal, looks at flags, and draws a sample: all as the tools print them."""
     browser.open(base + "/1/audit")
     seal = book.tool("seal")[0].strip()
     demand(browser.driver.find_element(By.TAG_NAME, "pre").text.strip() == seal, "the seal is another one")
+    browser.says("whole")
     browser.look("audit")
+    browser.press("Show")
+    printed = [line.split(",") for line in book.tool("audit", "flags")[0].splitlines()[1:]]
+    browser.says(f"{len(printed)} posting")
+    demand(printed and [row[:3] for row in browser.rows("Postings to look at")] == [row[:3] for row in printed], "the flags")
+    browser.look("flags")
+    browser.press("Audit")
+    browser.type("Valued on", YEAR_END)
+    browser.type("Rows wished for", "20")
+    browser.press("Draw")
+    lines = book.tool("audit", "sample", "20", "--seed", "1", "--on", YEAR_END)[0].splitlines()
+    drawn = [line.split(",")[1:] for line in lines if line.startswith("row,")]
+    demand(len(drawn) > 10, f"only {len(drawn)} rows are drawn")
+    demand(browser.rows("The drawn rows") == [[*row[:3], *map(apart, row[3:5])] for row in drawn], "the sample is another one")
+    browser.look("sample")
 
 
 def operator(browser, book, base):
@@ -229,7 +274,7 @@ def operator(browser, book, base):
     demand(browser.facts()["postings"] == f"{book.count():,}", "the count of postings")
     browser.says("ssh -L ", "2024-01-02T100000-tuesday", "1 run begun and not done.")
     backups = browser.rows("Backups found near the book")
-    demand([(row[0].rpartition("/")[2], *row[2:]) for row in backups] == [("no.backup", "830", "yes")], f"backups: {backups}")
+    demand([(row[0].rpartition("/")[2], *row[2:]) for row in backups] == [("no.backup", apart(str(book.begun)), "yes")], f"backups: {backups}")
     browser.open(base + "/1/report?on=2022-02-31")
     browser.says("on: 2022-02-31 is no day YYYY-MM-DD from 1900-01-01 to 2199-12-31")
     browser.look("told")

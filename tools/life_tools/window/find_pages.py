@@ -6,7 +6,7 @@ from typing import Any, Sequence
 from life_tools.formats import PLANS, STATUSES
 from life_tools.report_pages import money
 from life_tools.window.asked import Asked
-from life_tools.window.lists import A_PAGE, SORTED, WORDS, Sought, counts_by, found_in, has_policy, newest_day, sought_in
+from life_tools.window.lists import A_PAGE, SORTED, WORDS, Kind, Sought, found_in, has_policy, kinds_of, newest_day, sought_in
 from life_tools.window.looked_at import LookedAt
 from life_tools.window.parts import RIGHT, Answer, Cell, Head, Page, Table, cells, heads, link, sorting_head, turns
 from life_tools.window.policies import STATUSES as STATUS_WORDS
@@ -23,19 +23,19 @@ def overview(book: LookedAt, asked: Asked, at: int) -> Answer:
     """What is in the book, and what was posted last."""
     asked.only(("at",))
     with book.tables() as database:
-        counts = counts_by(database, at)
         rows = database.execute("select position, day, kind, policy, amount_cents from command where position <= ? "
                                 "order by position desc limit ?", (at, NEWEST)).fetchall()
         day = newest_day(database, at)
-    values = {"by_status": by_status(book, counts, at), "posted": posted(book, rows, at), "day": day, "count": at,
-              "policies": sum(row["policies"] for row in counts)}
+    kinds = kinds_of(book.policies(at))
+    values = {"by_status": by_status(book, kinds, at), "posted": posted(book, rows, at), "day": day, "count": at,
+              "policies": sum(it.policies for it in kinds)}
     return Page("overview.html", "The book", values)
 
 
-def by_status(book: LookedAt, counts: Sequence[Any], at: int) -> Table:
-    rows = [[Cell(row["plan"], link(book.number, "find", at, plan=row["plan"], status=row["status"])),
-             Cell(STATUS_WORDS[row["status"]]), *cells((row["policies"], money(row["amount_cents"])))] for row in counts]
-    total = sum(row["policies"] for row in counts), money(sum(row["amount_cents"] for row in counts))
+def by_status(book: LookedAt, kinds: Sequence[Kind], at: int) -> Table:
+    rows = [[Cell(it.plan, link(book.number, "find", at, plan=it.plan, status=it.status)), Cell(STATUS_WORDS[it.status]),
+             *cells((it.policies, money(it.cents)))] for it in kinds]
+    total = sum(it.policies for it in kinds), money(sum(it.cents for it in kinds))
     return Table("Policies by plan and status", heads(("plan", "status", "policies", "amount"), 2), rows,
                  [[Cell("all"), Cell(""), *cells(total)]])
 

@@ -3,12 +3,14 @@ from __future__ import annotations
 
 import sqlite3
 from dataclasses import dataclass
-from typing import Any
+from typing import Any, NamedTuple
 
 from life_tools.arrays import Array, np
 from life_tools.formats import MOST_COMMANDS, PLANS, STATUSES
+from life_tools.groups import added
 from life_tools.journal_columns import RECORD, UPGRADE
 from life_tools.journals import FIRST_GATE
+from life_tools.policy_columns import Policies
 from life_tools.window.asked import Asked
 
 A_PAGE = 50
@@ -100,11 +102,23 @@ def has_policy(database: sqlite3.Connection, number: int, position: int) -> bool
     return row.fetchone() is not None
 
 
-def counts_by(database: sqlite3.Connection, position: int) -> list[sqlite3.Row]:
-    """How many policies there are of each plan and status, and their amounts."""
-    return database.execute("select plan, status, count(*) as policies, sum(amount_cents) as amount_cents from policy "
-                            "where since <= ? and until > ? group by plan, status order by plan, status",
-                            (position, position)).fetchall()
+class Kind(NamedTuple):
+    """Policies of a plan and a status: how many there are, and their amounts."""
+
+    plan: str
+    status: str
+    policies: int
+    cents: int
+
+
+def kinds_of(policies: Policies) -> list[Kind]:
+    """The policies by plan and status, as far as there are any."""
+    code = policies.plan.astype(np.int64) * (len(STATUSES) + 1) + policies.status
+    most = (len(PLANS) + 1) * (len(STATUSES) + 1)
+    counts, cents = np.bincount(code, minlength=most).tolist(), added(code, most, policies.amount)
+    names = ((number * (len(STATUSES) + 1) + state, plan, status)
+             for number, plan in PLANS.items() for state, status in enumerate(STATUSES, 1))
+    return [Kind(plan, status, counts[place], cents[place]) for place, plan, status in names if counts[place]]
 
 
 def newest_day(database: sqlite3.Connection, position: int) -> str | None:

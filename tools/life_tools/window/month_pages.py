@@ -7,7 +7,6 @@ import re
 from life_tools.day_columns import number_at
 from life_tools.entries.report import HEADS
 from life_tools.formats import MEASURES
-from life_tools.groups import Groups
 from life_tools.positions import on_day
 from life_tools.report_pages import apart, money
 from life_tools.window import pictures
@@ -62,7 +61,7 @@ def asked_valuation(book: LookedAt, asked: Asked, at: int) -> Valuation:
 
 
 def column_names(it: Valuation) -> list[str]:
-    return ["policies", "amount insured", *HEADS[len(it.total)], "words"]
+    return ["policies", "insured", "amount insured", *HEADS[len(it.total)], "words"]
 
 
 def group_table(it: Valuation, key: str) -> Table:
@@ -76,7 +75,7 @@ def group_table(it: Valuation, key: str) -> Table:
 
 def printed_row(it: Valuation) -> list[Cell]:
     """The total as the program printed it; it prints no amount insured."""
-    return [Cell("printed by life"), *cells((it.policies, "", *map(money, it.total), it.words, ""))]
+    return [Cell("printed by life"), *cells((it.policies, "", "", *map(money, it.total), it.words, ""))]
 
 
 def report(book: LookedAt, asked: Asked, at: int) -> Answer:
@@ -85,15 +84,11 @@ def report(book: LookedAt, asked: Asked, at: int) -> Answer:
     missing = [(word, WHY_NO_VALUE.get(word, ""), count, numbers) for word, count, numbers in words_of(it, NAMED)]
     values = {"it": it, "facts": facts(it), "tables": [group_table(it, key) for key in it.groups],
               "missing": missing, "balances": [(name, money(cents)) for name, cents in it.balances.items()],
-              "insured": insured(it.groups["status"]),
+              "insured": it.whole.insured,
               "csv": link(book.number, "report.csv", at, **words), "xlsx": link(book.number, "report.xlsx", at, **words),
               "other": [(MEASURE_WORDS[each], link(book.number, "report", at, on=it.on, p=it.position, measure=each))
                         for each in MEASURES if each != it.measure]}
     return Page("report.html", f"Valuation on {it.on}", values)
-
-
-def insured(by_status: Groups) -> int:
-    return sum(sums.policies for (status,), sums in by_status.items() if status in ("inforce", "paidup"))
 
 
 def facts(it: Valuation) -> list[tuple[str, str, bool]]:
@@ -132,7 +127,7 @@ def report_xlsx(book: LookedAt, asked: Asked, at: int) -> Answer:
 
 def about(book: LookedAt, it: Valuation) -> list[list[str]]:
     return [["what", "is"], ["book", book.book.name], ["day", str(it.on)], ["position", str(it.position)],
-            ["measure", it.measure], ["basis", book.book.basis], ["journal, SHA-256 of the front looked at", book.sum_at(book.newest)],
+            ["measure", it.measure], ["basis", book.book.basis], ["journal looked at, SHA-256", book.sum_at(book.newest)],
             ["printed by life", ", ".join(map(money, it.total))],
             ["made", f"{datetime.datetime.now():%Y-%m-%d %H:%M}"]]
 

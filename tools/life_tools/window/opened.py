@@ -2,6 +2,7 @@
 from __future__ import annotations
 
 import gc
+import importlib
 import os
 import shutil
 import signal
@@ -13,7 +14,7 @@ from typing import Any
 
 from life_tools.book_lists import ListedBook
 from life_tools.formats import Wrong, remark
-from life_tools.packages import package
+from life_tools.packages import ANEW, package
 from life_tools.program import life_command
 from life_tools.progress import Progress
 from life_tools.window.door import Door
@@ -22,6 +23,7 @@ from life_tools.window.looked_at import LookedAt
 from life_tools.window.runs import end_all
 from life_tools.window.site import Site
 
+PACKAGES = (("flask", "python3-flask"), ("jinja2", "python3-jinja2"), ("werkzeug.serving", "python3-werkzeug"))
 LOOPBACK = "127.0.0.1"
 # a connection that says nothing for so many seconds is closed
 SILENCE = 30
@@ -30,10 +32,12 @@ TRIES = 100
 
 def quiet_handler() -> Any:
     """A handler of requests that keeps no log, since an address may hold the token."""
-    serving: Any = package("werkzeug.serving", "python3-werkzeug")
+    serving: Any = importlib.import_module("werkzeug.serving")
 
     class Handler(serving.WSGIRequestHandler):  # type: ignore[misc]
         timeout = SILENCE
+        # each request has a connection of its own, so that what a refused one left behind is never another one's
+        protocol_version = "HTTP/1.0"
         server_version, sys_version = "life", ""
 
         def version_string(self) -> str:
@@ -46,7 +50,7 @@ def quiet_handler() -> Any:
 
 
 def served(door: Door, port: int) -> Any:
-    serving: Any = package("werkzeug.serving", "python3-werkzeug")
+    serving: Any = importlib.import_module("werkzeug.serving")
     try:
         return serving.make_server(LOOPBACK, port, door, threaded=True, request_handler=quiet_handler())
     except (OSError, SystemExit) as error:
@@ -81,6 +85,10 @@ def ended(_: int, __: FrameType | None) -> None:
 
 def browse(books: list[ListedBook], port: int) -> int:
     """Serves until it is ended."""
+    for module, debian in PACKAGES:
+        package(module, debian)
+    # from now on nothing is begun anew, but what a page lacks is told in it
+    os.environ[ANEW] = "1"
     life = life_command()
     private = tempfile.mkdtemp(prefix="life-window-")
     for number in (signal.SIGINT, signal.SIGTERM, signal.SIGHUP):

@@ -9,6 +9,7 @@ import threading
 from typing import Iterator, Sequence
 
 from life_tools.formats import Wrong, demand
+from life_tools.packages import ANEW
 
 # the seconds that a run may take: far more than the largest book needs
 LIMIT = 300
@@ -33,7 +34,8 @@ def end(run: subprocess.Popen[bytes]) -> None:
 
 def run_to(path: str, words: Sequence[str], folder: str, scratch: str, given: str | None = None) -> tuple[int, str]:
     """Runs words in a folder, with what they print going to a file: the status, and the last of what they remarked."""
-    environment = {**os.environ, "TMPDIR": scratch}
+    environment = {name: text for name, text in os.environ.items() if name != ANEW}
+    environment["TMPDIR"] = scratch
     demand(not IS_CLOSED.is_set(), "the window is being closed")
     with ONE_AT_A_TIME, open(path, "wb") as out, open(given or os.devnull, "rb") as script:
         try:

@@ -2,14 +2,14 @@
 from __future__ import annotations
 
 import datetime
+import importlib
 import os
 import pkgutil
 from typing import Any, Callable
 from urllib.parse import quote, urlencode
 
-from life_tools.entries.version import built_with
+from life_tools.revisions import built_with
 from life_tools.formats import Wrong
-from life_tools.packages import package
 from life_tools.window import audit_pages, day_pages, find_pages, month_pages, policy_pages, stand_pages, statement_pages
 from life_tools.window.asked import Asked, BadRequest
 from life_tools.window.door import Application
@@ -58,8 +58,8 @@ class Site:
     """The books of a window, and Flask's application over them."""
 
     def __init__(self, books: list[LookedAt], port: int) -> None:
-        self.flask: Any = package("flask", "python3-flask")
-        jinja: Any = package("jinja2", "python3-jinja2")
+        self.flask: Any = importlib.import_module("flask")
+        jinja: Any = importlib.import_module("jinja2")
         self.books, self.port, self.revision = books, port, revision()
         nowhere = os.path.join(os.path.dirname(books[0].folder), "nothing")
         self.app: Any = self.flask.Flask(PACKAGE, static_folder=None, template_folder=None, root_path=nowhere,

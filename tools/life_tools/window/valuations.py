@@ -7,23 +7,23 @@ from __future__ import annotations
 
 import datetime
 import os
-from dataclasses import dataclass
+from dataclasses import dataclass, fields
 from typing import Iterator
 
 from life_tools.arrays import np
-from life_tools.entries.why import measure_words
+from life_tools.class_bases import measure_words, one_basis
+from life_tools.class_columns import basis_rows
 from life_tools.fronts import WORKERS
 from life_tools.groups import KEYS, Groups, Sums, demand_whole, grouped, joined, whole
 from life_tools.printed_books import ValuedRow
 from life_tools.printed_columns import NO_WORDS, Rows, state_of, valuation_of
-from life_tools.tables import read_basis
 from life_tools.window.jobs import Job
 from life_tools.window.kept_columns import keep, kept
 from life_tools.window.looked_at import LookedAt
 from life_tools.window.runs import printed_by
 
 AT_ONCE = 1 << 18
-COLUMNS = ("number", "status", "year", "word", "bounds")
+COLUMNS = tuple(column.name for column in fields(Rows))
 
 
 @dataclass
@@ -76,7 +76,8 @@ def valued(book: LookedAt, on: datetime.date, position: int, measure: str, job: 
         job.at("life state")
         printed = printed_by(book.life, ["state"], desk, book.scratch, os.path.join(desk, "state"))
         state = state_of(parts_of(printed, "reading the state, KiB", job))
-        rows = joined(valuation, state, read_basis(os.path.join(desk, book.book.basis)))
+        basis = basis_rows(desk, one_basis(book.book.basis), state.policies.number, state.policies.issued)
+    rows = joined(valuation, state, basis)
     groups = {}
     for key in KEYS:
         job.at(f"adding up by {key}")
