@@ -20,7 +20,7 @@ LIMITS = {
     "docs/AUDIT.md": 2700,
     "docs/OPERATIONS.md": 2100,
     "docs/FORMATS.md": 6150,
-    "docs/ARCHITECTURE.md": 4520,
+    "docs/ARCHITECTURE.md": 4560,
     "docs/PROOF.md": 8000,
     "docs/DECISIONS.md": 4000,
     "docs/FIGURES.md": 1500,

@@ -121,7 +121,86 @@ sed 1d bad-left.csv | paste -d '\n' wanted - | while read -r reason && read -r r
 done >found
 [ ! -s found ] || complain "other reasons: $(cat found)"
 
+# By hand: the ages of a birth on 1980-07-02 on 2020-01-01, 183 days after the last birthday and 183 before the next one, and
+# a day later, when the next one is nearer; of a 29 February. Policy 3 is lapsed: its premium of 2021-03-01 was last taken on
+# 2021-04-01. Policy 4 was made paid up when its second premium was due.
+begin "ages by birthdays, days to which premiums are paid, statuses and classes, by hand"
+cat >map.csv <<'END'
+number,no
+day,from,YYYY-MM-DD
+plan,kind
+word,E,endowment
+birth,born,YYYY-MM-DD
+years,term
+amount,sum,1234.56
+premium,premium,1234.56
+paid-to,to,YYYY-MM-DD
+status,status
+state,A,inforce
+state,L,lapsed
+state,P,paidup
+state,C,left
+reduced,now,1234.56
+class,lives
+END
+cat >book.csv <<'END'
+no,from,kind,born,term,sum,premium,to,status,now,lives
+1,2020-01-01,E,1980-07-02,10,1000.00,100.00,2021-01-01,A,,smoker
+2,2020-01-02,E,1980-07-02,10,1000.00,100.00,2020-01-02,A,,"non, smoker"
+3,2020-03-01,E,1980-02-29,10,1000.00,100.00,2021-03-01,L,,smoker
+4,2020-02-29,E,1990-01-01,10,1000.00,100.00,2021-02-28,P,250.00,smoker
+5,2020-01-01,E,1980-01-01,10,1000.00,100.00,2021-01-01,C,,smoker
+6,2020-01-01,E,1980-01-01,10,1000.00,100.00,2021-01-02,A,,smoker
+7,2020-01-01,E,1980-01-01,10,1000.00,100.00,2031-01-01,A,,smoker
+8,2020-01-01,E,1980-01-01,10,1000.00,100.00,2030-01-01,L,,smoker
+9,2020-01-01,E,1980-01-01,10,1000.00,100.00,2021-01-01,P,1000.00,smoker
+10,2020-01-01,E,1980-01-01,10,1000.00,100.00,2021-01-01,X,,smoker
+11,2020-01-01,E,1980-01-01,10,1000.00,100.00,2021-01-01,A,,
+END
+cat >wanted <<'END'
+1,upgrade
+1,issue,1,2020-01-01,endowment,39,10,1000.00,100.00
+1,premium,1,2020-01-01,100.00
+1,issue,2,2020-01-02,endowment,40,10,1000.00,100.00
+1,issue,4,2020-02-29,endowment,30,10,1000.00,100.00
+1,premium,4,2020-02-29,100.00
+1,issue,3,2020-03-01,endowment,40,10,1000.00,100.00
+1,premium,3,2020-03-01,100.00
+1,paidup,4,2021-02-28,250.00
+1,lapse,3,2021-04-02
+END
+tool import book.csv --map map.csv --script script.csv --left its-left.csv --classes classes.csv --age nearest
+[ $? = 1 ] && cmp -s wanted script.csv || complain "the script is $(cat script.csv its-left.csv remarks)"
+printf '1,smoker\n2,"non, smoker"\n3,smoker\n4,smoker\n' | cmp -s - classes.csv || complain "the classes are $(cat classes.csv)"
+cat >wanted <<'END'
+line,reason
+6,its status is C
+7,"premiums are paid to 2021-01-02, which is no anniversary of 2020-01-01"
+8,"11 premiums are paid, and it has 10"
+9,"it is L, and all its premiums are paid"
+10,"the reduced amount is 1000.00, and not below 1000.00"
+11,the map has no state for X
+12,the class is empty
+END
+python3 -c 'import csv, sys; csv.writer(sys.stdout, lineterminator="\n").writerows(row[:2] for row in csv.reader(open("its-left.csv")))' |
+    cmp -s wanted - || complain "left are $(cat its-left.csv)"
+"$life" run <script.csv >transcript
+! grep -q refused transcript || complain "$(grep refused transcript)"
+tool import book.csv --map map.csv --script last.csv --left last-left.csv --classes last-classes.csv
+grep -q '^1,issue,2,2020-01-02,endowment,39,' last.csv || complain "the last birthday makes another age: $(cat last.csv)"
+refuses "--classes and a class in map.csv go together" book.csv --map map.csv
+sed '/^state/d' map.csv >bad-map.csv
+refuses "status and its words, state, together" book.csv --map bad-map.csv --classes new-classes.csv
+sed '/^reduced/d' map.csv >bad-map.csv
+refuses "has no reduced amount" book.csv --map bad-map.csv --classes new-classes.csv
+sed 's/^paid-to.*/&\npaid,term/' map.csv >bad-map.csv
+refuses "names both of paid and paid-to" book.csv --map bad-map.csv --classes new-classes.csv
+sed 's/^birth.*/age,term/' map.csv >bad-map.csv
+refuses "which says nothing of birthdays" book.csv --map bad-map.csv --classes new-classes.csv --age nearest
+[ ! -e new-classes.csv ] || complain "classes were written"
+
 go_on "wrong input"
+cp "../each way of writing, by hand/map.csv" "../each way of writing, by hand/book.csv" .
 refuses "No such file" nowhere.csv --map map.csv
 refuses "No such file" book.csv --map nowhere.csv
 refuses "Is a directory" . --map map.csv
@@ -129,7 +208,9 @@ refuses "is no CSV" "$empty" --map map.csv
 refuses "has no column no, from" "$examples/first-issues.csv" --map map.csv
 refuses "1 to 8 are wanted" book.csv --map map.csv --lanes 9
 grep -v ^paid map.csv >short-map.csv
-refuses "says nothing of paid" book.csv --map short-map.csv
+refuses "names neither of paid and paid-to" book.csv --map short-map.csv
+grep -v ^amount map.csv >short-map.csv
+refuses "says nothing of amount" book.csv --map short-map.csv
 grep -v ^age map.csv >short-map.csv
 refuses "names neither of age and birth" book.csv --map short-map.csv
 sed 's/^age,age/&\nbirth,remark,DD.MM.YYYY/' map.csv >wrong-map.csv

@@ -30,23 +30,23 @@ begin_with_examples "the small office, by plan and year of issue"
 says report 2022-12-31 --at 11 --by plan --by issue-year,status
 has <<'LINES'
 2022-12-31 at position 11, terminal
-endowment 1 9000.00 2656.22 2656.23 0
-limited 1 15000.00 1418.85 1418.86 0
-term 2 150000.00 0.00 0.00 0
-total 4 174000.00 4075.07 4075.09 0
-2021, inforce 2 24000.00 4075.07 4075.09 0
-2022, inforce 1 50000.00 0.00 0.00 0
-2023, inforce 1 100000.00 0.00 0.00 0
+endowment 1 1 9000.00 2656.22 2656.23 0
+limited 1 1 15000.00 1418.85 1418.86 0
+term 2 2 150000.00 0.00 0.00 0
+total 4 4 174000.00 4075.07 4075.09 0
+2021, inforce 2 2 24000.00 4075.07 4075.09 0
+2022, inforce 1 1 50000.00 0.00 0.00 0
+2023, inforce 1 1 100000.00 0.00 0.00 0
 LINES
 
 go_on "files of a report"
 says report 2022-12-31 --at 11 --by plan --csv report.csv
-printf '%s\n' 'by,group,policies,amount insured,lower bound,upper bound,words' 'plan,endowment,1,9000.00,2656.22,2656.23,0' \
-    'plan,limited,1,15000.00,1418.85,1418.86,0' 'plan,term,2,150000.00,0.00,0.00,0' 'all,total,4,174000.00,4075.07,4075.09,0' |
+printf '%s\n' 'by,group,policies,insured,amount insured,lower bound,upper bound,words' 'plan,endowment,1,1,9000.00,2656.22,2656.23,0' \
+    'plan,limited,1,1,15000.00,1418.85,1418.86,0' 'plan,term,2,2,150000.00,0.00,0.00,0' 'all,total,4,4,174000.00,4075.07,4075.09,0' |
     cmp -s - report.csv || complain "the CSV is $(cat report.csv)"
 says report 2022-12-31 --at 11 --html page.html
 grep -q 'The rows add up to the printed total' page.html || complain "the page doesn't say what was checked"
-grep -q '<td>endowment</td><td>1</td><td>9,000.00</td><td>2,656.22</td>' page.html && grep -q '<b>174,000.00</b>' page.html ||
+grep -q '<td>endowment</td><td>1</td><td>1</td><td>9,000.00</td><td>2,656.22</td>' page.html && grep -q '<b>174,000.00</b>' page.html ||
     complain "the page's amounts are written otherwise"
 ! grep -qE 'https?:|src=|@import' page.html || complain "the page asks for something of the network"
 if "$tools/life-tools" report 2022-12-31 --xlsx book.xlsx 2>remarks; then

@@ -52,8 +52,13 @@ def lines_by_policy(commands: Iterable[Command]) -> dict[int, str]:
     return found
 
 
+def pair_of(bounds: Sequence[int]) -> Pair:
+    """The bounds of what a valuation is for: by `deficiency` those of the minimum reserve, which stand behind the others."""
+    return bounds[-2], bounds[-1]
+
+
 def bounds_of(valuation: PrintedValuation) -> list[Pair]:
-    return [(row.bounds[0], row.bounds[1]) for row in valuation.rows]
+    return [pair_of(row.bounds) for row in valuation.rows]
 
 
 def changes_of(opening: PrintedValuation, later_book: PrintedValuation, later_day: PrintedValuation, closing: PrintedValuation,
@@ -107,8 +112,8 @@ def analysis(changes: Sequence[Change], opening: PrintedValuation, closing: Prin
 
 
 def demand_adds_up(sums: dict[str, Pair], opening: PrintedValuation, closing: PrintedValuation) -> None:
-    demand(sums[OPENING] == opening.total[:2], f"the opening reserves add up to {sums[OPENING]}, not to the printed total")
-    demand(sums[CLOSING] == closing.total[:2], f"the closing reserves add up to {sums[CLOSING]}, not to the printed total")
+    demand(sums[OPENING] == pair_of(opening.total), f"the opening reserves add up to {sums[OPENING]}, not to the printed total")
+    demand(sums[CLOSING] == pair_of(closing.total), f"the closing reserves add up to {sums[CLOSING]}, not to the printed total")
     added = NOTHING
     for line in LINES[:-1]:
         added = plus(added, sums[line])

@@ -17,19 +17,24 @@ ENTRIES: dict[str, tuple[str, str]] = {
     "import": ("import_book", "a CSV of another system as a script of issues and premiums"),
     "books": ("books", "value, project, state or checkpoint of many books, with their total"),
     "why": ("why", "one row of a valuation, worked out as a colleague reads it"),
+    "value": ("value", "a valuation, by one basis or by one for each class of lives"),
     "report": ("report", "a valuation by plan, status, issue year, age or basis row, added up exactly"),
     "movement": ("movement", "what moved between two valuations, line by line, adding up exactly"),
+    "statement": ("statement", "the sheets of a statement between two moments, each adding up to what the program prints"),
     "dry-run": ("dry_run", "run a script on a copy of the journal, and print what it would be answered"),
     "rest": ("rest", "the rows of a script that a killed run didn't reach"),
     "explain": ("explain", "explain a refusal of a script or of a basis, or what is taken of a table"),
     "at": ("at", "what state, value or project print of the book as it stood at a position"),
     "position-on": ("position_on", "the position of a day"),
+    "verify": ("verify", "whether a journal's file is whole, by its length, a checkpoint, a log and seals"),
+    "headroom": ("headroom", "how many commands a book has left, and until when"),
     "read": ("read", "list the records of a journal"),
     "read-checkpoint": ("read_checkpoint", "print the books in a checkpoint, and compare them with a journal's"),
     "export": ("export", "a journal as CSV, as JSON lines, or as an SQLite file"),
     "check-transcript": ("check_transcript", "judge what a run printed, and what it left in the journal"),
     "check-values": ("check_values", "work the rows of a printed valuation out anew, and compare"),
     "check-projection": ("check_projection", "work the years of a printed projection out anew, and compare"),
+    "generate": ("generate", "a drawn script, numbered from a number on"),
     "plot": ("plot", "draw printed valuations, a printed book or a printed projection"),
     "audit": ("audit", "for an auditor: doubtful postings, a sample of the policies, papers and letters on it"),
     "table": ("table", "a table before a book is valued by it: looked at, converted, rounded, joined"),
@@ -65,7 +70,7 @@ def main(words: Sequence[str] | None = None) -> int:
         return status
     except Wrong as wrong:
         print(f"life-tools {given[0]}: {wrong}", file=sys.stderr)
-        return 2
+        return wrong.status
     except BrokenPipeError:
         # whoever read has left; what is still held back must not complain at the end
         os.dup2(os.open(os.devnull, os.O_WRONLY), sys.stdout.fileno())

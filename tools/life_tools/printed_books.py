@@ -10,13 +10,15 @@ from life_tools.rules import Policy
 
 
 class ValuedRow(NamedTuple):
-    """A row: the policy's number, status and year; its bounds in cents (two, or four by `deficiency`), or a word."""
+    """A row: the policy's number, status and year; its bounds in cents (two, or four by `deficiency`), or a word; and by
+    `deficiency` what its premium is."""
 
     number: int
     status: str
     year: int
     bounds: tuple[int, ...]
     word: str
+    premium: str = ""
 
 
 class PrintedValuation(NamedTuple):
@@ -45,7 +47,8 @@ def row_of(line: str, bounds: int) -> ValuedRow:
         raise Wrong(f"{line} is no row of a valuation")
     if len(fields) == 5:
         return ValuedRow(number, fields[2], year, (0,) * bounds, fields[4])
-    return ValuedRow(number, fields[2], year, tuple(cents(field) for field in fields[4:4 + bounds]), "")
+    premium = fields[4 + bounds] if len(fields) == 5 + bounds else ""
+    return ValuedRow(number, fields[2], year, tuple(cents(field) for field in fields[4:4 + bounds]), "", premium)
 
 
 def valuation_in(text: str) -> PrintedValuation:

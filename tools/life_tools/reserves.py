@@ -57,7 +57,7 @@ class InForce:
         self.renewal = (benefits - self.first_year) / (annuity - 1)
         # the level premium may not be above that of whole life at an age one year higher
         left = table.last - age
-        self.limit = Cover(table, age + 1, left, min(RENEWAL_PREMIUMS, left), True, cover.discount)
+        self.limit = type(cover)(table, age + 1, left, min(RENEWAL_PREMIUMS, left), True, cover.discount)
         whole_benefits, whole_annuity = self.limit.values_at(0)
         self.most = whole_benefits / whole_annuity
         self.excess = max(min(self.renewal, self.most) - self.first_year, Fraction(0))
@@ -144,6 +144,12 @@ def terms_of(policy: Policy, basis: Sequence[BasisRow]) -> Terms | str:
     return Terms(row, table, later, years, payments, policy.plan != "term")
 
 
+def insured_by(terms: Terms, age: int, is_paid_up: bool, kind: type[Cover] = Cover) -> Insured:
+    """What the reserve of 1 is worked out from; the kind of cover says how its values are."""
+    cover = kind(terms.table, age, terms.years, terms.payments, terms.matures, terms.row.discount)
+    return PaidUp(cover) if is_paid_up else InForce(terms.later, cover, age)
+
+
 def is_insured(policy: Policy, on: datetime.date) -> bool:
     return policy.status in ("inforce", "paidup") and policy.issued <= on
 
@@ -158,8 +164,7 @@ def insured_on(policy: Policy, basis: Sequence[BasisRow], on: datetime.date, kno
     is_paid_up = policy.status == "paidup"
     case = terms.row.day, policy.age, terms.years, terms.payments, terms.matures, is_paid_up
     if case not in known:
-        cover = Cover(terms.table, policy.age, terms.years, terms.payments, terms.matures, terms.row.discount)
-        known[case] = PaidUp(cover) if is_paid_up else InForce(terms.later, cover, policy.age)
+        known[case] = insured_by(terms, policy.age, is_paid_up)
     return min(completed(policy.issued, on), terms.years), known[case]
 
 

@@ -1,27 +1,33 @@
 """What moved between two valuations: the analysis of change, which adds up exactly in lower and in upper bounds.
 
-    movement ON1 P1 ON2 P2 [--basis B1 [B2]] [--policies FILE]
+    movement ON1 P1 ON2 P2 [--basis B1 [B2] | --classes FILE --bases FILE1 [FILE2]] [--mean | --deficiency] [--policies FILE]
 
 From the opening reserve (day ON1, position P1, basis B1) by what was posted, by the time gone by, and by a change of basis
 where B2 is given, to the closing reserve (ON2, P2). Each reserve is the program's, of copies of the journal's front. What
 was posted is measured on the opening day, but for new issues, which are measured on the closing day. A policy counts on one
-line, that of its last posting that isn't a premium. Beside it stand the premiums and settlements of the accounts.
+line, that of its last posting that isn't a premium: what was posted how often is told by `statement`. Beside it stand the
+premiums and settlements of the accounts. By --deficiency it is of the minimum reserves.
 """
 from __future__ import annotations
 
 import argparse
 import csv
 import os
-import sys
 
-from life_tools.changes import LINES, Change, Moved, analysis, cash_of, changes_of, demand_booked, lines_by_policy
+from life_tools.changes import LINES, Cash, Change, Moved, analysis, cash_of, changes_of, demand_booked, lines_by_policy
+from life_tools.class_bases import Bases, bases_in, valued
 from life_tools.commands import Command, command_in
-from life_tools.entries.report import written_whole
-from life_tools.entries.why import position_in
+from life_tools.entries.report import add_title, write_text, written_whole
+from life_tools.entries.why import measure_arguments, position_in
 from life_tools.formats import Wrong, day_in, demand, money, remark
 from life_tools.fronts import Front, front
 from life_tools.journals import gate_of
-from life_tools.printed_books import PrintedState, PrintedValuation, state_in, valuation_in
+from life_tools.printed_books import PrintedState, state_in
+from life_tools.printed_valuations import SHOWN
+from life_tools.provenance import provenance
+from life_tools.report_sheets import movement_sheet
+from life_tools.sheet_files import write_workbook
+from life_tools.sheet_pages import page
 
 
 def arguments(parser: argparse.ArgumentParser) -> None:
@@ -29,15 +35,26 @@ def arguments(parser: argparse.ArgumentParser) -> None:
     parser.add_argument("p1", metavar="P1", help="the opening position")
     parser.add_argument("on2", metavar="ON2", help="the closing day")
     parser.add_argument("p2", metavar="P2", help="the closing position")
-    parser.add_argument("--basis", metavar="NAME", nargs="+", default=["basis.csv"],
-                        help="the basis, and the one that it is changed to (basis.csv)")
+    parser.add_argument("--basis", metavar="NAME", nargs="+", help="the basis, and the one that it is changed to (basis.csv)")
+    parser.add_argument("--classes", metavar="FILE", help="a CSV of classes: number or range of policies, class")
+    parser.add_argument("--bases", metavar="FILE", nargs="+",
+                        help="a CSV of their bases, and one of those that they are changed to")
+    measure_arguments(parser)
     parser.add_argument("--policies", metavar="FILE", help="each policy's part as CSV")
+    parser.add_argument("--xlsx", metavar="FILE", help="a workbook as well (python3-openpyxl)")
+    parser.add_argument("--html", metavar="FILE", help="one page as well, which needs no network")
+    add_title(parser)
     parser.add_argument("--folder", metavar="FOLDER", default=".", help="where journal.life, the bases and tables lie (.)")
     parser.add_argument("--life", metavar="PROGRAM", help="the program to ask")
 
 
-def valued(copy: Front, on: str, basis: str) -> PrintedValuation:
-    return valuation_in(copy.asks("value", on, "--at", str(copy.position), "--basis", basis))
+def bases_of(options: argparse.Namespace) -> list[Bases]:
+    """The bases, and those that they are changed to, where these are told."""
+    demand(len(options.basis or []) <= 2 and len(options.bases or []) <= 2, "there are two bases at most")
+    if options.basis and not options.classes and not options.bases:
+        return [bases_in(name, None, None) for name in options.basis]
+    name = options.basis[0] if options.basis else None
+    return [bases_in(name, options.classes, path) for path in options.bases or [None]]
 
 
 def commands_between(copy: Front, first: int) -> list[Command]:
@@ -55,14 +72,16 @@ class Books:
         first, last = position_in(options.p1), position_in(options.p2)
         assert first is not None and last is not None
         demand(first <= last, f"the closing position {last} is before the opening one, {first}")
-        basis, changed = options.basis[0], options.basis[-1]
-        with front(options.folder, first, options.basis, options.life) as copy:
-            self.opening = valued(copy, options.on1, basis)
+        bases = bases_of(options)
+        basis, changed, measure = bases[0], bases[-1], options.measure
+        names = list(dict.fromkeys(name for each in bases for name in each.names))
+        with front(options.folder, first, names, options.life) as copy:
+            self.opening = valued(copy, options.on1, basis, measure)
             self.before: PrintedState = state_in(copy.asks("state"))
-        with front(options.folder, last, options.basis, options.life) as copy:
-            self.later_book = valued(copy, options.on1, basis)
-            self.later_day = valued(copy, options.on2, basis)
-            self.closing = valued(copy, options.on2, changed) if changed != basis else self.later_day
+        with front(options.folder, last, names, options.life) as copy:
+            self.later_book = valued(copy, options.on1, basis, measure)
+            self.later_day = valued(copy, options.on2, basis, measure)
+            self.closing = valued(copy, options.on2, changed, measure) if changed != basis else self.later_day
             self.after: PrintedState = state_in(copy.asks("state"))
             self.commands = commands_between(copy, first)
 
@@ -84,9 +103,20 @@ def shown(lines: list[Moved]) -> str:
     return "\n".join("  ".join([row[0].ljust(widths[0]), *(row[k].rjust(widths[k]) for k in (1, 2, 3))]) for row in rows)
 
 
+def write_files(options: argparse.Namespace, lines: list[Moved], cash: Cash, notes: list[str], title: str) -> None:
+    """The page or the workbook, where one is asked for."""
+    if not options.html and not options.xlsx:
+        return
+    told = provenance(options.folder, int(options.p2), options.title, options.life)
+    sheets, whole = [movement_sheet(title, lines, cash, notes)], f"{told['book']}: {title}"
+    if options.xlsx:
+        written_whole(options.xlsx, lambda path: write_workbook(path, whole, told, sheets))
+    if options.html:
+        written_whole(options.html, lambda path: write_text(path, page(whole, told, sheets)))
+
+
 def run(options: argparse.Namespace) -> int:
     day_in(options.on1), day_in(options.on2)
-    demand(len(options.basis) <= 2, "there are two bases at most")
     books = Books(options)
     try:
         changes = changes_of(books.opening, books.later_book, books.later_day, books.closing, lines_by_policy(books.commands))
@@ -98,10 +128,12 @@ def run(options: argparse.Namespace) -> int:
         return 1
     if options.policies:
         written_whole(options.policies, lambda path: write_policies(path, changes))
-    print(f"from {options.on1} at position {options.p1} to {options.on2} at position {options.p2}")
-    sys.stdout.write(shown(lines) + "\n")
-    for name, valuation in ((LINES[0], books.opening), (LINES[-1], books.closing)):
-        if valuation.words:
-            print(f"{valuation.words} policies of the {name} have a word in place of bounds, and are in no sum")
+    measure = "" if options.measure == "terminal" else f", {SHOWN[options.measure][0]}"
+    title = f"from {options.on1} at position {options.p1} to {options.on2} at position {options.p2}{measure}"
+    notes = [f"{valuation.words} policies of the {name} have a word in place of bounds, and are in no sum"
+             for name, valuation in ((LINES[0], books.opening), (LINES[-1], books.closing)) if valuation.words]
+    notes.append("a policy counts on one line, that of its last posting; `statement` counts each posting")
+    write_files(options, lines, cash, notes, title)
+    print("\n".join([title, shown(lines), *notes]))
     print(f"premiums received {money(cash.premiums)}, settlements paid {money(cash.settlements)}")
     return 0

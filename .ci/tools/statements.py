@@ -1,0 +1,205 @@
+"""Statements of drawn pairs of positions and days, beside sums of SQLite over `export`, exact fractions, and `read`'s counts.
+
+usage: python3 statements.py ROOT PROGRAM PAIRS SEED [EXACT], in a folder with journal.life, a basis, and book.db of `export`
+
+Of the first EXACT pairs the increase in reserves is worked out a second way: by the anniversaries on which each policy was in
+force, each with the exact value of `reserves`.
+"""
+import contextlib
+import datetime
+import io
+import os
+import random
+import sqlite3
+import sys
+from fractions import Fraction
+
+ROOT, PROGRAM = sys.argv[1:3]
+sys.path.insert(0, os.path.join(ROOT, "tools"))
+
+from life_tools.class_bases import one_basis
+from life_tools.columns import columns_at
+from life_tools.entry import main
+from life_tools.formats import FIELDS
+from life_tools.periods import Asked
+from life_tools.reserves import InForce, exact_value, insured_by, terms_of
+from life_tools.rules import Book, anniversary, completed
+from life_tools.statement import statement_of
+from life_tools.tables import read_basis
+
+FIRST, LAST = datetime.date(2000, 1, 1), datetime.date(2026, 12, 31)
+# what is in force at a position: the last command that changes a status, and the last that sets an amount
+IN_FORCE = """
+with moved as (select policy, kind, plan, position, max(position) over (partition by policy) as last from command
+               where position <= :at and kind in ('issue', 'lapse', 'reinstate', 'claim', 'mature', 'paidup')),
+     born as (select policy, plan as its_plan from command where kind = 'issue'),
+     sized as (select policy, amount_cents, position, max(position) over (partition by policy) as last from command
+               where position <= :at and kind in ('issue', 'alter', 'paidup'))
+select case moved.kind when 'paidup' then 'paid up' else its_plan end as its, count(*), sum(sized.amount_cents)
+from moved join born using (policy) join sized on sized.policy = moved.policy and sized.position = sized.last
+where moved.position = moved.last and moved.kind in ('issue', 'reinstate', 'paidup') group by its"""
+POSTED = "select kind, count(*) from command where position > ? and position <= ? group by kind"
+MATURED = """select count(*) from command as c join command as b on b.policy = c.policy and b.kind = 'issue'
+where c.kind = 'mature' and c.position > ? and c.position <= ? and b.plan {} 'term'"""
+COLLECTED = "select kind, coalesce(sum(amount_cents), 0) from command where position > ? and position <= ? and kind in "
+OWED = """select coalesce(sum(case when account = 'payable' then -cents end), 0) from booking where position <= ?"""
+LINES = {"issued": "issue", "revived": "reinstate", "decreased": "alter", "made paid up": "paidup", "death": "claim", "lapse": "lapse"}
+GROUPS = ("whole", "endowment", "term", "limited", "paid up")
+
+
+def need(right, message):
+    if not right:
+        sys.exit(f"statement: {message}")
+
+
+def rows_of(sheet):
+    return {row.cells[0]: row.cells for row in sheet.rows}
+
+
+def judge_exhibit(base, sheet, first, last):
+    """Counts and amounts by SQLite, and counts by kind, which are `read`'s; every column balances."""
+    lines = rows_of(sheet)
+    for name, at in (("in force at the beginning", first), ("in force at the end", last)):
+        found = {group: (lines[name][1 + 2 * place], lines[name][2 + 2 * place]) for place, group in enumerate(GROUPS)}
+        wanted = {row[0]: row[1:] for row in base.execute(IN_FORCE, {"at": at})}
+        for group in GROUPS:
+            need(found[group] == wanted.get(group, (0, 0)), f"{name} at {at}, {group}: {found[group]}, SQLite has {wanted.get(group)}")
+    posted = dict(base.execute(POSTED, (first, last)))
+    counted = {line: lines[line][-1] for line in lines}
+    for line, kind in LINES.items():
+        need(counted[line] == posted.get(kind, 0), f"{line}: {counted[line]} postings, the journal has {posted.get(kind, 0)}")
+    for line, sign in (("maturity", "<>"), ("expiry", "=")):
+        [wanted] = base.execute(MATURED.format(sign), (first, last)).fetchone()
+        need(counted[line] == wanted, f"{line}: {counted[line]} postings, the journal has {wanted}")
+    for place in range(1, len(sheet.columns) - 1):
+        column = [row.cells[place] for row in sheet.rows]
+        need(sum(column[:-1]) == column[-1], f"{sheet.columns[place].name} doesn't balance: {column}")
+
+
+def judge_money(base, sheets, first, last):
+    """What was collected, and what is outstanding, by SQLite."""
+    lines = rows_of(sheets["premiums"])
+    found = lines["collected, first year"][3] + lines["collected, renewal"][3], lines["collected by reinstatement"][3]
+    sums = dict(base.execute(COLLECTED + "('premium', 'reinstate') group by kind", (first, last)))
+    need(found == (sums.get("premium", 0), sums.get("reinstate", 0)), f"collected {found}, SQLite has {sums}")
+    lines = rows_of(sheets["claims"])
+    for name, at in (("outstanding at the beginning", first), ("outstanding at the end", last)):
+        [owed] = base.execute(OWED, (at,)).fetchone()
+        need(lines[name][6] == owed, f"{name}: {lines[name][6]}, SQLite has {owed}")
+    aged = [row.cells for row in sheets["claims"].rows[4:]]
+    need([sum(cells[place] for cells in aged) for place in range(1, 7)] == list(lines["outstanding at the end"][1:7]), "ages don't add up")
+    for place in range(1, 7):
+        need(sum(row.cells[place] for row in sheets["claims"].rows[:3]) == sheets["claims"].rows[3].cells[place], "claims don't balance")
+
+
+def printed_total(words):
+    out = io.StringIO()
+    with contextlib.redirect_stdout(out):
+        need(main(["at", *words]) == 0, f"at {words}")
+    return [int(field.replace(".", "")) for field in out.getvalue().splitlines()[-1].split(",")[1:]]
+
+
+def judge_reserves(sheets, asked):
+    """The sums are those of the last line that the program prints of both positions."""
+    measure = [] if asked.measure == "terminal" else ["--mean"]
+    opening = printed_total([str(asked.first), "value", str(asked.on1), *measure])
+    closing = printed_total([str(asked.last), "value", str(asked.on2), *measure])
+    increase = [row.cells for row in sheets["increase"].rows]
+    need(list(increase[0][2:]) == opening[:2] and list(increase[-1][2:]) == closing[:2], f"increase: {increase}, {opening}, {closing}")
+    for bound in (2, 3):
+        need(sum(cells[bound] for cells in increase[:-1]) == increase[-1][bound], f"the increase doesn't add up: {increase}")
+    need(all(abs(increase[-2][bound]) <= 2 * len(sheets["reserves"].rows) + 2 * 400 for bound in (2, 3)), f"rounding: {increase}")
+    reserves = sheets["reserves"]
+    lines = [row.cells for row in reserves.rows if row.section == 0 and not row.is_total]
+    need([sum(cells[place] for cells in lines) for place in (7, 8)] == closing[:2], f"reserves: {lines}, {closing}")
+    words = sum(row.cells[5] for row in reserves.rows if row.section == 1)
+    need(words == closing[2], f"{words} policies have a word, and {closing[2]} are printed")
+    in_force = rows_of(sheets["exhibit"])["in force at the end"]
+    counted = [sum(row.cells[place] for row in reserves.rows if not row.is_total) for place in (5, 6)]
+    need(counted == [in_force[11], in_force[12]], f"reserves are of {counted}, in force are {in_force}")
+
+
+# --- the increase, a second way ---
+
+def histories(commands):
+    """Of each policy its states, each with the position and the day from which on it stands."""
+    book, found = Book(), {}
+    for position, command in enumerate(commands, 1):
+        book.post(command)
+        if command.number:
+            found.setdefault(command.number, []).append((position, command.day, command.kind, book.policies[command.number]))
+    return found
+
+
+def worth_of(policy, basis, known):
+    terms = terms_of(policy, basis)
+    if isinstance(terms, str):
+        return None
+    case = terms.row.day, policy.plan, policy.age, policy.years, policy.status == "paidup"
+    if case not in known:
+        known[case] = insured_by(terms, policy.age, policy.status == "paidup")
+    return known[case]
+
+
+def by_anniversaries(history, asked, basis, known):
+    """Net premiums, interest and cost of one policy, in exact cents: for each anniversary up to the closing day on which it was
+    in force, those of the year that ended then. Of a policy of the opening book those from its day on."""
+    found = [Fraction(0)] * 3
+    states = [it for it in history if it[0] <= asked.last]
+    opening = [it for it in states if it[0] <= asked.first]
+    issued = history[0][3].issued
+    if not states or issued > asked.on2:
+        return found
+    was_there = bool(opening) and issued <= asked.on1
+    begun = completed(issued, asked.on1) if was_there else 0
+    moments = [(asked.on1 if was_there else issued, opening[-1][3])] if opening else []
+    moments += [(min(day, asked.on2), policy) for position, day, _, policy in states if position > asked.first]
+    for year in range(begun, completed(issued, asked.on2)):
+        ends = anniversary(issued, year + 1)
+        before = [policy for day, policy in moments if max(day, asked.on1 if was_there else issued) < ends]
+        policy = before[-1]
+        insured = worth_of(policy, basis, known) if policy.status in ("inforce", "paidup") else None
+        if insured is None or year >= insured.cover.years:
+            continue
+        net = insured.net_premium(year)
+        interest = (1 / insured.cover.discount - 1) * (insured.terminal(year) + net)
+        cost = insured.cover.rates[year] * (1 - insured.terminal(year + 1))
+        for place, each in enumerate((net, interest, -cost)):
+            found[place] += policy.amount * each
+    return found
+
+
+def judge_exactly(sheets, asked, past, basis, known):
+    sums = [Fraction(0)] * 3
+    for history in past.values():
+        sums = [one + other for one, other in zip(sums, by_anniversaries(history, asked, basis, known))]
+    increase = rows_of(sheets["increase"])
+    for name, exact in zip(("net premiums", "interest", "cost of insurance"), sums):
+        need(abs(increase[name][2] - exact) <= Fraction(1, 2) + Fraction(1, 10**9),
+             f"{name}: {increase[name][2]} cents, by anniversaries {float(exact)}")
+
+
+def run():
+    draw = random.Random(int(sys.argv[4]))
+    exactly = int(sys.argv[5]) if len(sys.argv) > 5 else 0
+    base = sqlite3.connect("book.db")
+    columns = columns_at("journal.life")
+    commands = list(columns.records.commands(range(columns.count)))
+    past, basis, known = histories(commands), read_basis("./basis.csv"), {}
+    need(set(FIELDS) >= set(LINES.values()), "kinds")
+    for pair in range(int(sys.argv[3])):
+        first, last = sorted(draw.randrange(columns.count + 1) for _ in range(2))
+        on1, on2 = sorted(FIRST + datetime.timedelta(draw.randrange((LAST - FIRST).days)) for _ in range(2))
+        measure = "terminal" if pair < exactly else draw.choice(["terminal", "mean"])
+        asked = Asked(".", on1, first, on2, last, one_basis("basis.csv"), measure, PROGRAM)
+        sheets = {sheet.name: sheet for sheet in statement_of(asked).sheets}
+        judge_exhibit(base, sheets["exhibit"], first, last)
+        judge_money(base, sheets, first, last)
+        judge_reserves(sheets, asked)
+        if pair < exactly:
+            judge_exactly(sheets, asked, past, basis, known)
+    print(f"{sys.argv[3]} pairs of {columns.count} postings: all sheets are what SQLite and exact values come to")
+
+
+if __name__ == "__main__":
+    run()
