@@ -15,12 +15,12 @@ TOP = pathlib.Path(__file__).resolve().parent.parent
 # The most words of each page.
 LIMITS = {
     "README.md": 700,
-    "docs/CLERK.md": 2750,
-    "docs/VALUATION.md": 4100,
-    "docs/AUDIT.md": 2300,
+    "docs/CLERK.md": 3300,
+    "docs/VALUATION.md": 4300,
+    "docs/AUDIT.md": 2700,
     "docs/OPERATIONS.md": 2100,
     "docs/FORMATS.md": 6150,
-    "docs/ARCHITECTURE.md": 4500,
+    "docs/ARCHITECTURE.md": 4560,
     "docs/PROOF.md": 8000,
     "docs/DECISIONS.md": 4000,
     "docs/FIGURES.md": 1500,

@@ -27,6 +27,20 @@ else
     head -c 100 aside.life >book2/journal.life
     ends 5 "^tried once more: book2$" books.csv value 2010-12-31 --scheduler "$address"
     grep -q '^book2,failed,5,badjournal,badrecord,1$' out && grep -q '^all,total,.*,2,3$' out || complain "$(cat out remarks)"
+    # a gate that has turned, of a book that a worker sees and of one that it is sent: record 100's, and the last one
+    for how in "" --send; do
+        cp aside.life book2/journal.life
+        printf '\0' | dd of=book2/journal.life bs=1 seek=$((17 + 65 * 100)) conv=notrunc 2>/dev/null
+        # shellcheck disable=SC2086
+        ends 1 "^tried once more: book2$" books.csv value 2010-12-31 --totals $how --scheduler "$address"
+        grep -q '^book2,failed,1,.*9100 bytes lie behind byte 6517' out && grep -q '^all,total,.*,2,3$' out || complain "$how: $(cat out remarks)"
+        cp aside.life book2/journal.life
+        rm -f book2/checkpoint.life
+        printf '\0' | dd of=book2/journal.life bs=1 seek=$((17 + 65 * 239)) conv=notrunc 2>/dev/null
+        # shellcheck disable=SC2086
+        ends 1 "^book2: .*65 bytes lie behind" books.csv value 2010-12-31 --totals $how --scheduler "$address"
+        grep -q '^all,total,.*,3,3$' out || complain "$how: $(cat out remarks)"
+    done
     cp aside.life book2/journal.life
 
     go_on "a worker that is killed in the midst"

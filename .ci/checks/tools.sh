@@ -240,17 +240,21 @@ line 2 of one-order.csv: 1,premium,12,2025-02-27,311.00
   the day is before that of the lane's posting above, which is 2025-02-28
   the policy's premium is 310.00
   it is refused: beforelast,2025-02-28
+  to do: post with this day or a later one
 line 3 of one-order.csv: 2,settle,11,2022-05-01,50000.00
   the day is 679 days before the policy's newest posting, which is of 2024-03-10
   0.00 is outstanding
   it is refused: beforelast,2024-03-10
+  to do: post with this day or a later one
 line 5 of one-order.csv: 3,settle,13,2024-03-28,5000.00
   an accepted posting equals it, of position 25
   0.00 is outstanding
   it is refused: wrongstatus,settled
+  to do: nothing more
 line 6 of one-order.csv: 1,claim,99,2025-03-01
   policy 99 is unknown
   it is refused: unknown
+  to do: is it mistyped? is it the right folder?
 line 7 of one-order.csv: 4,issue,21,2035-01-01,term,30,10,1000.00,10.00
   the day is behind today, which is 2025-03-01
 LINES
@@ -267,6 +271,7 @@ line 1 of wrong.csv: 5,settle,15,2025-05-04,40000.01
   the day is 401 days behind the policy's newest posting, which is of 2024-03-29
   40000.00 is outstanding
   it is refused: oversettled,40000.00
+  to do: pay no more than this
 LINES
 prints wanted
 leaves before
@@ -426,7 +431,7 @@ undone "nowhere is no journal, and no number of commands" rest small-office.csv 
 undone "badjournal,notajournal" rest small-office.csv journal.life strange
 undone "nowhere: $none" explain badscript,1,1 nowhere
 undone "badscript needs the script's file" explain badscript,1,1
-undone "nowhere: no such file, and no answer of a script or a basis" explain nowhere
+undone "nowhere: no such file, and no answer of a line, a script or a basis" explain nowhere
 undone "isn't badbasis,NAME,PLACE,WORD" explain badbasis,basis.csv
 undone "nowhere: $none" position-on 2021-01-01 nowhere
 undone "badjournal,notajournal" position-on 2021-01-01 strange
@@ -522,7 +527,7 @@ refuses "is a table that is taken" explain badbasis,q.xml,28,notdocument
 refuses "is no word of a bad basis" explain badbasis,q.xml,28,strange
 # what is passed over without a word
 sed 's#</XTbML>#<Table><Values><Axis><Y t="0">1</Y></Axis></Values></Table></XTbML>#' q.xml >two.xml
-refuses "no such file, and no answer.*Each refusal" explain 1,lapse,7001,refused,unknown
+refuses "no such file, and no answer of a line, a script or a basis" explain 1,lapse,7001,fault
 says explain two.xml
 grep -q "ages 0 to 4" out && grep -q "1 further Table" out || complain "explain: $(cat out)"
 for layout in select select-inner select-outer; do

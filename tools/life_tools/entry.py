@@ -36,6 +36,8 @@ ENTRIES: dict[str, tuple[str, str]] = {
     "check-projection": ("check_projection", "work the years of a printed projection out anew, and compare"),
     "generate": ("generate", "a drawn script, numbered from a number on"),
     "plot": ("plot", "draw printed valuations, a printed book or a printed projection"),
+    "audit": ("audit", "for an auditor: doubtful postings, a sample of the policies, papers and letters on it"),
+    "table": ("table", "a table before a book is valued by it: looked at, converted, rounded, joined"),
     "seal": ("seal", "a seal of the book and its basis, to keep elsewhere; and whether they still are so"),
     "version": ("version", "which program these tools were installed with"),
 }

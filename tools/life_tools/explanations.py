@@ -27,10 +27,10 @@ WANTED = {
     "badrate": "a rate from 0 to 1 with at most nine places, as 0.00042 or 4.2E-4, and nothing else in the Y",
 }
 CURES = {
-    "badrate": "round the rates to nine decimals; a spreadsheet may have written more",
-    "scaled": "multiply the rates out, and drop the factor",
+    "badrate": "table round rounds them to nine decimals; a spreadsheet may have written more",
+    "scaled": "table convert takes the factor out of the rates",
     "badduration": "number the durations 1, 2, 3 without a gap; leave out the last issue ages where they have no select rates",
-    "noultimate": "put the ultimate table behind the select one, in the same file",
+    "noultimate": "table join puts the ultimate table of another file behind the select one",
     "ultimategap": "let the ultimate rates begin at that age, or add select rates up to their first age",
 }
 

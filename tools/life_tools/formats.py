@@ -9,6 +9,7 @@ import re
 import sys
 from dataclasses import dataclass
 from functools import lru_cache
+from typing import Callable, TypeVar
 
 FIRST_DAY = datetime.date(1900, 1, 1)
 LAST_DAY = datetime.date(2199, 12, 31)
@@ -47,6 +48,8 @@ FIELDS = {
     "upgrade": (),
 }
 
+Read = TypeVar("Read")
+
 
 class Wrong(Exception):
     """Something isn't as it must be; the text says what. A tool ends with the status."""
@@ -69,6 +72,16 @@ def bytes_of(path: str) -> bytes:
             return file.read()
     except OSError as error:
         raise Wrong(f"{path}: {error.strerror}") from error
+
+
+def read_whole(path: str, most: int, read: Callable[[bytes], Read]) -> Read:
+    """What is read of a file of at most so many bytes; what is wrong with it is told with its name."""
+    data = bytes_of(path)
+    try:
+        demand(len(data) <= most, f"it has {len(data)} bytes, and at most {most} are read")
+        return read(data)
+    except Wrong as wrong:
+        raise Wrong(f"{path}: {wrong}") from wrong
 
 
 def printed_text(path: str) -> str:

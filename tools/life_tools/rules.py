@@ -170,13 +170,16 @@ def changed(policy: Policy, command: Command) -> Policy:
     return replace(policy, last=last, status="claimed" if kind == "claim" else "matured", outstanding=policy.amount)
 
 
+def issued(command: Command) -> Policy:
+    """The policy that an issue opens."""
+    day = command.on
+    return Policy(command.number, command.plan, command.age, command.years, command.amount, command.premium, day, day)
+
+
 def decide(policy: Policy | None, command: Command) -> Refusal | Policy:
     """The first reason to refuse a command on a policy, or on none; or the policy afterwards. No upgrade is decided here."""
     if command.kind == "issue":
-        if policy:
-            return Refusal("taken")
-        return Policy(command.number, command.plan, command.age, command.years, command.amount, command.premium, command.on,
-                      command.on)
+        return Refusal("taken") if policy else issued(command)
     if policy is None:
         return Refusal("unknown")
     for applies, refusal in reasons(policy, command):

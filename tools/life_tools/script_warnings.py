@@ -5,10 +5,12 @@ import datetime
 from typing import Callable, Iterator
 
 from life_tools.commands import Command, command_in
+from life_tools.deaths import standing
 from life_tools.formats import money
 from life_tools.journal_columns import places_in, upgrade_in
 from life_tools.journals import gate_of
-from life_tools.rules import Book, Policy, Refusal, due_of, end_of
+from life_tools.remedies import remedy_of
+from life_tools.rules import Book, Policy, Refusal, anniversary, due_of, end_of
 from life_tools.script_lines import Line
 
 # a posting lies at most so far from what came before it, unless it is warned of
@@ -22,6 +24,9 @@ class Desk:
         self.book, self.today = Book(), today
         self.positions: dict[Command, int] = {}
         self.days: dict[int, datetime.date] = {}
+        self.reinstated: dict[int, datetime.date] = {}
+        # of each policy what was accepted, in order
+        self.taken: dict[int, list[Command]] = {}
 
     def read(self, data: bytes, count: int, numbers: set[int]) -> None:
         """Takes their commands among a file's first records, which the program has judged."""
@@ -45,6 +50,16 @@ class Desk:
         elif not isinstance(after, Refusal):
             self.book.upgrade = position
         self.positions.setdefault(command, position)
+        self.taken.setdefault(command.number, []).append(command)
+        if command.kind == "reinstate":
+            self.reinstated[command.number] = command.on
+
+    def advice(self, line: Line, refused: list[str]) -> list[str]:
+        """What to do about a line that was refused with these words; of a claim by what its policy's journal says, too."""
+        command, what = line.command, remedy_of(line.kind, refused).what
+        if command and command.kind == "claim" and (refused[0] == "beforelast" or refused == ["wrongstatus", "lapsed"]):
+            what = standing(self.taken.get(command.number, []), command)
+        return [f"to do: {what}"]
 
 
 Look = Callable[[Desk, Line, Command, "Policy | None"], Iterator[str]]
@@ -101,4 +116,10 @@ def is_right_amount(desk: Desk, line: Line, command: Command, policy: Policy | N
         yield f"{money(policy.outstanding)} is outstanding"
 
 
-LOOKS: tuple[Look, ...] = (is_known, is_near, is_in_order, is_new, is_right_amount)
+def is_long_in_force(desk: Desk, line: Line, command: Command, policy: Policy | None) -> Iterator[str]:
+    day = desk.reinstated.get(command.number) if command.kind == "claim" else None
+    if day and command.on <= anniversary(day, 1):
+        yield f"the policy was reinstated on {day}: is it known that the insured lived then?"
+
+
+LOOKS: tuple[Look, ...] = (is_known, is_near, is_in_order, is_new, is_right_amount, is_long_in_force)

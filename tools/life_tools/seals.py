@@ -20,7 +20,7 @@ from typing import NamedTuple, Sequence
 
 from life_tools.commands import day_at
 from life_tools.copied_folder import JOURNAL
-from life_tools.formats import MOST_COMMANDS, Wrong, bytes_of, day_in, demand, number_of
+from life_tools.formats import MOST_COMMANDS, Wrong, bytes_of, day_in, demand, number_of, read_whole
 from life_tools.journals import FIRST_GATE, RECORD_SIZE, gate_of
 from life_tools.record_columns import BadJournal, columns_at
 from life_tools.tables import NAME, basis_rows, file_in
@@ -85,8 +85,8 @@ def seal_of(folder: str, position: int | None = None, bases: Sequence[str] = ("b
     days = front.days()
     with memoryview(front.data) as data:
         found = sum_of(data[:gate_of(front.count)])
-    made = datetime.datetime.now(datetime.timezone.utc).date()
-    return Seal(made, front.count, whole.count, day_at(max(days)) if days else None, found, sealed_files(folder, bases))
+    made, newest = datetime.datetime.now(datetime.timezone.utc).date(), day_at(max(days)) if days else None
+    return Seal(made, front.count, whole.count, newest, found, sealed_files(folder, bases))
 
 
 def text_of(seal: Seal) -> str:
@@ -133,12 +133,7 @@ def seal_in(text: str) -> Seal:
 
 
 def seal_at(path: str) -> Seal:
-    data = bytes_of(path)
-    demand(len(data) <= MOST_SEAL_BYTES, f"{path} has {len(data)} bytes: it is no seal")
-    try:
-        return seal_in(data.decode("ascii", "replace"))
-    except Wrong as wrong:
-        raise Wrong(f"{path}: {wrong}") from wrong
+    return read_whole(path, MOST_SEAL_BYTES, lambda data: seal_in(data.decode("ascii", "replace")))
 
 
 # --- whether a book is still that of a seal ---

@@ -31,7 +31,8 @@ def names_in(root: Element) -> list[str]:
     names = [part.text.strip() for part in found if part]
     of_axes = (part.first("AxisName") or part.first("ScaleType") for part in axes)
     names += [f"axis {name.text.strip()}" for name in of_axes if name]
-    return [name for name in names if name]
+    # the document was read byte for byte, and what people read in it is UTF-8 as a rule
+    return [name.encode("iso-8859-1").decode("utf-8", "replace") for name in names if name]
 
 
 # --- what is passed over ---

@@ -1,13 +1,14 @@
 """The basis file and its mortality tables, read by an XML parser, or the first fault of one (docs/FORMATS.md).
 
-The profile that the program reads is somewhat wider than XML (a bare `&`, say). What the parser refuses is told by
-`NotXml`: of such a file this module can't say what the program makes of it.
+The profile that the program reads is somewhat wider than XML (two attributes of one name, say). What the parser refuses is
+told by `NotXml`: of such a file this module can't say what the program makes of it, and `verdicts` asks the program itself.
 """
 from __future__ import annotations
 
 import datetime
 import os
 import re
+from bisect import bisect_left
 from dataclasses import dataclass, field
 from fractions import Fraction
 from typing import Union
@@ -21,6 +22,9 @@ FINEST = 10**9
 NAME = re.compile("[A-Za-z0-9][A-Za-z0-9._-]{0,63}")
 MARK = b"\xef\xbb\xbf"
 WHITE = " \t\n\r"
+# how UTF-16 begins, with a mark or with a `<`
+SIXTEEN = (b"\xff\xfe", b"\xfe\xff", b"<\0", b"\0<")
+AND, LONGER = ord("&"), len("&amp;") - len("&")
 
 
 class BadBasis(Wrong):
@@ -120,6 +124,12 @@ class Reader:
 
     def __init__(self, data: bytes) -> None:
         self.shift = len(MARK) if data.startswith(MARK) else 0
+        if data[:2] in SIXTEEN:
+            # which the parser would take, and the program doesn't
+            raise NotXml("it is written in UTF-16")
+        # an & stands for itself to the program, which knows no references
+        ands = [at for at, byte in enumerate(data[self.shift:]) if byte == AND] if AND in data else []
+        self.ands = [at + LONGER * before for before, at in enumerate(ands)]
         # read byte for byte, whatever the declaration says, as the program does
         self.parser = expat.ParserCreate("iso-8859-1")
         self.open: list[Element] = []
@@ -132,9 +142,13 @@ class Reader:
             setattr(self.parser, handler, self.refuse)
         self.parser.buffer_text = True
         try:
-            self.parser.Parse(data[self.shift:], True)
+            self.parser.Parse(data[self.shift:].replace(b"&", b"&amp;"), True)
         except expat.ExpatError as error:
             raise NotXml(f"it is no XML: {error}") from error
+
+    def place(self, index: int) -> int:
+        """The place in the file of one in what the parser reads, where each & is longer."""
+        return index - LONGER * bisect_left(self.ands, index) + self.shift
 
     def refuse(self, *_: object) -> None:
         raise NotXml("it has a DOCTYPE, a CDATA section or a processing instruction")
@@ -150,7 +164,7 @@ class Reader:
     def start(self, name: str, attributes: dict[str, str]) -> None:
         if any(word.startswith(":") for word in (name, *attributes)):
             raise NotXml("a name begins with a colon, which XML takes and the program doesn't")
-        element = Element(name, self.parser.CurrentByteIndex + self.shift, attributes)
+        element = Element(name, self.place(self.parser.CurrentByteIndex), attributes)
         self.mark_open()
         if self.open:
             self.open[-1].children.append(element)

@@ -3,7 +3,9 @@
 A row is told where its day is behind today, or before that of its lane's posting above; where it is more than 400 days from
 its policy's newest posting, a maturity from the end of the term, and a claim only while premiums are awaited; where its
 policy's number is unknown; where an accepted posting equals it, as where a settlement is sent twice; where its
-amount isn't the policy's premium, or more than is outstanding; and where the program refuses it on a copy of the journal.
+amount isn't the policy's premium, or more than is outstanding; where it is a claim within a year of a reinstatement; and
+where the program refuses it on a copy of the journal, with what to do. Of a claim that is refused it tells whether the policy
+was insured on the day of death: it never is a reason to reinstate.
 The rows are looked at in the order in which that dry run answered them. The status is 1 where a row is told. The copy lies
 where that of `dry-run` does.
 
@@ -54,7 +56,7 @@ def look_over(lines: list[Line], transcript: str, desk: Desk, holding: Holding) 
         if answer[:1] == ["accepted"] and line.command:
             desk.take(line.command, number_of(answer[1], 1, MOST_COMMANDS) or 0)
         elif answer[:1] == ["refused"]:
-            told[line.row.number].append(f"it is refused: {','.join(answer[1:])}")
+            told[line.row.number] += [f"it is refused: {','.join(answer[1:])}", *desk.advice(line, answer[1:])]
     holding.end(lines)
     return told
 

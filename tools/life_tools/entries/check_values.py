@@ -4,7 +4,8 @@ The first line names the measure: mean, deficiency, or none where the reserves a
 read from its folder. Written from docs/FORMATS.md and from the public standards alone, so that the program can be
 checked without it. It ends with status 1 and says where a row or the total isn't as it must be.
 
-With --sample the file has the first line and any of the rows, in any order: these are checked, and the total isn't.
+With --sample the file has the first line and any of the rows, in any order: these are checked, and the total isn't. What
+`audit sample` wrote is taken so without a word.
 """
 from __future__ import annotations
 
@@ -15,6 +16,7 @@ from life_tools.formats import Wrong, measure_of, printed_rows, printed_text
 from life_tools.journals import book_at
 from life_tools.judging import judged
 from life_tools.rules import Policy
+from life_tools.samples import is_sample
 from life_tools.tables import BasisRow, read_basis
 from life_tools.valuation_check import check_block, check_sample
 
@@ -43,4 +45,7 @@ def run(options: argparse.Namespace) -> int:
         raise Wrong(f"{options.valuation} is no valuation that life value prints")
     book, basis = book_at(options.journal, rows[0][3]), read_basis(options.basis)
     policies = list(book.policies.values())
+    if is_sample(rows):
+        rows.pop(1)
+        options.sample = True
     return judged(partial(judge_sample if options.sample else judge, rows, policies, basis, measure))

@@ -1,5 +1,6 @@
-"""Explains a refusal of a script or of a basis: the line of an editor, what was found there, and what is wanted.
+"""Explains a refusal: of a line what it means and what to do, of a script or a basis the place, what was found and is wanted.
 
+    explain LANE,KIND,ID,refused,REASON          a line that the rules refused, by its kind
     explain badscript,ROW,FIELD SCRIPT           a script's first fault
     explain badbasis,NAME,PLACE,WORD [FOLDER]    a basis file or a table; the folder (as a rule `.`) has the files
     explain TABLE                                what is taken of a table's file, and what is passed over
@@ -14,15 +15,20 @@ import os
 
 from life_tools.explanations import NotTaken, explain_basis, explain_script, explain_table
 from life_tools.formats import demand, remark
+from life_tools.remedies import explain_refusal, is_refused
 
 
 def arguments(parser: argparse.ArgumentParser) -> None:
-    parser.add_argument("answer", metavar="ANSWER", help="badscript,.. or badbasis,.. as printed, or a table's file")
+    parser.add_argument("answer", metavar="ANSWER", help="a refused line, badscript,.. or badbasis,.. as printed; or a table")
     parser.add_argument("files", metavar="SCRIPT | FOLDER", nargs="?", help="the script, or the folder of the basis")
 
 
 def run(options: argparse.Namespace) -> int:
     kind = options.answer.split(",")[0]
+    if is_refused(options.answer):
+        demand(options.files is None, "a refused line needs no file")
+        explain_refusal(options.answer)
+        return 0
     is_fit = kind == "badbasis" or (kind == "badscript") == (options.files is not None)
     demand(is_fit, "badscript needs the script's file, and a table nothing else")
     if kind == "badscript":
@@ -31,8 +37,7 @@ def run(options: argparse.Namespace) -> int:
     if kind == "badbasis":
         explain_basis(options.answer, options.files or ".")
         return 0
-    told = f"{options.answer}: no such file, and no answer of a script or a basis"
-    demand(os.path.lexists(options.answer), f"{told}; a refused line is told in docs/CLERK.md, Each refusal")
+    demand(os.path.lexists(options.answer), f"{options.answer}: no such file, and no answer of a line, a script or a basis")
     try:
         explain_table(options.answer)
     except NotTaken as bad:

@@ -3,26 +3,16 @@ from __future__ import annotations
 
 import argparse
 import hashlib
-import json
 import os
-import pkgutil
 import sys
 
 from life_tools.formats import Wrong
 from life_tools.program import program_beside
+from life_tools.revisions import built_with
 
 
 def arguments(parser: argparse.ArgumentParser) -> None:
     pass
-
-
-def built_with() -> dict[str, str] | None:
-    """What `life install` noted; nothing in a clone."""
-    try:
-        noted = pkgutil.get_data("life_tools", "built.json")
-    except OSError:
-        return None
-    return json.loads(noted) if noted else None
 
 
 def run(options: argparse.Namespace) -> int:

@@ -1,0 +1,106 @@
+"""The advice on refused lines: CLERK's table is that of the tools, no claim is told to reinstate, and deaths that are told late
+are judged as the program would have judged them on their day.
+
+usage: python3 advices.py ROOT PROGRAM SEED POLICIES
+"""
+from __future__ import annotations
+
+import datetime
+import random
+import re
+import subprocess
+import sys
+import tempfile
+from dataclasses import replace
+from pathlib import Path
+
+ROOT = Path(sys.argv[1])
+sys.path[:0] = [str(ROOT / "tools"), str(ROOT / ".ci" / "tools")]
+
+from life_tools.commands import Command, words_of  # noqa: E402
+from life_tools.deaths import standing  # noqa: E402
+from life_tools.formats import KINDS, STATUSES  # noqa: E402
+from life_tools.remedies import BENEFITS, REMEDIES, remedy_of  # noqa: E402
+from lived_book import LAST, drawn_issue, life_of  # noqa: E402
+
+DAY = datetime.timedelta(1)
+
+
+def plain(text: str) -> str:
+    """A cell without its links and without what is set in bold."""
+    return re.sub(r"\[([^]]*)\]\([^)]*\)", r"\1", text).replace("**", "").strip()
+
+
+def shown_table() -> list[tuple[str, tuple[str, ...], str, str]]:
+    """The rows of CLERK's table, one for each reason: reason, kinds, meaning, advice."""
+    page = (ROOT / "docs" / "CLERK.md").read_text(encoding="utf-8")
+    table = page[page.index("| reason | what it means | what to do |"):].split("\n\n")[0].split("\n")[2:]
+    found = []
+    for row in table:
+        first, means, what = row.strip("|").split(" | ")
+        reasons, _, kinds = first.partition(" of ")
+        for reason in re.findall("`([^`]*)`", reasons):
+            word = reason if reason.startswith("wrongstatus") else reason.split(",")[0]
+            found.append((word, tuple(re.findall("`([^`]*)`", kinds)), plain(means), plain(what)))
+    return found
+
+
+def look_at_table() -> None:
+    told = [tuple(remedy) for remedy in REMEDIES]
+    assert shown_table() == told, [each for each in zip(shown_table(), told) if each[0] != each[1]]
+    reasons = [["wrongstatus", status] for status in STATUSES] + [[remedy.reason] for remedy in REMEDIES if "," not in remedy.reason]
+    for kind in (*KINDS.values(), "value"):
+        for reason in reasons:
+            what = remedy_of(kind, reason).what
+            # to put a policy in force again for a death would pay one outside the cover
+            assert kind not in BENEFITS or "reinstate" not in what.replace("don't reinstate", ""), (kind, reason, what)
+    assert remedy_of("claim", ["graceover", "2020-03-15"]).what == "don't reinstate; refer it"
+    assert remedy_of("claim", ["wrongstatus", "lapsed"]).what == "don't reinstate; refer it"
+
+
+def answers(program: str, commands: list[Command]) -> list[str]:
+    """What the program answers these lines in an empty folder."""
+    script = "".join(f"1,{','.join(words_of(command))}\n" for command in commands)
+    with tempfile.TemporaryDirectory() as folder:
+        ran = subprocess.run([program, "run"], cwd=folder, input=script.encode(), stdout=subprocess.PIPE, check=True)
+    return ran.stdout.decode().splitlines()[:len(commands)]
+
+
+def death_of(draw: random.Random, life: list[Command]) -> Command:
+    """A death some days about one of the policy's postings."""
+    near = draw.choice(life).on + DAY * draw.randint(-60, 60)
+    return Command("claim", life[0].number, max(near, life[0].on + DAY))
+
+
+def look_at_deaths(program: str, seed: int, policies: int) -> str:
+    """Each death is asked of the program twice: on its day, behind the postings up to there; and of the day that is advised."""
+    draw = random.Random(seed)
+    lives = [[it for it in life_of(draw, drawn_issue(draw, number)) if it.kind != "paidup"] for number in range(1, policies + 1)]
+    cases = [(life, death_of(draw, life)) for life in lives for _ in range(4)]
+    then: list[Command] = []
+    now: list[Command] = []
+    places = []
+    for number, (life, death) in enumerate(cases, 1):
+        text = standing(life, death)
+        advised = re.search("post the claim of ([0-9-]{10})", text)
+        up_to = [it for it in life if it.on <= death.on]
+        then += [replace(it, number=number) for it in (*up_to, death)]
+        places.append((len(then) - 1, text, bool(advised), life[-1].on > death.on, up_to[-1].on == death.on))
+        if advised:
+            now += [replace(it, number=number) for it in (*life, Command("claim", number, datetime.date.fromisoformat(advised[1])))]
+    told = answers(program, then)
+    counts = {"posted": 0, "referred, insured": 0, "not insured": 0}
+    for place, text, is_advised, is_late, is_that_day in places:
+        is_insured = ",accepted," in told[place]
+        assert not is_advised or is_insured, (told[place], text)
+        assert is_insured or "it wasn't insured then" in text or is_that_day, (told[place], text)
+        assert not is_insured or "it wasn't insured then" not in text or is_that_day, (told[place], text)
+        counts["posted" if is_advised else "referred, insured" if is_insured and is_late else "not insured"] += 1
+    assert all(",accepted," in answer for answer in answers(program, now)), "an advised claim is refused"
+    assert min(counts.values()) > 20, counts
+    return str(counts)
+
+
+if __name__ == "__main__":
+    look_at_table()
+    print(look_at_deaths(sys.argv[2], int(sys.argv[3]), int(sys.argv[4])))

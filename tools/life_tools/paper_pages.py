@@ -1,0 +1,98 @@
+"""The papers of a sample as one page of HTML to print: first what was drawn and how, then a sheet for each policy."""
+from __future__ import annotations
+
+from fractions import Fraction
+from html import escape
+from typing import Sequence
+
+from life_tools.formats import money as plain_money
+from life_tools.papers import Paper, Papers
+from life_tools.report_pages import STYLE, apart, money, table
+from life_tools.revisions import made_now, revision
+from life_tools.seals import text_of
+from life_tools.worked_rows import decimal
+
+PLACES = 6
+PRINTED = """
+section { break-before: page; border-top: 2px solid #1b1f23; margin-top: 2rem }
+pre { font: .8rem/1.4 ui-monospace, monospace; white-space: pre-wrap; overflow-wrap: anywhere; background: #f3f6f9;
+  border-radius: .4rem; padding: .6rem .8rem }
+.box { display: inline-block; width: .9rem; height: .9rem; border: 1px solid #1b1f23; vertical-align: -.1rem }
+.sign { display: grid; grid-template-columns: repeat(auto-fit, minmax(12rem, 1fr)); gap: 1rem; margin: 1rem 0 }
+.sign div { border-bottom: 1px solid #1b1f23; padding-top: 1.6rem; color: #57606a; font-size: .85rem }
+.wrong { color: #b00020; font-weight: 600 }
+@media (max-width: 30rem) { table { font-size: .68rem } th, td { padding: .3rem .2rem } th { white-space: normal } }
+@media print {
+  body { max-width: none; padding: 0; font-size: 10pt } section { border: 0; margin: 0 } pre { font-size: 8pt }
+  .wide { overflow: visible } table { font-size: 8.5pt } th, td { padding: .15rem .35rem }
+}
+"""
+
+
+def facts(told: Sequence[tuple[str, str]]) -> str:
+    return "<div class=\"facts\">" + "".join(f"<div><span>{escape(name)}</span><b>{escape(value)}</b></div>"
+                                             for name, value in told) + "</div>"
+
+
+def chance_text(chance: Fraction) -> str:
+    return "certain" if chance == 1 else decimal(chance, PLACES)
+
+
+def signed() -> str:
+    return "<div class=\"sign\"><div>looked at by</div><div>on</div><div>remarks</div></div>"
+
+
+def verdict(paper: Paper) -> str:
+    return "right" if paper.is_right else "wrong"
+
+
+def front_of(papers: Papers) -> list[str]:
+    sample, draw = papers.sample, papers.draw
+    told = [("book", papers.book), ("day", str(sample.on)), ("position", apart(str(sample.position))),
+            ("measure", sample.measure), ("policies", apart(str(sample.policies))), ("drawn by", sample.by),
+            ("rows wished for", apart(str(sample.asked))), ("seed", str(sample.seed)),
+            (f"total {sample.by}", money(sample.total)), ("interval", f"{money(sample.total)} / {sample.asked}"),
+            ("start", f"{plain_money(sample.start)} / {sample.asked}"), ("rows drawn", apart(str(len(sample.rows)))),
+            ("certain rows", apart(str(draw.certain))), ("rows of 0, not drawn", apart(str(draw.nothing))),
+            ("revision of the tools", revision()), ("made", made_now())]
+    return [facts(told), contents(papers), "<h2>The book's seal</h2>", f"<pre>{escape(text_of(papers.seal))}</pre>"]
+
+
+def contents(papers: Papers) -> str:
+    rows = [[str(it.policy.number), money(it.size), chance_text(it.chance),
+             *([it.row.word, ""] if it.row.word else map(money, it.row.bounds)), verdict(it)] for it in papers.papers]
+    total = ["drawn", money(sum(it.size for it in papers.papers)), "",
+             *(money(sum(it.row.bounds[place] for it in papers.papers)) for place in range(2)), ""]
+    heads = ["policy", papers.sample.by, "chance", "lower bound", "upper bound", "row"]
+    return "<h2>What was drawn</h2>" + table(heads, rows, total)
+
+
+def postings_text(paper: Paper) -> str:
+    """Each posting behind its position."""
+    width = len(apart(str(paper.postings[-1][0])))
+    return "\n".join(f"{apart(str(position)):>{width}}  {line}" for position, line in paper.postings)
+
+
+def sheet(paper: Paper, papers: Papers) -> list[str]:
+    """The sheet of a policy, which says of itself what it is of."""
+    policy, sample = paper.policy, papers.sample
+    right = "" if paper.is_right else "<p class=\"wrong\">The printed row isn't what was worked out.</p>"
+    is_of = f"{papers.book} on {sample.on} at position {sample.position:,}; {sample.by} {money(paper.size)}"
+    return [f"<section id=\"policy-{policy.number}\"><h2>Policy {policy.number}</h2>",
+            f"<p>{escape(is_of)}, chance {chance_text(paper.chance)}. Basis {escape(paper.basis_row)}.</p>", right,
+            f"<h3>The row, worked out</h3><pre>{escape(chr(10).join(paper.worked))}</pre>",
+            f"<h3>Its postings</h3><pre>{escape(postings_text(paper))}</pre>",
+            "<p><span class=\"box\"></span> application seen &ensp; <span class=\"box\"></span> premiums traced &ensp; "
+            "<span class=\"box\"></span> letter answered</p>", signed(), "</section>"]
+
+
+def page(papers: Papers) -> str:
+    """The whole page, which needs no network."""
+    title = f"Audit papers: {papers.book} on {papers.sample.on} at position {papers.sample.position}"
+    parts = ["<!doctype html>", "<html lang=\"en\"><head><meta charset=\"utf-8\">",
+             "<meta name=\"viewport\" content=\"width=device-width, initial-scale=1\">",
+             f"<title>{escape(title)}</title><style>{STYLE}{PRINTED}</style></head><body>", f"<h1>{escape(title)}</h1>",
+             *front_of(papers), signed()]
+    for paper in papers.papers:
+        parts += sheet(paper, papers)
+    return "\n".join([*parts, "</body></html>", ""])
