@@ -79,7 +79,7 @@ def judge_exhibit(base, sheet, first, last):
 def judge_money(base, sheets, first, last):
     """What was collected, and what is outstanding, by SQLite."""
     lines = rows_of(sheets["premiums"])
-    found = lines["collected, first year"][3] + lines["collected, renewal"][3], lines["collected by reinstatement"][3]
+    found = lines["first-year premiums collected"][3] + lines["renewal premiums collected"][3], lines["collected by reinstatement"][3]
     sums = dict(base.execute(COLLECTED + "('premium', 'reinstate') group by kind", (first, last)))
     need(found == (sums.get("premium", 0), sums.get("reinstate", 0)), f"collected {found}, SQLite has {sums}")
     lines = rows_of(sheets["claims"])

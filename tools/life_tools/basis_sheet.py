@@ -10,8 +10,8 @@ from life_tools.rules import Policy
 from life_tools.sheets import COUNT, TEXT, Column, Sheet
 from life_tools.tables import BasisRow
 
-METHODS = {"terminal": "CRVM, terminal", "mean": "CRVM, mean"}
-PAID_UP_METHODS = {"terminal": "paid up, terminal", "mean": "paid up, mean"}
+METHODS = {"terminal": "CRVM terminal", "mean": "CRVM mean"}
+PAID_UP_METHODS = {"terminal": "paid up terminal", "mean": "paid up mean"}
 COLUMNS = [Column("table", TEXT), Column("interest", TEXT), Column("method", TEXT), Column("issued from", TEXT),
            Column("issued to", TEXT), Column("policies", COUNT), Column("amount insured"), Column("lower bound"),
            Column("upper bound"), Column("deficiency")]

@@ -17,7 +17,7 @@ from life_tools.rules import Policy
 from life_tools.sheets import COUNT, TEXT, Column, Sheet
 
 OPENING, ROUNDING, CLOSING = "reserve at the beginning", "rounding", "reserve at the end"
-NET, INTEREST, COST, HELD = "net premiums", "interest", "cost of insurance", "held at 0, not below"
+NET, INTEREST, COST, HELD = "net premiums", "interest", "cost of insurance", "kept from falling below 0"
 DEATH, LAPSE, MATURITY = "released by death", "released by lapse", "released by maturity and expiry"
 REVIVED, DECREASED, PAID_UP = "revived", "decreased", "made paid up"
 WORKED = (NET, INTEREST, COST, HELD, DEATH, LAPSE, MATURITY, REVIVED, DECREASED, PAID_UP)
