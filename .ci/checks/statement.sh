@@ -41,7 +41,8 @@ skips() {
 # By hand, from table Q (0.1, 0.2, 0.25, 0.5, 1): without interest an endowment of age 0 for 3 years has beta 343/707.4 =
 # 0.484874, the net premium 0.214504 of its first year, and the reserve 0.127226 at year 1 (docs/VALUATION.md). At 5 percent
 # its first net premium is 0.202174, and a paid-up term of 3 years is worth 0.413994 at the issue and 0.371882 at year 1.
-# 7001 is paid ahead for 2022; 7002 is made paid up; 7003 lapses; 7004 dies in its second year; 7005 is in grace, 7006 past it.
+# 7001 is paid ahead for 2022; 7002 is made paid up; 7003 lapses; 7004 dies in its second year; 7005 is on its last
+# day of grace, 7006 past it.
 begin "a policy of each kind, by hand"
 cp "$examples/q.xml" .
 printf '1900-01-01,q.xml,0\n2020-02-01,q.xml,500\n' >basis.csv
@@ -59,7 +60,7 @@ cat >script <<'END'
 1,premium,7004,2020-01-15,980.00
 1,claim,7004,2021-01-20
 1,settle,7004,2021-02-01,500.00
-1,issue,7005,2021-12-10,endowment,0,3,100.00,50.00
+1,issue,7005,2021-11-30,endowment,0,3,100.00,50.00
 1,issue,7006,2021-06-01,endowment,0,3,100.00,50.00
 1,premium,7001,2021-12-20,400.00
 END

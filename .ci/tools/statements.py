@@ -21,6 +21,7 @@ from life_tools.class_bases import one_basis
 from life_tools.columns import columns_at
 from life_tools.entry import main
 from life_tools.formats import FIELDS
+from life_tools.journals import file_of
 from life_tools.periods import Asked
 from life_tools.reserves import InForce, exact_value, insured_by, terms_of
 from life_tools.rules import Book, anniversary, completed
@@ -179,6 +180,49 @@ def judge_exactly(sheets, asked, past, basis, known):
              f"{name}: {increase[name][2]} cents, by anniversaries {float(exact)}")
 
 
+# --- premiums, a second way ---
+
+def listed_due(commands, on):
+    """What `due` lists of a front: of those in grace and of those to lapse, how many, and of the former the sum."""
+    with open("front.life", "wb") as file:
+        file.write(file_of(commands))
+    out = io.StringIO()
+    with contextlib.redirect_stdout(out), contextlib.redirect_stderr(io.StringIO()):
+        need(main(["due", str(on), "front.life"]) == 0, f"due {on}")
+    rows = [line.split(",") for line in out.getvalue().splitlines()[1:]]
+    # a premium that is due on the day itself is listed as such, and has its days of grace before it
+    in_grace = [row for row in rows if row[0] in ("grace", "premium")]
+    return (len(in_grace), sum(int(row[4].replace(".", "")) for row in in_grace), sum(row[0] == "lapse" for row in rows))
+
+
+def judge_premiums(sheets, asked, commands, past, basis, known):
+    lines = rows_of(sheets["premiums"])
+    for at, on, when in ((asked.first, asked.on1, "at the beginning"), (asked.last, asked.on2, "at the end")):
+        found = (*lines[f"uncollected in grace {when}"][1:4:2], lines[f"past grace and not lapsed {when}"][1])
+        wanted = listed_due(commands[:at], on)
+        need(found == wanted, f"{when}: uncollected are {found}, and due lists {wanted}")
+        ahead = [0, 0, 0, 0]
+        for history in past.values():
+            part = paid_ahead([it for it in history if it[0] <= at], on, basis, known)
+            ahead = [one + other for one, other in zip(ahead, part)]
+        need(list(lines[f"paid in advance {when}"][1:5]) == ahead, f"{when}: {lines[f'paid in advance {when}']}, another way {ahead}")
+
+
+def paid_ahead(states, on, basis, known):
+    """Policies, premiums, gross and net of one policy: each posting pays so many premiums, of the years that follow on one another."""
+    if not states or states[-1][3].status != "inforce":
+        return 0, 0, 0, 0
+    policy, gross, years = states[-1][3], 0, []
+    for (_, _, _, before), (_, _, kind, after) in zip(states, states[1:]):
+        for year in range(before.paid, after.paid):
+            if anniversary(policy.issued, year) > on:
+                gross += before.premium
+                years.append(year)
+    insured = worth_of(policy, basis, known)
+    net = policy.amount * sum((insured.net_premium(year) for year in years), Fraction(0)) if insured else Fraction(0)
+    return bool(years), len(years), gross, (2 * net + 1) // 2
+
+
 def run():
     draw = random.Random(int(sys.argv[4]))
     exactly = int(sys.argv[5]) if len(sys.argv) > 5 else 0
@@ -198,6 +242,7 @@ def run():
         judge_reserves(sheets, asked)
         if pair < exactly:
             judge_exactly(sheets, asked, past, basis, known)
+            judge_premiums(sheets, asked, commands, past, basis, known)
     print(f"{sys.argv[3]} pairs of {columns.count} postings: all sheets are what SQLite and exact values come to")
 
 
