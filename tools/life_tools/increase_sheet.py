@@ -52,7 +52,7 @@ class Increase:
         self.worth = Worth(period.asked.measure)
         self.ways: dict[int, Way] = {}
         self.sums, self.counts = dict.fromkeys(WORKED, 0), dict.fromkeys(LINES, 0)
-        # each policy's own sums, in the order of WORKED
+        # each policy's own sums, in the order of WORKED, where they are kept
         self.parts: dict[int, list[int]] = {}
         self.exact = [0, 0]
         policies = period.opening.policies
@@ -68,7 +68,8 @@ class Increase:
 
     def put(self, line: str, number: int, scaled: int) -> None:
         self.sums[line] += scaled
-        self.parts.setdefault(number, [0] * len(WORKED))[WORKED.index(line)] += scaled
+        if self.period.asked.are_parts_kept:
+            self.parts.setdefault(number, [0] * len(WORKED))[WORKED.index(line)] += scaled
 
     def grow(self, number: int, way: Way, since: int | None, year: int) -> None:
         """What the years from one to another add; from none, what the issue adds."""
@@ -216,7 +217,8 @@ def increase_sheet(period: Period, increase: Increase) -> Sheet:
                    f"and {money(most[1])} at the end, and less than a cent of each line."]
     sheet.checks = ["Each policy's exact opening and closing reserve lies in its printed row.",
                     "The lines lead from the printed opening total to the printed closing one."]
-    fill_policies(sheet, period, increase)
+    if period.asked.are_parts_kept:
+        fill_policies(sheet, period, increase)
     return sheet
 
 

@@ -33,7 +33,8 @@ def demand_whole(right: object, message: str) -> None:
 
 
 class Asked(NamedTuple):
-    """A book, two days with a position each, the bases, the measure of its reserves, and the program."""
+    """A book, two days with a position each, the bases, the measure of its reserves, the program; and whether each policy's
+    part of the increase in reserves is kept."""
 
     folder: str
     on1: datetime.date
@@ -43,6 +44,7 @@ class Asked(NamedTuple):
     bases: Bases
     measure: str = "terminal"
     life: str | None = None
+    are_parts_kept: bool = False
 
 
 @dataclass(frozen=True)
