@@ -1,8 +1,8 @@
 # What the checks share: where the repository and the program are, a folder to work in, and cases that are begun and
 # judged. Read by `. "$(dirname "$0")/../common.sh"`, or by `../../common.sh` from .ci/checks/long.
 #
-# LIFE_PROGRAM may name another program than the proved one, to try the checks before there is a proof; it is then run
-# as the launcher runs the proved one.
+# LIFE_PROGRAM may name another program than the proved one, to try the checks before there is a proof. Each is run as the
+# launcher runs the proved one, also in a folder without a journal, where the launcher has an answer of its own.
 check=$(basename "$0" .sh)
 # a check lies in .ci/checks, or one folder deeper in .ci/checks/long
 case $(basename "$(dirname "$0")") in long) up=../../.. ;; *) up=../.. ;; esac
@@ -11,15 +11,11 @@ work=$(mktemp -d) || exit 2
 trap 'chmod -R u+w "$work"; rm -rf "$work"' EXIT
 # also where it is stopped
 trap 'exit 143' HUP INT TERM
-if [ -n "${LIFE_PROGRAM:-}" ]; then
-    program=$(readlink -f -- "$LIFE_PROGRAM")
-    life=$work/life
-    printf '#!/bin/sh\ntrap "" XFSZ\nexec "%s" "$@"\n' "$program" >"$life"
-    chmod +x "$life"
-else
-    program=$root/crates/life_cli/out/life_cli
-    life=$root/life
-fi
+program=$root/crates/life_cli/out/life_cli
+[ -z "${LIFE_PROGRAM:-}" ] || program=$(readlink -f -- "$LIFE_PROGRAM")
+life=$work/life
+printf '#!/bin/sh\ntrap "" XFSZ\nexec "%s" "$@"\n' "$program" >"$life"
+chmod +x "$life"
 [ -x "$program" ] || {
     echo "$check: there is no program $program: rt ci builds it, and sh life prove" >&2
     exit 1

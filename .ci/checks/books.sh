@@ -78,12 +78,6 @@ printf 'book1,10\nbook2,0\nbook3,240\n' >positions.csv
 books books.csv value 2010-12-31 --at positions.csv || complain "status $?: $(cat remarks)"
 grep -v ^all, out | cmp -s wanted - || complain "other lines at the positions"
 books books.csv state --at positions.csv && grep -q '^all,count,250,3,3$' out || complain "states at the positions: $(cat out remarks)"
-# 240 commands of ten years, by the last of them
-books headroom books.csv || complain "status $?: $(cat remarks)"
-grep -q '^book1,240,3999760,[1-9][0-9]*,after 2199-12-31$' out || complain "headroom: $(cat out)"
-mkdir busy && { head -c 17 book1/journal.life && for n in 1 2 3 4; do head -c 82 book1/journal.life | tail -c 65; done && printf '\0'; } >busy/journal.life
-echo busy,busy,basis.csv >busy.csv
-books headroom busy.csv && grep -q '^busy,4,3999996,4,' out || complain "headroom of a busy book: $(cat out remarks)"
 
 go_on "parts"
 books books.csv value 2010-12-31 --parts parts || complain "status $?: $(cat remarks)"
@@ -187,7 +181,6 @@ ends 10 "book3: status 10: refused,ahead,240" books.csv value 2010-12-31 --at po
 head -c 100 book1/journal.life >linked/journal.life.cut && mkdir cut-book && mv linked/journal.life.cut cut-book/journal.life
 echo cut,cut-book,basis.csv >cut.csv
 refuses "badjournal,badrecord,1" cut.csv position-on 2010-12-31
-refuses "badjournal,badrecord,1" headroom cut.csv
 
 . "$root/.ci/books/cluster.sh"
 

@@ -103,6 +103,12 @@ launch help </dev/null
 for word in run state checkpoint value project generate --wait try prove test install tools help; do
     grep -q "sh life $word" out || complain "$word isn't told"
 done
+# the installed program tells the same of its words
+cat "$root/tools/launcher/folder.sh" "$root/tools/launcher/words.sh" "$root/tools/installed/life.sh" >life-installed
+cp "$(command -v true)" life-program
+sh life-installed help >told || complain "the installed help ended with $?"
+sed -n 's/^  sh life \([a-z]\)/  life \1/p' out | sed '/^  life \(try\|prove\|test\|install\|tools\)/d; s/  */ /g' >wanted
+sed 's/  */ /g' told | grep '^ life ' | cmp -s - wanted || complain "the installed help tells $(cat told)"
 
 begin "nothing is proved"
 for words in run state "state 7001" checkpoint "value 2021-01-01" "project 2021-01-01 2" "generate 1 1 1" \
@@ -221,15 +227,15 @@ begin "the proved program"
 mkdir -p "$copy/crates/life_cli/out" && cp "$program" "$built"
 launch run <"$first.csv"
 judge "$status" 0 "$first.transcript"
-[ ! -s notes ] || complain "the launcher says: $(cat notes)"
+[ "$(cat notes)" = "life: there is no journal.life in $(pwd -P), so a new book is begun" ] || complain "the launcher says: $(cat notes)"
 [ -e journal.life ] || complain "no journal was made"
 launch prove </dev/null
 [ "$status" = 0 ] || complain "a proved program is proved again"
 
 go_on "what a program is older than"
-# no word is answered where it isn't current, and `state` is where it is
+# no word is answered where it isn't current, and `generate`, which needs no book, is where it is
 answers() {
-    launch state </dev/null
+    launch generate 1 1 1 </dev/null
     if [ "$1" = current ]; then
         [ "$status" = 0 ] && [ ! -s notes ] || complain "$2: it isn't taken as current: $(cat notes)"
     else
@@ -301,15 +307,26 @@ launch --wait 0 generate 1 1 1 </dev/null
 [ "$status" = 0 ] || complain "what needs no book waits: $(cat notes)"
 leaves_none
 
+begin "a folder without a book"
+for words in state "state 7001" checkpoint "value 2021-01-01" "project 2021-01-01 2" "--wait 5 state"; do
+    # shellcheck disable=SC2086
+    says_alone 66 "^life: there is no journal.life in $(pwd -P), so nothing was run$" $words
+done
+launch run <"$first.csv"
+judge "$status" 0 "$first.transcript"
+notes_are "^life: there is no journal.life in $(pwd -P), so a new book is begun$"
+launch state </dev/null
+[ "$status" = 0 ] && [ ! -s notes ] || complain "status $status: $(cat notes)"
+
 begin "installed"
 bin=$work/home/bin
 launch install "$bin" </dev/null
 [ "$status" = 0 ] || complain "status $status: $(cat notes)"
 sum=$(sha256sum <"$program" | cut -d ' ' -f 1)
 grep -q "^sum: $sum$" out && grep -q "^revision: " out && grep -q "^kit: " out || complain "it says: $(cat out)"
-cmp -s "$program" "$bin/life" || complain "it is another program"
+cmp -s "$program" "$bin/life-program" || complain "it is another program"
 ls -A "$bin" | tr '\n' ' ' >found
-echo "life life-tools life-wait " | tr -d '\n' >wanted
+echo "life life-program life-tools life-wait " | tr -d '\n' >wanted
 cmp -s wanted found || complain "there are: $(cat found)"
 completion=$work/home/share/bash-completion/completions/life
 [ -f "$work/home/share/man/man1/life.1" ] && [ -f "$completion" ] || complain "no page"
@@ -319,7 +336,7 @@ grep -qx checkpoint out || complain "the completion gives: $(cat out)"
 
 go_on "a second installation while the first one runs, and without the clone"
 mkfifo script
-"$bin/life" run <script >transcript &
+"$bin/life" run <script >transcript 2>begun &
 running=$!
 exec 6>script
 launch install "$bin" </dev/null
@@ -342,11 +359,17 @@ mv "$copy.away" "$copy"
 echo usage >wanted
 "$bin/life-wait" x state >out 2>notes
 judge $? 2 wanted
-cp "$bin/life" kept
-echo more >>"$bin/life"
+cp "$bin/life-program" kept
+echo more >>"$bin/life-program"
 "$bin/life-tools" version >out 2>&1
 [ $? = 1 ] && grep -q "^wrong: " out || complain "a changed program isn't found: $(cat out)"
-cp kept "$bin/life"
+cp kept "$bin/life-program"
+mkdir elsewhere && (cd elsewhere && "$bin/life" state </dev/null >../out 2>../notes)
+[ $? = 66 ] && [ ! -s out ] && [ -z "$(ls elsewhere)" ] || complain "without a book: $(cat out notes)"
+notes_are "there is no journal.life in .*elsewhere, so nothing was run"
+mv "$bin/life-program" kept && "$bin/life" state </dev/null >out 2>notes
+[ $? = 69 ] && [ ! -s out ] || complain "without a program: $(cat out notes)"
+mv kept "$bin/life-program"
 
 go_on "an installation that fails leaves what was"
 # no room for the program: a device of half a megabyte, or else a limit on the size of files

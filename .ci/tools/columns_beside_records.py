@@ -11,15 +11,20 @@ import sys
 from collections import Counter
 from dataclasses import replace
 from pathlib import Path
+from typing import Callable
 
 HERE = Path(__file__).resolve().parent
 sys.path[:0] = [str(HERE.parents[1] / "tools"), str(HERE.parent / "stress"), str(HERE)]
 
 from life_tools import replays  # noqa: E402
+from life_tools.arrays import np  # noqa: E402
+from life_tools.checkpoint_columns import CheckpointColumns, checkpoint_columns  # noqa: E402
+from life_tools.checkpoints import Checkpoint, bytes_of_checkpoint, checkpoint_in, checkpoint_of  # noqa: E402
 from life_tools.columns import Columns, judged  # noqa: E402
-from life_tools.commands import CODES, Command  # noqa: E402
-from life_tools.formats import FIRST_DAY, LAST_DAY, MOST_NUMBER  # noqa: E402
+from life_tools.commands import CODES, Command, words_of  # noqa: E402
+from life_tools.formats import FIRST_DAY, LAST_DAY, MOST_NUMBER, Wrong, money  # noqa: E402
 from life_tools.journals import RECORD_SIZE, Journal, file_of, gate_of, read_journal  # noqa: E402
+from life_tools.record_texts import lines_of, plain_template, transactions_of  # noqa: E402
 from life_tools.rules import Book, balances_of, bookings  # noqa: E402
 from lived_book import lived  # noqa: E402
 from scripts import make_book, make_script  # noqa: E402
@@ -116,12 +121,50 @@ def compare_books(columns: Columns, book: Book, seed: object) -> None:
     need(policies == list(book.policies.values()), f"{seed}: the policies are {policies} and {book.policies}")
     need(columns.count == len(book.commands) and columns.upgrade == book.upgrade, f"{seed}: another count or upgrade")
     need(columns.balances == balances_of(book.commands), f"{seed}: the balances are {columns.balances}")
-    need(list(columns.records.commands(slice(None))) == book.commands, f"{seed}: the commands differ")
+    need(list(columns.records.commands(np.arange(columns.count))) == book.commands, f"{seed}: the commands differ")
     for place, (command, booked) in enumerate(bookings(book.commands)):
         cents = max(map(abs, booked.values()), default=0)
         need(int(columns.booked[place]) == cents, f"{seed}: command {place + 1} books {columns.booked[place]} and not {cents}")
         at = int(columns.place[place])
         need(at == -1 if command.kind == "upgrade" else policies[at].number == command.number, f"{seed}: command {place + 1} is of {at}")
+
+
+def compare_texts(columns: Columns, book: Book, seed: object) -> None:
+    """The lines of `read`, and those of its ledger."""
+    lines = [",".join([str(position), *words_of(command)]) + "\n" for position, command in enumerate(book.commands, 1)]
+    need("".join(lines_of(columns.records, plain_template)) == "".join(lines), f"{seed}: read lists other lines")
+    booked = [f"{command.day} {command.kind} {command.number}\n" + "".join(f"    {name}  {money(each)}\n" for name, each in on.items())
+              + "\n" for command, on in bookings(book.commands) if on]
+    need("".join(transactions_of(columns)) == "".join(booked), f"{seed}: the ledger has other lines")
+
+
+def said_of(read: Callable[[bytes], object], data: bytes) -> object:
+    try:
+        return read(data)
+    except Wrong as wrong:
+        return str(wrong)
+
+
+def compare_checkpoint(draw: random.Random, columns: Columns, book: Book, seed: object) -> bool:
+    """A checkpoint of the book, with a byte changed in two of three cases."""
+    data = bytearray(bytes_of_checkpoint(checkpoint_of(book.commands)))
+    if draw.randrange(3):
+        data[draw.randrange(len(data))] = draw.choice((0, 1, 2, 8, 255))
+    if draw.randrange(8) == 0:
+        del data[draw.randrange(len(data)):]
+    elif len(book.policies) > 1 and draw.randrange(4) == 0:
+        data[64 + 48:64 + 52] = data[64:68]
+    slow, found = said_of(checkpoint_in, bytes(data)), said_of(checkpoint_columns, bytes(data))
+    if isinstance(slow, str) or isinstance(found, str):
+        need(slow == found, f"{seed}: of a checkpoint it is said {found}, and {slow}")
+        return False
+    assert isinstance(slow, Checkpoint) and isinstance(found, CheckpointColumns)
+    made = [found.policies.policy(place) for place in range(len(found.policies))]
+    need(made == slow.policies and found.front.balances == slow.balances, f"{seed}: another checkpoint")
+    if slow.position <= columns.count:
+        is_of = slow == checkpoint_of(book.commands[:slow.position])
+        need(found.is_of(columns) == is_of, f"{seed}: whether a checkpoint is of the journal")
+    return True
 
 
 def compare(draw: random.Random, data: bytes, seed: object) -> Journal:
@@ -134,9 +177,15 @@ def compare(draw: random.Random, data: bytes, seed: object) -> Journal:
     need(isinstance(found, Columns), f"{seed}: the bulk reader doesn't take a journal: {found}")
     assert isinstance(found, Columns)
     compare_books(found, slow.book, seed)
+    compare_texts(found, slow.book, seed)
+    checkpoints.append(compare_checkpoint(draw, found, slow.book, seed))
     position = draw.randrange(found.count + 1)
     compare_books(found.front(position), Book(slow.commands[:position]), f"{seed} at {position}")
     return slow
+
+
+# of each checkpoint that was drawn whether it was one
+checkpoints: list[bool] = []
 
 
 def main() -> None:
@@ -148,7 +197,9 @@ def main() -> None:
         slow = compare(draw, journal_of(draw), seed)
         met[slow.why.split(": ")[-1].split(",")[0] if "can't follow" in slow.why else slow.refused.split(",")[0] or "right"] += 1
     need(journals < 1000 or (WORDS <= set(met) and met["right"] > journals // 3), f"what was met is {dict(met)}")
-    print(f"columns: {journals} journals, {met['right']} of them right, and each reason to refuse one, as record by record")
+    need(journals < 1000 or min(map(checkpoints.count, (True, False))) > 50, f"of {len(checkpoints)} checkpoints are {sum(checkpoints)}")
+    print(f"columns: {journals} journals, {met['right']} of them right, and {len(checkpoints)} checkpoints, {sum(checkpoints)} of them "
+          "right, are read as record by record")
 
 
 main()

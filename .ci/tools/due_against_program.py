@@ -14,7 +14,7 @@ import sys
 
 from lived_book import lived
 
-from life_tools.bulk import bulk_at
+from life_tools.columns import columns_at
 from life_tools.entry import main as main_of_tools
 from life_tools.journals import file_of
 from life_tools.rules import Book, Policy
@@ -95,8 +95,8 @@ def main() -> None:
         book, journal = Book(commands), os.path.join(FOLDER, f"{seed}.life")
         with open(journal, "wb") as file:
             file.write(file_of(commands))
-        bulk, _ = bulk_at(journal)
-        assert [bulk.policy_at(place) for place in range(len(bulk.issues))] == list(book.policies.values())
+        policies = columns_at(journal).policies
+        assert [policies.policy(place) for place in range(len(policies))] == list(book.policies.values())
         for day in DAYS[seed]:
             rows += script_rows(journal, book, day)
             items += amounts(journal, book, day)

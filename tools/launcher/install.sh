@@ -11,7 +11,7 @@ name_places() {
     manuals=$share/man/man1
     completions=$share/bash-completion/completions
     made=$(mkdir -p -- "$manuals" "$completions" 2>&1) || give_up "nothing was installed: ${made#mkdir: }"
-    for place in "$dir/life" "$dir/life-wait" "$dir/life-tools" "$manuals/life.1" "$completions/life"; do
+    for place in "$dir/life" "$dir/life-program" "$dir/life-wait" "$dir/life-tools" "$manuals/life.1" "$completions/life"; do
         [ ! -d "$place" ] || give_up "nothing was installed: $place is a folder"
     done
 }
@@ -32,22 +32,25 @@ sum_of() {
 
 # each file in a folder beside its place, whole and on the disk, so that a rename is all that is left
 make_files() {
-    cp "$program" "$staged/life" &&
-        { echo '#!/bin/sh' && cat "$launcher/waiting.sh" "$root/tools/installed/life-wait.sh"; } >"$staged/life-wait" &&
+    cp "$program" "$staged/life-program" &&
+        { echo '#!/bin/sh' && cat "$launcher/folder.sh" "$launcher/words.sh" "$root/tools/installed/life.sh"; } >"$staged/life" &&
+        { echo '#!/bin/sh' && cat "$launcher/folder.sh" "$launcher/waiting.sh" "$root/tools/installed/life-wait.sh"; } \
+            >"$staged/life-wait" &&
         python3 "$launcher/pack_tools.py" "$root/tools/life_tools" "$staged/life-tools" "$(revision)" "$(kit)" "$sum" &&
         cp "$root/tools/installed/life.1" "$staged_share/life.1" &&
         python3 "$launcher/pack_tools.py" --completion "$root/tools/installed/life.bash" "$staged_share/life" &&
-        chmod 755 "$staged/life" "$staged/life-wait" "$staged/life-tools" &&
+        chmod 755 "$staged/life" "$staged/life-program" "$staged/life-wait" "$staged/life-tools" &&
         chmod 644 "$staged_share/life.1" "$staged_share/life" &&
-        sync "$staged/life" "$staged/life-wait" "$staged/life-tools" "$staged_share/life.1" "$staged_share/life" &&
-        [ "$(sum_of "$staged/life")" = "$sum" ]
+        sync "$staged/life" "$staged/life-program" "$staged/life-wait" "$staged/life-tools" "$staged_share/life.1" "$staged_share/life" &&
+        [ "$(sum_of "$staged/life-program")" = "$sum" ]
 }
 
-# the tools and the program last, so that none of the new is found with the old program missing
+# the program before those that begin it, so that none of the new is found without it
 put_in_place() {
     mv -fT "$staged_share/life.1" "$manuals/life.1" &&
         mv -fT "$staged_share/life" "$completions/life" &&
         ln -sfn life "$completions/life-tools" && ln -sfn life "$completions/life-wait" &&
+        mv -fT "$staged/life-program" "$dir/life-program" &&
         mv -fT "$staged/life-wait" "$dir/life-wait" &&
         mv -fT "$staged/life-tools" "$dir/life-tools" &&
         mv -fT "$staged/life" "$dir/life"
@@ -74,7 +77,7 @@ install_life() {
     echo "revision: $(revision)"
     echo "kit: $(kit)"
     echo "sum: $sum"
-    echo "installed: $dir/life, life-tools, life-wait; $manuals/life.1; $completions/life, life-tools, life-wait"
+    echo "installed: $dir/life, life-program, life-tools, life-wait; $manuals/life.1; $completions/life, life-tools, life-wait"
     case :$PATH: in *:"$dir":*) ;; *) echo "life: $dir isn't on the path" >&2 ;; esac
     exit 0
 }

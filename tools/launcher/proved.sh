@@ -1,5 +1,6 @@
 # The proved program in the folder that the launcher is called from; on a terminal it is watched, and its status is
 # explained.
+. "$launcher/folder.sh"
 . "$launcher/waiting.sh"
 
 # what a status means here, beside what the program printed of these words
@@ -90,6 +91,7 @@ run_and_watch() {
 
 # On a terminal the launcher stays, for a hint; else the program takes its place, and is what a signal meets.
 run_program() {
+    demand_journal "$@"
     # a write past a limit on the size of files then fails like any other, and doesn't end the program
     trap '' XFSZ
     [ -t 2 ] || exec "$program" "$@"

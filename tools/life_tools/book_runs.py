@@ -14,9 +14,11 @@ from typing import IO, Iterator
 
 from life_tools.book_totals import Text, text_in
 from life_tools.copied_folder import copy_basis
-from life_tools.export_tables import VALUATION, valuation_rows
 from life_tools.formats import Wrong, bytes_of, demand
+from life_tools.program import program_beside
 from life_tools.record_columns import BadJournal, beginnings_at, copy_front, front_count, front_sum, places_in
+from life_tools.valuation_rows import VALUATION, valuation_rows
+from life_tools.wholeness import doubt_of
 
 JOURNAL = "journal.life"
 # the status of what the program can't be asked, and the program's own of a file that is no journal
@@ -48,6 +50,7 @@ class Task:
     files: tuple[tuple[str, bytes], ...] = ()
     parts: Parts | None = None
     are_rows_kept: bool = False
+    doubt: str = ""
 
 
 @dataclass
@@ -66,6 +69,7 @@ class Outcome:
     sums: tuple[tuple[str, str], ...] = ()
     rows: str = ""
     part: tuple[str, str, str] | None = None
+    doubt: str = ""
     tried: int = field(default=1)
 
 
@@ -79,7 +83,9 @@ def program_of(task: Task) -> list[str]:
     """The program's words; of a worker elsewhere the program is one of the sum told, wherever it lies."""
     if not task.program_sum:
         return list(task.life)
-    places = [os.environ.get("LIFE_PROGRAM"), *task.life[-1:], shutil.which("life"), os.path.expanduser("~/.local/bin/life")]
+    found = shutil.which("life")
+    folders = [*([os.path.dirname(os.path.realpath(found))] if found else []), os.path.expanduser("~/.local/bin")]
+    places = [os.environ.get("LIFE_PROGRAM"), *task.life[-1:], *map(program_beside, folders)]
     for place in filter(None, places):
         if os.path.isfile(place) and sum_of(bytes_of(place)) == task.program_sum:
             return [place]
@@ -183,20 +189,25 @@ def write_part_database(task: Task, file: IO[bytes], path: str) -> None:
 
 @dataclass(frozen=True)
 class Look:
-    """What was seen of a folder while the program ran: the beginnings of so many records, and the sums of a copy's files."""
+    """What was seen of a folder while the program ran: the beginnings of so many records, and the sums of a copy's files.
+
+    And what has to be told of the book itself, where it may not be whole; one of which commands are gone is no book.
+    """
 
     count: int
     beginnings: frozenset[int]
     sums: tuple[tuple[str, str], ...]
+    doubt: str
 
 
 def look_at(task: Task, folder: str) -> Look:
     path = os.path.join(folder, JOURNAL)
     count = front_count(path) if task.is_copied else places_in(path)
     if count is None:
-        return Look(0, frozenset(), ())
+        return Look(0, frozenset(), (), "")
+    doubt = task.doubt if task.files else doubt_of(os.path.join(task.folder, JOURNAL))
     sums = tuple(sums_of(folder, count)) if task.is_copied and not task.sums else ()
-    return Look(count, beginnings_at(path, count), sums)
+    return Look(count, beginnings_at(path, count), sums, doubt)
 
 
 def sums_of(folder: str, count: int) -> Iterator[tuple[str, str]]:
@@ -220,7 +231,7 @@ def run_in(task: Task, folder: str, file: IO[bytes]) -> Outcome:
         return Outcome(task.name, status, last_line(file) or said.rpartition("\n")[2])
     text, look = text_in(task.words[0], file), looking.result()
     begun = look.beginnings if look.count >= text.position else beginnings_at(os.path.join(folder, JOURNAL), text.position)
-    outcome = Outcome(task.name, 0, text=text, beginnings=begun, sums=look.sums)
+    outcome = Outcome(task.name, 0, text=text, beginnings=begun, sums=look.sums, doubt=look.doubt)
     if task.parts:
         outcome.part = write_part(task, file)
     if task.are_rows_kept:
@@ -231,7 +242,8 @@ def run_in(task: Task, folder: str, file: IO[bytes]) -> Outcome:
 def failure(name: str, why: Exception) -> Outcome:
     if isinstance(why, BadJournal):
         return Outcome(name, BAD_JOURNAL, why.line)
-    return Outcome(name, NOT_DONE, str(why).replace("\n", " "))
+    status = why.status if isinstance(why, Wrong) else NOT_DONE
+    return Outcome(name, status, str(why).replace("\n", " "))
 
 
 def run_on(task: Task, folder: str, room: str | None) -> Outcome:

@@ -15,6 +15,7 @@ from life_tools.formats import Wrong, bytes_of, demand, remark
 from life_tools.program import demand_as_installed, life_command, program_file
 from life_tools.progress import Progress
 from life_tools.record_columns import columns_at, front_sum
+from life_tools.wholeness import doubt_of
 
 
 @dataclass(frozen=True)
@@ -68,7 +69,8 @@ def names_of_basis(asked: Asked, book: ListedBook) -> list[str]:
 def made_elsewhere(asked: Asked, book: ListedBook, program: str, program_sum: str) -> Task | Outcome:
     try:
         demand_journal(book.folder)
-        return task_elsewhere(asked, book, program, program_sum)
+        task = task_elsewhere(asked, book, program, program_sum)
+        return replace(task, doubt=doubt_of(book.journal)) if asked.are_sent else task
     except Wrong as wrong:
         return failure(book.name, wrong)
 
@@ -98,6 +100,8 @@ class Told:
         self.progress.end()
         if outcome.status:
             remark(f"{outcome.name}: status {outcome.status}: {outcome.line}")
+        elif outcome.doubt:
+            remark(f"{outcome.name}: {outcome.doubt}")
         self.done += 1
         self.progress.at(self.done)
 

@@ -3,7 +3,7 @@ from __future__ import annotations
 
 import datetime
 from dataclasses import dataclass
-from typing import Iterable
+from typing import Iterable, NamedTuple
 
 from life_tools.commands import EPOCH, PLAN_CODES, Command, demand_valid
 from life_tools.formats import FIRST_DAY, LAST_DAY, MOST_COMMANDS, PLANS, STATUSES, Wrong, demand
@@ -12,6 +12,15 @@ from life_tools.rules import ACCOUNTS, Book, Policy, balances_of, payments_of
 HEADER = b"LIFECHKP" + bytes([0, 1, 0, 48, 0, 0, 0, 0])
 FRONT_SIZE, POLICY_SIZE, OPEN = 64, 48, 1
 MOST_CENTS_A_COMMAND = 4 * 10**10
+
+
+class Front(NamedTuple):
+    """How many commands, the place of the upgrade or 0, how many policies, and the balances."""
+
+    position: int
+    upgrade: int
+    policies: int
+    balances: dict[str, int]
 
 
 @dataclass(frozen=True)
@@ -53,8 +62,8 @@ def policy_in(data: bytes) -> Policy:
     return policy
 
 
-def checkpoint_in(data: bytes) -> Checkpoint:
-    """The books in a file, which has to be a checkpoint. What stands behind the last policy has no meaning."""
+def front_in(data: bytes) -> Front:
+    """What stands in front of the policies of a file, which has to be a checkpoint as far as that shows."""
     demand(data[:1] == bytes([OPEN]), "byte 0, its gate, isn't 1")
     demand(len(data) >= FRONT_SIZE, f"it has {len(data)} bytes")
     demand(data[1:17] == HEADER, "its header is another one")
@@ -66,7 +75,13 @@ def checkpoint_in(data: bytes) -> Checkpoint:
     for account, cents in balances.items():
         demand(abs(cents) <= MOST_CENTS_A_COMMAND * position, f"{account} is {cents} cents after {position} commands")
     demand(not any(data[61:64]), "a byte in front of the policies isn't 0")
-    return Checkpoint(position, upgrade, balances, list(policies_in(data, many)))
+    return Front(position, upgrade, many, balances)
+
+
+def checkpoint_in(data: bytes) -> Checkpoint:
+    """The books in a file, which has to be a checkpoint. What stands behind the last policy has no meaning."""
+    front = front_in(data)
+    return Checkpoint(front.position, front.upgrade, front.balances, list(policies_in(data, front.policies)))
 
 
 def policies_in(data: bytes, many: int) -> Iterable[Policy]:

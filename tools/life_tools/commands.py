@@ -40,6 +40,15 @@ class Command:
 UPGRADE = Command("upgrade")
 
 
+def number_at(day: datetime.date) -> int:
+    return (day - EPOCH).days
+
+
+def day_at(number: int) -> datetime.date:
+    """The day so many days after 1970-01-01."""
+    return EPOCH + datetime.timedelta(int(number))
+
+
 def words_of(command: Command) -> list[str]:
     """The fields of a command behind the lane: its kind, its policy's number, its day, and what the kind holds."""
     if command.kind == "upgrade":
@@ -85,7 +94,7 @@ def demand_valid(command: Command) -> None:
 
 def body_of(command: Command) -> bytes:
     """The record's body of a command."""
-    day = (command.day - EPOCH).days if command.day else 0
+    day = number_at(command.day) if command.day else 0
     head = bytes([CODES[command.kind], PLAN_CODES.get(command.plan, 0), command.age, command.years])
     return (head + command.number.to_bytes(4, "big") + day.to_bytes(4, "big", signed=True)
             + command.amount.to_bytes(8, "big") + command.premium.to_bytes(8, "big") + bytes(36))

@@ -13,6 +13,24 @@ from life_tools.formats import Wrong, bytes_of, remark, rows_in
 from life_tools.tables import NAME
 
 JOURNAL = "journal.life"
+MEMORY = "/dev/shm"
+# what postings to a copy may add to it
+ROOM = 2**26
+
+
+@contextmanager
+def reading(path: str) -> Iterator[IO[bytes]]:
+    """A journal's file, which no run has meanwhile."""
+    try:
+        file = open(path, "rb")
+    except OSError as error:
+        raise Wrong(f"{path}: {error.strerror}") from error
+    with file:
+        try:
+            fcntl.flock(file, fcntl.LOCK_SH | fcntl.LOCK_NB)
+        except BlockingIOError as error:
+            raise Wrong(f"{path} is held by another run") from error
+        yield file
 
 
 def journal_bytes(folder: str) -> bytes | None:
@@ -20,14 +38,13 @@ def journal_bytes(folder: str) -> bytes | None:
     path = os.path.join(folder, JOURNAL)
     if not os.path.exists(path):
         return None
-    try:
-        with open(path, "rb") as file:
-            fcntl.flock(file, fcntl.LOCK_SH | fcntl.LOCK_NB)
-            return file.read()
-    except BlockingIOError as error:
-        raise Wrong(f"{path} is held by another run") from error
-    except OSError as error:
-        raise Wrong(f"{path}: {error.strerror}") from error
+    with reading(path) as file:
+        return file.read()
+
+
+def written(path: str, data: bytes) -> None:
+    with open(path, "wb") as file:
+        file.write(data)
 
 
 def basis_files(folder: str, name: str) -> list[str]:
@@ -44,13 +61,19 @@ def copy_basis(folder: str, name: str, to: str) -> None:
         shutil.copyfile(os.path.join(folder, each), os.path.join(to, each))
 
 
+def place_to_post(size: int) -> str | None:
+    """Memory, where a posting waits for no disk, unless TMPDIR tells another place or memory has no room for the copy."""
+    if os.environ.get("TMPDIR") or not os.access(MEMORY, os.W_OK | os.X_OK):
+        return None
+    return MEMORY if shutil.disk_usage(MEMORY).free >= size + ROOM else None
+
+
 @contextmanager
-def desk_of(journal: bytes | None, folder: str, basis: str) -> Iterator[str]:
+def desk_of(journal: bytes | None, folder: str, basis: str, place: str | None = None) -> Iterator[str]:
     """A folder for a while, with this journal and with the folder's basis."""
-    with tempfile.TemporaryDirectory(prefix="life-tools-") as desk:
+    with tempfile.TemporaryDirectory(prefix="life-tools-", dir=place) as desk:
         if journal is not None:
-            with open(os.path.join(desk, JOURNAL), "wb") as file:
-                file.write(journal)
+            written(os.path.join(desk, JOURNAL), journal)
         copy_basis(folder, basis, desk)
         yield desk
 
@@ -69,7 +92,7 @@ def dry_run(script: str, journal: bytes | None, folder: str, basis: str, life: S
     if journal is None:
         remark(f"there is no {os.path.join(folder, JOURNAL)}: the script is run on an empty journal")
     try:
-        with open(script, "rb") as rows, desk_of(journal, folder, basis) as desk:
+        with open(script, "rb") as rows, desk_of(journal, folder, basis, place_to_post(len(journal or b""))) as desk:
             return run_in(desk, life, ["run", "--basis", basis], rows)
     except OSError as error:
         raise Wrong(f"{script}: {error.strerror}") from error

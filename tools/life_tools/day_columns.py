@@ -1,13 +1,16 @@
 """Days as columns: numbers of days from 1970-01-01, their years, their anniversaries and their texts."""
 from __future__ import annotations
 
-import datetime
+from functools import lru_cache
 
-from life_tools.commands import EPOCH
+from life_tools.commands import day_at, number_at
 from life_tools.formats import FIRST_DAY, LAST_DAY
 from life_tools.arrays import Array, np
 
-FIRST, LAST = (FIRST_DAY - EPOCH).days, (LAST_DAY - EPOCH).days
+__all__ = ["FIRST", "FIRST_YEAR", "LAST", "LAST_YEAR", "NEVER", "anniversaries", "completed_years", "day_at", "number_at",
+           "text_at", "texts_at", "years_at"]
+
+FIRST, LAST = number_at(FIRST_DAY), number_at(LAST_DAY)
 FIRST_YEAR = FIRST_DAY.year
 # no anniversary of a day of the calendar lies behind it
 LAST_YEAR = 2400
@@ -15,15 +18,6 @@ LAST_YEAR = 2400
 LEAP_DAY = 31 + 28
 # after every day that a policy has
 NEVER = np.int32(2**31 - 1)
-
-
-def number_at(day: datetime.date) -> int:
-    return (day - EPOCH).days
-
-
-def day_at(number: int) -> datetime.date:
-    """The day so many days after 1970-01-01."""
-    return EPOCH + datetime.timedelta(int(number))
 
 
 def calendar() -> tuple[Array, Array, Array, Array]:
@@ -61,9 +55,18 @@ def completed_years(issued: Array, on: Array | int) -> Array:
     return whole
 
 
-def texts_at(days: Array) -> Array:
-    """The texts YYYY-MM-DD of days of the calendar, as bytes."""
-    first = STARTS[0]
-    known = np.arange(first, first + len(YEAR), dtype="datetime64[D]")
-    texts: Array = np.datetime_as_string(known).astype("S10")[days - first]
+@lru_cache(maxsize=None)
+def all_texts() -> Array:
+    first = int(STARTS[0])
+    texts: Array = np.datetime_as_string(np.arange(first, first + len(YEAR), dtype="datetime64[D]")).astype(object)
     return texts
+
+
+def texts_at(days: Array) -> list[str]:
+    """The texts YYYY-MM-DD of days of the calendar."""
+    texts: list[str] = all_texts()[days - STARTS[0]].tolist()
+    return texts
+
+
+def text_at(number: int) -> str:
+    return str(day_at(number))

@@ -3,7 +3,7 @@ from __future__ import annotations
 
 import datetime
 from html import escape
-from typing import Callable, List, Sequence, Tuple
+from typing import Callable, List, NamedTuple, Sequence, Tuple
 
 from life_tools.formats import money
 
@@ -28,13 +28,32 @@ def framed(title: str, parts: Sequence[str], height: int = HEIGHT) -> str:
     return "\n".join([head, ground, text(LEFT, TOP - 16, title), *parts, "</svg>", ""])
 
 
-def grid(most: int) -> list[str]:
+class Unit(NamedTuple):
+    """What amounts are told in: so many cents, and what a title says of it."""
+
+    cents: int
+    words: str
+
+    def told(self, cents: int) -> str:
+        """An amount, rounded to the nearest of two places."""
+        return money((cents * 100 + self.cents // 2) // self.cents)
+
+
+def unit_for(most: int) -> Unit:
+    """The unit by the greatest amount, which is at least ten of it."""
+    return next((unit for unit in UNITS if most >= 10 * unit.cents), WHOLE)
+
+
+WHOLE, UNITS = Unit(100, ""), (Unit(10**8, ", in millions"), Unit(10**5, ", in thousands"))
+
+
+def grid(most: int, unit: Unit) -> list[str]:
     """Five lines of equal amounts, from 0 to the most, with their amounts."""
     parts = []
     for step in range(5):
         y = place(most * step // 4, most)
         parts.append(line(LEFT, y, WIDTH - RIGHT, y, "#dddddd"))
-        parts.append(text(LEFT - 8, y + 4, money(most * step // 4), "end"))
+        parts.append(text(LEFT - 8, y + 4, unit.told(most * step // 4), "end"))
     return parts
 
 
@@ -57,7 +76,8 @@ def lines_over(title: str, series: Sequence[Series], name_of: Callable[[int], st
     def across(at: int) -> float:
         return LEFT + (WIDTH - LEFT - RIGHT) * (at - places[0]) / whole
 
-    parts = grid(most)
+    unit = unit_for(most)
+    parts = grid(most, unit)
     parts += [text(across(at), HEIGHT - BOTTOM + 18, name_of(at), "middle") for at in dict.fromkeys((places[0], places[-1]))]
     for number, (name, points) in enumerate(series):
         color = COLORS[number % len(COLORS)]
@@ -66,7 +86,7 @@ def lines_over(title: str, series: Sequence[Series], name_of: Callable[[int], st
         parts += [f'<circle cx="{x:.1f}" cy="{y:.1f}" r="2.5" fill="{color}"/>' for x, y in placed]
         parts.append(line(WIDTH - RIGHT + 14, TOP + 16 * number, WIDTH - RIGHT + 30, TOP + 16 * number, color))
         parts.append(text(WIDTH - RIGHT + 36, TOP + 16 * number + 4, name))
-    return framed(title, parts)
+    return framed(title + unit.words, parts)
 
 
 def lines_over_days(title: str, series: Sequence[DaySeries]) -> str:
@@ -77,11 +97,12 @@ def lines_over_days(title: str, series: Sequence[DaySeries]) -> str:
 def bars(title: str, rows: Sequence[tuple[str, int]]) -> str:
     """A bar for each row, from 0 on, with its name and its amount."""
     most = max(cents for _, cents in rows)
+    unit = unit_for(most)
     parts = []
     for number, (name, cents) in enumerate(rows):
         y = TOP + 22 * number
         width = (WIDTH - LEFT - RIGHT) * cents / max(most, 1)
         parts.append(text(LEFT - 8, y + 13, name, "end"))
         parts.append(f'<rect x="{LEFT}" y="{y}" width="{width:.1f}" height="16" fill="{COLORS[0]}"/>')
-        parts.append(text(LEFT + width + 8, y + 13, money(cents)))
-    return framed(title, parts, TOP + 22 * len(rows) + 20)
+        parts.append(text(LEFT + width + 8, y + 13, unit.told(cents)))
+    return framed(title + unit.words, parts, TOP + 22 * len(rows) + 20)

@@ -26,12 +26,15 @@ ENTRIES: dict[str, tuple[str, str]] = {
     "explain": ("explain", "explain a refusal of a script or of a basis, or what is taken of a table"),
     "at": ("at", "what state, value or project print of the book as it stood at a position"),
     "position-on": ("position_on", "the position of a day"),
+    "verify": ("verify", "whether a journal's file is whole, by its length, a checkpoint, a log and seals"),
+    "headroom": ("headroom", "how many commands a book has left, and until when"),
     "read": ("read", "list the records of a journal"),
     "read-checkpoint": ("read_checkpoint", "print the books in a checkpoint, and compare them with a journal's"),
     "export": ("export", "a journal as CSV, as JSON lines, or as an SQLite file"),
     "check-transcript": ("check_transcript", "judge what a run printed, and what it left in the journal"),
     "check-values": ("check_values", "work the rows of a printed valuation out anew, and compare"),
     "check-projection": ("check_projection", "work the years of a printed projection out anew, and compare"),
+    "generate": ("generate", "a drawn script, numbered from a number on"),
     "plot": ("plot", "draw printed valuations, a printed book or a printed projection"),
     "seal": ("seal", "a seal of the book and its basis, to keep elsewhere; and whether they still are so"),
     "version": ("version", "which program these tools were installed with"),
@@ -65,7 +68,7 @@ def main(words: Sequence[str] | None = None) -> int:
         return status
     except Wrong as wrong:
         print(f"life-tools {given[0]}: {wrong}", file=sys.stderr)
-        return 2
+        return wrong.status
     except BrokenPipeError:
         # whoever read has left; what is still held back must not complain at the end
         os.dup2(os.open(os.devnull, os.O_WRONLY), sys.stdout.fileno())

@@ -49,7 +49,9 @@ FIELDS = {
 
 
 class Wrong(Exception):
-    """Something isn't as it must be; the text says what."""
+    """Something isn't as it must be; the text says what. A tool ends with the status."""
+
+    status = 2
 
 
 def demand(right: object, message: str) -> None:

@@ -2,23 +2,27 @@
 from __future__ import annotations
 
 from dataclasses import dataclass, field
-from typing import Callable, Iterable, NamedTuple, Sequence
+from typing import Callable, NamedTuple, Sequence
 
-from life_tools.formats import demand, money
-from life_tools.printed_books import PrintedState, PrintedValuation, ValuedRow
-from life_tools.reserves import row_for
-from life_tools.rules import Policy
-from life_tools.class_bases import BasisRows
+from life_tools.arrays import Array, Cents, np
+from life_tools.class_columns import BasisColumn
+from life_tools.day_columns import FIRST_YEAR, LAST_YEAR, years_at
+from life_tools.formats import PLANS, STATUSES, Wrong, demand, money
+from life_tools.policy_columns import CODE_OF_STATUS
+from life_tools.printed_columns import ColumnState, ColumnValuation, Rows, StatePolicies
 
 AGES_IN_A_BAND = 10
+# as many bits of cents, of 4,000,000 policies, as a float adds up without rounding
+LOW_BITS = 26
 
 
 class Joined(NamedTuple):
-    """A policy, its row, and the basis row of its day of issue."""
+    """The rows with their policies, and the place of each one's basis row among the names, the first of which says none."""
 
-    policy: Policy
-    row: ValuedRow
-    basis: str
+    rows: Rows
+    policies: StatePolicies
+    basis: Array
+    names: list[str]
 
 
 def age_band(age: int) -> str:
@@ -26,30 +30,33 @@ def age_band(age: int) -> str:
     return f"{first:03}-{first + AGES_IN_A_BAND - 1:03}"
 
 
-# what a policy may be grouped by: ages are those at issue
-KEYS: dict[str, Callable[[Joined], str]] = {
-    "plan": lambda it: it.policy.plan,
-    "status": lambda it: it.row.status,
-    "issue-year": lambda it: str(it.policy.issued.year),
-    "age-band": lambda it: age_band(it.policy.age),
-    "basis-row": lambda it: it.basis,
+# what a policy may be grouped by, as a code of each and the names of all codes: ages are those at issue
+KEYS: dict[str, Callable[[Joined], tuple[Array, Sequence[str]]]] = {
+    "plan": lambda it: (it.policies.plan, ["", *PLANS.values()]),
+    "status": lambda it: (it.rows.status, ["", *STATUSES]),
+    "issue-year": lambda it: (years_at(it.policies.issued) - FIRST_YEAR, [str(year) for year in range(FIRST_YEAR, LAST_YEAR)]),
+    "age-band": lambda it: (it.policies.age // AGES_IN_A_BAND, [age_band(age) for age in range(0, 256, AGES_IN_A_BAND)]),
+    "basis-row": lambda it: (it.basis, it.names),
 }
 
 
-def joined(valuation: PrintedValuation, state: PrintedState, bases: BasisRows) -> list[Joined]:
-    """Each row with its policy, which the state has in the same place."""
+def demand_same(valuation: ColumnValuation, state: ColumnState) -> None:
+    """Demands that each row is that of the policy that the state has in its place."""
+    rows, policies = valuation.rows, state.policies
     demand(valuation.position == state.count, f"the valuation is of position {valuation.position}, the state of {state.count}")
-    demand(len(valuation.rows) == len(state.policies), "the valuation and the state have another number of policies")
-    names = {(name, row.day): f"{name} " * (len(bases.rows) > 1) + f"{row.day} {row.name} {row.points} bp"
-             for name, basis in bases.rows.items() for row in basis}
-    found: list[Joined] = []
-    picked = bases.of([row.number for row in valuation.rows])
-    for row, policy, (name, basis) in zip(valuation.rows, state.policies, picked):
-        same = row.number == policy.number and row.status == policy.status
-        demand(same, f"the row of policy {row.number}, {row.status}, stands where the state has {policy.number}, {policy.status}")
-        which = row_for(basis, policy.issued)
-        found.append(Joined(policy, row, names[name, which.day] if which else "none"))
-    return found
+    demand(len(rows) == len(policies), "the valuation and the state have another number of policies")
+    other = np.flatnonzero((rows.number != policies.number) | (rows.status != policies.status))
+    if len(other):
+        place = int(other[0])
+        row = rows.row(place)
+        found = f"{policies.number[place]}, {STATUSES[policies.status[place] - 1]}"
+        raise Wrong(f"the row of policy {row.number}, {row.status}, stands where the state has {found}")
+
+
+def joined(valuation: ColumnValuation, state: ColumnState, basis: BasisColumn) -> Joined:
+    """Each row with its policy, which the state has in the same place."""
+    demand_same(valuation, state)
+    return Joined(valuation.rows, state.policies, *basis)
 
 
 @dataclass
@@ -62,14 +69,6 @@ class Sums:
     bounds: list[int] = field(default_factory=list)
     words: int = 0
 
-    def add(self, it: Joined) -> None:
-        self.policies += 1
-        if it.policy.status in ("inforce", "paidup"):
-            self.insured += 1
-            self.amount += it.policy.amount
-        self.bounds = [one + other for one, other in zip(self.bounds, it.row.bounds)] if self.bounds else list(it.row.bounds)
-        self.words += it.row.word != ""
-
     def cells(self) -> list[str]:
         bounds = [money(each) for each in self.bounds]
         return [str(self.policies), str(self.insured), money(self.amount), *bounds, str(self.words)]
@@ -78,26 +77,42 @@ class Sums:
 Groups = dict[tuple[str, ...], Sums]
 
 
-def grouped(rows: Iterable[Joined], keys: Sequence[str]) -> Groups:
+def added(groups: Array, count: int, cents: Cents) -> list[int]:
+    """The sum of each group's cents, added up in two parts by floats that hold both exactly."""
+    low, high = cents & ((1 << LOW_BITS) - 1), cents >> LOW_BITS
+    above, below = (np.bincount(groups, part, count).astype(np.int64) for part in (high, low))
+    found: list[int] = ((above << LOW_BITS) + below).tolist()
+    return found
+
+
+def sums_by(it: Joined, groups: Array, count: int) -> list[Sums]:
+    """The sums of groups, which each policy's number tells."""
+    insured = (it.rows.status == CODE_OF_STATUS["inforce"]) | (it.rows.status == CODE_OF_STATUS["paidup"])
+    amounts = added(groups, count, np.where(insured, it.policies.amount, 0))
+    counts: list[int] = np.bincount(groups[insured], minlength=count).tolist()
+    bounds = [added(groups, count, it.rows.bounds[:, place]) for place in range(it.rows.bounds.shape[1])]
+    policies: list[int] = np.bincount(groups, minlength=count).tolist()
+    words: list[int] = np.bincount(groups[it.rows.word > 0], minlength=count).tolist()
+    return [Sums(policies[place], counts[place], amounts[place], [each[place] for each in bounds], words[place])
+            for place in range(count)]
+
+
+def grouped(it: Joined, keys: Sequence[str]) -> Groups:
     """The sums of each group that occurs, in the order of its names."""
-    picks = [KEYS[key] for key in keys]
-    found: Groups = {}
-    for it in rows:
-        name = tuple(pick(it) for pick in picks)
-        if name not in found:
-            found[name] = Sums()
-        found[name].add(it)
-    return dict(sorted(found.items()))
+    code: Array = np.zeros(len(it.rows), np.int64)
+    names: list[tuple[str, ...]] = [()]
+    for key in keys:
+        codes, texts = KEYS[key](it)
+        found, code = np.unique(code * len(texts) + codes, return_inverse=True)
+        names = [(*names[each // len(texts)], texts[each % len(texts)]) for each in found.tolist()]
+    return dict(sorted(zip(names, sums_by(it, code, len(names)))))
 
 
-def whole(rows: Iterable[Joined], bounds: int) -> Sums:
-    total = Sums(bounds=[0] * bounds)
-    for it in rows:
-        total.add(it)
-    return total
+def whole(it: Joined) -> Sums:
+    return sums_by(it, np.zeros(len(it.rows), np.int64), 1)[0]
 
 
-def demand_whole(groups: Groups, keys: Sequence[str], valuation: PrintedValuation) -> None:
+def demand_whole(groups: Groups, keys: Sequence[str], valuation: ColumnValuation) -> None:
     """Demands that the groups add up to what the program printed: its sums, its policies, its rows with a word."""
     by = ",".join(keys)
     sums = [0] * len(valuation.total)

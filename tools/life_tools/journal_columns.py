@@ -6,7 +6,7 @@ n + 1. `commands.command_in` says the same of one record.
 from __future__ import annotations
 
 from dataclasses import dataclass, fields
-from typing import Iterator
+from typing import Iterable, Iterator
 
 from life_tools.commands import BODY_SIZE, LAST_AGE, OLDEST_AT_ISSUE, PLAN_CODES, Command
 from life_tools.day_columns import FIRST, LAST, day_at
@@ -49,10 +49,11 @@ class Records:
 
     def commands(self, places: Array) -> Iterator[Command]:
         """The commands of some places, as objects."""
-        columns = (getattr(self, column.name)[places].tolist() for column in fields(self))
-        for kind, plan, age, years, number, day, amount, premium in zip(*columns):
-            on = None if kind == UPGRADE else day_at(day)
-            yield Command(KINDS[kind], number, on, PLANS[plan] if plan else "", age, years, amount, premium)
+        for start in range(0, len(places), AT_ONCE):
+            columns = (getattr(self, column.name)[places[start:start + AT_ONCE]].tolist() for column in fields(self))
+            for kind, plan, age, years, number, day, amount, premium in zip(*columns):
+                on = None if kind == UPGRADE else day_at(day)
+                yield Command(KINDS[kind], number, on, PLANS[plan] if plan else "", age, years, amount, premium)
 
     def places_of(self, number: int) -> Array:
         """The places of a policy's commands."""
@@ -81,11 +82,10 @@ def is_within(values: Array, kinds: Array, of: tuple[Array, Array]) -> Array:
     return right
 
 
-def is_issue_right(block: Records) -> Array:
-    """Whether plan, age and years fit, of issues."""
-    of_whole = block.plan == WHOLE
-    years = np.where(of_whole, block.years == 0, (block.years >= 2) & (block.years <= LAST_AGE - block.age.astype(np.int16)))
-    right: Array = (block.plan >= 1) & (block.plan <= len(PLANS)) & (block.age <= OLDEST_AT_ISSUE) & years
+def is_issue_right(plan: Array, age: Array, years: Array) -> Array:
+    """Whether they fit, of issues."""
+    do_years = np.where(plan == WHOLE, years == 0, (years >= 2) & (years <= LAST_AGE - age.astype(np.int16)))
+    right: Array = (plan >= 1) & (plan <= len(PLANS)) & (age <= OLDEST_AT_ISSUE) & do_years
     return right
 
 
@@ -94,7 +94,7 @@ def is_right(block: Records) -> Array:
     kind = block.kind
     issue, upgrade = kind == ISSUE, kind == UPGRADE
     right = (kind >= ISSUE) & (kind <= PAIDUP) & is_within(block.amount, kind, AMOUNTS) & is_within(block.premium, kind, PREMIUMS)
-    right &= np.where(issue, is_issue_right(block), (block.plan | block.age | block.years) == 0)
+    right &= np.where(issue, is_issue_right(block.plan, block.age, block.years), (block.plan | block.age | block.years) == 0)
     dated = (block.number >= 1) & (block.day >= FIRST) & (block.day <= LAST)
     right &= np.where(upgrade, (block.number == 0) & (block.day == 0), dated)
     return right
@@ -117,10 +117,14 @@ def has_idle_bytes(raw: Array) -> Array:
     return found
 
 
+def raw_records(data: bytes, count: int) -> Array:
+    """A file's first records as they stand in it."""
+    return np.frombuffer(data, RECORD, count, FIRST_GATE) if count else np.empty(0, RECORD)
+
+
 def records_of(data: bytes, count: int) -> tuple[Records, int]:
     """The columns of a file's first records, and the place of the first one that spells no command, or their count."""
-    raw = np.frombuffer(data, RECORD, count, FIRST_GATE)
-    records = blank(count)
+    raw, records = raw_records(data, count), blank(count)
     for start in range(0, count, AT_ONCE):
         some = slice(start, start + AT_ONCE)
         block = Records(*(getattr(records, column.name)[some] for column in fields(Records)))
@@ -130,3 +134,18 @@ def records_of(data: bytes, count: int) -> tuple[Records, int]:
             first = start + int(wrong.argmax())
             return records.front(first), first
     return records, count
+
+
+# --- some policies alone, of a file whose records aren't judged ---
+
+def places_in(data: bytes, count: int, numbers: Iterable[int]) -> Array:
+    """The places of the commands of these policies among a file's first records, whatever else these say."""
+    raw, wanted = raw_records(data, count), np.array(sorted(set(numbers)), np.uint32)
+    found = [start + np.flatnonzero(np.isin(raw["number"][start:start + AT_ONCE].astype(np.uint32), wanted))
+             for start in range(0, count, AT_ONCE)]
+    return np.concatenate([np.empty(0, np.int64), *found])
+
+
+def upgrade_in(data: bytes, count: int) -> int:
+    """The position of the first upgrade among a file's first records, or 0."""
+    return data[FIRST_GATE + 1:FIRST_GATE + RECORD_SIZE * count:RECORD_SIZE].find(UPGRADE) + 1

@@ -78,14 +78,6 @@ def count_of(data: bytes, path: str) -> int:
     return count
 
 
-def front_of(data: bytes, position: int, path: str) -> bytes:
-    """The journal of the first so many records of a file's bytes, which has to have them."""
-    count = count_of(data, path)
-    if position > count:
-        raise Wrong(f"{position} is no position of {path}, which has {count} commands")
-    return data[:gate_of(position)] + bytes(1) if position else EMPTY
-
-
 def replayed(data: bytes, count: int, book: Book) -> Journal:
     """The journal of so many records, each of which has to spell a command that can follow."""
     progress = Progress("reading the journal", count)

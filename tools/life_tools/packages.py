@@ -32,7 +32,9 @@ def package(module: str, debian: str) -> ModuleType:
         os.environ.pop(ANEW, None)
         return found
     except ImportError:
-        if ANEW not in os.environ and is_seen_by_debians(module):
+        # words behind -c can't be begun anew, nor a worker of a cluster
+        is_tool = os.path.isfile(sys.argv[0]) and "distributed" not in sys.modules
+        if is_tool and ANEW not in os.environ and is_seen_by_debians(module):
             sys.stdout.flush()
             os.execve(DEBIANS, [DEBIANS, *sys.argv], {**os.environ, ANEW: "1"})
         raise Wrong(f"Python's {module} is missing: apt-get install {debian}; it is then seen by {DEBIANS}, "

@@ -44,7 +44,7 @@ class Policies:
     def __len__(self) -> int:
         return len(self.number)
 
-    def at(self, places: Array) -> Policies:
+    def at(self, places: Array | slice) -> Policies:
         return Policies(*(getattr(self, column.name)[places] for column in fields(self)))
 
     def policy(self, place: int) -> Policy:

@@ -24,6 +24,8 @@ class Printed:
     begun: int | None = None
     # what was answered `fault` or `nomemory`, with the row
     unposted: list[tuple[str, Line]] = field(default_factory=list)
+    # the rows that found the book full
+    full: list[Line] = field(default_factory=list)
     # of those answered `fault` the ones behind which none is accepted, of which one may be in the journal
     in_doubt: list[Command] = field(default_factory=list)
 
@@ -49,6 +51,7 @@ class Printed:
             self.in_doubt += [line.command] if told == ["fault"] else []
         else:
             demand(told[:1] == ["refused"], f"{','.join(head)} is no answer to {line.row.text}")
+            self.full += [line] if told[1:2] == ["full"] else []
         self.rows.add(line.row.number)
         self.answered[line.lane] = self.answered.get(line.lane, 0) + 1
 

@@ -10,6 +10,16 @@ import sys
 from life_tools.formats import bytes_of, demand
 
 
+# the program beside these tools: with its wrapper, and as it lay before there was one
+BESIDE = ("life-program", "life")
+
+
+def program_beside(folder: str) -> str | None:
+    """The program in a folder of programs, where it is installed there."""
+    places = (os.path.join(folder, name) for name in BESIDE)
+    return next((place for place in places if os.path.isfile(place) and os.access(place, os.X_OK)), None)
+
+
 def life_command(given: str | None = None) -> list[str]:
     """The words that begin a run: the program told, else LIFE_PROGRAM, else the one beside these tools, else the clone's."""
     told = given or os.environ.get("LIFE_PROGRAM")
@@ -17,8 +27,8 @@ def life_command(given: str | None = None) -> list[str]:
         demand(os.path.isfile(told), f"{told} is no program")
         return [os.path.abspath(told)]
     here = os.path.dirname(os.path.realpath(sys.argv[0]))
-    beside = os.path.join(here, "life")
-    if os.path.isfile(beside) and os.access(beside, os.X_OK):
+    beside = program_beside(here)
+    if beside:
         return [beside]
     launcher = os.path.join(os.path.dirname(here), "life")
     demand(os.path.isfile(launcher), "there is no program `life` beside these tools: name it by LIFE_PROGRAM or --life")

@@ -10,10 +10,9 @@ from array import array
 from dataclasses import dataclass
 from itertools import compress
 
-from life_tools.bulk import BadRecord, number_at, records_in
-from life_tools.commands import CODES
+from life_tools.commands import CODES, number_at
 from life_tools.formats import FIRST_DAY, MOST_COMMANDS, Wrong, bytes_of, demand
-from life_tools.journals import EMPTY, FIRST_GATE, OPEN, RECORD_SIZE, gate_of, read_journal
+from life_tools.journals import EMPTY, FIRST_GATE, OPEN, RECORD_SIZE, Journal, gate_of, is_unfinished_creation, records_in
 
 KIND, NUMBER, DAY = 1, 5, 9
 # records that are looked at at once, so few that a thread beside needn't wait for long
@@ -74,11 +73,9 @@ class Columns:
 def columns_at(path: str, at: int | None = None) -> Columns:
     """Those of a journal's file, or of its first commands."""
     data = bytes_of(path)
-    try:
-        count = len(records_in(data)) // RECORD_SIZE
-    except BadRecord:
-        journal = read_journal(data)
-        raise BadJournal(path, journal.refused, journal.why) from None
+    count = 0 if is_unfinished_creation(data) else records_in(data)
+    if isinstance(count, Journal):
+        raise BadJournal(path, count.refused, count.why)
     if at is not None and at > count:
         raise Wrong(f"{path} has {count} commands, and not {at}")
     return Columns(data, count if at is None else at)

@@ -1,4 +1,4 @@
-"""A report as text, as CSV and as a workbook."""
+"""A report as text and as CSV, and the cells of a workbook."""
 from __future__ import annotations
 
 import csv
@@ -6,7 +6,6 @@ from decimal import Decimal
 from typing import Any, Sequence
 
 from life_tools.groups import Groups, Sums
-from life_tools.packages import package
 
 Tables = Sequence[tuple[Sequence[str], Groups]]
 # a spreadsheet keeps fifteen digits of a number
@@ -36,22 +35,3 @@ def cell_of(text: str) -> Any:
     """An amount or a count as a number, as far as a spreadsheet keeps all its digits."""
     digits = text.replace("-", "").replace(".", "")
     return Decimal(text) if digits.isdigit() and len(digits) <= MOST_DIGITS else text
-
-
-def write_workbook(path: str, tables: Tables, total: Sums, columns: Sequence[str]) -> None:
-    """A sheet for each table."""
-    openpyxl = package("openpyxl", "python3-openpyxl")
-    book = openpyxl.Workbook()
-    book.remove(book.active)
-    for keys, groups in tables:
-        sheet = book.create_sheet(" ".join(keys)[:31])
-        sheet.append([", ".join(keys), *columns])
-        for name, sums in groups.items():
-            sheet.append([", ".join(name), *map(cell_of, sums.cells())])
-        sheet.append(["total", *map(cell_of, total.cells())])
-        sheet.column_dimensions["A"].width = 32
-        sheet.freeze_panes = "B2"
-        for row in sheet.iter_rows(min_row=2, min_col=4, max_col=len(columns)):
-            for cell in row:
-                cell.number_format = "#,##0.00"
-    book.save(path)

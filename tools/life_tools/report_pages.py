@@ -6,8 +6,8 @@ from html import escape
 from typing import Sequence
 
 from life_tools.formats import money as plain_money
-from life_tools.groups import Groups, Joined, Sums
-from life_tools.printed_books import PrintedValuation
+from life_tools.groups import Groups, Sums
+from life_tools.printed_columns import NO_WORDS, ColumnValuation, Rows
 from life_tools.worked_rows import WORDS
 
 # at most so many policies are named beside a word
@@ -17,9 +17,11 @@ STYLE = """
 * { box-sizing: border-box }
 body { font: 16px/1.45 system-ui, sans-serif; color: #1b1f23; background: #fff; margin: 0 auto; padding: 1rem; max-width: 64rem }
 h1 { font-size: 1.5rem; margin: .2rem 0 } h2 { font-size: 1.15rem; margin: 2rem 0 .5rem } p { margin: .4rem 0 }
-.facts { display: grid; grid-template-columns: repeat(auto-fit, minmax(10rem, 1fr)); gap: .6rem; margin: 1rem 0 }
+.facts { display: grid; grid-template-columns: repeat(auto-fit, minmax(14rem, 1fr)); gap: .6rem; margin: 1rem 0 }
 .facts div { background: #f3f6f9; border-radius: .4rem; padding: .6rem .8rem }
-.facts b { display: block; font-size: 1.1rem; font-variant-numeric: tabular-nums; overflow-wrap: anywhere }
+.facts b { display: block; font-size: 1.1rem; font-variant-numeric: tabular-nums; white-space: nowrap }
+dl { display: grid; grid-template-columns: max-content 1fr; gap: .1rem 1rem; font-size: .85rem; color: #57606a }
+dd { margin: 0; overflow-wrap: anywhere }
 .facts span { color: #57606a; font-size: .85rem }
 .wide { overflow-x: auto }
 table { border-collapse: collapse; width: 100%; font-size: .9rem; font-variant-numeric: tabular-nums }
@@ -54,9 +56,13 @@ def table(heads: Sequence[str], rows: Sequence[Sequence[str]], total: Sequence[s
     return "\n".join([*lines, "</table></div>"])
 
 
-def picture(groups: Groups, place: int) -> str:
+def most_of(tables: Sequence[tuple[Sequence[str], Groups]], place: int) -> int:
+    """The greatest of all groups' sums, to which all bars of a page are drawn."""
+    return max((each.bounds[place] for _, groups in tables for each in groups.values()), default=0)
+
+
+def picture(groups: Groups, place: int, most: int) -> str:
     """A bar for each group, by one of its sums."""
-    most = max((each.bounds[place] for each in groups.values()), default=0)
     lines = ["<div class=\"bars\">"]
     for name, sums in groups.items():
         permille = 1000 * sums.bounds[place] // most if most > 0 else 0
@@ -65,7 +71,7 @@ def picture(groups: Groups, place: int) -> str:
     return "\n".join([*lines, "</div>"])
 
 
-def facts(valuation: PrintedValuation, total: Sums, heads: Sequence[str]) -> str:
+def facts(valuation: ColumnValuation, total: Sums, heads: Sequence[str]) -> str:
     told = [("day", str(valuation.on)), ("position", f"{valuation.position:,}"), ("measure", valuation.measure),
             ("policies", f"{total.policies:,}"), ("of these insured", f"{total.insured:,}"),
             ("amount insured", money(total.amount))]
@@ -75,36 +81,35 @@ def facts(valuation: PrintedValuation, total: Sums, heads: Sequence[str]) -> str
                                              for name, value in told) + "</div>"
 
 
-def words_of(rows: Sequence[Joined]) -> str:
+def words_of(rows: Rows) -> str:
     """The policies without bounds, by their word."""
-    by_word: dict[str, list[int]] = {}
-    for it in rows:
-        if it.row.word:
-            by_word.setdefault(it.row.word, []).append(it.policy.number)
-    if not by_word:
-        return "<p>Each policy has bounds.</p>"
     cells = []
-    for word, numbers in sorted(by_word.items()):
-        named = ", ".join(map(str, numbers[:NAMED])) + (f" and {len(numbers) - NAMED:,} more" if len(numbers) > NAMED else "")
-        cells.append([word, WORDS.get(word, ""), f"{len(numbers):,}", named])
+    for word in sorted(WORDS):
+        numbers = rows.number[rows.word == NO_WORDS.index(word)]
+        if len(numbers):
+            more = f" and {len(numbers) - NAMED:,} more" if len(numbers) > NAMED else ""
+            cells.append([word, WORDS[word], f"{len(numbers):,}", ", ".join(map(str, numbers[:NAMED].tolist())) + more])
+    if not cells:
+        return "<p>Each policy has bounds.</p>"
     return table(["word", "why there is no value", "policies", "numbers"], cells)
 
 
-def page(valuation: PrintedValuation, rows: Sequence[Joined], total: Sums, tables: Sequence[tuple[Sequence[str], Groups]],
-         heads: Sequence[str], checks: Sequence[str]) -> str:
+def page(title: str, provenance: dict[str, str], valuation: ColumnValuation, total: Sums,
+         tables: Sequence[tuple[Sequence[str], Groups]], heads: Sequence[str], checks: Sequence[str]) -> str:
     """The whole page."""
-    title = f"Valuation on {valuation.on} at position {valuation.position}"
+    told = "".join(f"<dt>{escape(name)}</dt><dd>{escape(text)}</dd>" for name, text in provenance.items())
     parts = ["<!doctype html>", "<html lang=\"en\"><head><meta charset=\"utf-8\">",
              "<meta name=\"viewport\" content=\"width=device-width, initial-scale=1\">",
              f"<title>{escape(title)}</title><style>{STYLE}</style></head><body>", f"<h1>{escape(title)}</h1>",
-             "<p>Amounts in the journal's currency. The exact reserve lies between the lower and the upper bound.</p>",
-             facts(valuation, total, heads)]
-    columns = ["policies", "insured", "amount insured", *heads, "words"]
+             f"<dl>{told}</dl>",
+             "<p>Amounts in the journal's currency. The exact reserve lies between the lower and the upper bound. Bars are the "
+             f"{escape(heads[-1])}, all to one scale.</p>", facts(valuation, total, heads)]
+    columns, last = ["policies", "insured", "amount insured", *heads, "words"], len(valuation.total) - 1
     for keys, groups in tables:
         parts.append(f"<h2>By {escape(', '.join(keys))}</h2>")
-        parts.append(picture(groups, len(valuation.total) - 1))
+        parts.append(picture(groups, last, most_of(tables, last)))
         cells = [[", ".join(name), *map(apart, sums.cells())] for name, sums in groups.items()]
         parts.append(table([", ".join(keys), *columns], cells, ["total", *map(apart, total.cells())]))
-    parts += ["<h2>Words in place of bounds</h2>", words_of(rows), "<h2>Checks that were made</h2><ul>"]
+    parts += ["<h2>Words in place of bounds</h2>", words_of(valuation.rows), "<h2>Checks that were made</h2><ul>"]
     parts += [f"<li>{escape(each)}</li>" for each in checks]
     return "\n".join([*parts, "</ul></body></html>", ""])

@@ -4,8 +4,10 @@ from __future__ import annotations
 import datetime
 from typing import Callable, Iterator
 
-from life_tools.commands import Command
+from life_tools.commands import Command, command_in
 from life_tools.formats import money
+from life_tools.journal_columns import places_in, upgrade_in
+from life_tools.journals import gate_of
 from life_tools.rules import Book, Policy, Refusal, due_of, end_of
 from life_tools.script_lines import Line
 
@@ -14,12 +16,18 @@ FAR = datetime.timedelta(400)
 
 
 class Desk:
-    """The book, as a script's rows meet it: what is accepted goes into it."""
+    """The policies that a script names, as its rows meet them: what is accepted changes them."""
 
-    def __init__(self, book: Book, today: datetime.date) -> None:
-        self.book, self.today = book, today
-        self.positions = {command: position for position, command in reversed(list(enumerate(book.commands, 1)))}
+    def __init__(self, today: datetime.date) -> None:
+        self.book, self.today = Book(), today
+        self.positions: dict[Command, int] = {}
         self.days: dict[int, datetime.date] = {}
+
+    def read(self, data: bytes, count: int, numbers: set[int]) -> None:
+        """Takes their commands among a file's first records, which the program has judged."""
+        self.book.upgrade = upgrade_in(data, count)
+        for place in places_in(data, count, numbers).tolist():
+            self.take(command_in(data[gate_of(place) + 1:gate_of(place + 1)]), place + 1)
 
     def warnings(self, line: Line, command: Command) -> list[str]:
         """What may be wrong with the next posting of its lane."""
@@ -29,12 +37,14 @@ class Desk:
             self.days[line.lane] = command.day
         return found
 
-    def take(self, command: Command) -> None:
+    def take(self, command: Command, position: int) -> None:
         """Keeps a posting that was accepted."""
-        after = self.book.decide(command)
-        if not isinstance(after, Refusal):
-            self.book.take(command, after)
-            self.positions.setdefault(command, len(self.book.commands))
+        after = self.book.judge(command)
+        if isinstance(after, Policy):
+            self.book.policies[command.number] = after
+        elif not isinstance(after, Refusal):
+            self.book.upgrade = position
+        self.positions.setdefault(command, position)
 
 
 Look = Callable[[Desk, Line, Command, "Policy | None"], Iterator[str]]

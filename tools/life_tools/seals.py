@@ -18,7 +18,7 @@ import os
 from dataclasses import dataclass
 from typing import NamedTuple, Sequence
 
-from life_tools.bulk import day_at
+from life_tools.commands import day_at
 from life_tools.copied_folder import JOURNAL
 from life_tools.formats import MOST_COMMANDS, Wrong, bytes_of, day_in, demand, number_of
 from life_tools.journals import FIRST_GATE, RECORD_SIZE, gate_of
@@ -85,8 +85,8 @@ def seal_of(folder: str, position: int | None = None, bases: Sequence[str] = ("b
     days = front.days()
     with memoryview(front.data) as data:
         found = sum_of(data[:gate_of(front.count)])
-    return Seal(datetime.datetime.now(datetime.timezone.utc).date(), front.count, whole.count, day_at(max(days)) if days else None,
-                found, sealed_files(folder, bases))
+    made = datetime.datetime.now(datetime.timezone.utc).date()
+    return Seal(made, front.count, whole.count, day_at(max(days)) if days else None, found, sealed_files(folder, bases))
 
 
 def text_of(seal: Seal) -> str:
@@ -143,9 +143,8 @@ def seal_at(path: str) -> Seal:
 
 # --- whether a book is still that of a seal ---
 
-def front_difference(seal: Seal, folder: str) -> str | None:
-    """How the front of a folder's journal differs, or none where it is the same."""
-    path = os.path.join(folder, JOURNAL)
+def front_difference(seal: Seal, path: str) -> str | None:
+    """How the front of a journal's file differs, or none where it is the same."""
     data = bytes_of(path)
     if len(data) < seal.size:
         return f"{path} has {len(data)} bytes, and the front had {seal.size}"
@@ -155,9 +154,8 @@ def front_difference(seal: Seal, folder: str) -> str | None:
     return None
 
 
-def count_difference(seal: Seal, folder: str) -> str | None:
+def count_difference(seal: Seal, path: str) -> str | None:
     """Whether commands behind the front are gone: a journal only grows."""
-    path = os.path.join(folder, JOURNAL)
     try:
         count = columns_at(path).count
     except BadJournal as bad:
@@ -179,6 +177,7 @@ def file_difference(sealed: Sealed, folder: str) -> str | None:
 
 def differences(seal: Seal, folder: str) -> list[str]:
     """What of a folder isn't as a seal says; nothing where all of it is."""
-    found = [front_difference(seal, folder) or count_difference(seal, folder),
+    path = os.path.join(folder, JOURNAL)
+    found = [front_difference(seal, path) or count_difference(seal, path),
              *(file_difference(each, folder) for each in seal.files)]
     return [each for each in found if each]

@@ -108,14 +108,20 @@ def widen(page: Any, sheet: Sheet) -> None:
         page.column_dimensions[utils.get_column_letter(place + 1)].width = max([head, *widths]) + 3
 
 
+def head(page: Any, title: str, styles: Any) -> None:
+    """A title, which is a text whatever it begins with."""
+    made = page.cell(1, 1, title)
+    made.data_type, made.font = "s", styles.Font(bold=True, size=14)
+
+
 def fill(page: Any, sheet: Sheet, styles: Any) -> None:
     bold = styles.Font(bold=True)
-    page.cell(1, 1, sheet.title).font = styles.Font(bold=True, size=14)
+    head(page, sheet.title, styles)
     for place, column in enumerate(sheet.columns, 1):
-        head = page.cell(3, place, column.name)
-        head.font = bold
+        named = page.cell(3, place, column.name)
+        named.font = bold
         side = "left" if column.kind == TEXT else "right"
-        head.alignment = styles.Alignment(horizontal=side, wrap_text=True, vertical="bottom")
+        named.alignment = styles.Alignment(horizontal=side, wrap_text=True, vertical="bottom")
     for at, row in enumerate(sheet.rows, 4):
         for place, (cell, column) in enumerate(zip(row.cells, sheet.columns), 1):
             put(page, at, place, cell, column, bold if row.is_total else None)
@@ -144,7 +150,7 @@ def write_workbook(path: str, title: str, facts: Facts, sheets: Sequence[Sheet])
     book = openpyxl.Workbook()
     first = book.active
     first.title = "facts"
-    first.cell(1, 1, title).font = styles.Font(bold=True, size=14)
+    head(first, title, styles)
     for at, (name, text) in enumerate(facts.items(), 3):
         first.cell(at, 1, name).font = styles.Font(bold=True)
         first.cell(at, 2).value = text

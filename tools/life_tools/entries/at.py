@@ -10,13 +10,11 @@ posted. Options of these tools stand in front of POSITION. The status is 2 where
 from __future__ import annotations
 
 import argparse
-import os
 import sys
 
-from life_tools.copied_folder import JOURNAL, desk_of, journal_bytes, run_in
+from life_tools.copied_folder import run_in
 from life_tools.formats import MOST_COMMANDS, Wrong, demand, number_of, remark
-from life_tools.journals import front_of
-from life_tools.program import life_command
+from life_tools.fronts import front
 
 WORDS = ("state", "value", "project")
 
@@ -44,13 +42,8 @@ def run(options: argparse.Namespace) -> int:
     position = number_of(options.position, 0, MOST_COMMANDS)
     if position is None:
         raise Wrong(f"{options.position} is no position from 0 to {MOST_COMMANDS}")
-    path = os.path.join(options.folder, JOURNAL)
-    journal = journal_bytes(options.folder)
-    if journal is None:
-        raise Wrong(f"{path}: No such file or directory")
-    front = front_of(journal, position, path)
-    with desk_of(front, options.folder, basis_in(words)) as desk:
-        status, text = run_in(desk, life_command(options.life), words)
+    with front(options.folder, position, [basis_in(words)], options.life) as copy:
+        status, text = run_in(copy.folder, copy.life, words)
     sys.stdout.write(text)
     sys.stdout.flush()
     if status:

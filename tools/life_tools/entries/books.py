@@ -5,11 +5,12 @@
   books LIST state                                           the policies and balances of each, and their total
   books LIST checkpoint                                      a checkpoint of each
   books LIST position-on DAY [--last]                        the position of a day in each, for --at
-  books headroom LIST                                        how many commands are left in each, and until when
+  books headroom LIST                                        how many commands are left in each, as `headroom` tells it
 
 Each line has the book's name before it; `all` stands before the totals, which end with the number of books that they
 are of, and with how many there are. A book that fails is tried once more, and is then a line
-`NAME,failed,STATUS,LINE`; the status is then that of the first such book. A policy's number in two books gives 1.
+`NAME,failed,STATUS,LINE`; the status is then that of the first such book. A policy's number in two books gives 1, and so
+does a book that may not be whole, as `verify` tells it; one of which commands are gone has failed.
 
 On a cluster of Dask (--scheduler) each task works on a copy of the book at its position. The lines of policies stay
 where they are made, with --parts, or go.
@@ -27,18 +28,19 @@ from operator import itemgetter
 from typing import Iterator, Sequence
 
 from life_tools.book_lists import ALL, ListedBook, books_at, positions_at
-from life_tools.book_runs import Outcome, Parts, named
+from life_tools.book_runs import Outcome, Parts, failure, named
 from life_tools.book_totals import total_of
 from life_tools.book_work import Asked, processors, work
-from life_tools.bulk import number_at, text_at
-from life_tools.formats import LAST_DAY, MOST_COMMANDS, MOST_WORKERS, MOST_YEARS, Wrong, day_in, demand, number_of, remark
+from life_tools.day_columns import number_at, text_at
+from life_tools.entries.headroom import Wanted, add_arguments, room_at, told_of, wanted_of
+from life_tools.formats import MOST_WORKERS, MOST_YEARS, Wrong, day_in, demand, number_of, remark
+from life_tools.headroom import HEAD
 from life_tools.positions import on_day
 from life_tools.record_columns import columns_at
+from life_tools.wholeness import demand_undamaged, tell
 
 WORDS = ("value", "project", "state", "checkpoint", "position-on", "headroom")
 MOST_TOLD = 10
-# the days by which it is told how fast commands are used
-DAYS_LOOKED_AT = 365
 
 
 # --- the words ---
@@ -158,7 +160,7 @@ def run_program(options: argparse.Namespace, books: list[ListedBook]) -> int:
     write_list_of_parts(asked, outcomes)
     failed = [outcome.status for outcome in outcomes if outcome.status]
     twice = tell_twice(books, outcomes)
-    return failed[0] if failed else 1 if twice else 0
+    return failed[0] if failed else 1 if twice or any(outcome.doubt for outcome in outcomes) else 0
 
 
 # --- positions and headroom ---
@@ -167,31 +169,31 @@ def run_position_on(books: list[ListedBook], day: int, is_last: bool) -> int:
     """The position of a day in each book, all of them or none; 1 where one lacks a command, or has one too many."""
     lines, status = [], 0
     for book in books:
-        columns = columns_at(book.journal)
+        columns, whole = columns_at(book.journal), tell(demand_undamaged(book.journal))
         found = on_day(columns.days(), day, columns.upgrade())
         if found.astray(is_last):
             remark(f"{book.name}: {found.told(is_last, text_at(day))}")
-            status = 1
+        status |= whole | bool(found.astray(is_last))
         lines.append(f"{book.name},{found.at(is_last)}\n")
     sys.stdout.writelines(lines)
     return status
 
 
-def headroom_of(book: ListedBook) -> str:
-    columns = columns_at(book.journal)
-    left, days = MOST_COMMANDS - columns.count, columns.days()
-    newest = max(days) if days else 0
-    used = sum(each > newest - DAYS_LOOKED_AT for each in days)
-    full = newest + left * DAYS_LOOKED_AT // used if used else None
-    until = "never" if full is None else text_at(full) if full <= number_at(LAST_DAY) else f"after {LAST_DAY}"
-    return f"{book.name},{columns.count},{left},{used},{until}\n"
-
-
-def run_headroom(books: list[ListedBook]) -> int:
-    lines = [headroom_of(book) for book in books]
-    sys.stdout.write("book,commands,left,in_last_year,full\n")
-    sys.stdout.writelines(lines)
-    return 0
+def run_headroom(books: list[ListedBook], wanted: Wanted) -> int:
+    """The room of each book; one that can't be told is a line, and its status is the whole's."""
+    print(f"book,{HEAD}")
+    failed, told = 0, 0
+    for book in books:
+        try:
+            room, status = room_at(book.journal, book.name, wanted)
+            print(f"{book.name},{room.row()}")
+            told |= told_of(book.name, room, wanted) | status
+        except (Wrong, OSError) as wrong:
+            outcome = failure(book.name, wrong)
+            print_book(outcome)
+            remark(f"{book.name}: status {outcome.status}: {outcome.line}")
+            failed = failed or outcome.status
+    return failed or told
 
 
 def arguments(parser: argparse.ArgumentParser) -> None:
@@ -207,6 +209,7 @@ def arguments(parser: argparse.ArgumentParser) -> None:
     parser.add_argument("--send", action="store_true", help="workers don't see the folders: they are sent what they need")
     parser.add_argument("--parts", metavar="FOLDER", help="the lines of each book go to a file there, where they are made")
     parser.add_argument("--sqlite", action="store_true", help="parts are SQLite files, and not CSV")
+    add_arguments(parser)
     parser.add_argument("--totals", action="store_true", help="the lines of policies aren't printed")
 
 
@@ -219,6 +222,6 @@ def run(options: argparse.Namespace) -> int:
     if word in ("position-on", "headroom"):
         words = program_words(options)
         if word == "headroom":
-            return run_headroom(books)
+            return run_headroom(books, wanted_of(options))
         return run_position_on(books, number_at(day_in(words[1])), options.last)
     return run_program(options, books)

@@ -5,21 +5,28 @@ its policy's newest posting, a maturity from the end of the term, and a claim on
 policy's number is unknown; where an accepted posting equals it, as where a settlement is sent twice; where its
 amount isn't the policy's premium, or more than is outstanding; and where the program refuses it on a copy of the journal.
 The rows are looked at in the order in which that dry run answered them. The status is 1 where a row is told. The copy lies
-in TMPDIR: a long script is done sooner with TMPDIR=/dev/shm, as `dry-run` tells.
+where that of `dry-run` does.
+
+With --hold the rows of a future day, those more than 400 days off, an issue of a number that is used already, and all later
+rows of their numbers go into a file of their own, for a person to look at; the others into another, to be sent.
 """
 from __future__ import annotations
 
 import argparse
 import datetime
+import os
 import sys
 
-from life_tools.copied_folder import dry_run, journal_bytes
-from life_tools.formats import Wrong, day_in, demand, number_of, remark
-from life_tools.journals import read_journal
+from life_tools.columns import columns_in
+from life_tools.copied_folder import JOURNAL, dry_run, journal_bytes
+from life_tools.formats import MOST_COMMANDS, Wrong, day_in, demand, number_of, remark
+from life_tools.held_rows import Holding, divide, policies_in
+from life_tools.journals import count_of
 from life_tools.program import life_command
 from life_tools.script_lines import Line, lanes_of, script_at
 from life_tools.script_warnings import Desk
 from life_tools.transcript_check import answers_in
+from life_tools.wholeness import tell_doubt
 
 
 def arguments(parser: argparse.ArgumentParser) -> None:
@@ -27,10 +34,13 @@ def arguments(parser: argparse.ArgumentParser) -> None:
     parser.add_argument("--today", metavar="DAY", help="the day on which it is sent, YYYY-MM-DD (that of this machine)")
     parser.add_argument("--folder", metavar="FOLDER", default=".", help="where journal.life and the basis lie (.)")
     parser.add_argument("--basis", metavar="NAME", default="basis.csv", help="the name of the basis file there (basis.csv)")
+    parser.add_argument("--hold", metavar=("SEND", "HELD"), nargs=2, help="write the rows to send, and those held back, if any")
+    parser.add_argument("--also-held", metavar="FILE", action="append", default=[],
+                        help="rows that were held back before: all of their numbers are, too")
     parser.add_argument("--life", metavar="PROGRAM", help="the program to run")
 
 
-def look_over(lines: list[Line], transcript: str, desk: Desk) -> dict[int, list[str]]:
+def look_over(lines: list[Line], transcript: str, desk: Desk, holding: Holding) -> dict[int, list[str]]:
     """What is told of rows, by their numbers."""
     left = {lane: iter(rows) for lane, rows in lanes_of(lines).items()}
     told: dict[int, list[str]] = {}
@@ -38,28 +48,46 @@ def look_over(lines: list[Line], transcript: str, desk: Desk) -> dict[int, list[
         line = next(left.get(number_of(head[0], 1, 8) or 0, iter(())), None)
         if line is None:
             raise Wrong(f"the dry run answered {','.join(head)}, and no row is left for that")
+        holding.look(line, desk)
         told[line.row.number] = desk.warnings(line, line.command) if line.command else []
         answer = head[len(line.head):]
         if answer[:1] == ["accepted"] and line.command:
-            desk.take(line.command)
+            desk.take(line.command, number_of(answer[1], 1, MOST_COMMANDS) or 0)
         elif answer[:1] == ["refused"]:
             told[line.row.number].append(f"it is refused: {','.join(answer[1:])}")
+    holding.end(lines)
     return told
+
+
+def answered(options: argparse.Namespace, data: bytes | None) -> str:
+    """The transcript of the dry run, in which the program judges the journal."""
+    path = os.path.join(options.folder, JOURNAL)
+    status, transcript = dry_run(options.script, data, options.folder, options.basis, life_command(options.life))
+    if transcript.startswith("badjournal,"):
+        columns_in(data or b"", path)
+    demand(status == 0, f"the dry run ended with {status}: {transcript[:200].strip()}")
+    return transcript
 
 
 def run(options: argparse.Namespace) -> int:
     today = day_in(options.today) if options.today else datetime.date.today()
     lines, data = script_at(options.script), journal_bytes(options.folder)
-    journal = read_journal(data or b"")
-    demand(not journal.refused, f"{options.folder}/journal.life: {journal.refused}: {journal.why}")
-    status, transcript = dry_run(options.script, data, options.folder, options.basis, life_command(options.life))
-    demand(status == 0, f"the dry run ended with {status}: {transcript[:200].strip()}")
-    told = look_over(lines, transcript, Desk(journal.book, today))
+    tell_doubt(os.path.join(options.folder, JOURNAL))
+    transcript, desk = answered(options, data), Desk(today)
+    if data:
+        desk.read(data, count_of(data, options.folder), {line.command.number for line in lines if line.command})
+    holding = Holding(policies_in(options.also_held))
+    told = look_over(lines, transcript, desk, holding)
+    if options.hold:
+        divide(lines, holding.rows, *options.hold)
+        for row, why in holding.rows.items():
+            told.setdefault(row, []).append(f"it is held back: {why}")
     for line in lines:
         if told.get(line.row.number):
             print(f"line {line.row.line} of {options.script}: {line.row.text}")
             print("".join(f"  {text}\n" for text in told[line.row.number]), end="")
     sys.stdout.flush()
     rows = sum(bool(texts) for texts in told.values())
-    remark(f"rows: {len(lines)}, told: {rows}; nothing is posted")
+    held = f", held back: {len(holding.rows)}" if options.hold else ""
+    remark(f"rows: {len(lines)}, told: {rows}{held}; nothing is posted")
     return 1 if rows else 0

@@ -4,17 +4,19 @@ The journal is copied, and the basis with its tables, into a folder of its own, 
 another run posts before the script is run in earnest changes what it is answered then. The status is 0 where the run
 ended well, whatever it refused, and 2 where it didn't: its own status is told on standard error.
 
-The copy lies in TMPDIR, and each posting waits for its syncs there. So a long script takes as long as it will take in
-earnest on such a disk; with TMPDIR=/dev/shm, in memory, it is done in seconds.
+The copy lies in memory (/dev/shm), or in TMPDIR where that is set or memory has no room for it: there each posting waits for
+its syncs, and a long script takes as long as it will take in earnest on such a disk.
 """
 from __future__ import annotations
 
 import argparse
+import os
 import sys
 
-from life_tools.copied_folder import dry_run, journal_bytes
+from life_tools.copied_folder import JOURNAL, dry_run, journal_bytes
 from life_tools.formats import remark
 from life_tools.program import life_command
+from life_tools.wholeness import tell_doubt
 
 
 def arguments(parser: argparse.ArgumentParser) -> None:
@@ -26,6 +28,7 @@ def arguments(parser: argparse.ArgumentParser) -> None:
 
 def run(options: argparse.Namespace) -> int:
     journal = journal_bytes(options.folder)
+    tell_doubt(os.path.join(options.folder, JOURNAL))
     status, transcript = dry_run(options.script, journal, options.folder, options.basis, life_command(options.life))
     sys.stdout.write(transcript)
     sys.stdout.flush()

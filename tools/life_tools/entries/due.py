@@ -9,130 +9,109 @@
 
 `day` is the day on which the premium was due, the term ends, the policy lapsed, or the last command on it was posted;
 `until` is the last day of grace, or of the right to reinstate. A policy that has a command after the days asked for is
-left out, since it takes no line of an earlier day. The journal isn't judged anew: `life-tools read` does that.
+left out, since it takes no line of an earlier day.
 """
 from __future__ import annotations
 
 import argparse
 import sys
-from operator import itemgetter
-from typing import Iterator
+from typing import Iterator, NamedTuple
 
-from life_tools.bulk import ISSUES, Bulk, anniversary_at, bulk_at, day_at, many_objects, number_at, text_at
-from life_tools.formats import LAST_DAY, Wrong, day_in, demand, money, number_of, remark
-from life_tools.rules import GRACE, REINSTATEMENT_ANNIVERSARIES, Policy, due_of, end_of, missed_by, years_of
+from life_tools.arrays import Array, Cents, np
+from life_tools.columns import columns_at
+from life_tools.day_columns import LAST, NEVER, anniversaries, number_at, texts_at
+from life_tools.formats import Wrong, day_in, demand, money, number_of, remark
+from life_tools.policy_columns import LAPSED, TERM, Policies, is_insured, missed
+from life_tools.record_texts import moneys
+from life_tools.rules import GRACE, REINSTATEMENT_ANNIVERSARIES
+from life_tools.wholeness import tell_doubt
 
 WHATS = ("premium", "grace", "lapse", "mature", "reinstate", "settle")
 PREMIUM, IN_GRACE, LAPSE, MATURE, REINSTATE, SETTLE = range(len(WHATS))
 SENT = ("lapse", "mature")
 MOST_DAYS = 366
 DAYS_OF_GRACE = GRACE.days
-# the place in WHATS; the day; the policy's number; the last day, or none; cents; and the first day that takes its line
-Due = tuple[int, int, int, "int | None", int, int]
+
+
+class Due(NamedTuple):
+    """Items as columns: places in WHATS; days; policies; the last days, or NEVER; cents; the first days that take their lines."""
+
+    what: Array
+    day: Array
+    number: Array
+    until: Array
+    cents: Cents
+    first: Array
 
 
 class Items:
-    """What is due from a first day to a last one; days are numbers."""
+    """What is due from a first day to a last one of some policies, each of which takes no line before a day of its own."""
 
-    def __init__(self, day: int, within: int) -> None:
-        self.day, self.last = day, min(day + within, number_at(LAST_DAY))
+    def __init__(self, policies: Policies, day: int, within: int) -> None:
+        self.last = min(day + within, LAST)
+        first = np.maximum(policies.last, day)
+        taking = first <= self.last
+        self.of, self.first, self.due = policies.at(taking), first[taking], policies.due[taking]
         self.found: list[Due] = []
 
-    def paying(self, number: int, first: int, due: int, cover: tuple[int, int], premium: int, benefit: int) -> None:
-        """Of a policy of which a premium is to come; before the first day it takes no line.
+    def find(self, what: int, chosen: Array, day: Array, until: Array | np.int32, cents: Cents, first: Array) -> None:
+        """An item of each of the chosen policies; all else is told of all policies."""
+        count = int(np.count_nonzero(chosen))
+        until = until[chosen] if isinstance(until, np.ndarray) else np.full(count, until)
+        self.found.append(Due(np.full(count, what), day[chosen], self.of.number[chosen], until, cents[chosen], first[chosen]))
 
-        The cover is the day of issue and the years, whose end is worked out where it matters: it is after the due day.
-        """
-        grace_end, found = due + DAYS_OF_GRACE, self.found
-        if first > grace_end:
-            found.append((LAPSE, due, number, grace_end, premium, first))
-            return
-        if due > self.last:
-            return
-        end = anniversary_at(*cover)
-        if first <= due:
-            found.append((PREMIUM, due, number, grace_end, premium, due))
-        elif first < end:
-            found.append((IN_GRACE, due, number, grace_end, premium, first))
-        if max(end, first) <= grace_end:
-            self.paid(number, first, end, benefit)
-        elif grace_end < self.last:
-            found.append((LAPSE, due, number, grace_end, premium, grace_end + 1))
+    def find_all(self) -> Due:
+        of, insured = self.of, is_insured(self.of)
+        self.paying(insured & (self.due != NEVER))
+        self.find(SETTLE, of.outstanding > 0, of.last, NEVER, of.outstanding, self.first)
+        self.lapsed(of.status == LAPSED)
+        items = Due(*(np.concatenate(column) for column in zip(*self.found)))
+        # what, day and number tell all items apart
+        order = np.lexsort((items.number, items.day, items.what))
+        return Due(*(column[order] for column in items))
 
-    def paid(self, number: int, first: int, end: int, benefit: int) -> None:
-        """Of a policy that takes no further premium, or that ends within the grace of one."""
-        ended = max(end, first)
-        if ended <= self.last:
-            self.found.append((MATURE, end, number, None, benefit, ended))
+    def paying(self, paying: Array) -> None:
+        """Of those of which a premium is to come, and of those of which none is."""
+        of, first, due = self.of, self.first, self.due
+        grace_end = np.where(paying, due, 0) + DAYS_OF_GRACE
+        self.find(LAPSE, paying & (first > grace_end), due, grace_end, of.premium, first)
+        paying &= (first <= grace_end) & (due <= self.last)
+        self.find(PREMIUM, paying & (first <= due), due, grace_end, of.premium, due)
+        self.find(IN_GRACE, paying & (first > due) & (first < of.end), due, grace_end, of.premium, first)
+        ended = np.maximum(of.end, first)
+        self.find(LAPSE, paying & (ended > grace_end) & (grace_end < self.last), due, grace_end, of.premium, grace_end + 1)
+        # who takes no further premium, or ends within the grace of one
+        ending = (paying & (ended <= grace_end)) | (is_insured(of) & (due == NEVER))
+        self.find(MATURE, ending & (ended <= self.last), of.end, NEVER, np.where(of.plan == TERM, 0, of.amount), ended)
 
-    def lapsed(self, policy: Policy, first: int) -> None:
+    def lapsed(self, lapsed: Array) -> None:
         """The right to reinstate, for the premiums missed up to the first day."""
-        limit = anniversary_at(number_at(policy.issued), policy.paid + REINSTATEMENT_ANNIVERSARIES)
-        until = min(limit, number_at(end_of(policy)) - 1)
-        if first <= until:
-            missed = missed_by(policy, day_at(first))
-            self.found.append((REINSTATE, number_at(policy.last), policy.number, until, missed * policy.premium, first))
-
-    def other(self, policy: Policy) -> None:
-        """Of a policy that not only premiums befell."""
-        number, last = policy.number, number_at(policy.last)
-        first = max(self.day, last)
-        if first > self.last:
-            return
-        if policy.status == "lapsed":
-            self.lapsed(policy, first)
-        elif policy.outstanding:
-            self.found.append((SETTLE, last, number, None, policy.outstanding, first))
-        elif policy.status in ("inforce", "paidup"):
-            due, benefit = due_of(policy), 0 if policy.plan == "term" else policy.amount
-            if due is None:
-                self.paid(number, first, number_at(end_of(policy)), benefit)
-            else:
-                cover = number_at(policy.issued), years_of(policy)
-                self.paying(number, first, number_at(due), cover, policy.premium, benefit)
-
-    def plain(self, book: Bulk) -> None:
-        """Of the policies that only premiums befell, which are in force."""
-        last, others, start = self.last, book.others, self.day
-        for place, (head, number, issued, amount, premium) in enumerate(book.issues):
-            paid, first = book.paid[place], max(start, book.last[place])
-            # nothing falls before as many years of 365 days as premiums were paid
-            if first > last or issued + 365 * paid > last or place in others:
-                continue
-            plan, _, _, years, payments = ISSUES[head]
-            benefit = 0 if plan == "term" else amount
-            if paid < payments:
-                self.paying(number, first, anniversary_at(issued, paid), (issued, years), premium, benefit)
-            else:
-                self.paid(number, first, anniversary_at(issued, years), benefit)
+        of = self.of
+        until = np.minimum(anniversaries(of.issued, of.paid + REINSTATEMENT_ANNIVERSARIES), of.end - 1)
+        self.find(REINSTATE, lapsed & (self.first <= until), of.last, until, missed(of, self.first) * of.premium, self.first)
 
 
-def due_in(book: Bulk, day: int, within: int) -> list[Due]:
-    items = Items(day, within)
-    items.plain(book)
-    for policy in book.others.values():
-        items.other(policy)
-    # what, day and number tell all items apart
-    items.found.sort()
-    return items.found
-
-
-def listed(items: list[Due]) -> Iterator[str]:
+def listed(items: Due) -> Iterator[str]:
     yield "what,policy,day,until,amount\n"
-    for what, day, number, until, cents, _ in items:
-        yield f"{WHATS[what]},{number},{text_at(day)},{'' if until is None else text_at(until)},{cents // 100}.{cents % 100:02}\n"
+    never = items.until == NEVER
+    untils = ["" if none else text for none, text in zip(never.tolist(), texts_at(np.where(never, 0, items.until)))]
+    for what, number, day, until, amount in zip(items.what.tolist(), items.number.tolist(), texts_at(items.day), untils,
+                                                moneys(items.cents)):
+        yield f"{WHATS[what]},{number},{day},{until},{amount}\n"
 
 
-def scripted(items: list[Due]) -> Iterator[str]:
-    for it in sorted(items, key=itemgetter(5, 2)):
-        yield f"1,{WHATS[it[0]]},{it[2]},{text_at(it[5])}\n"
+def scripted(items: Due) -> Iterator[str]:
+    order = np.lexsort((items.number, items.first))
+    what, number, first = (column[order] for column in (items.what, items.number, items.first))
+    for kind, policy, day in zip(what.tolist(), number.tolist(), texts_at(first)):
+        yield f"1,{WHATS[kind]},{policy},{day}\n"
 
 
-def tell_sums(items: list[Due]) -> None:
+def tell_sums(items: Due) -> None:
     for what, name in enumerate(WHATS):
-        cents = [it[4] for it in items if it[0] == what]
-        if cents:
-            remark(f"{name}: {len(cents)}, {money(sum(cents))}")
+        cents = items.cents[items.what == what]
+        if len(cents):
+            remark(f"{name}: {len(cents)}, {money(int(cents.sum()))}")
 
 
 def kinds_in(text: str | None) -> list[str]:
@@ -153,12 +132,12 @@ def run(options: argparse.Namespace) -> int:
     within = number_of(options.within, 0, MOST_DAYS)
     if within is None:
         raise Wrong(f"--within {options.within}: a number of days from 0 to {MOST_DAYS} is wanted")
-    book, _ = bulk_at(options.journal)
-    with many_objects():
-        items = due_in(book, number_at(day), within)
-        if kinds:
-            items = [it for it in items if WHATS[it[0]] in kinds]
-        sys.stdout.writelines(scripted(items) if kinds else listed(items))
+    tell_doubt(options.journal)
+    items = Items(columns_at(options.journal).policies, number_at(day), within).find_all()
+    if kinds:
+        chosen = np.isin(items.what, [WHATS.index(kind) for kind in kinds])
+        items = Due(*(column[chosen] for column in items))
+    sys.stdout.writelines(scripted(items) if kinds else listed(items))
     sys.stdout.flush()
     tell_sums(items)
     return 0

@@ -15,9 +15,7 @@ files NAME.pkl in a new folder, for pandas.read_pickle.
 from __future__ import annotations
 
 import argparse
-import csv
 import itertools
-import json
 import os
 import shutil
 import sqlite3
@@ -25,14 +23,14 @@ import sys
 import tempfile
 from typing import Iterable, Iterator
 
-from life_tools.bulk import Bulk, bulk_at, many_objects
-from life_tools.commands import Command, words_of
-from life_tools.export_tables import (BOOKING, COMMAND, POLICY, VALUATION, TableRow, booking_rows, command_rows, policy_rows,
-                                      valuation_rows)
-from life_tools.formats import FIELDS, Wrong, demand
-from life_tools.journals import Journal, journal_at
+from life_tools.columns import Columns, columns_at
+from life_tools.export_tables import BOOKING, COMMAND, POLICY, booking_rows, command_rows, policy_rows
+from life_tools.formats import Wrong, demand
 from life_tools.packages import package
 from life_tools.progress import Progress
+from life_tools.record_texts import HELD, TEXTS, lines_of
+from life_tools.valuation_rows import VALUATION, TableRow, valuation_rows
+from life_tools.wholeness import tell_doubt
 
 COLUMNS = ("position", "kind", "policy", "day", "plan", "age", "years", "amount", "premium")
 TABLES = {"command": COMMAND, "booking": BOOKING, "policy": POLICY, "valuation": VALUATION}
@@ -45,29 +43,28 @@ SCHEMA_ENDS = (
 )
 
 
-def record_of(position: int, command: Command) -> dict[str, str]:
-    """A record's fields by the names of the columns, without those that the kind doesn't hold."""
-    names = ("position", "kind", "policy", "day", *FIELDS[command.kind])
-    return dict(zip(names, [str(position), *words_of(command)]))
+def csv_template(kind: str) -> str:
+    cells = ["%s" if name in HELD[kind] else kind if name == "kind" else "" for name in COLUMNS]
+    return ",".join(cells) + "\n"
 
 
-def write_csv(journal: Journal) -> None:
-    writer = csv.DictWriter(sys.stdout, COLUMNS, restval="", lineterminator="\n")
-    writer.writeheader()
-    for position, command in enumerate(journal.commands, 1):
-        writer.writerow(record_of(position, command))
+def json_template(kind: str) -> str:
+    pairs = [(name, f'"{kind}"' if name == "kind" else '"%s"' if name in TEXTS else "%s")
+             for name in COLUMNS if name == "kind" or name in HELD[kind]]
+    return "{" + ", ".join(f'"{name}": {value}' for name, value in pairs) + "}\n"
 
 
-def write_json_lines(journal: Journal) -> None:
-    whole = ("position", "policy", "age", "years")
-    for position, command in enumerate(journal.commands, 1):
-        record = record_of(position, command)
-        print(json.dumps({name: int(text) if name in whole else text for name, text in record.items()}))
+def write_lines(options: argparse.Namespace) -> None:
+    """Each record as a line."""
+    records = columns_at(options.journal).records
+    if options.form == "csv":
+        sys.stdout.write(",".join(COLUMNS) + "\n")
+    sys.stdout.writelines(lines_of(records, csv_template if options.form == "csv" else json_template))
 
 
 # --- tables ---
 
-def lines_of(path: str) -> Iterator[str]:
+def printed_lines(path: str) -> Iterator[str]:
     try:
         with open(path, encoding="utf-8", errors="surrogateescape") as file:
             yield from file
@@ -84,11 +81,11 @@ def counted(name: str, rows: Iterable[TableRow]) -> Iterator[TableRow]:
     progress.end()
 
 
-def tables_of(book: Bulk, records: memoryview, valuations: list[str]) -> Iterator[tuple[str, Iterator[TableRow]]]:
+def tables_of(book: Columns, valuations: list[str]) -> Iterator[tuple[str, Iterator[TableRow]]]:
     yield "policy", counted("policy", policy_rows(book))
-    yield "command", counted("command", command_rows(book, records))
-    yield "booking", counted("booking", booking_rows(book, records))
-    printed = itertools.chain.from_iterable(valuation_rows(path, lines_of(path)) for path in valuations)
+    yield "command", counted("command", command_rows(book))
+    yield "booking", counted("booking", booking_rows(book))
+    printed = itertools.chain.from_iterable(valuation_rows(path, printed_lines(path)) for path in valuations)
     yield "valuation", counted("valuation", printed)
 
 
@@ -134,16 +131,15 @@ def write_tables(options: argparse.Namespace) -> None:
     demand(os.path.isdir(os.path.dirname(made)), f"{os.path.dirname(options.made)} is no folder")
     if options.form == "pandas":
         package("pandas", "python3-pandas")
-    with many_objects():
-        book, records = bulk_at(options.journal)
-        beside = tempfile.mkdtemp(prefix=".life-tools-", dir=os.path.dirname(made))
-        try:
-            new = os.path.join(beside, "new")
-            write = write_sqlite if options.form == "sqlite" else write_frames
-            write(new, tables_of(book, records, options.valuation))
-            os.rename(new, made)
-        finally:
-            shutil.rmtree(beside)
+    book = columns_at(options.journal)
+    beside = tempfile.mkdtemp(prefix=".life-tools-", dir=os.path.dirname(made))
+    try:
+        new = os.path.join(beside, "new")
+        write = write_sqlite if options.form == "sqlite" else write_frames
+        write(new, tables_of(book, options.valuation))
+        os.rename(new, made)
+    finally:
+        shutil.rmtree(beside)
 
 
 def arguments(parser: argparse.ArgumentParser) -> None:
@@ -161,13 +157,12 @@ def arguments(parser: argparse.ArgumentParser) -> None:
 
 
 def run(options: argparse.Namespace) -> int:
+    tell_doubt(options.journal)
     if options.form in ("sqlite", "pandas"):
         try:
             write_tables(options)
         except (sqlite3.Error, OSError) as error:
             raise Wrong(f"{options.made}: {error}") from error
-    elif options.form == "csv":
-        write_csv(journal_at(options.journal))
     else:
-        write_json_lines(journal_at(options.journal))
+        write_lines(options)
     return 0

@@ -13,18 +13,21 @@ from __future__ import annotations
 import argparse
 import csv
 import os
-import sys
 
-from life_tools.changes import LINES, Change, Moved, analysis, cash_of, changes_of, demand_booked, lines_by_policy
+from life_tools.changes import LINES, Cash, Change, Moved, analysis, cash_of, changes_of, demand_booked, lines_by_policy
 from life_tools.class_bases import Bases, bases_in, valued
 from life_tools.commands import Command, command_in
-from life_tools.entries.report import written_whole
+from life_tools.entries.report import add_title, write_text, written_whole
 from life_tools.entries.why import measure_arguments, position_in
 from life_tools.formats import Wrong, day_in, demand, money, remark
 from life_tools.fronts import Front, front
 from life_tools.journals import gate_of
 from life_tools.printed_books import PrintedState, state_in
 from life_tools.printed_valuations import SHOWN
+from life_tools.provenance import provenance
+from life_tools.report_sheets import movement_sheet
+from life_tools.sheet_files import write_workbook
+from life_tools.sheet_pages import page
 
 
 def arguments(parser: argparse.ArgumentParser) -> None:
@@ -38,6 +41,9 @@ def arguments(parser: argparse.ArgumentParser) -> None:
                         help="a CSV of their bases, and one of those that they are changed to")
     measure_arguments(parser)
     parser.add_argument("--policies", metavar="FILE", help="each policy's part as CSV")
+    parser.add_argument("--xlsx", metavar="FILE", help="a workbook as well (python3-openpyxl)")
+    parser.add_argument("--html", metavar="FILE", help="one page as well, which needs no network")
+    add_title(parser)
     parser.add_argument("--folder", metavar="FOLDER", default=".", help="where journal.life, the bases and tables lie (.)")
     parser.add_argument("--life", metavar="PROGRAM", help="the program to ask")
 
@@ -97,6 +103,18 @@ def shown(lines: list[Moved]) -> str:
     return "\n".join("  ".join([row[0].ljust(widths[0]), *(row[k].rjust(widths[k]) for k in (1, 2, 3))]) for row in rows)
 
 
+def write_files(options: argparse.Namespace, lines: list[Moved], cash: Cash, notes: list[str], title: str) -> None:
+    """The page or the workbook, where one is asked for."""
+    if not options.html and not options.xlsx:
+        return
+    told = provenance(options.folder, int(options.p2), options.title, options.life)
+    sheets, whole = [movement_sheet(title, lines, cash, notes)], f"{told['book']}: {title}"
+    if options.xlsx:
+        written_whole(options.xlsx, lambda path: write_workbook(path, whole, told, sheets))
+    if options.html:
+        written_whole(options.html, lambda path: write_text(path, page(whole, told, sheets)))
+
+
 def run(options: argparse.Namespace) -> int:
     day_in(options.on1), day_in(options.on2)
     books = Books(options)
@@ -111,11 +129,11 @@ def run(options: argparse.Namespace) -> int:
     if options.policies:
         written_whole(options.policies, lambda path: write_policies(path, changes))
     measure = "" if options.measure == "terminal" else f", {SHOWN[options.measure][0]}"
-    print(f"from {options.on1} at position {options.p1} to {options.on2} at position {options.p2}{measure}")
-    sys.stdout.write(shown(lines) + "\n")
-    for name, valuation in ((LINES[0], books.opening), (LINES[-1], books.closing)):
-        if valuation.words:
-            print(f"{valuation.words} policies of the {name} have a word in place of bounds, and are in no sum")
-    print("a policy counts on one line, that of its last posting; `statement` counts each posting")
+    title = f"from {options.on1} at position {options.p1} to {options.on2} at position {options.p2}{measure}"
+    notes = [f"{valuation.words} policies of the {name} have a word in place of bounds, and are in no sum"
+             for name, valuation in ((LINES[0], books.opening), (LINES[-1], books.closing)) if valuation.words]
+    notes.append("a policy counts on one line, that of its last posting; `statement` counts each posting")
+    write_files(options, lines, cash, notes, title)
+    print("\n".join([title, shown(lines), *notes]))
     print(f"premiums received {money(cash.premiums)}, settlements paid {money(cash.settlements)}")
     return 0

@@ -1,7 +1,8 @@
 """Draws what the program printed as SVG, on standard output: valuations over their days, a book, or a projection by year.
 
 What is drawn of bounds are the upper ones, which are never below the exact values. How many policies have a word in place
-of bounds is told on standard error: they are in no sum.
+of bounds is told on standard error: they are in no sum. Amounts are told in thousands from 10,000 on, and from 10 millions
+on in millions.
 """
 from __future__ import annotations
 

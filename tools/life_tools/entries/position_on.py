@@ -15,6 +15,7 @@ from life_tools.commands import words_of
 from life_tools.day_columns import number_at
 from life_tools.formats import day_in, remark
 from life_tools.positions import OnDay, on_day
+from life_tools.wholeness import demand_undamaged, tell
 
 MOST_TOLD = 10
 
@@ -36,9 +37,10 @@ def tell_astray(book: Columns, found: OnDay, is_last: bool, day: str) -> None:
 
 def run(options: argparse.Namespace) -> int:
     day, book = day_in(options.day), columns_at(options.journal)
+    status = tell(demand_undamaged(options.journal))
     found = on_day(book.records.day, number_at(day), book.upgrade)
     print(found.at(options.last), flush=True)
     if not found.astray(options.last):
-        return 0
+        return status
     tell_astray(book, found, options.last, options.day)
     return 1

@@ -7,10 +7,12 @@ So is one of more commands than the journal has, which the program doesn't use.
 from __future__ import annotations
 
 import argparse
+import sys
 
-from life_tools.checkpoints import Checkpoint, checkpoint_in, checkpoint_of
+from life_tools.checkpoint_columns import CheckpointColumns, checkpoint_columns
+from life_tools.columns import columns_at
 from life_tools.formats import Wrong, bytes_of, money, remark
-from life_tools.journals import journal_at
+from life_tools.record_texts import policy_lines
 
 
 def arguments(parser: argparse.ArgumentParser) -> None:
@@ -18,32 +20,30 @@ def arguments(parser: argparse.ArgumentParser) -> None:
     parser.add_argument("journal", metavar="JOURNAL", nargs="?", help="the journal, as journal.life")
 
 
-def print_books(checkpoint: Checkpoint) -> None:
-    for policy in checkpoint.policies:
-        fields = [policy.number, policy.status, policy.plan, policy.age, policy.years, money(policy.amount),
-                  money(policy.premium), policy.issued, policy.paid, money(policy.outstanding)]
-        print(",".join(["policy", *map(str, fields)]))
-    for account, cents in checkpoint.balances.items():
+def print_books(checkpoint: CheckpointColumns) -> None:
+    sys.stdout.writelines(policy_lines(checkpoint.policies))
+    for account, cents in checkpoint.front.balances.items():
         print(f"balance,{account},{money(cents)}")
-    print(f"count,{checkpoint.position}")
+    print(f"count,{checkpoint.front.position}")
 
 
-def is_of(checkpoint: Checkpoint, path: str) -> bool:
+def is_of(checkpoint: CheckpointColumns, path: str) -> bool:
     """Whether these are the books of the first commands of a journal, which has to have so many."""
-    commands = journal_at(path).commands
-    if checkpoint.position > len(commands):
-        remark(f"{path} has {len(commands)} commands, so the program doesn't use a checkpoint of {checkpoint.position}")
+    book, position = columns_at(path), checkpoint.front.position
+    if position > book.count:
+        remark(f"{path} has {book.count} commands, so the program doesn't use a checkpoint of {position}")
         return False
-    return checkpoint == checkpoint_of(commands[:checkpoint.position])
+    return checkpoint.is_of(book)
 
 
 def run(options: argparse.Namespace) -> int:
     try:
-        checkpoint = checkpoint_in(bytes_of(options.checkpoint))
+        checkpoint = checkpoint_columns(bytes_of(options.checkpoint))
     except Wrong as wrong:
         raise Wrong(f"{options.checkpoint}: {wrong}") from wrong
     if options.journal and not is_of(checkpoint, options.journal):
-        remark(f"{options.checkpoint}: these aren't the books of the first {checkpoint.position} commands of {options.journal}")
+        position = checkpoint.front.position
+        remark(f"{options.checkpoint}: these aren't the books of the first {position} commands of {options.journal}")
         return 1
     print_books(checkpoint)
     return 0

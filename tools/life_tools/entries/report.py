@@ -15,14 +15,18 @@ import os
 import sys
 from typing import Callable
 
-from life_tools.class_bases import BasisRows, basis_arguments, bases_in, valued
+from life_tools.class_bases import basis_arguments, bases_in
+from life_tools.class_columns import basis_rows, valued_columns
 from life_tools.entries.why import measure_arguments, position_in
 from life_tools.formats import Wrong, day_in, demand, remark
 from life_tools.fronts import front
 from life_tools.groups import KEYS, Groups, Joined, demand_whole, grouped, joined, whole
-from life_tools.printed_books import PrintedValuation, state_in
-from life_tools.report_files import lines_of, write_csv, write_workbook
+from life_tools.printed_columns import ColumnValuation, state_of
+from life_tools.provenance import provenance
+from life_tools.report_files import lines_of, write_csv
 from life_tools.report_pages import page
+from life_tools.report_sheets import sheet_of
+from life_tools.sheet_files import write_workbook
 
 DEFAULT = ("plan", "status", "issue-year")
 HEADS = {2: ("lower bound", "upper bound"), 4: ("lower bound", "upper bound", "minimum, lower", "minimum, upper")}
@@ -40,7 +44,12 @@ def arguments(parser: argparse.ArgumentParser) -> None:
     files.add_argument("--csv", metavar="FILE", help="the tables as CSV")
     files.add_argument("--xlsx", metavar="FILE", help="the tables as a workbook (python3-openpyxl)")
     files.add_argument("--html", metavar="FILE", help="one page with pictures, which needs no network")
+    add_title(parser)
     measure_arguments(parser)
+
+
+def add_title(parser: argparse.ArgumentParser) -> None:
+    parser.add_argument("--title", metavar="WORDS", help="company and book, for a page or a workbook (the folder's name)")
 
 
 def keys_in(given: list[str] | None) -> list[list[str]]:
@@ -66,21 +75,26 @@ def written_whole(path: str, write: Callable[[str], None]) -> None:
             os.remove(part)
 
 
-def read_both(options: argparse.Namespace) -> tuple[PrintedValuation, list[Joined]]:
+def read_both(options: argparse.Namespace) -> tuple[ColumnValuation, Joined]:
     """The valuation, and its rows with their policies, of one copy."""
     bases = bases_in(options.basis, options.classes, options.bases)
     with front(options.folder, position_in(options.at), bases.names, options.life) as copy:
-        valuation = valued(copy, options.on, bases, options.measure)
-        state = state_in(copy.asks("state"))
-        rows = BasisRows(copy.folder, bases)
-    return valuation, joined(valuation, state, rows)
+        valuation = valued_columns(copy, options.on, bases, options.measure)
+        state = state_of(copy.streams("state"))
+        basis = basis_rows(copy.folder, bases, state.policies.number, state.policies.issued)
+    return valuation, joined(valuation, state, basis)
+
+
+def facts_of(options: argparse.Namespace, position: int) -> dict[str, str]:
+    """Where a page or a workbook comes from."""
+    return provenance(options.folder, position, options.title, options.life)
 
 
 def run(options: argparse.Namespace) -> int:
     day_in(options.on)
     wanted = keys_in(options.by)
     valuation, rows = read_both(options)
-    total = whole(rows, len(valuation.total))
+    total = whole(rows)
     tables: list[tuple[list[str], Groups]] = [(keys, grouped(rows, keys)) for keys in wanted]
     try:
         for keys, groups in tables:
@@ -90,14 +104,18 @@ def run(options: argparse.Namespace) -> int:
         return 1
     heads = HEADS[len(valuation.total)]
     columns = ["policies", "insured", "amount insured", *heads, "words"]
+    title = f"Valuation on {valuation.on} at position {valuation.position}"
     if options.csv:
         written_whole(options.csv, lambda path: write_csv(path, tables, total, columns))
     elif options.xlsx:
-        written_whole(options.xlsx, lambda path: write_workbook(path, tables, total, columns))
+        sheets = [sheet_of(keys, groups, total, columns) for keys, groups in tables]
+        told = {"valuation": f"{title}, {valuation.measure}", **facts_of(options, valuation.position)}
+        written_whole(options.xlsx, lambda path: write_workbook(path, f"{told['book']}: {title}", told, sheets))
     elif options.html:
         checks = ["The rows add up to the printed total.", "Each row is that of the policy that the state prints in its place.",
                   *(f"The groups by {', '.join(keys)} add up to the printed total." for keys, _ in tables)]
-        text = page(valuation, rows, total, tables, heads, checks)
+        told = facts_of(options, valuation.position)
+        text = page(f"{told['book']}: {title}", told, valuation, total, tables, heads, checks)
         written_whole(options.html, lambda path: write_text(path, text))
     else:
         print(f"{valuation.on} at position {valuation.position}, {valuation.measure}")

@@ -6,6 +6,9 @@ run printed before it ended, the rows that are answered there are so for certain
 aren't asked for again. BEFORE says where the run began: the number of commands accepted before it (the `count` that
 `life state` printed), or a copy of the journal from before; it isn't needed where an accepted line was printed.
 
+Rows that were printed `refused,full` are told, with status 1; with --full they are in the rest, to be sent to a book that
+has room.
+
 A record doesn't say whose it is. Where equal rows stand in several lanes, the records are dealt out so that each row
 in between was refused at some moment, or asked for a value or a trim: the killed run together with the rest is then one
 run of the whole script. It ends with status 1 where no run of the script leaves this journal: another script, another
@@ -31,6 +34,7 @@ def arguments(parser: argparse.ArgumentParser) -> None:
     parser.add_argument("before", metavar="BEFORE", nargs="?",
                         help="how many commands were accepted before, or a journal from before")
     parser.add_argument("--printed", metavar="FILE", help="what the run printed before it ended")
+    parser.add_argument("--full", action="store_true", help="also the rows that are printed as having found the book full")
 
 
 def begun_with(before: str) -> list[Command] | int:
@@ -98,6 +102,13 @@ def tell_equal(answered: list[Line], rest: list[Line]) -> None:
             remark(f"row {line.row.number} equals row {like}, which is taken as the one that was accepted")
 
 
+def tell_full(printed: Printed) -> int:
+    """Tells how many rows found the book full: 1, or 0 where none did."""
+    if printed.full:
+        remark(f"rows that found the book full, and aren't in the rest: {len(printed.full)}; --full has them there")
+    return 1 if printed.full else 0
+
+
 def run(options: argparse.Namespace) -> int:
     lines = script_at(options.script)
     printed = read_front(printed_text(options.printed), lines) if options.printed else Printed()
@@ -113,5 +124,7 @@ def run(options: argparse.Namespace) -> int:
     certain = left | printed.rows
     tell_equal([line for line in lines if line.row.number not in certain],
                [line for line in lines if line.row.number in left])
+    if options.full:
+        left |= {line.row.number for line in printed.full}
     sys.stdout.writelines(line.row.text + "\n" for line in lines if line.row.number in left)
-    return 0
+    return 0 if options.full else tell_full(printed)

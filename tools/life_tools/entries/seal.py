@@ -4,16 +4,20 @@
     seal --check FILE                   tells whether the folder's front, basis and tables are those of the seal
 
 The front is the first 17 + 65 P bytes of journal.life, which no later posting changes. What its records say isn't judged:
-`life state` and `read` do that. The status is 1 where a front or a file is another one, or where postings are gone.
+`life state` and `read` do that. The status is 1 where a front or a file is another one, or where postings are gone. Of a
+book of which `verify` finds postings gone no seal is made.
 """
 from __future__ import annotations
 
 import argparse
+import os
 import sys
 
+from life_tools.copied_folder import JOURNAL
 from life_tools.entries.why import position_in
 from life_tools.formats import demand, remark
 from life_tools.seals import differences, seal_at, seal_of, text_of
+from life_tools.wholeness import demand_undamaged, tell
 
 
 def arguments(parser: argparse.ArgumentParser) -> None:
@@ -41,6 +45,7 @@ def run(options: argparse.Namespace) -> int:
     demand(not (options.basis and options.no_basis), "of --basis and --no-basis one stands")
     if options.check:
         return check(options.check, options.folder)
+    status = tell(demand_undamaged(os.path.join(options.folder, JOURNAL)))
     bases = [] if options.no_basis else options.basis or ["basis.csv"]
     sys.stdout.write(text_of(seal_of(options.folder, position_in(options.at), bases)))
-    return 0
+    return status

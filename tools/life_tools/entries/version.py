@@ -8,7 +8,8 @@ import os
 import pkgutil
 import sys
 
-from life_tools.formats import demand
+from life_tools.formats import Wrong
+from life_tools.program import program_beside
 
 
 def arguments(parser: argparse.ArgumentParser) -> None:
@@ -32,8 +33,9 @@ def run(options: argparse.Namespace) -> int:
         return 0
     for name in ("revision", "kit", "sum"):
         print(f"{name}: {built[name]}")
-    program = os.path.join(here, "life")
-    demand(os.path.isfile(program), f"{program} isn't there")
+    program = program_beside(here)
+    if program is None:
+        raise Wrong(f"there is no program in {here}")
     with open(program, "rb") as file:
         found = hashlib.sha256(file.read()).hexdigest()
     if found != built["sum"]:

@@ -9,10 +9,12 @@ from __future__ import annotations
 import argparse
 import os
 
+from life_tools.arrays import np
 from life_tools.class_bases import measure_words
 from life_tools.formats import MOST_COMMANDS, MOST_NUMBER, Wrong, day_in, demand, money, number_of
-from life_tools.fronts import Front, front
-from life_tools.printed_books import PrintedValuation, ValuedRow, account_in, valuation_in
+from life_tools.fronts import WORKERS, Front, front
+from life_tools.printed_books import ValuedRow, account_in
+from life_tools.printed_columns import ColumnValuation, valuation_of
 from life_tools.tables import read_basis
 from life_tools.worked_rows import Worked, cents_about
 
@@ -44,11 +46,10 @@ def position_in(text: str | None) -> int | None:
     return position
 
 
-def row_in(valuation: PrintedValuation, number: int) -> ValuedRow:
-    for row in valuation.rows:
-        if row.number == number:
-            return row
-    raise Wrong(f"there is no policy {number} at position {valuation.position}")
+def row_in(valuation: ColumnValuation, number: int) -> ValuedRow:
+    places = np.flatnonzero(valuation.rows.number == number)
+    demand(len(places), f"there is no policy {number} at position {valuation.position}")
+    return valuation.rows.row(int(places[0]))
 
 
 def compared(worked: Worked, row: ValuedRow) -> tuple[int, str]:
@@ -72,7 +73,7 @@ def explained(copy: Front, options: argparse.Namespace) -> int:
     if number is None:
         raise Wrong(f"{options.number} is no policy's number")
     words = ["value", options.on, "--at", str(copy.position), "--basis", options.basis, *measure_words(options.measure)]
-    row = row_in(valuation_in(copy.asks(*words)), number)
+    row = row_in(valuation_of(copy.streams(*words, *WORKERS)), number)
     policy = account_in(copy.asks("state", str(number)))
     basis = read_basis(os.path.join(copy.folder, options.basis))
     worked = Worked(policy, copy.position, day_in(options.on), basis, options.measure, options.exact)

@@ -1,0 +1,46 @@
+"""Writes a journal that is nearly full, each command accepted after the other.
+
+usage: python3 nearly_full.py OUT LEFT TODAY
+
+32,000 whole lives from the age 20, issued in 1900, have paid all their 111 premiums, and their cover has ended. Then policies
+were issued three years before TODAY, one is dated 2081, and 401,000 were issued on the days of the last year.
+"""
+import datetime
+import sys
+
+HEADER = b"\x01LIFEJRNL\x00\x01\x00\x40\x00\x00\x00\x00"
+EPOCH = datetime.date(1970, 1, 1)
+MOST, OLD, PREMIUMS, LAST_YEAR = 4_000_000, 32_000, 111, 401_000
+WHOLE, TERM = bytes([1, 2, 20, 0]), bytes([1, 1, 30, 10])
+
+
+def days_of(day: datetime.date) -> bytes:
+    return (day - EPOCH).days.to_bytes(4, "big", signed=True)
+
+
+def records(kind: bytes, numbers: list[bytes], day: datetime.date, amount: int, premium: int) -> bytes:
+    """A record of each number, all of one day."""
+    front = b"\x01" + kind
+    rest = days_of(day) + amount.to_bytes(8, "big") + premium.to_bytes(8, "big") + bytes(36)
+    return b"".join(front + number + rest for number in numbers)
+
+
+def main() -> None:
+    out, left, today = sys.argv[1], int(sys.argv[2]), datetime.date.fromisoformat(sys.argv[3])
+    begun = OLD * (PREMIUMS + 1)
+    rest = [number.to_bytes(4, "big") for number in range(OLD + 1, OLD + 1 + MOST - left - begun)]
+    before, last = rest[:-LAST_YEAR - 1], rest[-LAST_YEAR:]
+    old = [number.to_bytes(4, "big") for number in range(1, OLD + 1)]
+    with open(out, "wb") as file:
+        file.write(HEADER + records(WHOLE, old, datetime.date(1900, 6, 1), 100_000, 1_000))
+        for year in range(1900, 1900 + PREMIUMS):
+            file.write(records(bytes([2, 0, 0, 0]), old, datetime.date(year, 6, 1), 1_000, 0))
+        file.write(records(TERM, before, today - datetime.timedelta(3 * 365), 100_000, 1_000))
+        file.write(records(TERM, rest[len(before):len(before) + 1], datetime.date(2081, 6, 1), 100_000, 1_000))
+        for day in range(365):
+            file.write(records(TERM, last[day::365], today - datetime.timedelta(364 - day), 100_000, 1_000))
+        file.write(b"\x00")
+
+
+if __name__ == "__main__":
+    main()
