@@ -16,6 +16,7 @@ from dataclasses import dataclass
 from typing import NamedTuple, Protocol, Sequence
 
 from life_tools.formats import MOST_NUMBER, Row, Wrong, bytes_of, demand, number_of, rows_in
+from life_tools.fronts import WORKERS
 from life_tools.printed_books import PrintedValuation, ValuedRow, valuation_in
 from life_tools.tables import NAME, BasisRow, read_basis
 
@@ -143,7 +144,7 @@ def measure_words(measure: str) -> list[str]:
 
 def valued(copy: Asks, on: str, bases: Bases, measure: str) -> PrintedValuation:
     """The program's valuation of a copy; of several bases one for each, of which each policy's row is that of its own."""
-    words = ["--at", str(copy.position), *measure_words(measure)]
+    words = ["--at", str(copy.position), *WORKERS, *measure_words(measure)]
     made = {name: valuation_in(copy.asks("value", on, *words, "--basis", name)) for name in bases.names}
     return of_classes(made, bases)
 

@@ -11,7 +11,7 @@ from dataclasses import dataclass
 from fractions import Fraction
 from typing import Sequence
 
-from life_tools.formats import demand
+from life_tools.periods import demand_whole
 from life_tools.reserves import Cover, InForce, Insured, insured_by, terms_of
 from life_tools.rules import Policy, completed
 from life_tools.tables import FINEST, BasisRow, Table
@@ -82,7 +82,7 @@ class Years:
                   for year, reserve in enumerate(self.terminal)]
         for year in years:
             is_right = is_low[year] or is_low[year + 1] or abs(self.held[year]) < NOISE
-            demand(is_right, f"year {year}: net premium, interest and cost don't lead from one reserve to the next")
+            demand_whole(is_right, f"year {year}: net premium, interest and cost don't lead from one reserve to the next")
 
 
 def below_0(insured: InForce, year: int) -> bool:
