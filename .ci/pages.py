@@ -17,7 +17,7 @@ LIMITS = {
     "README.md": 700,
     "docs/CLERK.md": 2750,
     "docs/VALUATION.md": 4700,
-    "docs/AUDIT.md": 2300,
+    "docs/AUDIT.md": 2400,
     "docs/OPERATIONS.md": 2100,
     "docs/FORMATS.md": 6150,
     "docs/ARCHITECTURE.md": 4500,

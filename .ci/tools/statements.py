@@ -12,6 +12,7 @@ import os
 import random
 import sqlite3
 import sys
+from collections import Counter
 from fractions import Fraction
 
 ROOT, PROGRAM = sys.argv[1:3]
@@ -39,7 +40,6 @@ with moved as (select policy, kind, plan, position, max(position) over (partitio
 select case moved.kind when 'paidup' then 'paid up' else its_plan end as its, count(*), sum(sized.amount_cents)
 from moved join born using (policy) join sized on sized.policy = moved.policy and sized.position = sized.last
 where moved.position = moved.last and moved.kind in ('issue', 'reinstate', 'paidup') group by its"""
-POSTED = "select kind, count(*) from command where position > ? and position <= ? group by kind"
 MATURED = """select count(*) from command as c join command as b on b.policy = c.policy and b.kind = 'issue'
 where c.kind = 'mature' and c.position > ? and c.position <= ? and b.plan {} 'term'"""
 COLLECTED = "select kind, coalesce(sum(amount_cents), 0) from command where position > ? and position <= ? and kind in "
@@ -57,18 +57,26 @@ def rows_of(sheet):
     return {row.cells[0]: row.cells for row in sheet.rows}
 
 
-def judge_exhibit(base, sheet, first, last):
-    """Counts and amounts by SQLite, and counts by kind, which are `read`'s; every column balances."""
+def kinds_read():
+    """The kind of each command, as `read` lists them."""
+    out = io.StringIO()
+    with contextlib.redirect_stdout(out):
+        need(main(["read", "journal.life"]) == 0, "read")
+    return [line.split(",")[1] for line in out.getvalue().splitlines() if line[0].isdigit()]
+
+
+def judge_exhibit(base, sheet, first, last, kinds):
+    """Counts and amounts by SQLite, and postings by kind, which are `read`'s; every column balances."""
     lines = rows_of(sheet)
     for name, at in (("in force at the beginning", first), ("in force at the end", last)):
         found = {group: (lines[name][1 + 2 * place], lines[name][2 + 2 * place]) for place, group in enumerate(GROUPS)}
         wanted = {row[0]: row[1:] for row in base.execute(IN_FORCE, {"at": at})}
         for group in GROUPS:
             need(found[group] == wanted.get(group, (0, 0)), f"{name} at {at}, {group}: {found[group]}, SQLite has {wanted.get(group)}")
-    posted = dict(base.execute(POSTED, (first, last)))
+    posted = Counter(kinds[first:last])
     counted = {line: lines[line][-1] for line in lines}
     for line, kind in LINES.items():
-        need(counted[line] == posted.get(kind, 0), f"{line}: {counted[line]} postings, the journal has {posted.get(kind, 0)}")
+        need(counted[line] == posted[kind], f"{line}: {counted[line]} postings, the journal has {posted[kind]}")
     for line, sign in (("maturity", "<>"), ("expiry", "=")):
         [wanted] = base.execute(MATURED.format(sign), (first, last)).fetchone()
         need(counted[line] == wanted, f"{line}: {counted[line]} postings, the journal has {wanted}")
@@ -229,7 +237,7 @@ def run():
     base = sqlite3.connect("book.db")
     columns = columns_at("journal.life")
     commands = list(columns.records.commands(range(columns.count)))
-    past, basis, known = histories(commands), read_basis("./basis.csv"), {}
+    past, basis, known, kinds = histories(commands), read_basis("./basis.csv"), {}, kinds_read()
     need(set(FIELDS) >= set(LINES.values()), "kinds")
     for pair in range(int(sys.argv[3])):
         first, last = sorted(draw.randrange(columns.count + 1) for _ in range(2))
@@ -237,7 +245,7 @@ def run():
         measure = "terminal" if pair < exactly else draw.choice(["terminal", "mean"])
         asked = Asked(".", on1, first, on2, last, one_basis("basis.csv"), measure, PROGRAM)
         sheets = {sheet.name: sheet for sheet in statement_of(asked).sheets}
-        judge_exhibit(base, sheets["exhibit"], first, last)
+        judge_exhibit(base, sheets["exhibit"], first, last, kinds)
         judge_money(base, sheets, first, last)
         judge_reserves(sheets, asked)
         if pair < exactly:

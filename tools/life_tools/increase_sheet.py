@@ -63,7 +63,7 @@ class Increase:
     # --- a policy's way ---
 
     def units(self, policy: Policy, is_paid_up: bool) -> Units | None:
-        [(name, basis)] = self.period.rows.of([policy.number])
+        name, basis = self.period.rows.of(policy.number)
         return self.worth.units(policy, name, basis, is_paid_up)
 
     def put(self, line: str, number: int, scaled: int) -> None:

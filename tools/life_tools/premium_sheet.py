@@ -80,7 +80,7 @@ class NetPremiums:
 
     def of(self, policy: Policy, years: range) -> int | None:
         """That of the premiums of some policy years, to the nearest cent; none of a policy without a value."""
-        [(name, basis)] = self.period.rows.of([policy.number])
+        name, basis = self.period.rows.of(policy.number)
         units = self.worth.units(policy, name, basis, False)
         if units is None:
             return None
