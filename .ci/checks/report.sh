@@ -93,13 +93,7 @@ if "$tools/life-tools" report 2022-12-31 --at 11 --title '=1+1' --xlsx book.xlsx
         reads great "total 9 9 900,000,000.00 $(thousands "$low") $(thousands "$high") $words"
         cd .. || exit 2
         # what is a number in the file, with two places, under heads that stay
-        python3 - <<'PY' || complain "the workbook's cells are otherwise"
-import re, zipfile
-book = zipfile.ZipFile("book.xlsx")
-sheet = book.read("xl/worksheets/sheet2.xml").decode()
-styles = book.read("xl/styles.xml").decode()
-assert 'state="frozen"' in sheet and re.search(r'<c r="D7" s="[0-9]+" t="n"><v>174000(\.0+)?</v>', sheet) and 'numFmtId="4"' in styles, sheet
-PY
+        python3 "$root/.ci/tools/cells_of_workbook.py" || complain "the workbook's cells are otherwise"
     else
         echo "report: workbooks as pictures are skipped: there is no soffice or pdftotext (apt-get install libreoffice-calc poppler-utils)"
     fi
