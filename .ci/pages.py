@@ -22,7 +22,7 @@ LIMITS = {
     "CONTRIBUTING.md": 250,
     "SECURITY.md": 300,
     "docs/CLERK.md": 3300,
-    "docs/VALUATION.md": 4700,
+    "docs/VALUATION.md": 4800,
     "docs/AUDIT.md": 2700,
     "docs/OPERATIONS.md": 2400,
     "docs/FORMATS.md": 6150,

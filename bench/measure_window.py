@@ -6,6 +6,8 @@ usage: measure_window.py [COMMANDS [POLICIES]]
 The book has so many commands (1,000,000) on so many policies (a quarter): issues and premiums of three years. The program is
 the proved one, or LIFE_PROGRAM. The memory is what the window and all that it runs have together, without what they share.
 """
+from __future__ import annotations
+
 import http.client
 import os
 import subprocess
@@ -13,6 +15,7 @@ import sys
 import tempfile
 import threading
 import time
+from typing import Any
 from urllib.parse import urlsplit
 
 import timing
@@ -26,26 +29,27 @@ DAY = "2023-01-01"
 NEW = (f"/1/policy?number=77777&on={DAY}", f"/1/report?on={DAY}&measure=mean", f"/1/day?day={DAY}",
        "/1/movement?on1=2021-01-01&p1={half}&on2=2022-01-01&p2={most}", "/1/audit", "/1/stands")
 OTHERS = ("/1/", "/1/find", "/1/find?sort=amount&order=down", "/1/find?number=999&page=3", "/1/find?page=2500&sort=issued",
-          "/1/find?plan=endowment&sort=age&order=down&page=2000", f"/1/policy?number=77777&on={DAY}", f"/1/report?on={DAY}&measure=mean",
+          "/1/find?plan=endowment&sort=age&order=down&page=2000", f"/1/policy?number=77777&on={DAY}",
+          f"/1/report?on={DAY}&measure=mean",
           f"/1/day?day={DAY}", f"/1/day/list?day={DAY}&what=premium", "/1/month", "/1/audit", "/1/stands")
 
 
 class Memory(threading.Thread):
     """The most memory that a process and its children have had together, in MiB, and what they share counted once."""
 
-    def __init__(self, process):
+    def __init__(self, process: Any) -> None:
         super().__init__(daemon=True)
         self.process, self.most = process, 0
 
-    def run(self):
+    def run(self) -> None:
         while True:
             self.most = max(self.most, sum(map(own, family(self.process))))
             time.sleep(0.05)
 
 
-def family(process):
+def family(process: Any) -> Any:
     """A process and all below it."""
-    below = {}
+    below: dict[int, list[int]] = {}
     for name in filter(str.isdigit, os.listdir("/proc")):
         try:
             with open(f"/proc/{name}/stat") as file:
@@ -59,7 +63,7 @@ def family(process):
     return found
 
 
-def own(process):
+def own(process: Any) -> Any:
     try:
         with open(f"/proc/{process}/smaps_rollup") as file:
             return next(int(line.split()[1]) for line in file if line.startswith("Pss:")) / 1024
@@ -70,18 +74,18 @@ def own(process):
 class Window:
     """A window on a folder, as a browser talks to it."""
 
-    def __init__(self, folder, program):
+    def __init__(self, folder: str, program: str) -> None:
         self.begun = time.perf_counter()
         words = [sys.executable, "-B", TOOLS, "browse", "--folder", folder, "--port", "0", "--life", program]
-        self.run = subprocess.Popen(words, stdout=subprocess.PIPE, stderr=subprocess.DEVNULL, text=True)
+        self.run: Any = subprocess.Popen(words, stdout=subprocess.PIPE, stderr=subprocess.DEVNULL, text=True)
         self.memory = Memory(self.run.pid)
         self.memory.start()
         self.address = urlsplit(self.run.stdout.readline().strip())
         self.cookie = ""
         self.cookie = self.ask(f"/?{self.address.query}")[1].getheader("Set-Cookie").split(";")[0]
 
-    def ask(self, path):
-        line = http.client.HTTPConnection(self.address.hostname, self.address.port, timeout=600)
+    def ask(self, path: str) -> Any:
+        line = http.client.HTTPConnection(self.address.hostname or "", self.address.port, timeout=600)
         line.request("GET", path, headers={"Cookie": self.cookie})
         answer = line.getresponse()
         text = answer.read()
@@ -90,9 +94,9 @@ class Window:
         line.close()
         return answer.status, answer
 
-    def seconds(self, path):
+    def seconds(self, path: str) -> Any:
         """Until the page is there, as often as it has to be asked for; and the longest single answer."""
-        begun, longest = time.perf_counter(), 0
+        begun, longest = time.perf_counter(), 0.0
         while True:
             asked = time.perf_counter()
             status, _ = self.ask(path)
@@ -102,12 +106,12 @@ class Window:
                 return now - begun, longest
             time.sleep(0.05)
 
-    def close(self):
+    def close(self) -> None:
         self.run.terminate()
         self.run.wait()
 
 
-def measured(folder, program, commands):
+def measured(folder: Folder, program: str, commands: Any) -> None:
     state = timing.timed([program, "state"], folder.path).clock
     window = Window(folder.path, program)
     try:
@@ -116,24 +120,24 @@ def measured(folder, program, commands):
         window.close()
 
 
-def tell(window, state, commands):
+def tell(window: Any, state: Any, commands: Any) -> None:
     window.seconds("/1/")
     first = time.perf_counter() - window.begun
     half = {"half": commands // 2, "most": commands * 3 // 4}
     print(f"{commands:,} commands: `state` {state:.2f} s; the first page {first:.1f} s, {window.memory.most:.0f} MiB")
-    longest = []
+    longest: list[float] = []
     for path in NEW:
         seconds, most = window.seconds(path.format(**half))
         longest.append(most)
         print(f"  new: {path}: {seconds:.2f} s")
     for path in OTHERS:
-        seconds, most = min((window.seconds(path) for _ in range(3)), key=lambda each: each[0])
+        seconds, most = min((window.seconds(path) for _ in range(3)), key=lambda each: float(each[0]))
         longest.append(most)
         print(f"  again: {path}: {seconds:.3f} s")
     print(f"  the longest single answer {max(longest):.2f} s; the most memory {window.memory.most:.0f} MiB")
 
 
-def main(commands=MILLION, policies=None):
+def main(commands: Any = MILLION, policies: Any = None) -> None:
     timing.watch()
     program = os.environ.get("LIFE_PROGRAM") or os.path.join(timing.ROOT, "crates", "life_cli", "out", "life_cli")
     policies = policies or commands // 4

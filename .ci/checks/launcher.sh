@@ -22,7 +22,7 @@ for word in run state checkpoint value project generate --wait try prove test in
 done
 # the installed program tells the same of its words
 cat "$root/tools/launcher/folder.sh" "$root/tools/launcher/words.sh" "$root/tools/installed/life.sh" >life-installed
-cp "$(command -v true)" life-program
+cp "$program" life-program
 sh life-installed help >told || complain "the installed help ended with $?"
 sed -n 's/^  sh life \([a-z]\)/  life \1/p' out | sed '/^  life \(try\|prove\|test\|install\|pack\|doc\|tools\)/d; s/  */ /g' >wanted
 sed 's/  */ /g' told | grep '^ life ' | cmp -s - wanted || complain "the installed help tells $(cat told)"

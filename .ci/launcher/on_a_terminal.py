@@ -72,7 +72,8 @@ def wrong_words() -> None:
 def growth() -> None:
     """The terminal is told how the journal grows until the text begins, which is soon; where the text goes to a file, until
     the run ends."""
-    told = r"life: there is no journal\.life in [^\r\n]*, so a new book is begun\r\n(\r\x1b\[Klife: \d+ postings, \d+ in the last second)"
+    told = (r"life: there is no journal\.life in [^\r\n]*, so a new book is begun\r\n(\r\x1b\[Klife: \d+ postings, \d+ in "
+            r"the last second)")
     begun = time.monotonic()
     status, said = on_a_terminal("run", given=SCRIPT)
     took = time.monotonic() - begun

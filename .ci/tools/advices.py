@@ -21,7 +21,7 @@ from life_tools.commands import Command, words_of  # noqa: E402
 from life_tools.deaths import standing  # noqa: E402
 from life_tools.formats import KINDS, STATUSES  # noqa: E402
 from life_tools.remedies import BENEFITS, REMEDIES, remedy_of  # noqa: E402
-from lived_book import LAST, drawn_issue, life_of  # noqa: E402
+from lived_book import drawn_issue, life_of  # noqa: E402
 
 DAY = datetime.timedelta(1)
 
@@ -48,7 +48,8 @@ def shown_table() -> list[tuple[str, tuple[str, ...], str, str]]:
 def look_at_table() -> None:
     told = [tuple(remedy) for remedy in REMEDIES]
     assert shown_table() == told, [each for each in zip(shown_table(), told) if each[0] != each[1]]
-    reasons = [["wrongstatus", status] for status in STATUSES] + [[remedy.reason] for remedy in REMEDIES if "," not in remedy.reason]
+    reasons = [["wrongstatus", status] for status in STATUSES] + [[remedy.reason] for remedy in REMEDIES
+                                                                  if "," not in remedy.reason]
     for kind in (*KINDS.values(), "value"):
         for reason in reasons:
             what = remedy_of(kind, reason).what
@@ -87,7 +88,8 @@ def look_at_deaths(program: str, seed: int, policies: int) -> str:
         then += [replace(it, number=number) for it in (*up_to, death)]
         places.append((len(then) - 1, text, bool(advised), life[-1].on > death.on, up_to[-1].on == death.on))
         if advised:
-            now += [replace(it, number=number) for it in (*life, Command("claim", number, datetime.date.fromisoformat(advised[1])))]
+            now += [replace(it, number=number) for it in (*life,
+                                                          Command("claim", number, datetime.date.fromisoformat(advised[1])))]
     told = answers(program, then)
     counts = {"posted": 0, "referred, insured": 0, "not insured": 0}
     for place, text, is_advised, is_late, is_that_day in places:

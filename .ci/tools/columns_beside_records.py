@@ -136,7 +136,8 @@ def compare_texts(columns: Columns, book: Book, seed: object) -> None:
     """The lines of `read`, and those of its ledger."""
     lines = [",".join([str(position), *words_of(command)]) + "\n" for position, command in enumerate(book.commands, 1)]
     need("".join(lines_of(columns.records, plain_template)) == "".join(lines), f"{seed}: read lists other lines")
-    booked = [f"{command.day} {command.kind} {command.number}\n" + "".join(f"    {name}  {money(each)}\n" for name, each in on.items())
+    booked = [f"{command.day} {command.kind} {command.number}\n" + "".join(f"    {name}  {money(each)}\n" for name,
+                                                                           each in on.items())
               + "\n" for command, on in bookings(book.commands) if on]
     need("".join(transactions_of(columns)) == "".join(booked), f"{seed}: the ledger has other lines")
 
@@ -201,8 +202,10 @@ def main() -> None:
         slow = compare(draw, journal_of(draw), seed)
         met[slow.why.split(": ")[-1].split(",")[0] if "can't follow" in slow.why else slow.refused.split(",")[0] or "right"] += 1
     need(journals < 1000 or (WORDS <= set(met) and met["right"] > journals // 3), f"what was met is {dict(met)}")
-    need(journals < 1000 or min(map(checkpoints.count, (True, False))) > 50, f"of {len(checkpoints)} checkpoints are {sum(checkpoints)}")
-    print(f"columns: {journals} journals, {met['right']} of them right, and {len(checkpoints)} checkpoints, {sum(checkpoints)} of them "
+    need(journals < 1000 or min(map(checkpoints.count, (True, False))) > 50,
+         f"of {len(checkpoints)} checkpoints are {sum(checkpoints)}")
+    print(f"columns: {journals} journals, {met['right']} of them right, and {len(checkpoints)} checkpoints, "
+          f"{sum(checkpoints)} of them "
           "right, are read as record by record")
 
 

@@ -95,8 +95,8 @@ def main() -> None:
         book, journal = Book(commands), os.path.join(FOLDER, f"{seed}.life")
         with open(journal, "wb") as file:
             file.write(file_of(commands))
-        policies = columns_at(journal).policies
-        assert [policies.policy(place) for place in range(len(policies))] == list(book.policies.values())
+        found = columns_at(journal).policies
+        assert [found.policy(place) for place in range(len(found))] == list(book.policies.values())
         for day in DAYS[seed]:
             rows += script_rows(journal, book, day)
             items += amounts(journal, book, day)

@@ -19,7 +19,8 @@ WANTED = {
             and c.day <= {YEAR_LATER.format(day='r.day')})""",
     "on-last-day": """
         select c.position from command c where c.kind = 'claim' and c.day = (
-            select b.day from command b where b.policy = c.policy and b.position < c.position order by b.position desc limit 1)""",
+            select b.day from command b where b.policy = c.policy and b.position < c.position
+            order by b.position desc limit 1)""",
     "paid-at-once": """
         select s.position from command s join command c on c.policy = s.policy and c.kind = 'claim' and c.day = s.day
         where s.kind = 'settle' and (

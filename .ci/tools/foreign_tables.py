@@ -102,7 +102,7 @@ def look_at_layouts() -> None:
         Path(f"{name}.xml").write_bytes((TABLES / f"{name}.xml").read_bytes())
         status, said, _ = tool("check", f"{name}.xml")
         assert status == 1 and f",{word}\n" in said and "table convert makes it one: " in said, said
-        look_at(name, [change], TABLES / f"{name}.xml", Decimal(scale))
+        look_at(name, [change], TABLES / f"{name}.xml", Decimal(str(scale)))
     # rounded alone, the file is the same but for the rates
     assert tool("round", "cso-2001-ultimate.xml", "rounded.xml")[0] == 0
     before, after = (re.sub(r"(<Y[^>]*>)[^<]*", r"\1", Path(name).read_text("utf-8")) for name in
@@ -127,7 +127,8 @@ def look_at_joining() -> None:
     write("direct", re.sub(r"<Axis t=\"([0-9]*)\">\s*<Axis>(.*?)</Axis>\s*</Axis>", r'<Axis t="\1">\2</Axis>', both, flags=re.S))
     status, said, _ = tool("check", "direct.xml")
     assert status == 1 and "look:   the first axis has t=16 as that of an issue age" in said, said
-    look_at("direct", ["^issue axes that had their rates directly in them lie in one axis"], TABLES / "cso-2001-select-ultimate.xml")
+    look_at("direct", ["^issue axes that had their rates directly in them lie in one axis"],
+            TABLES / "cso-2001-select-ultimate.xml")
 
 
 def look_at_refusals() -> None:
@@ -151,7 +152,8 @@ def look_at_refusals() -> None:
         write(name, text)
         refuses(name, why)
         status, said, told = tool("check", f"{name}.xml")
-        assert status == 1 and "isn't taken: " in said and "table convert can't make it one: " in said and not told, (name, said, told)
+        assert status == 1 and "isn't taken: " in said and "table convert can't make it one: " in said and not told, \
+            (name, said, told)
     look_at("factor", ["^ScalingFactor 10: each rate is divided"], TABLES / "cso-1980-aggregate.xml", Decimal("0.1"),
             ("--factor", "divide"))
     write("many", '<XTbML>' + "<a>" * 70 + "</a>" * 70 + "</XTbML>")
@@ -170,7 +172,8 @@ def look_at_remarks() -> None:
     status, said, _ = tool("check", "lapses.xml")
     assert status == 1 and all(f"look:   {words}" in said for words in (
         "the axis is named Duration, and its labels are taken as ages", "the file names lapse: are these rates of death?",
-        "the rates fall, from 0.190000 at age 1 to 0.050000 at age 15, as lapse rates do", "the last rate, of age 15, is 0.05")), said
+        "the rates fall, from 0.190000 at age 1 to 0.050000 at age 15, as lapse rates do",
+        "the last rate, of age 15, is 0.05")), said
     status, said, _ = tool("check", str(ROOT / "examples" / "q.xml"))
     assert status == 0 and "the file says: no class of lives; no age basis; no year" in said, said
 

@@ -25,7 +25,8 @@ FIRST, LAST = datetime.date(2000, 1, 1), datetime.date(2030, 12, 31)
 
 def printed_total(on: datetime.date, position: int, measure: list[str]) -> list[str]:
     """Of the last line of a valuation the sums of what it is for: those of minimum reserves stand behind the others."""
-    ran = subprocess.run([PROGRAM, "value", str(on), "--at", str(position), *measure], stdin=subprocess.DEVNULL, capture_output=True,
+    ran = subprocess.run([PROGRAM, "value", str(on), "--at", str(position), *measure], stdin=subprocess.DEVNULL,
+                         capture_output=True,
                          text=True)
     return ran.stdout.splitlines()[-1].split(",")[-3:-1]
 
@@ -46,7 +47,8 @@ def cents(text: str) -> Any:
 def judge(draw: random.Random, count: int) -> None:
     first, last = sorted(draw.randrange(count + 1) for _ in range(2))
     on1, on2 = sorted(FIRST + datetime.timedelta(draw.randrange((LAST - FIRST).days)) for _ in range(2))
-    measure = draw.choice([[], ["--mean"], ["--deficiency"]])
+    measures: list[list[str]] = [[], ["--mean"], ["--deficiency"]]
+    measure = draw.choice(measures)
     status, lines = analysed(str(on1), str(first), str(on2), str(last), *measure)
     pair = f"{on1} {first} {on2} {last} {' '.join(measure)}"
     if status != 0:

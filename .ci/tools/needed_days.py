@@ -64,11 +64,11 @@ def main() -> None:
             needed += days
         today = (TODAY - EPOCH).days
         found = needed_by(columns_in(file_of(commands), "drawn").policies, today)
-        days = sorted(max(today, (day - EPOCH).days) for day in needed)
-        assert found.premiums + found.at_end == len(days), (seed, found.premiums, found.at_end, len(days))
-        assert np.array_equal(np.repeat(np.arange(len(found.by_day)) + today, found.by_day), days), seed
-        for left in (0, 1, len(days) // 2, len(days) - 1, len(days)):
-            wanted = days[left] if left < len(days) else None
+        due = sorted(max(today, (day - EPOCH).days) for day in needed)
+        assert found.premiums + found.at_end == len(due), (seed, found.premiums, found.at_end, len(due))
+        assert np.array_equal(np.repeat(np.arange(len(found.by_day)) + today, found.by_day), due), seed
+        for left in (0, 1, len(due) // 2, len(due) - 1, len(due)):
+            wanted = due[left] if left < len(due) else None
             assert first_beyond(found.by_day, left, today) == wanted, (seed, left)
     print("needed_days: 40 drawn books need what each of their policies needs")
 

@@ -48,7 +48,8 @@ def value_text(draw: random.Random, book: Book) -> str:
             continue
         bounds = [draw.randrange(draw.choice((10, 10**4, 10**10))) for _ in sums]
         sums = [one + other for one, other in zip(sums, bounds)]
-        lines.append(",".join([head, *map(money, bounds)]) + (f",{draw.choice(('short', 'enough', 'close'))}" if "def" in measure else ""))
+        lines.append(",".join([head, *map(money, bounds)]) + (f",{draw.choice(('short', 'enough', 'close'))}"
+                                                              if "def" in measure else ""))
     head = f"0,value,{draw.randrange(1990, 2040)}-02-28,{len(book.commands)},{len(lines)}{measure}"
     return "\n".join([head, *lines, ",".join(["total", *map(money, sums), str(words)])]) + "\n"
 
@@ -88,7 +89,8 @@ def compare_value(draw: random.Random, data: bytes, is_right: bool, seed: int) -
     need(not is_right or (found and slow), f"{seed}: a right valuation isn't taken")
     if found:
         rows = [found.rows.row(place) for place in range(len(found.rows))]
-        need(slow and (found.on, found.position, found.measure, rows, found.total, found.words) == slow, f"{seed}: another valuation")
+        need(slow and (found.on, found.position, found.measure, rows, found.total, found.words) == slow,
+             f"{seed}: another valuation")
     return found is not None
 
 

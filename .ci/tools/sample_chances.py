@@ -6,6 +6,7 @@ from __future__ import annotations
 
 import random
 import sys
+from typing import Any
 from fractions import Fraction
 from pathlib import Path
 
@@ -40,8 +41,8 @@ def look_at_seeds(sizes: list[int], asked: int) -> None:
         assert wanted < 1 or count == SEEDS
         assert size or not count
     # a whole sample has as many rows as the chances add up to, but for less than one
-    expected = sum(chance(size, asked, total) for size in sizes)
-    assert max(abs(rows - expected) for rows in drawn_rows) < max(1, 2 * sum(size * asked >= total for size in sizes))
+    expected: Any = sum(chance(size, asked, total) for size in sizes)
+    assert max(float(abs(rows - expected)) for rows in drawn_rows) < max(1, 2 * sum(bool(size * asked >= total) for size in sizes))
 
 
 def look_at_starts(sizes: list[int], asked: int) -> None:

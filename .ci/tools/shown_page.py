@@ -3,8 +3,11 @@
 usage: python3 shown_page.py FILE WIDTH PICTURE; prints the text, a line for each line that is shown; 1 where something of the
 page lies beside the screen, 77 where there is no browser to be asked
 """
+from __future__ import annotations
+
 import os
 import sys
+from typing import Any
 
 try:
     from selenium import webdriver
@@ -19,8 +22,8 @@ BESIDE = """return [...document.body.querySelectorAll("*")].filter(it => it.offs
   it.getBoundingClientRect().right > window.innerWidth + 1).map(it => it.tagName + " " + it.innerText).slice(0, 5)"""
 
 
-def browser(width):
-    options = webdriver.ChromeOptions()
+def browser(width: Any) -> Any:
+    options: Any = webdriver.ChromeOptions()
     for word in ("--headless=new", "--no-sandbox", "--disable-gpu", "--hide-scrollbars"):
         options.add_argument(word)
     # a window isn't made so narrow as a phone, so a phone's screen is set
@@ -28,7 +31,7 @@ def browser(width):
     return webdriver.Chrome(service=Service("/usr/bin/chromedriver"), options=options)
 
 
-def main():
+def main() -> None:
     path, width, picture = sys.argv[1], int(sys.argv[2]), sys.argv[3]
     if not (os.path.exists("/usr/bin/chromedriver") and os.path.exists("/usr/bin/chromium")):
         sys.exit(77)

@@ -5,6 +5,8 @@ usage: python3 statements.py ROOT PROGRAM PAIRS SEED [EXACT], in a folder with j
 Of the first EXACT pairs the increase in reserves is worked out a second way: by the anniversaries on which each policy was in
 force, each with the exact value of `reserves`.
 """
+from __future__ import annotations
+
 import contextlib
 import datetime
 import io
@@ -14,20 +16,23 @@ import sqlite3
 import sys
 from collections import Counter
 from fractions import Fraction
+from typing import Any
+
+import numpy
 
 ROOT, PROGRAM = sys.argv[1:3]
 sys.path.insert(0, os.path.join(ROOT, "tools"))
 
-from life_tools.class_bases import one_basis
-from life_tools.columns import columns_at
-from life_tools.entry import main
-from life_tools.formats import FIELDS
-from life_tools.journals import file_of
-from life_tools.periods import Asked
-from life_tools.reserves import InForce, exact_value, insured_by, terms_of
-from life_tools.rules import Book, anniversary, completed
-from life_tools.statement import statement_of
-from life_tools.tables import read_basis
+from life_tools.class_bases import one_basis  # noqa: E402
+from life_tools.columns import columns_at  # noqa: E402
+from life_tools.entry import main  # noqa: E402
+from life_tools.formats import FIELDS  # noqa: E402
+from life_tools.journals import file_of  # noqa: E402
+from life_tools.periods import Asked  # noqa: E402
+from life_tools.reserves import insured_by, terms_of  # noqa: E402
+from life_tools.rules import Book, anniversary, completed  # noqa: E402
+from life_tools.statement import statement_of  # noqa: E402
+from life_tools.tables import read_basis  # noqa: E402
 
 FIRST, LAST = datetime.date(2000, 1, 1), datetime.date(2026, 12, 31)
 # what is in force at a position: the last command that changes a status, and the last that sets an amount
@@ -44,20 +49,21 @@ MATURED = """select count(*) from command as c join command as b on b.policy = c
 where c.kind = 'mature' and c.position > ? and c.position <= ? and b.plan {} 'term'"""
 COLLECTED = "select kind, coalesce(sum(amount_cents), 0) from command where position > ? and position <= ? and kind in "
 OWED = """select coalesce(sum(case when account = 'payable' then -cents end), 0) from booking where position <= ?"""
-LINES = {"issued": "issue", "revived": "reinstate", "decreased": "alter", "made paid up": "paidup", "death": "claim", "lapse": "lapse"}
+LINES = {"issued": "issue", "revived": "reinstate", "decreased": "alter", "made paid up": "paidup", "death": "claim",
+         "lapse": "lapse"}
 GROUPS = ("whole", "endowment", "term", "limited", "paid up")
 
 
-def need(right, message):
+def need(right: Any, message: str) -> None:
     if not right:
         sys.exit(f"statement: {message}")
 
 
-def rows_of(sheet):
+def rows_of(sheet: Any) -> Any:
     return {row.cells[0]: row.cells for row in sheet.rows}
 
 
-def kinds_read():
+def kinds_read() -> Any:
     """The kind of each command, as `read` lists them."""
     out = io.StringIO()
     with contextlib.redirect_stdout(out):
@@ -65,14 +71,15 @@ def kinds_read():
     return [line.split(",")[1] for line in out.getvalue().splitlines() if line[0].isdigit()]
 
 
-def judge_exhibit(base, sheet, first, last, kinds):
+def judge_exhibit(base: Any, sheet: Any, first: Any, last: Any, kinds: Any) -> None:
     """Counts and amounts by SQLite, and postings by kind, which are `read`'s; every column balances."""
     lines = rows_of(sheet)
     for name, at in (("in force at the beginning", first), ("in force at the end", last)):
         found = {group: (lines[name][1 + 2 * place], lines[name][2 + 2 * place]) for place, group in enumerate(GROUPS)}
         wanted = {row[0]: row[1:] for row in base.execute(IN_FORCE, {"at": at})}
         for group in GROUPS:
-            need(found[group] == wanted.get(group, (0, 0)), f"{name} at {at}, {group}: {found[group]}, SQLite has {wanted.get(group)}")
+            need(found[group] == wanted.get(group, (0, 0)), f"{name} at {at}, {group}: {found[group]}, SQLite has "
+                                                            f"{wanted.get(group)}")
     posted = Counter(kinds[first:last])
     counted = {line: lines[line][-1] for line in lines}
     for line, kind in LINES.items():
@@ -85,10 +92,11 @@ def judge_exhibit(base, sheet, first, last, kinds):
         need(sum(column[:-1]) == column[-1], f"{sheet.columns[place].name} doesn't balance: {column}")
 
 
-def judge_money(base, sheets, first, last):
+def judge_money(base: Any, sheets: Any, first: Any, last: Any) -> None:
     """What was collected, and what is outstanding, by SQLite."""
     lines = rows_of(sheets["premiums"])
-    found = lines["first-year premiums collected"][3] + lines["renewal premiums collected"][3], lines["collected by reinstatement"][3]
+    found = lines["first-year premiums collected"][3] + lines["renewal premiums collected"][3], lines["collected by "
+                                                                                                      "reinstatement"][3]
     sums = dict(base.execute(COLLECTED + "('premium', 'reinstate') group by kind", (first, last)))
     need(found == (sums.get("premium", 0), sums.get("reinstate", 0)), f"collected {found}, SQLite has {sums}")
     lines = rows_of(sheets["claims"])
@@ -96,25 +104,28 @@ def judge_money(base, sheets, first, last):
         [owed] = base.execute(OWED, (at,)).fetchone()
         need(lines[name][6] == owed, f"{name}: {lines[name][6]}, SQLite has {owed}")
     aged = [row.cells for row in sheets["claims"].rows[4:]]
-    need([sum(cells[place] for cells in aged) for place in range(1, 7)] == list(lines["outstanding at the end"][1:7]), "ages don't add up")
+    need([sum(cells[place] for cells in aged) for place in range(1, 7)] == list(lines["outstanding at the end"][1:7]),
+         "ages don't add up")
     for place in range(1, 7):
-        need(sum(row.cells[place] for row in sheets["claims"].rows[:3]) == sheets["claims"].rows[3].cells[place], "claims don't balance")
+        need(sum(row.cells[place] for row in sheets["claims"].rows[:3]) == sheets["claims"].rows[3].cells[place],
+             "claims don't balance")
 
 
-def printed_total(words):
+def printed_total(words: list[str]) -> Any:
     out = io.StringIO()
     with contextlib.redirect_stdout(out):
         need(main(["at", *words]) == 0, f"at {words}")
     return [int(field.replace(".", "")) for field in out.getvalue().splitlines()[-1].split(",")[1:]]
 
 
-def judge_reserves(sheets, asked):
+def judge_reserves(sheets: Any, asked: Any) -> None:
     """The sums are those of the last line that the program prints of both positions."""
     measure = [] if asked.measure == "terminal" else ["--mean"]
     opening = printed_total([str(asked.first), "value", str(asked.on1), *measure])
     closing = printed_total([str(asked.last), "value", str(asked.on2), *measure])
     increase = [row.cells for row in sheets["increase"].rows]
-    need(list(increase[0][2:]) == opening[:2] and list(increase[-1][2:]) == closing[:2], f"increase: {increase}, {opening}, {closing}")
+    need(list(increase[0][2:]) == opening[:2] and list(increase[-1][2:]) == closing[:2],
+         f"increase: {increase}, {opening}, {closing}")
     for bound in (2, 3):
         need(sum(cells[bound] for cells in increase[:-1]) == increase[-1][bound], f"the increase doesn't add up: {increase}")
     need(all(abs(increase[-2][bound]) <= 2 * len(sheets["reserves"].rows) + 2 * 400 for bound in (2, 3)), f"rounding: {increase}")
@@ -130,9 +141,10 @@ def judge_reserves(sheets, asked):
 
 # --- the increase, a second way ---
 
-def histories(commands):
+def histories(commands: Any) -> Any:
     """Of each policy its states, each with the position and the day from which on it stands."""
-    book, found = Book(), {}
+    book = Book()
+    found: dict[Any, Any] = {}
     for position, command in enumerate(commands, 1):
         book.post(command)
         if command.number:
@@ -140,7 +152,7 @@ def histories(commands):
     return found
 
 
-def worth_of(policy, basis, known):
+def worth_of(policy: Any, basis: Any, known: Any) -> Any:
     terms = terms_of(policy, basis)
     if isinstance(terms, str):
         return None
@@ -150,7 +162,7 @@ def worth_of(policy, basis, known):
     return known[case]
 
 
-def by_anniversaries(history, asked, basis, known):
+def by_anniversaries(history: Any, asked: Any, basis: Any, known: Any) -> Any:
     """Net premiums, interest and cost of one policy, in exact cents: for each anniversary up to the closing day on which it was
     in force, those of the year that ended then. Of a policy of the opening book those from its day on."""
     found = [Fraction(0)] * 3
@@ -178,7 +190,7 @@ def by_anniversaries(history, asked, basis, known):
     return found
 
 
-def judge_exactly(sheets, asked, past, basis, known):
+def judge_exactly(sheets: Any, asked: Any, past: Any, basis: Any, known: Any) -> None:
     sums = [Fraction(0)] * 3
     for history in past.values():
         sums = [one + other for one, other in zip(sums, by_anniversaries(history, asked, basis, known))]
@@ -190,7 +202,7 @@ def judge_exactly(sheets, asked, past, basis, known):
 
 # --- premiums, a second way ---
 
-def listed_due(commands, on):
+def listed_due(commands: Any, on: Any) -> Any:
     """What `due` lists of a front: of those in grace and of those to lapse, how many, and of the former the sum."""
     with open("front.life", "wb") as file:
         file.write(file_of(commands))
@@ -203,7 +215,7 @@ def listed_due(commands, on):
     return (len(in_grace), sum(int(row[4].replace(".", "")) for row in in_grace), sum(row[0] == "lapse" for row in rows))
 
 
-def judge_premiums(sheets, asked, commands, past, basis, known):
+def judge_premiums(sheets: Any, asked: Any, commands: Any, past: Any, basis: Any, known: Any) -> None:
     lines = rows_of(sheets["premiums"])
     for at, on, when in ((asked.first, asked.on1, "at the beginning"), (asked.last, asked.on2, "at the end")):
         found = (*lines[f"uncollected in grace {when}"][1:4:2], lines[f"past grace and not lapsed {when}"][1])
@@ -213,11 +225,13 @@ def judge_premiums(sheets, asked, commands, past, basis, known):
         for history in past.values():
             part = paid_ahead([it for it in history if it[0] <= at], on, basis, known)
             ahead = [one + other for one, other in zip(ahead, part)]
-        need(list(lines[f"paid in advance {when}"][1:5]) == ahead, f"{when}: {lines[f'paid in advance {when}']}, another way {ahead}")
+        need(list(lines[f"paid in advance {when}"][1:5]) == ahead,
+             f"{when}: {lines[f'paid in advance {when}']}, another way {ahead}")
 
 
-def paid_ahead(states, on, basis, known):
-    """Policies, premiums, gross and net of one policy: each posting pays so many premiums, of the years that follow on one another."""
+def paid_ahead(states: Any, on: Any, basis: Any, known: Any) -> Any:
+    """Policies, premiums, gross and net of one policy: each posting pays so many premiums, of the years that follow
+    on one another."""
     if not states or states[-1][3].status != "inforce":
         return 0, 0, 0, 0
     policy, gross, years = states[-1][3], 0, []
@@ -231,13 +245,14 @@ def paid_ahead(states, on, basis, known):
     return bool(years), len(years), gross, (2 * net + 1) // 2
 
 
-def run():
+def run() -> None:
     draw = random.Random(int(sys.argv[4]))
     exactly = int(sys.argv[5]) if len(sys.argv) > 5 else 0
     base = sqlite3.connect("book.db")
     columns = columns_at("journal.life")
-    commands = list(columns.records.commands(range(columns.count)))
-    past, basis, known, kinds = histories(commands), read_basis("./basis.csv"), {}, kinds_read()
+    commands = list(columns.records.commands(numpy.arange(columns.count)))
+    past, basis, kinds = histories(commands), read_basis("./basis.csv"), kinds_read()
+    known: dict[Any, Any] = {}
     need(set(FIELDS) >= set(LINES.values()), "kinds")
     for pair in range(int(sys.argv[3])):
         first, last = sorted(draw.randrange(columns.count + 1) for _ in range(2))

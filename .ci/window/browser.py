@@ -1,8 +1,11 @@
 """A real browser on the window: what a person reads, types and presses, at a desk's width and at a phone's."""
+from __future__ import annotations
+
 import os
 import re
 import sys
 import time
+from typing import Any
 
 sys.path.insert(0, os.path.join(os.path.dirname(os.path.abspath(__file__)), "..", "..", "tools"))
 
@@ -40,10 +43,12 @@ return [...document.querySelectorAll('tbody td')].filter(cell => cell.textConten
 """
 
 
-WAITS = "return Boolean(window.isLeft) || document.readyState !== 'complete' || !document.querySelector('h1') || document.title.startsWith('One moment')"
+WAITS = ("return Boolean(window.isLeft) || document.readyState !== 'complete' || !document.querySelector('h1') || "
+         "document.title.startsWith('One moment')")
 CELLS = """
 const table = [...document.querySelectorAll('table')].find(each => each.caption.textContent.trim() === arguments[0]);
-return table ? [...table.querySelectorAll(arguments[1] + ' tr')].map(row => [...row.cells].map(cell => cell.innerText.trim())) : null;
+const rows = table ? [...table.querySelectorAll(arguments[1] + ' tr')] : null;
+return rows ? rows.map(row => [...row.cells].map(cell => cell.innerText.trim())) : null;
 """
 
 
@@ -51,18 +56,18 @@ class Wrong(Exception):
     pass
 
 
-def demand(right, what):
+def demand(right: Any, what: str) -> None:
     if not right:
         raise Wrong(what)
 
 
-def luminance(colour):
+def luminance(colour: Any) -> Any:
     parts = [int(each) / 255 for each in re.findall("[0-9]+", colour)[:3]]
     linear = [each / 12.92 if each <= 0.04045 else ((each + 0.055) / 1.055) ** 2.4 for each in parts]
     return 0.2126 * linear[0] + 0.7152 * linear[1] + 0.0722 * linear[2]
 
 
-def contrast(one, other):
+def contrast(one: Any, other: Any) -> Any:
     light, dark = sorted((luminance(one), luminance(other)), reverse=True)
     return (light + 0.05) / (dark + 0.05)
 
@@ -70,7 +75,7 @@ def contrast(one, other):
 class Browser:
     """A window of Chromium of one width."""
 
-    def __init__(self, size, shots):
+    def __init__(self, size: tuple[int, int], shots: Any) -> None:
         options = webdriver.ChromeOptions()
         for each in OPTIONS:
             options.add_argument(each)
@@ -80,21 +85,21 @@ class Browser:
         self.size, self.shots, self.kept = size, shots, 0
         self.measure(size[1])
 
-    def measure(self, height):
+    def measure(self, height: Any) -> None:
         told = {"width": self.size[0], "height": height, "deviceScaleFactor": 1, "mobile": self.size == PHONE}
         self.driver.execute_cdp_cmd("Emulation.setDeviceMetricsOverride", told)
 
     @property
-    def is_phone(self):
+    def is_phone(self) -> bool:
         return self.size == PHONE
 
     # --- what a person does ---
 
-    def open(self, address):
+    def open(self, address: Any) -> None:
         self.driver.get(address)
         self.settle()
 
-    def settle(self):
+    def settle(self) -> None:
         """Waits until the page has come by itself."""
         ends = time.monotonic() + PATIENCE
         while self.driver.execute_script(WAITS):
@@ -102,7 +107,7 @@ class Browser:
                 raise Wrong(f"after {PATIENCE} seconds the page still waits: {self.driver.title}")
             time.sleep(0.1)
 
-    def press(self, words):
+    def press(self, words: list[str]) -> Any:
         """A link or a button by its words; once more where the page came anew meanwhile."""
         for last in (False, False, True):
             try:
@@ -110,7 +115,7 @@ class Browser:
             except Stale:
                 demand(not last, f"what says {words!r} goes away again and again")
 
-    def press_once(self, words):
+    def press_once(self, words: list[str]) -> None:
         for kind in ("main button", "main a, main summary", "a"):
             for each in self.driver.find_elements(By.CSS_SELECTOR, kind):
                 if each.text.strip() == words:
@@ -120,30 +125,30 @@ class Browser:
                     return
         raise Wrong(f"nothing can be pressed that says {words!r}; the page says: {self.text()[:600]}")
 
-    def field(self, label):
+    def field(self, label: Any) -> Any:
         for each in self.driver.find_elements(By.TAG_NAME, "label"):
             if each.text.strip() == label:
                 return self.driver.find_element(By.ID, each.get_attribute("for"))
         raise Wrong(f"no field is labelled {label!r}")
 
-    def type(self, label, text, is_sent=False):
+    def type(self, label: Any, text: str, is_sent: bool = False) -> None:
         field = self.field(label)
         field.clear()
         field.send_keys(text)
         if is_sent:
             self.send(field)
 
-    def send(self, field):
+    def send(self, field: Any) -> None:
         """Sends the form of a field by the key for it."""
         self.leave()
         field.send_keys(Keys.ENTER)
         self.settle()
 
-    def leave(self, is_left=True):
+    def leave(self, is_left: bool = True) -> None:
         """The page that is there now is waited away, so that what is read next is the one that comes."""
         self.driver.execute_script("window.isLeft = arguments[0]", is_left)
 
-    def choose(self, label, words):
+    def choose(self, label: Any, words: list[str]) -> None:
         for each in self.field(label).find_elements(By.TAG_NAME, "option"):
             if each.text.strip() == words:
                 each.click()
@@ -152,20 +157,20 @@ class Browser:
 
     # --- what a person reads ---
 
-    def text(self):
+    def text(self) -> Any:
         return self.driver.find_element(By.TAG_NAME, "main").text
 
-    def says(self, *words):
+    def says(self, *words: Any) -> None:
         said = " ".join(self.text().split())
         for each in words:
             demand(each in said, f"the page {self.driver.title!r} doesn't say {each!r}: {said[:1500]}")
 
-    def facts(self):
+    def facts(self) -> Any:
         """The figures at a page's head by their names."""
         names = [each.text.strip() for each in self.driver.find_elements(By.TAG_NAME, "dt")]
         return dict(zip(names, [each.text.strip() for each in self.driver.find_elements(By.TAG_NAME, "dd")]))
 
-    def rows(self, caption, part="tbody"):
+    def rows(self, caption: Any, part: str = "tbody") -> Any:
         """The cells of a table's rows, as they are read."""
         found = self.driver.execute_script(CELLS, caption, part)
         demand(found is not None, f"there is no table {caption!r}")
@@ -173,7 +178,7 @@ class Browser:
 
     # --- how it looks ---
 
-    def look(self, name):
+    def look(self, name: str) -> None:
         """Keeps a picture, and demands what holds of each page: no sideways scrolling, contrast, labels, one heading."""
         driver = self.driver
         width = driver.execute_script("return document.documentElement.scrollWidth")
@@ -184,18 +189,19 @@ class Browser:
         levels = [int(each.tag_name[1]) for each in driver.find_elements(By.CSS_SELECTOR, "h1, h2, h3")]
         demand(all(after - before <= 1 for before, after in zip(levels, levels[1:])), f"{name}: a level of headings is left out")
         for each in driver.find_elements(By.CSS_SELECTOR, "input:not([type=hidden]), select"):
-            demand(driver.find_elements(By.CSS_SELECTOR, f"label[for='{each.get_attribute('id')}']"), f"{name}: a field has no label")
+            demand(driver.find_elements(By.CSS_SELECTOR, f"label[for='{each.get_attribute('id')}']"),
+                   f"{name}: a field has no label")
         if self.is_phone:
             unnamed = driver.execute_script(UNNAMED)
             demand(not unnamed, f"{name}: cells without the name of their column: {unnamed[:5]}")
         self.keep(name)
 
-    def keep(self, name):
+    def keep(self, name: str) -> None:
         height = self.driver.execute_script("return document.documentElement.scrollHeight")
         self.measure(min(height, 6000))
         self.driver.save_screenshot(os.path.join(self.shots, f"window-{name}-{self.size[0]}.png"))
         self.measure(self.size[1])
         self.kept += 1
 
-    def close(self):
+    def close(self) -> None:
         self.driver.quit()

@@ -2,6 +2,8 @@
 
 usage: downloads.py ADDRESS FOLDER PROGRAM DAY
 """
+from __future__ import annotations
+
 import csv
 import io
 import os
@@ -9,6 +11,7 @@ import re
 import subprocess
 import sys
 import time
+from typing import Any
 
 from hostile import Window
 
@@ -21,7 +24,7 @@ NUMBER = re.compile(r"-?[0-9]+(\.[0-9]{2})?")
 PATIENCE = 60
 
 
-def taken(window, path):
+def taken(window: Any, path: str) -> Any:
     """The bytes of a download, once they are there."""
     ends = time.monotonic() + PATIENCE
     status, rest = window.asks(path)
@@ -34,15 +37,15 @@ def taken(window, path):
     return body.encode("latin-1")
 
 
-def harmless(cell):
+def harmless(cell: Any) -> Any:
     return not str(cell).startswith(("=", "+", "-", "@", "\t", "\r")) or NUMBER.fullmatch(str(cell))
 
 
-def cents(text):
+def cents(text: str) -> Any:
     return round(float(text) * 100)
 
 
-def main(address, folder, program, day):
+def main(address: Any, folder: str, program: str, day: str) -> int:
     window = Window(address)
     printed = subprocess.run([program, "value", day], cwd=folder, capture_output=True, text=True, check=True).stdout.splitlines()
     total = [int(each.replace(".", "")) for each in printed[-1].split(",")[1:-1]]

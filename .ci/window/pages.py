@@ -4,17 +4,20 @@ usage: pages.py ADDRESS PATH=WORDS..
 
 WORDS are in the page's text, which is answered by 200 or by the status before them.
 """
+from __future__ import annotations
+
 import html
 import re
 import sys
 import time
+from typing import Any
 
 from hostile import Window
 
 PATIENCE = 60
 
 
-def page(window, path):
+def page(window: Any, path: str) -> Any:
     """The status of a page and its text, once it is there."""
     ends = time.monotonic() + PATIENCE
     status, rest = window.asks(path)
@@ -25,7 +28,7 @@ def page(window, path):
     return status, " ".join(html.unescape(re.sub("<[^>]*>", " ", body)).split())
 
 
-def main(address, *wanted):
+def main(address: Any, *wanted: Any) -> Any:
     window, wrong = Window(address), []
     for each in wanted:
         path, _, words = each.rpartition("=")
