@@ -42,7 +42,8 @@ def look_at_seeds(sizes: list[int], asked: int) -> None:
         assert size or not count
     # a whole sample has as many rows as the chances add up to, but for less than one
     expected: Any = sum(chance(size, asked, total) for size in sizes)
-    assert max(float(abs(rows - expected)) for rows in drawn_rows) < max(1, 2 * sum(bool(size * asked >= total) for size in sizes))
+    sure = sum(bool(size * asked >= total) for size in sizes)
+    assert max(float(abs(rows - expected)) for rows in drawn_rows) < max(1, 2 * sure)
 
 
 def look_at_starts(sizes: list[int], asked: int) -> None:
