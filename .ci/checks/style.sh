@@ -44,7 +44,7 @@ if has shellcheck; then
 fi
 # a program in Python that a shell script holds can't be looked at by any of these
 within=$(git ls-files life .ci/run '*.sh' | xargs grep -nE "python3?\"? (-[A-Za-z]+ )*- |python3?\"? (-[A-Za-z]+ )*-$|<<'?PY|python3 -c" |
-    grep -vE "python3 -c [\"']import (\\$module|[a-z]+)[\"']|style.sh:")
+    grep -vE 'python3 -c ["'"'"']import [^ ;"]+["'"'"']|style\.sh:')
 [ -z "$within" ] || { echo "style: Python within shell: $within" >&2; failed=1; }
 
 [ "$failed" = 0 ] && echo "style: in order: $tried"

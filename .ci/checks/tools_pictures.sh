@@ -14,7 +14,8 @@ says plot reserves valuations
 python3 "$root/.ci/tools/drawn_pictures.py" reserves valuations out || complain "the drawing of reserves isn't that of the totals"
 says plot reserves --policy 14 --policy 12 valuations
 says plot reserves by-deficiency
-grep -q "minimum reserves, upper bounds" out && grep -q "$(sed -n 's/^total,.*,\([0-9.]*\),0$/\1/p' by-deficiency)" out ||
+# the total of 16492.17, in thousands
+grep -q "minimum reserves, upper bounds.*, in thousands" out && grep -q "^total,.*,16492.17,0$" by-deficiency && grep -q ">16.49<" out ||
     complain "the drawing isn't that of the minimum reserves"
 says plot reserves --policy 12 by-mean
 refuses "of several measures" plot reserves by-mean by-deficiency

@@ -1,4 +1,6 @@
 # What `sh life help` prints.
+# What it takes of the launcher:
+: "${launcher:?}"
 . "$launcher/words.sh"
 tell_words "sh life" "sh life --wait"
 cat <<'WORDS'
