@@ -137,7 +137,7 @@ judge $? 0 wanted
 shows "life-wait 5 state" 0 "^count,3$"
 shows "life-tools version" 0 "^program: /usr/libexec/life/life-program has this sum$"
 shows "life-tools at 3 state 7001" 0 "^entry,3,premium,"
-shows "life-tools report 2021-01-01" 0 "^endowment  *1  *1000.00  *127.22  *127.23  *0$"
+shows "life-tools report 2021-01-01" 0 "^endowment .* 127.22  *127.23 "
 shows "bash -c '. /usr/share/bash-completion/completions/life-wait && COMP_WORDS=(life-wait 5 che) COMP_CWORD=2 &&
     _life && echo \"\${COMPREPLY[@]}\"'" 0 "^checkpoint$"
 shows "gzip -dc /usr/share/man/man1/life-wait.1.gz" 0 "^.TH LIFE 1"
