@@ -1,8 +1,8 @@
 #!/bin/sh
 # Installs what the checks use beside the kit and python3, by apt-get, where this is Debian and may install. A package
 # that can't be had is told in a line; the checks that need it then say that they are skipped.
-packages="chromium flake8 gcc hledger ledger libc6-dev libreoffice-calc mypy poppler-utils python3-distributed
-python3-numpy python3-openpyxl python3-pandas sqlite3 strace"
+packages="chromium chromium-driver flake8 gcc hledger ledger libc6-dev libreoffice-calc mypy poppler-utils
+python3-distributed python3-numpy python3-openpyxl python3-pandas python3-selenium sqlite3 strace"
 
 missing() {
     for package in $packages; do
