@@ -56,4 +56,30 @@ def exported(folder, form):
     return tool(folder, "export", *words)
 
 
-FIGURES = {"due": due, "rest": rest, "export": export}
+# of each tool over a full book what the program is asked for beside it
+BESIDE = {"check": ("state",), "position-on": ("state",), "why": ("value", "state"), "report": ("value", "state"), "due": ("state",),
+          "read --verify": ("state",), "read-checkpoint": ("state",), "export csv": ("value",)}
+
+
+def full_book(setting):
+    """Issues, and premiums of three years, with room for one command; each round has the program's words in its turn."""
+    with Folder(setting.memory) as folder:
+        workload.write_journal(folder.journal, list(paid_policies(MILLION))[:-1])
+        timing.timed([setting.program, "checkpoint"], folder.path)
+        os.rename(folder.at("checkpoint.life"), folder.at("kept"))
+        workload.write_lines(folder.at("line.csv"), ["1,premium,77,2023-01-15,400.00"])
+        asked = {"state": lambda: timing.timed([setting.program, "state"], folder.path),
+                 "value": lambda: timing.timed([setting.program, "value", "2023-01-01"], folder.path)}
+        words = {"check": ("check", "line.csv", "--today", "2023-01-15"), "position-on": ("position-on", "2023-01-01", "journal.life"),
+                 "why": ("why", "77", "2023-01-01"), "report": ("report", "2023-01-01", "--csv", "report.csv"),
+                 "due": ("due", "2023-01-01"), "read --verify": ("read", "--verify", "journal.life"),
+                 "read-checkpoint": ("read-checkpoint", "kept", "journal.life"), "export csv": ("export", "csv", "journal.life")}
+        asked.update({name: lambda of=of: tool(folder, *of) for name, of in words.items()})
+        found = timing.in_turn(setting.rounds, asked)
+    for name, beside in BESIDE.items():
+        seconds = sum(timing.median(found[each], "clock") for each in beside)
+        ratio = timing.median(found[name], "clock") / seconds
+        yield f"`{name}` of {4 * MILLION - 1:,} commands", told(found[name]), f"`{'` and `'.join(beside)}` {seconds:.2f} s: {ratio:.1f} times"
+
+
+FIGURES = {"due": due, "rest": rest, "export": export, "full": full_book}

@@ -17,6 +17,13 @@ else
     books books.csv value 2010-12-31 --parts far --send --scheduler "$address" && cmp -s wanted out || complain "sent: $(cat out remarks)"
     for book in book1 book2 book3; do cmp -s parts/$book.csv far/$book.csv || complain "another part of $book"; done
     refuses "not on a cluster" books.csv checkpoint --scheduler "$address"
+    # a held book is answered as it is on processes
+    hold book2/journal.life
+    ends 8 "^tried once more: book2$" books.csv value 2010-12-31 --totals
+    sed 's/process [0-9]*/process/' out >held-here
+    ends 8 "^tried once more: book2$" books.csv value 2010-12-31 --totals --scheduler "$address"
+    sed 's/process [0-9]*/process/' out | cmp -s - held-here || complain "a held book on the cluster: $(cat out) and here $(cat held-here)"
+    let_go
     head -c 100 aside.life >book2/journal.life
     ends 5 "^tried once more: book2$" books.csv value 2010-12-31 --scheduler "$address"
     grep -q '^book2,failed,5,badjournal,badrecord,1$' out && grep -q '^all,total,.*,2,3$' out || complain "$(cat out remarks)"
@@ -44,6 +51,24 @@ else
     wait_for 'ls begun.* >/dev/null 2>&1' || complain "nothing was begun"
     kill -9 "$worker1"
     wait "$run" && cmp -s wanted out || complain "with one worker less: $(cat out remarks)"
+
+    go_on "no worker left, and then one that comes"
+    rm -f begun.*
+    kill -9 "$worker2"
+    timeout 240 python3 "$tools/life-tools" books books.csv value 2010-12-31 --scheduler "$address" >out 2>remarks &
+    run=$!
+    wait_for 'grep -q "has no workers" remarks || ! kill -0 "$run" 2>/dev/null'
+    wait "$run" && complain "books began without a worker"
+    begin_worker 2
+    wait_for 'grep -q Registered worker2.log || [ "$("$dask" -c "import distributed; print(len(distributed.Client(\"$address\").scheduler_info()[\"workers\"]))" 2>/dev/null)" = 1 ]'
+    timeout 240 python3 "$tools/life-tools" books books.csv value 2010-12-31 --scheduler "$address" >out 2>remarks &
+    run=$!
+    wait_for 'ls begun.* >/dev/null 2>&1' || complain "nothing was begun"
+    kill -9 "$worker2"
+    wait_for 'grep -q "has no worker left: waiting for one" remarks' || complain "nothing is told of no worker: $(cat remarks)"
+    kill -0 "$run" 2>/dev/null || complain "it doesn't wait for a worker"
+    begin_worker 2
+    wait "$run" && cmp -s wanted out || complain "with a new worker: $(cat out remarks)"
 
     go_on "a scheduler that goes away"
     rm -f begun.*

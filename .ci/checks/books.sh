@@ -107,8 +107,11 @@ mv book2/g.xml aside.xml
 fails 4 "badbasis,g.xml,1,absent"
 mv aside.xml book2/g.xml
 hold book2/journal.life
-fails 8 diskfault
-let_go
+fails 8 "diskfault: .*book2/journal.life is held by process $holder"
+# who waits gets it once it is let go
+(sleep 2; kill "$holder") &
+books books.csv value 2010-12-31 --totals --wait 60 && grep -q '^all,total,.*,3,3$' out || complain "--wait: $(cat out remarks)"
+wait "$holder" 2>/dev/null
 # one that is well when it's tried once more
 printf '#!/bin/sh\n[ -e tried ] || { touch tried; echo diskfault; exit 8; }\nexec "%s" "$@"\n' "$program" >flaky && chmod +x flaky
 LIFE_PROGRAM=$PWD/flaky

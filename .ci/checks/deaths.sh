@@ -42,4 +42,17 @@ echo 1,claim,7405,2021-03-20 >late.csv
 refuses 1 'told: 1' check late.csv --today 2021-06-15
 grep -qF 'to do: it was insured then: post the claim of 2021-04-05; 100.00 more was insured then, which stays outside; note' out ||
     complain "check: $(cat out)"
+# 7404 was in its days of grace on 2021-04-10, and on the day of its reinstatement nobody knows
+cat >day.csv <<'ROWS'
+1,premium,7404,2022-03-15,1480.00
+ROWS
+"$life" run <day.csv >transcript
+printf '1,claim,7404,2021-04-10\n1,claim,7404,2021-06-01\n1,claim,7404,2021-06-02\n' >three.csv
+refuses 1 'told: 3' check three.csv --today 2022-06-15
+grep '^  to do' out >found
+cmp -s - found <<'LINES' || complain "check: $(cat out)"
+  to do: it was insured then, but there was lapse of 2021-04-16, reinstate of 2021-06-01 since: don't reinstate; refer it
+  to do: there was reinstate of 2021-06-01 on that very day: the journal doesn't tell whether it was insured then; don't reinstate; refer it
+  to do: it was insured then: post the claim of 2022-03-15; give back 1480.00 outside; note both days for the auditor
+LINES
 end "advice by kind, and deaths that are told late, beside the program's answers of their day"

@@ -103,6 +103,12 @@ launch help </dev/null
 for word in run state checkpoint value project generate --wait try prove test install tools help; do
     grep -q "sh life $word" out || complain "$word isn't told"
 done
+# the installed program tells the same of its words
+cat "$root/tools/launcher/folder.sh" "$root/tools/launcher/words.sh" "$root/tools/installed/life.sh" >life-installed
+cp "$(command -v true)" life-program
+sh life-installed help >told || complain "the installed help ended with $?"
+sed -n 's/^  sh life \([a-z]\)/  life \1/p' out | sed '/^  life \(try\|prove\|test\|install\|tools\)/d; s/  */ /g' >wanted
+sed 's/  */ /g' told | grep '^ life ' | cmp -s - wanted || complain "the installed help tells $(cat told)"
 
 begin "nothing is proved"
 for words in run state "state 7001" checkpoint "value 2021-01-01" "project 2021-01-01 2" "generate 1 1 1" \

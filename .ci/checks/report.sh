@@ -49,9 +49,60 @@ grep -q 'The rows add up to the printed total' page.html || complain "the page d
 grep -q '<td>endowment</td><td>1</td><td>1</td><td>9,000.00</td><td>2,656.22</td>' page.html && grep -q '<b>174,000.00</b>' page.html ||
     complain "the page's amounts are written otherwise"
 ! grep -qE 'https?:|src=|@import' page.html || complain "the page asks for something of the network"
-if "$tools/life-tools" report 2022-12-31 --xlsx book.xlsx 2>remarks; then
-    python3 -c 'import sys, zipfile; sys.exit(0 if "xl/workbook.xml" in zipfile.ZipFile("book.xlsx").namelist() else 1)' ||
-        complain "the workbook is none"
+says report 2022-12-31 --at 11 --html page.html --title 'Sunrise <Life>, book 1'
+sum=$(head -c $((17 + 65 * 11)) journal.life | sha256sum | cut -d ' ' -f 1)
+grep -q '<title>Sunrise &lt;Life&gt;, book 1: Valuation on 2022-12-31 at position 11</title>' page.html &&
+    grep -q "<dt>journal</dt><dd>SHA-256 $sum up to position 11</dd>" page.html &&
+    grep -qE '<dt>made</dt><dd>20[0-9-]{8} [0-9]{2}:[0-9]{2} UTC</dd>' page.html || complain "the page doesn't say where it comes from"
+# the bars of a page are to one scale, by hand: 2656.23 of 4075.09 are 65.1 of a hundred
+[ "$(grep -c 'width:100.0%' page.html)" = 2 ] && grep -q 'width:65.1%' page.html || complain "bars: $(grep -o 'width:[0-9.]*%' page.html | tr '\n' ' ')"
+
+# sheets as a person reads them, of the greatest amounts: LibreOffice shows ### where a column is too narrow
+go_on "workbooks as pictures"
+as_text() {
+    HOME=$PWD timeout 110 soffice --headless --convert-to pdf "$1.xlsx" >office 2>&1
+    pdftotext -layout "$1.pdf" "$1.txt" || complain "$1: $(cat office)"
+    ! grep -q '##' "$1.txt" || complain "$1: an amount isn't shown: $(grep -m 1 '##' "$1.txt")"
+}
+reads() {
+    tr -s ' ' <"$1.txt" | sed 's/^ //' | grep -qxF -e "$2" || complain "$1: this line isn't shown: $2: $(cat "$1.txt")"
+}
+if "$tools/life-tools" report 2022-12-31 --at 11 --title '=1+1' --xlsx book.xlsx 2>remarks; then
+    says movement 2022-12-31 11 2024-06-30 27 --xlsx moved.xlsx --html moved.html
+    grep -q '<td class="text"><span>line</span>closing reserve</td><td><span>policies</span>6</td>' moved.html && grep -q '3,902.44' moved.html ||
+        complain "the movement's page has other lines"
+    if command -v soffice >/dev/null && command -v pdftotext >/dev/null; then
+        as_text book
+        reads book '=1+1: Valuation on 2022-12-31 at position 11'
+        reads book 'total 4 4 174,000.00 4,075.07 4,075.09 0'
+        reads book 'limited 1 1 15,000.00 1,418.85 1,418.86 0'
+        as_text moved
+        reads moved 'closing reserve 6 3,902.43 3,902.44'
+        reads moved 'maturities 2 -2,656.22 -2,656.23'
+        mkdir great && cp basis.csv q.xml g.xml great && cd great || exit 2
+        for n in 1 2 3 4 5 6 7 8 9; do
+            echo "1,issue,$n,2020-01-15,whole,40,0,100000000.00,100000000.00"
+            echo "1,premium,$n,2020-01-15,100000000.00"
+        done | "$life" run >transcript || complain "the great policies: $(tail -n 3 transcript)"
+        echo 1900-01-01,g.xml,0 >basis.csv
+        says report 2050-01-15 --by plan --xlsx great.xlsx
+        as_text great
+        "$life" value 2050-01-15 </dev/null | tail -n 1 | tr , ' ' >printed
+        read -r _ low high words <printed
+        thousands() { echo "$1" | sed ':a; s/^\([0-9]\{1,\}\)\([0-9]\{3\}\)/\1,\2/; ta'; }
+        reads great "total 9 9 900,000,000.00 $(thousands "$low") $(thousands "$high") $words"
+        cd .. || exit 2
+        # what is a number in the file, with two places, under heads that stay
+        python3 - <<'PY' || complain "the workbook's cells are otherwise"
+import re, zipfile
+book = zipfile.ZipFile("book.xlsx")
+sheet = book.read("xl/worksheets/sheet2.xml").decode()
+styles = book.read("xl/styles.xml").decode()
+assert 'state="frozen"' in sheet and re.search(r'<c r="D7" s="[0-9]+" t="n"><v>174000(\.0+)?</v>', sheet) and 'numFmtId="4"' in styles, sheet
+PY
+    else
+        echo "report: workbooks as pictures are skipped: there is no soffice or pdftotext (apt-get install libreoffice-calc poppler-utils)"
+    fi
 else
     grep -q 'apt-get install python3-openpyxl' remarks || complain "$(cat remarks)"
 fi

@@ -201,6 +201,23 @@ sed 1d transcript >wrong
 refuses "answers another row than" rest small-office.csv journal.life --printed wrong
 finds "record 1 of the journal is issue,1" check-transcript small-office.csv transcript /dev/null late/journal.life basis.csv
 
+go_on "a transcript that was cut"
+# its last lines aren't there, and of the 9th line of the second a part alone
+cuts() {
+    python3 "$tools/life-tools" check-transcript small-office.csv cut.txt /dev/null journal.life basis.csv >out 2>remarks
+    status=$?
+    [ "$status" = 1 ] && grep -q "^cut after line $1: .*holds the $2 postings .* $3 rows have no answer there; $4 postings more" out ||
+        complain "a cut transcript: status $status: $(cat out remarks)"
+}
+rows=$(grep -c , small-office.csv) posted=$(grep -c ,accepted, transcript)
+first=$(head -n 8 transcript | grep -c ,accepted,)
+head -n 8 transcript >cut.txt
+cuts 8 "$first" "$((rows - 8))" "$((posted - first))"
+{ cat cut.txt; sed -n 9p transcript | head -c 5; } >longer && mv longer cut.txt
+cuts 8 "$first" "$((rows - 8))" "$((posted - first))"
+sed -i '3s/accepted,3/accepted,4/' cut.txt
+finds "and the rules say" check-transcript small-office.csv cut.txt /dev/null journal.life basis.csv
+
 go_on "a script before it is sent"
 cp journal.life before
 cat >day.csv <<'ROWS'

@@ -20,10 +20,11 @@ from life_tools.entry import main
 FIRST, LAST = datetime.date(2000, 1, 1), datetime.date(2030, 12, 31)
 
 
-def printed_total(on, position):
-    """The last line of a valuation, as its fields."""
-    ran = subprocess.run([PROGRAM, "value", str(on), "--at", str(position)], stdin=subprocess.DEVNULL, capture_output=True, text=True)
-    return ran.stdout.splitlines()[-1].split(",")
+def printed_total(on, position, measure):
+    """Of the last line of a valuation the sums of what it is for: those of minimum reserves stand behind the others."""
+    ran = subprocess.run([PROGRAM, "value", str(on), "--at", str(position), *measure], stdin=subprocess.DEVNULL, capture_output=True,
+                         text=True)
+    return ran.stdout.splitlines()[-1].split(",")[-3:-1]
 
 
 def analysed(*words):
@@ -42,13 +43,14 @@ def cents(text):
 def judge(draw, count):
     first, last = sorted(draw.randrange(count + 1) for _ in range(2))
     on1, on2 = sorted(FIRST + datetime.timedelta(draw.randrange((LAST - FIRST).days)) for _ in range(2))
-    status, lines = analysed(str(on1), str(first), str(on2), str(last))
-    pair = f"{on1} {first} {on2} {last}"
+    measure = draw.choice([[], ["--mean"], ["--deficiency"]])
+    status, lines = analysed(str(on1), str(first), str(on2), str(last), *measure)
+    pair = f"{on1} {first} {on2} {last} {' '.join(measure)}"
     if status != 0:
         sys.exit(f"{pair}: status {status}")
-    for place, fields in ((1, printed_total(on1, first)), (2, printed_total(on2, last))):
+    for place, fields in ((1, printed_total(on1, first, measure)), (2, printed_total(on2, last, measure))):
         name = ("opening reserve", "closing reserve")[place - 1]
-        if lines[name][1:] != fields[1:3]:
+        if lines[name][1:] != fields:
             sys.exit(f"{pair}: {name} is {lines[name]}, and life value printed {fields}")
     for bound in (1, 2):
         moved = sum(cents(fields[bound]) for name, fields in lines.items() if name != "closing reserve")

@@ -12,6 +12,7 @@ import os
 import random
 import sqlite3
 import sys
+from collections import Counter
 from fractions import Fraction
 
 ROOT, PROGRAM = sys.argv[1:3]
@@ -21,6 +22,7 @@ from life_tools.class_bases import one_basis
 from life_tools.columns import columns_at
 from life_tools.entry import main
 from life_tools.formats import FIELDS
+from life_tools.journals import file_of
 from life_tools.periods import Asked
 from life_tools.reserves import InForce, exact_value, insured_by, terms_of
 from life_tools.rules import Book, anniversary, completed
@@ -38,7 +40,6 @@ with moved as (select policy, kind, plan, position, max(position) over (partitio
 select case moved.kind when 'paidup' then 'paid up' else its_plan end as its, count(*), sum(sized.amount_cents)
 from moved join born using (policy) join sized on sized.policy = moved.policy and sized.position = sized.last
 where moved.position = moved.last and moved.kind in ('issue', 'reinstate', 'paidup') group by its"""
-POSTED = "select kind, count(*) from command where position > ? and position <= ? group by kind"
 MATURED = """select count(*) from command as c join command as b on b.policy = c.policy and b.kind = 'issue'
 where c.kind = 'mature' and c.position > ? and c.position <= ? and b.plan {} 'term'"""
 COLLECTED = "select kind, coalesce(sum(amount_cents), 0) from command where position > ? and position <= ? and kind in "
@@ -56,18 +57,26 @@ def rows_of(sheet):
     return {row.cells[0]: row.cells for row in sheet.rows}
 
 
-def judge_exhibit(base, sheet, first, last):
-    """Counts and amounts by SQLite, and counts by kind, which are `read`'s; every column balances."""
+def kinds_read():
+    """The kind of each command, as `read` lists them."""
+    out = io.StringIO()
+    with contextlib.redirect_stdout(out):
+        need(main(["read", "journal.life"]) == 0, "read")
+    return [line.split(",")[1] for line in out.getvalue().splitlines() if line[0].isdigit()]
+
+
+def judge_exhibit(base, sheet, first, last, kinds):
+    """Counts and amounts by SQLite, and postings by kind, which are `read`'s; every column balances."""
     lines = rows_of(sheet)
     for name, at in (("in force at the beginning", first), ("in force at the end", last)):
         found = {group: (lines[name][1 + 2 * place], lines[name][2 + 2 * place]) for place, group in enumerate(GROUPS)}
         wanted = {row[0]: row[1:] for row in base.execute(IN_FORCE, {"at": at})}
         for group in GROUPS:
             need(found[group] == wanted.get(group, (0, 0)), f"{name} at {at}, {group}: {found[group]}, SQLite has {wanted.get(group)}")
-    posted = dict(base.execute(POSTED, (first, last)))
+    posted = Counter(kinds[first:last])
     counted = {line: lines[line][-1] for line in lines}
     for line, kind in LINES.items():
-        need(counted[line] == posted.get(kind, 0), f"{line}: {counted[line]} postings, the journal has {posted.get(kind, 0)}")
+        need(counted[line] == posted[kind], f"{line}: {counted[line]} postings, the journal has {posted[kind]}")
     for line, sign in (("maturity", "<>"), ("expiry", "=")):
         [wanted] = base.execute(MATURED.format(sign), (first, last)).fetchone()
         need(counted[line] == wanted, f"{line}: {counted[line]} postings, the journal has {wanted}")
@@ -79,7 +88,7 @@ def judge_exhibit(base, sheet, first, last):
 def judge_money(base, sheets, first, last):
     """What was collected, and what is outstanding, by SQLite."""
     lines = rows_of(sheets["premiums"])
-    found = lines["collected, first year"][3] + lines["collected, renewal"][3], lines["collected by reinstatement"][3]
+    found = lines["first-year premiums collected"][3] + lines["renewal premiums collected"][3], lines["collected by reinstatement"][3]
     sums = dict(base.execute(COLLECTED + "('premium', 'reinstate') group by kind", (first, last)))
     need(found == (sums.get("premium", 0), sums.get("reinstate", 0)), f"collected {found}, SQLite has {sums}")
     lines = rows_of(sheets["claims"])
@@ -179,13 +188,56 @@ def judge_exactly(sheets, asked, past, basis, known):
              f"{name}: {increase[name][2]} cents, by anniversaries {float(exact)}")
 
 
+# --- premiums, a second way ---
+
+def listed_due(commands, on):
+    """What `due` lists of a front: of those in grace and of those to lapse, how many, and of the former the sum."""
+    with open("front.life", "wb") as file:
+        file.write(file_of(commands))
+    out = io.StringIO()
+    with contextlib.redirect_stdout(out), contextlib.redirect_stderr(io.StringIO()):
+        need(main(["due", str(on), "front.life"]) == 0, f"due {on}")
+    rows = [line.split(",") for line in out.getvalue().splitlines()[1:]]
+    # a premium that is due on the day itself is listed as such, and has its days of grace before it
+    in_grace = [row for row in rows if row[0] in ("grace", "premium")]
+    return (len(in_grace), sum(int(row[4].replace(".", "")) for row in in_grace), sum(row[0] == "lapse" for row in rows))
+
+
+def judge_premiums(sheets, asked, commands, past, basis, known):
+    lines = rows_of(sheets["premiums"])
+    for at, on, when in ((asked.first, asked.on1, "at the beginning"), (asked.last, asked.on2, "at the end")):
+        found = (*lines[f"uncollected in grace {when}"][1:4:2], lines[f"past grace and not lapsed {when}"][1])
+        wanted = listed_due(commands[:at], on)
+        need(found == wanted, f"{when}: uncollected are {found}, and due lists {wanted}")
+        ahead = [0, 0, 0, 0]
+        for history in past.values():
+            part = paid_ahead([it for it in history if it[0] <= at], on, basis, known)
+            ahead = [one + other for one, other in zip(ahead, part)]
+        need(list(lines[f"paid in advance {when}"][1:5]) == ahead, f"{when}: {lines[f'paid in advance {when}']}, another way {ahead}")
+
+
+def paid_ahead(states, on, basis, known):
+    """Policies, premiums, gross and net of one policy: each posting pays so many premiums, of the years that follow on one another."""
+    if not states or states[-1][3].status != "inforce":
+        return 0, 0, 0, 0
+    policy, gross, years = states[-1][3], 0, []
+    for (_, _, _, before), (_, _, kind, after) in zip(states, states[1:]):
+        for year in range(before.paid, after.paid):
+            if anniversary(policy.issued, year) > on:
+                gross += before.premium
+                years.append(year)
+    insured = worth_of(policy, basis, known)
+    net = policy.amount * sum((insured.net_premium(year) for year in years), Fraction(0)) if insured else Fraction(0)
+    return bool(years), len(years), gross, (2 * net + 1) // 2
+
+
 def run():
     draw = random.Random(int(sys.argv[4]))
     exactly = int(sys.argv[5]) if len(sys.argv) > 5 else 0
     base = sqlite3.connect("book.db")
     columns = columns_at("journal.life")
     commands = list(columns.records.commands(range(columns.count)))
-    past, basis, known = histories(commands), read_basis("./basis.csv"), {}
+    past, basis, known, kinds = histories(commands), read_basis("./basis.csv"), {}, kinds_read()
     need(set(FIELDS) >= set(LINES.values()), "kinds")
     for pair in range(int(sys.argv[3])):
         first, last = sorted(draw.randrange(columns.count + 1) for _ in range(2))
@@ -193,11 +245,12 @@ def run():
         measure = "terminal" if pair < exactly else draw.choice(["terminal", "mean"])
         asked = Asked(".", on1, first, on2, last, one_basis("basis.csv"), measure, PROGRAM)
         sheets = {sheet.name: sheet for sheet in statement_of(asked).sheets}
-        judge_exhibit(base, sheets["exhibit"], first, last)
+        judge_exhibit(base, sheets["exhibit"], first, last, kinds)
         judge_money(base, sheets, first, last)
         judge_reserves(sheets, asked)
         if pair < exactly:
             judge_exactly(sheets, asked, past, basis, known)
+            judge_premiums(sheets, asked, commands, past, basis, known)
     print(f"{sys.argv[3]} pairs of {columns.count} postings: all sheets are what SQLite and exact values come to")
 
 

@@ -1,15 +1,7 @@
 # What `sh life help` prints.
+. "$launcher/words.sh"
+tell_words "sh life" "sh life --wait"
 cat <<'WORDS'
-in the folder of a book, the proved program alone (docs/FORMATS.md tells its words):
-  sh life run < SCRIPT            posts the lines of up to eight clerks
-  sh life state [ID]              all policies and the balances, or one policy's postings
-  sh life checkpoint              keeps the books, for a faster state
-  sh life value ON [--at P]       what each policy is worth on a day
-  sh life project ON YEARS        what premiums and claims are expected, by year
-  sh life generate SEED COUNT LANES
-                                  a drawn script, which load SEED COUNT LANES WORKERS runs
-  sh life --wait SECONDS WORDS    the same, once nobody else has the book, or after that time
-
 anywhere, and nothing of it touches a book:
   sh life try WORDS               a preview: the program unproved and slow, on copies of the folder's files
   sh life prove                   proves and builds the program

@@ -33,7 +33,7 @@ sum_of() {
 # each file in a folder beside its place, whole and on the disk, so that a rename is all that is left
 make_files() {
     cp "$program" "$staged/life-program" &&
-        { echo '#!/bin/sh' && cat "$launcher/folder.sh" "$root/tools/installed/life.sh"; } >"$staged/life" &&
+        { echo '#!/bin/sh' && cat "$launcher/folder.sh" "$launcher/words.sh" "$root/tools/installed/life.sh"; } >"$staged/life" &&
         { echo '#!/bin/sh' && cat "$launcher/folder.sh" "$launcher/waiting.sh" "$root/tools/installed/life-wait.sh"; } \
             >"$staged/life-wait" &&
         python3 "$launcher/pack_tools.py" "$root/tools/life_tools" "$staged/life-tools" "$(revision)" "$(kit)" "$sum" &&

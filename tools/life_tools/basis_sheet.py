@@ -10,8 +10,8 @@ from life_tools.rules import Policy
 from life_tools.sheets import COUNT, TEXT, Column, Sheet
 from life_tools.tables import BasisRow
 
-METHODS = {"terminal": "CRVM, terminal", "mean": "CRVM, mean"}
-PAID_UP_METHODS = {"terminal": "paid up, terminal", "mean": "paid up, mean"}
+METHODS = {"terminal": "CRVM terminal", "mean": "CRVM mean"}
+PAID_UP_METHODS = {"terminal": "paid up terminal", "mean": "paid up mean"}
 COLUMNS = [Column("table", TEXT), Column("interest", TEXT), Column("method", TEXT), Column("issued from", TEXT),
            Column("issued to", TEXT), Column("policies", COUNT), Column("amount insured"), Column("lower bound"),
            Column("upper bound"), Column("deficiency")]
@@ -37,10 +37,10 @@ def sums_by_basis(period: Period, moment: Moment, minimum: PrintedValuation) -> 
     """The sums of those that are valued, and of those that have no value."""
     valued: dict[Key, list[int]] = {}
     others: dict[Key, list[int]] = {}
-    places = [place for place, policy in enumerate(moment.policies) if is_insured(policy)]
-    picked = period.rows.of([moment.policies[place].number for place in places])
-    for place, (name, basis) in zip(places, picked):
-        policy, row, least = moment.policies[place], moment.valuation.rows[place], minimum.rows[place]
+    for policy, row, least in zip(moment.policies, moment.valuation.rows, minimum.rows):
+        if not is_insured(policy):
+            continue
+        name, basis = period.rows.of(policy.number)
         key = key_of(policy, name, basis, row.word, period.asked.measure)
         sums = (others if row.word else valued).setdefault(key, [0] * 5)
         excess = 0 if row.word else least.bounds[3] - least.bounds[1]

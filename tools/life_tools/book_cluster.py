@@ -15,12 +15,14 @@ from typing import Any, Callable, Iterator, TypeVar
 
 import life_tools
 from life_tools.book_runs import NOT_DONE, Outcome, Task, run_once, sum_of
-from life_tools.formats import Wrong, demand
+from life_tools.formats import Wrong, demand, remark
 from life_tools.packages import package
 
 SECONDS_TO_CONNECT = 10
 SECONDS_TO_ANSWER = 60
 SECONDS_BETWEEN = 0.02
+# without a worker, and between two looks at the workers
+SECONDS_ALONE, SECONDS_TO_LOOK = 10, 1
 # how many workers may die over one book
 MOST_DEATHS = 3
 MOST_LETTERS = 300
@@ -92,6 +94,23 @@ def taken(futures: list[Future[Made]]) -> list[Made]:
     return [each.result() for each in done]
 
 
+class Absence:
+    """Since when there is no worker: told once, and the books go on waiting for one."""
+
+    def __init__(self) -> None:
+        self.since: float | None = None
+        self.is_told = False
+
+    def look(self, workers: int, address: str) -> None:
+        if workers:
+            self.since, self.is_told = None, False
+        elif self.since is None:
+            self.since = time.monotonic()
+        elif not self.is_told and time.monotonic() - self.since >= SECONDS_ALONE:
+            self.is_told = True
+            remark(f"the scheduler at {address} has no worker left: waiting for one")
+
+
 class Cluster:
     """A scheduler and its workers, which are handed these tools."""
 
@@ -102,6 +121,7 @@ class Cluster:
             self.client = self.dask.Client(address, timeout=SECONDS_TO_CONNECT, set_as_default=False)
         except (OSError, ValueError, TimeoutError) as error:
             raise Wrong(f"there is no scheduler at {address}: {error}") from error
+        self.absence, self.looked = Absence(), time.monotonic()
         demand(self.workers(), f"the scheduler at {address} has no workers")
         with at_most(SECONDS_TO_ANSWER, f"the scheduler at {address} doesn't answer"):
             self.hand_tools()
@@ -160,6 +180,9 @@ class Cluster:
     def done_of(self, running: dict[Any, Task], ended: int, books: int) -> list[Any]:
         """Those that have ended by now, or soon. Where the scheduler is gone, so are all that run."""
         time.sleep(SECONDS_BETWEEN)
+        if running and time.monotonic() - self.looked >= SECONDS_TO_LOOK:
+            self.looked = time.monotonic()
+            self.absence.look(self.workers(), self.address)
         done = [future for future in running if future.done()]
         if self.client.status in ("closed", "connecting") or any(future.cancelled() for future in done):
             raise Wrong(f"the scheduler at {self.address} went away, after {ended} of {books} books; nothing is added up")

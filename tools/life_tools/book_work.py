@@ -2,6 +2,7 @@
 from __future__ import annotations
 
 import os
+import time
 import zlib
 from concurrent.futures import ThreadPoolExecutor, as_completed
 from dataclasses import dataclass, replace
@@ -12,10 +13,15 @@ from life_tools.book_lists import ListedBook
 from life_tools.book_runs import JOURNAL, Outcome, Parts, Task, demand_journal, failure, run_once, sum_of
 from life_tools.copied_folder import basis_files
 from life_tools.formats import Wrong, bytes_of, demand, remark
+from life_tools.holders import holder_of
 from life_tools.program import demand_as_installed, life_command, program_file
 from life_tools.progress import Progress
 from life_tools.record_columns import columns_at, front_sum
 from life_tools.wholeness import doubt_of
+
+# the program's own status of a book that somebody has
+DISK_FAULT = 8
+SECONDS_BETWEEN = 0.2
 
 
 @dataclass(frozen=True)
@@ -29,6 +35,8 @@ class Asked:
     are_sent: bool = False
     parts: Parts | None = None
     are_rows_kept: bool = False
+    # how many seconds a book may be held by somebody else
+    wait: int = 0
 
 
 def size_of(book: ListedBook) -> int:
@@ -66,7 +74,25 @@ def names_of_basis(asked: Asked, book: ListedBook) -> list[str]:
     return basis_files(book.folder, book.basis) if asked.words[0] in ("value", "project") else []
 
 
+def held(asked: Asked, book: ListedBook) -> Outcome | None:
+    """What becomes of a book that somebody has, also after the seconds for which one waits: here as on a cluster, where a copy
+    could be taken of it."""
+    until = time.monotonic() + asked.wait
+    while holder := holder_of(book.journal):
+        if time.monotonic() >= until:
+            return Outcome(book.name, DISK_FAULT, f"diskfault: {book.journal} is held by {holder}")
+        time.sleep(SECONDS_BETWEEN)
+    return None
+
+
+def made_here(asked: Asked, book: ListedBook) -> Outcome:
+    return held(asked, book) or run_once(task_here(asked, book))
+
+
 def made_elsewhere(asked: Asked, book: ListedBook, program: str, program_sum: str) -> Task | Outcome:
+    found = held(asked, book)
+    if found:
+        return found
     try:
         demand_journal(book.folder)
         task = task_elsewhere(asked, book, program, program_sum)
@@ -109,7 +135,7 @@ class Told:
 def run_here(asked: Asked, books: list[ListedBook]) -> list[Outcome]:
     told, outcomes = Told(len(books)), []
     with ThreadPoolExecutor(asked.processes) as pool:
-        begun = [pool.submit(run_once, task_here(asked, book)) for book in largest_first(books)]
+        begun = [pool.submit(made_here, asked, book) for book in largest_first(books)]
         for future in as_completed(begun):
             outcomes.append(future.result())
             told.tell(outcomes[-1])

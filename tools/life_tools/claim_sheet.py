@@ -77,7 +77,7 @@ def demand_accounts(period: Period, claims: Claims) -> None:
 
 
 def claim_sheet(period: Period, claims: Claims) -> Sheet:
-    columns = [Column(f"{name}, {what}", COUNT if what == "number" else "cents")
+    columns = [Column(f"{name}: {what}", COUNT if what == "number" else "cents")
                for name in ("claims", "maturities", "total") for what in ("number", "amount")]
     sheet = Sheet("claims", "Claims and maturities", [Column("line", TEXT), *columns, Column("postings", COUNT)])
     sheet.policy_head = ["policy", "status", "reported", "days", "outstanding"]

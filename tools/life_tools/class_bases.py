@@ -16,6 +16,7 @@ from dataclasses import dataclass
 from typing import NamedTuple, Protocol, Sequence
 
 from life_tools.formats import MOST_NUMBER, Row, Wrong, bytes_of, demand, number_of, rows_in
+from life_tools.fronts import WORKERS
 from life_tools.printed_books import PrintedValuation, ValuedRow, valuation_in
 from life_tools.tables import NAME, BasisRow, read_basis
 
@@ -50,15 +51,24 @@ class Bases:
 
     def picked(self, numbers: Sequence[int]) -> list[str]:
         """The basis file of each policy; one that is in no class is an error."""
-        if not self.ranges:
-            return [self.names[0]] * len(numbers)
-        firsts, of_class = [each.first for each in self.ranges], dict(self.basis_of_class)
-        found = []
-        for number in numbers:
-            place = bisect_right(firsts, number) - 1
-            demand(place >= 0 and number <= self.ranges[place].last, f"policy {number} is in no class")
-            found.append(of_class[self.ranges[place].class_])
-        return found
+        picker = Picker(self)
+        return [picker.basis_of(number) for number in numbers]
+
+
+class Picker:
+    """Picks the basis file of one policy after the other."""
+
+    def __init__(self, bases: Bases) -> None:
+        self.bases = bases
+        self.firsts, self.of_class = [each.first for each in bases.ranges], dict(bases.basis_of_class)
+
+    def basis_of(self, number: int) -> str:
+        if not self.firsts:
+            return self.bases.names[0]
+        place = bisect_right(self.firsts, number) - 1
+        range_ = self.bases.ranges[place]
+        demand(place >= 0 and number <= range_.last, f"policy {number} is in no class")
+        return self.of_class[range_.class_]
 
 
 def one_basis(name: str) -> Bases:
@@ -143,7 +153,7 @@ def measure_words(measure: str) -> list[str]:
 
 def valued(copy: Asks, on: str, bases: Bases, measure: str) -> PrintedValuation:
     """The program's valuation of a copy; of several bases one for each, of which each policy's row is that of its own."""
-    words = ["--at", str(copy.position), *measure_words(measure)]
+    words = ["--at", str(copy.position), *WORKERS, *measure_words(measure)]
     made = {name: valuation_in(copy.asks("value", on, *words, "--basis", name)) for name in bases.names}
     return of_classes(made, bases)
 
@@ -167,9 +177,10 @@ class BasisRows:
     """The rows of each basis file, and those that value a policy."""
 
     def __init__(self, folder: str, bases: Bases) -> None:
-        self.bases = bases
+        self.picker = Picker(bases)
         self.rows = {name: read_basis(os.path.join(folder, name)) for name in bases.names}
 
-    def of(self, numbers: Sequence[int]) -> list[tuple[str, Sequence[BasisRow]]]:
-        """Of each policy the name of its basis file, and the rows of it."""
-        return [(name, self.rows[name]) for name in self.bases.picked(numbers)]
+    def of(self, number: int) -> tuple[str, Sequence[BasisRow]]:
+        """Of a policy the name of its basis file, and the rows of it."""
+        name = self.picker.basis_of(number)
+        return name, self.rows[name]

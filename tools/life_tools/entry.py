@@ -34,6 +34,7 @@ ENTRIES: dict[str, tuple[str, str]] = {
     "check-transcript": ("check_transcript", "judge what a run printed, and what it left in the journal"),
     "check-values": ("check_values", "work the rows of a printed valuation out anew, and compare"),
     "check-projection": ("check_projection", "work the years of a printed projection out anew, and compare"),
+    "generate": ("generate", "a drawn script, numbered from a number on"),
     "plot": ("plot", "draw printed valuations, a printed book or a printed projection"),
     "audit": ("audit", "for an auditor: doubtful postings, a sample of the policies, papers and letters on it"),
     "table": ("table", "a table before a book is valued by it: looked at, converted, rounded, joined"),

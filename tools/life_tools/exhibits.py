@@ -88,7 +88,7 @@ def remarks(moment: Moment) -> list[str]:
 def exhibit_sheet(period: Period, exhibit: LifeExhibit) -> Sheet:
     columns = [Column("line", TEXT)]
     for title in (*(TITLES[group] for group in GROUPS), "total"):
-        columns += [Column(f"{title}, number", COUNT), Column(f"{title}, amount")]
+        columns += [Column(f"{title}: number", COUNT), Column(f"{title}: amount")]
     sheet = Sheet("exhibit", "Exhibit of life insurance", [*columns, Column("postings", COUNT)])
     opening, closing = in_force(period.opening.policies), in_force(period.closing.policies)
     exhibit.demand_balanced(opening, closing)

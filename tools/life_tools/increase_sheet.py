@@ -17,7 +17,7 @@ from life_tools.rules import Policy
 from life_tools.sheets import COUNT, TEXT, Column, Sheet
 
 OPENING, ROUNDING, CLOSING = "reserve at the beginning", "rounding", "reserve at the end"
-NET, INTEREST, COST, HELD = "net premiums", "interest", "cost of insurance", "held at 0, not below"
+NET, INTEREST, COST, HELD = "net premiums", "interest", "cost of insurance", "kept from falling below 0"
 DEATH, LAPSE, MATURITY = "released by death", "released by lapse", "released by maturity and expiry"
 REVIVED, DECREASED, PAID_UP = "revived", "decreased", "made paid up"
 WORKED = (NET, INTEREST, COST, HELD, DEATH, LAPSE, MATURITY, REVIVED, DECREASED, PAID_UP)
@@ -52,7 +52,7 @@ class Increase:
         self.worth = Worth(period.asked.measure)
         self.ways: dict[int, Way] = {}
         self.sums, self.counts = dict.fromkeys(WORKED, 0), dict.fromkeys(LINES, 0)
-        # each policy's own sums, in the order of WORKED
+        # each policy's own sums, in the order of WORKED, where they are kept
         self.parts: dict[int, list[int]] = {}
         self.exact = [0, 0]
         policies = period.opening.policies
@@ -63,12 +63,13 @@ class Increase:
     # --- a policy's way ---
 
     def units(self, policy: Policy, is_paid_up: bool) -> Units | None:
-        [(name, basis)] = self.period.rows.of([policy.number])
+        name, basis = self.period.rows.of(policy.number)
         return self.worth.units(policy, name, basis, is_paid_up)
 
     def put(self, line: str, number: int, scaled: int) -> None:
         self.sums[line] += scaled
-        self.parts.setdefault(number, [0] * len(WORKED))[WORKED.index(line)] += scaled
+        if self.period.asked.are_parts_kept:
+            self.parts.setdefault(number, [0] * len(WORKED))[WORKED.index(line)] += scaled
 
     def grow(self, number: int, way: Way, since: int | None, year: int) -> None:
         """What the years from one to another add; from none, what the issue adds."""
@@ -216,7 +217,8 @@ def increase_sheet(period: Period, increase: Increase) -> Sheet:
                    f"and {money(most[1])} at the end, and less than a cent of each line."]
     sheet.checks = ["Each policy's exact opening and closing reserve lies in its printed row.",
                     "The lines lead from the printed opening total to the printed closing one."]
-    fill_policies(sheet, period, increase)
+    if period.asked.are_parts_kept:
+        fill_policies(sheet, period, increase)
     return sheet
 
 

@@ -33,7 +33,8 @@ def demand_whole(right: object, message: str) -> None:
 
 
 class Asked(NamedTuple):
-    """A book, two days with a position each, the bases, the measure of its reserves, and the program."""
+    """A book, two days with a position each, the bases, the measure of its reserves, the program; and whether each policy's
+    part of the increase in reserves is kept."""
 
     folder: str
     on1: datetime.date
@@ -43,6 +44,7 @@ class Asked(NamedTuple):
     bases: Bases
     measure: str = "terminal"
     life: str | None = None
+    are_parts_kept: bool = False
 
 
 @dataclass(frozen=True)
@@ -91,7 +93,20 @@ def is_insured(policy: Policy) -> bool:
 
 # --- reading ---
 
-def moment(copy: Front, on: datetime.date, asked: Asked, is_closing: bool) -> Moment:
+class Watched:
+    """A copy of a book that tells how often it was asked."""
+
+    def __init__(self, copy: Front, progress: Progress) -> None:
+        self.copy, self.progress, self.done = copy, progress, 0
+        self.folder, self.position = copy.folder, copy.position
+
+    def asks(self, *words: str) -> str:
+        self.done += 1
+        self.progress.at(self.done)
+        return self.copy.asks(*words)
+
+
+def moment(copy: Watched, on: datetime.date, asked: Asked, is_closing: bool) -> Moment:
     state = state_in(copy.asks("state"))
     minimum = valued(copy, str(on), asked.bases, "deficiency") if is_closing else None
     # which has the terminal reserve in front of the minimum
@@ -136,10 +151,12 @@ def period_of(asked: Asked) -> Period:
     """What the program prints of both moments, and what stands in the journal."""
     demand(asked.on1 <= asked.on2, f"the closing day {asked.on2} is before the opening one, {asked.on1}")
     demand(asked.first <= asked.last, f"the closing position {asked.last} is before the opening one, {asked.first}")
+    progress = Progress("asking life for the opening, and then for the closing")
     with front(asked.folder, asked.first, asked.bases.names, asked.life) as copy:
-        opening = moment(copy, asked.on1, asked, False)
+        opening = moment(Watched(copy, progress), asked.on1, asked, False)
     with front(asked.folder, asked.last, asked.bases.names, asked.life) as copy:
-        closing = moment(copy, asked.on2, asked, True)
+        closing = moment(Watched(copy, progress), asked.on2, asked, True)
+        progress.end()
         rows = BasisRows(copy.folder, asked.bases)
         records = records_of(copy)
         numbers = looked_at(asked.on1, opening.policies) | looked_at(asked.on2, closing.policies)

@@ -11,11 +11,11 @@ from life_tools.reserve_units import Worth
 from life_tools.rules import GRACE, Policy, anniversary, due_of, missed_by
 from life_tools.sheets import COUNT, TEXT, Column, Sheet
 
-GRACE_LINE, PAST, ADVANCE = "uncollected, in grace", "past grace, not lapsed", "paid in advance"
+GRACE_LINE, PAST, ADVANCE = "uncollected in grace", "past grace and not lapsed", "paid in advance"
 DEFERRED = "deferred: none, since all premiums are annual and due at the anniversary"
-FIRST_YEAR, RENEWAL, BY_REVIVAL = "collected, first year", "collected, renewal", "collected by reinstatement"
+FIRST_YEAR, RENEWAL, BY_REVIVAL = "first-year premiums collected", "renewal premiums collected", "collected by reinstatement"
 COLUMNS = [Column("line", TEXT), Column("policies", COUNT), Column("premiums", COUNT), Column("gross"), Column("net"),
-           Column("reserve, lower"), Column("reserve, upper")]
+           Column("reserve: lower"), Column("reserve: upper")]
 AT_BEGINNING, AT_END = "at the beginning", "at the end"
 
 
@@ -80,7 +80,7 @@ class NetPremiums:
 
     def of(self, policy: Policy, years: range) -> int | None:
         """That of the premiums of some policy years, to the nearest cent; none of a policy without a value."""
-        [(name, basis)] = self.period.rows.of([policy.number])
+        name, basis = self.period.rows.of(policy.number)
         units = self.worth.units(policy, name, basis, False)
         if units is None:
             return None
@@ -157,7 +157,7 @@ def premium_sheet(period: Period, collected: Collected, worth: Worth) -> Sheet:
         sheet.add(line, postings, premiums, gross, None, None, None)
     for (line, when), each in sums.items():
         reserve = (each.lower, each.upper) if line == PAST else (None, None)
-        sheet.add(f"{line}, {when}", each.policies, each.premiums, each.gross, each.net, *reserve, section=1)
+        sheet.add(f"{line} {when}", each.policies, each.premiums, each.gross, each.net, *reserve, section=1)
     sheet.add(DEFERRED, 0, 0, 0, 0, None, None, section=2)
     sheet.add("premium income", None, None, income_of(collected, sums), None, None, None, section=3, is_total=True)
     without = sum(each.without for each in sums.values())

@@ -11,7 +11,7 @@ from dataclasses import dataclass
 from fractions import Fraction
 from typing import Sequence
 
-from life_tools.formats import demand
+from life_tools.periods import demand_whole
 from life_tools.reserves import Cover, InForce, Insured, insured_by, terms_of
 from life_tools.rules import Policy, completed
 from life_tools.tables import FINEST, BasisRow, Table
@@ -30,10 +30,15 @@ class Column(Cover):
         by, parts = discount.numerator, discount.denominator * FINEST
         self.known[years] = Fraction(benefits, FINE), Fraction(annuity, FINE)
         for year in range(years - 1, -1, -1):
-            dying = int(self.rates[year] * FINEST)
+            dying = finest(self.rates[year])
             benefits = by * (dying * FINE + (FINEST - dying) * benefits) // parts
             annuity = (FINE if year < payments else 0) + by * (FINEST - dying) * annuity // parts
             self.known[year] = Fraction(benefits, FINE), Fraction(annuity, FINE)
+
+
+def finest(rate: Fraction) -> int:
+    """A rate in units of 10^-9, of which a table's are whole numbers."""
+    return rate.numerator * (FINEST // rate.denominator)
 
 
 def whole(value: Fraction) -> int:
@@ -66,17 +71,18 @@ class Years:
 
     def __init__(self, insured: Insured) -> None:
         cover = insured.cover
-        years = range(cover.years)
+        years, a_year = range(cover.years), 1 / cover.discount - 1
         self.terminal = [whole(insured.terminal(year)) for year in range(cover.years + 1)]
         self.net = [whole(insured.net_premium(year)) for year in years]
-        self.interest = [whole((1 / cover.discount - 1) * Fraction(self.terminal[year] + self.net[year], ONE)) for year in years]
-        self.cost = [whole(cover.rates[year] * Fraction(ONE - self.terminal[year + 1], ONE)) for year in years]
+        self.interest = [(self.terminal[year] + self.net[year]) * a_year.numerator // a_year.denominator for year in years]
+        self.cost = [finest(cover.rates[year]) * (ONE - self.terminal[year + 1]) // FINEST for year in years]
         self.held = [self.terminal[year + 1] - self.terminal[year] - self.net[year] - self.interest[year] + self.cost[year]
                      for year in years]
-        is_low = [isinstance(insured, InForce) and year > 0 and below_0(insured, year) for year in range(cover.years + 1)]
+        is_low = [year > 0 and reserve == 0 and isinstance(insured, InForce) and below_0(insured, year)
+                  for year, reserve in enumerate(self.terminal)]
         for year in years:
             is_right = is_low[year] or is_low[year + 1] or abs(self.held[year]) < NOISE
-            demand(is_right, f"year {year}: net premium, interest and cost don't lead from one reserve to the next")
+            demand_whole(is_right, f"year {year}: net premium, interest and cost don't lead from one reserve to the next")
 
 
 def below_0(insured: InForce, year: int) -> bool:

@@ -27,7 +27,7 @@ def lines_of(sheet: Sheet) -> list[str]:
     """A sheet in columns as wide as what stands in them, with what is to be said of it."""
     names, *rest = texts_of(sheet)
     # what two columns have in common stands in a line of its own
-    heads = [[name.rpartition(", ")[0] for name in names], [name.rpartition(", ")[2] for name in names]]
+    heads = [[name.rpartition(": ")[0] for name in names], [name.rpartition(": ")[2] for name in names]]
     rows = [head for head in heads if any(head)] + rest
     widths = [max(len(row[place]) for row in rows) for place in range(len(sheet.columns))]
     lines = [sheet.title]
@@ -104,7 +104,7 @@ def widen(page: Any, sheet: Sheet) -> None:
     for place, column in enumerate(sheet.columns):
         widths = [len(text) + (len(text) // 3 if column.kind != TEXT else 0)
                   for text in (cell_text(row.cells[place], column) for row in sheet.rows)]
-        head = max(len(part) for part in column.name.split(", "))
+        head = max(len(part) for part in column.name.split(": "))
         page.column_dimensions[utils.get_column_letter(place + 1)].width = max([head, *widths]) + 3
 
 

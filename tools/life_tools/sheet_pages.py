@@ -34,7 +34,7 @@ tr.total td { font-weight: 600; border-top: 2px solid #1b1f23 }
 
 def head_cell(name: str, kind: str) -> str:
     """A column's head; what it has in common with the next one stands above."""
-    return f"<th scope=\"col\"{' class=text' if kind == TEXT else ''}>{escape(name).replace(', ', '<br>')}</th>"
+    return f"<th scope=\"col\"{' class=text' if kind == TEXT else ''}>{escape(name).replace(': ', '<br>')}</th>"
 
 
 def row_cells(row: Row, sheet: Sheet) -> str:

@@ -139,6 +139,39 @@ def check_run(lines: list[Line], transcript: str, begun: Book, after: Journal, b
     return len(answers)
 
 
+# --- a run that was cut ---
+
+def front_of(transcript: str) -> tuple[str, int]:
+    """The lines of a transcript that are whole, without a valuation that has no total; and how many lines they are."""
+    lines = transcript[:transcript.rfind("\n") + 1].splitlines(keepends=True)
+    # rows and totals belong to the line above that they stand behind
+    heads = [place for place, line in enumerate(lines) if not line.startswith(("row,", "total,", "watcher,"))]
+    last = lines[heads[-1]:] if heads else []
+    if last and is_block([last[0].rstrip("\n").split(",")]) and not any(line.startswith("total,") for line in last):
+        lines = lines[:heads[-1]]
+    return "".join(lines), len(lines)
+
+
+def is_cut(transcript: str) -> bool:
+    """Whether the lines of the watchers, which stand at the end of each run that ended, aren't there."""
+    last = transcript.splitlines()[-2:]
+    return not transcript.endswith("\n") or [line.split(",")[0] for line in last] != ["watcher", "watcher"]
+
+
+def check_cut(lines: list[Line], transcript: str, begun: Book, after: Journal, basis: Sequence[BasisRow]) -> str:
+    """Checks the front of a transcript that was cut, and that the journal holds what it says was accepted; tells where it
+    was cut, and what of the run is known from the journal alone."""
+    front, count = front_of(transcript)
+    run = Run(lines, begun, basis, {})
+    for answer in answers_in(front)[0]:
+        run.follow(answer)
+    accepted, found = run.book.commands, after.commands
+    check_journal(Journal(Book(found[:len(accepted)])), accepted)
+    left = sum(map(len, run.left.values()))
+    return (f"cut after line {count}: what stands up to there is right, and the journal holds the {run.accepted} postings "
+            f"that it accepts. {left} rows have no answer there; {len(found) - len(accepted)} postings more are in the journal")
+
+
 def check(script: bytes, transcript: str, before: bytes, after: bytes, basis: Sequence[BasisRow],
           known: Known | None = None) -> int:
     """The same of the bytes of a script and of the journal before and after."""

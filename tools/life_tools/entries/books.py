@@ -41,6 +41,7 @@ from life_tools.wholeness import demand_undamaged, tell
 
 WORDS = ("value", "project", "state", "checkpoint", "position-on", "headroom")
 MOST_TOLD = 10
+MOST_WAIT = 999_999
 
 
 # --- the words ---
@@ -73,8 +74,10 @@ def asked_of(options: argparse.Namespace, books: list[ListedBook]) -> Asked:
     if processes is None:
         raise Wrong(f"--processes {options.processes}: 1 to {MOST_WORKERS} are wanted")
     parts = Parts(os.path.abspath(options.parts), "sqlite" if options.sqlite else "csv") if options.parts else None
-    are_kept = not (parts or options.totals or options.scheduler)
-    return Asked(words, positions, processes, options.scheduler, options.send, parts, are_kept)
+    are_kept, wait = not (parts or options.totals or options.scheduler), number_of(options.wait, 0, MOST_WAIT)
+    if wait is None:
+        raise Wrong(f"--wait {options.wait}: seconds from 0 to {MOST_WAIT} are wanted")
+    return Asked(words, positions, processes, options.scheduler, options.send, parts, are_kept, wait)
 
 
 # --- what is printed ---
@@ -206,6 +209,7 @@ def arguments(parser: argparse.ArgumentParser) -> None:
     parser.add_argument("--workers", metavar="N", help="threads of each valuation or projection")
     parser.add_argument("--processes", metavar="N", help="books at once on this machine, as many as processors where not told")
     parser.add_argument("--scheduler", metavar="ADDRESS", help="a scheduler of Dask, as tcp://HOST:PORT")
+    parser.add_argument("--wait", metavar="SECONDS", default="0", help="how long a book may be held by somebody else (0)")
     parser.add_argument("--send", action="store_true", help="workers don't see the folders: they are sent what they need")
     parser.add_argument("--parts", metavar="FOLDER", help="the lines of each book go to a file there, where they are made")
     parser.add_argument("--sqlite", action="store_true", help="parts are SQLite files, and not CSV")

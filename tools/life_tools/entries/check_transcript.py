@@ -7,6 +7,9 @@ a posting is accepted at the next position, or refused for the first reason that
 book at its position, with bounds around the exact values; a trim's floor is the position of a pin that may be live, or
 the count. The journal afterwards holds what was accepted, and nothing else. Runs that met a fault of the disk or found
 no memory aren't checked. It ends with status 1 and says where something isn't as it must be.
+
+Of a run that was cut, whose last lines aren't there, the lines up to the cut are checked, and it is told behind which line
+it was cut and what the journal holds beside; the status is 1.
 """
 from __future__ import annotations
 
@@ -19,7 +22,7 @@ from life_tools.judging import judged
 from life_tools.rules import Book
 from life_tools.script_lines import script_at
 from life_tools.tables import read_basis
-from life_tools.transcript_check import check_run
+from life_tools.transcript_check import check_cut, check_run, is_cut
 
 
 def arguments(parser: argparse.ArgumentParser) -> None:
@@ -34,4 +37,6 @@ def run(options: argparse.Namespace) -> int:
     basis = read_basis(options.basis) if any(line.kind == "value" for line in lines) else []
     begun = journal_at(options.before).book if os.path.exists(options.before) else Book()
     transcript, after = printed_text(options.transcript), journal_at(options.after)
+    if is_cut(transcript):
+        return judged(lambda: check_cut(lines, transcript, begun, after, basis)) or 1
     return judged(lambda: f"{check_run(lines, transcript, begun, after, basis)} lines are right")

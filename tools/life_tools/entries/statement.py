@@ -43,7 +43,8 @@ def asked_in(options: argparse.Namespace) -> Asked:
     first, last = position_in(options.p1), position_in(options.p2)
     assert first is not None and last is not None
     bases = bases_in(options.basis, options.classes, options.bases)
-    return Asked(options.folder, day_in(options.on1), first, day_in(options.on2), last, bases, options.measure, options.life)
+    return Asked(options.folder, day_in(options.on1), first, day_in(options.on2), last, bases, options.measure, options.life,
+                 bool(options.policies))
 
 
 def run(options: argparse.Namespace) -> int:
