@@ -16,9 +16,9 @@ TOP = pathlib.Path(__file__).resolve().parent.parent
 LIMITS = {
     "README.md": 700,
     "docs/CLERK.md": 3300,
-    "docs/VALUATION.md": 4700,
+    "docs/VALUATION.md": 4800,
     "docs/AUDIT.md": 2700,
-    "docs/OPERATIONS.md": 2300,
+    "docs/OPERATIONS.md": 2400,
     "docs/FORMATS.md": 6150,
     "docs/ARCHITECTURE.md": 4560,
     "docs/PROOF.md": 8000,
