@@ -12,7 +12,7 @@ from life_tools.tables import read_basis
 from life_tools.window import pictures
 from life_tools.window.asked import Asked, BadRequest
 from life_tools.window.due_lists import of_policy
-from life_tools.window.formulas import explained
+from life_tools.window.formulas import Explained, explained
 from life_tools.window.looked_at import LookedAt
 from life_tools.window.parts import RIGHT, Answer, Cell, Head, Page, Table, cells, heads, link
 from life_tools.window.policies import Known, curve_of, due_words, policy_at, standing_of, terms_of
@@ -69,7 +69,9 @@ def reserve_of(book: LookedAt, known: Known, at: int, on: datetime.date, measure
         raise BadRequest(f"number: the valuation has no row of policy {known.policy.number}")
     names = ("lower bound", "upper bound", "minimum, lower", "minimum, upper")
     basis = read_basis(os.path.join(book.desk, book.book.basis))
-    worked = explained(known.policy, at, on, basis, measure, row)
+    worked = book.kept(("why", known.policy.number, at, on, measure), f"the reserve of policy {known.policy.number}, worked out",
+                       lambda job: explained(known.policy, at, on, basis, measure, row))
+    assert isinstance(worked, Explained)
     rates = Table("Rates of death", heads(("year", "age", "rate"), 0), [cells((it[0] + 1, *it[1:])) for it in worked.rates])
     bounds = [(name, money(cents)) for name, cents in zip(names, row.bounds)]
     return {"row": row, "bounds": bounds, "worked": worked, "rates": rates}
