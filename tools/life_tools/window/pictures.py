@@ -8,7 +8,7 @@ from life_tools.drawing import unit_for
 from life_tools.report_pages import money
 
 WIDTH, HEIGHT = 720, 300
-LEFT, RIGHT, TOP, BOTTOM = 110, 20, 16, 40
+LEFT, RIGHT, TOP, BOTTOM = 128, 24, 16, 46
 # the steps of an axis are one of these times a power of ten
 ROUND = (1, 2, 5, 10)
 
