@@ -16,7 +16,7 @@ TOP = pathlib.Path(__file__).resolve().parent.parent
 LIMITS = {
     "README.md": 700,
     "docs/CLERK.md": 3300,
-    "docs/VALUATION.md": 4700,
+    "docs/VALUATION.md": 4800,
     "docs/AUDIT.md": 2700,
     "docs/OPERATIONS.md": 2100,
     "docs/FORMATS.md": 6150,
