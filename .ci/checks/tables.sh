@@ -7,6 +7,10 @@
 begin "tables of others"
 python3 "$root/.ci/tools/foreign_tables.py" "$root" "$program" >said 2>&1 || complain "$(cat said)"
 
+go_on "what the program refuses isn't told to be taken"
+refuses 1 'it is written in UTF-16' explain sixteen.xml
+refuses 1 'badbasis,references.xml,[0-9]*,badrate' explain references.xml
+
 # by hand: 0.04213 of each 100 is 0.0004213; 0.0004213387291 is 0.000421339 to nine places, 2.709e-10 more
 begin "rates by hand"
 echo '<XTbML><Table><Values><Axis><Y t="0">0.0004213387291</Y><Y t="1" >1</Y></Axis></Values></Table></XTbML>' >t.xml

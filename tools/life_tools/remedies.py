@@ -25,7 +25,7 @@ REFER = "don't reinstate; refer it"
 ONLY_SETTLE = "only `settle`"
 NOTHING_MORE = "nothing more"
 POSTED = "a death or a maturity is posted"
-OVER = "it is over"
+NOT_ALLOWED = "the status doesn't allow it"
 UNPAID = "this day's premium wasn't paid within 31 days"
 # the first that fits is told
 REMEDIES = (
@@ -35,18 +35,17 @@ REMEDIES = (
     Remedy("beforelast", (), "the policy's last line is of this day", "post with this day or a later one"),
     Remedy("wrongstatus,lapsed", BENEFITS, "it has lapsed: not insured then", REFER),
     Remedy("wrongstatus,lapsed", PAYING, "it has lapsed", "`reinstate` it first, if the insured is alive"),
-    Remedy("wrongstatus,lapsed", (), "it has lapsed", NOTHING_MORE),
     Remedy("wrongstatus,claimed", (), POSTED, ONLY_SETTLE),
     Remedy("wrongstatus,matured", (), POSTED, ONLY_SETTLE),
     Remedy("wrongstatus,paidup", (), "it is paid up", "`claim` or `mature`"),
-    Remedy("wrongstatus,inforce", (), "it is in force already", "nothing"),
-    Remedy("wrongstatus,settled", (), OVER, NOTHING_MORE),
-    Remedy("wrongstatus,expired", (), OVER, NOTHING_MORE),
+    Remedy("wrongstatus,lapsed", (), NOT_ALLOWED, NOTHING_MORE),
+    Remedy("wrongstatus,inforce", (), NOT_ALLOWED, NOTHING_MORE),
+    Remedy("wrongstatus,settled", (), NOT_ALLOWED, NOTHING_MORE),
+    Remedy("wrongstatus,expired", (), NOT_ALLOWED, NOTHING_MORE),
     Remedy("termover", ("claim",), "the insurance ended on this day: not insured then",
            "pay no claim; `mature` it, or `lapse` it in arrears"),
     Remedy("termover", (), "the insurance ended on this day", "`mature` it; one in arrears can only be lapsed"),
-    Remedy("nothingdue", ("premium",), "all premiums are paid", "give a premium back outside"),
-    Remedy("nothingdue", (), "all premiums are paid", "nothing: none can be missed"),
+    Remedy("nothingdue", (), "all premiums are paid", "give a premium back outside"),
     Remedy("tooearly", (), "the next premium is due on this day", "send it from 90 days before on"),
     Remedy("graceover", BENEFITS, f"{UNPAID}: not insured then", REFER),
     Remedy("graceover", (), UNPAID, "`lapse` it, then `reinstate` it for all that is missed, if the insured is alive"),
