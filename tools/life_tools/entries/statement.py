@@ -17,7 +17,7 @@ from life_tools.entries.why import position_in
 from life_tools.formats import day_in, remark
 from life_tools.periods import Asked, NotWhole
 from life_tools.provenance import provenance
-from life_tools.sheet_files import lines_of, write_csvs, write_folder, write_policies, write_workbook
+from life_tools.sheet_files import demand_new, lines_of, write_csvs, write_folder, write_policies, write_workbook
 from life_tools.sheet_pages import page
 from life_tools.statement import Statement, statement_of
 
@@ -49,6 +49,8 @@ def asked_in(options: argparse.Namespace) -> Asked:
 
 def run(options: argparse.Namespace) -> int:
     asked = asked_in(options)
+    # before the program is asked, and before a file is written
+    demand_new(*(folder for folder in (options.csv, options.policies) if folder))
     try:
         statement = statement_of(asked)
     except NotWhole as wrong:
