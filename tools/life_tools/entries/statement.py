@@ -4,7 +4,8 @@
 
 DAY1 and DAY2 are the days, P1 and P2 the positions at which it begins and ends. Every sheet adds up to what the program
 prints of both positions, and to the balances of its accounts; else nothing is written, and the status is 1. --mean has mean
-reserves in place of terminal ones; deficiency stands beside them in any case.
+reserves in place of terminal ones; deficiency stands beside them in any case. In the increase in reserves a posting of a day
+behind DAY2 counts on that day, and one of a policy that was there at P1 not before DAY1.
 """
 from __future__ import annotations
 
