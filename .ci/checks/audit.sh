@@ -149,6 +149,9 @@ sed 's/^position,11,/position,12,/' seal >forged
 refuses 2 'the sum of the others' seal --check forged
 refuses 2 '--check has position and files from the seal' seal --check seal --at 3
 refuses 2 'badbasis,none.csv,0,absent' seal --basis none.csv
+mkdir strange && cp basis.csv g.xml q.xml strange
+{ head -c 26 journal.life && printf '\177' && tail -c +28 journal.life; } >strange/journal.life
+refuses 2 'a record has no day of the calendar' seal --folder strange
 says seal --no-basis
 [ "$(wc -l <out)" = 4 ] || complain "a seal of the journal alone: $(cat out)"
 begin_with_examples "each byte of a seal"

@@ -170,6 +170,8 @@ refuses 2 'is no day' statement 2019-12-32 0 2021-12-31 16 --csv written
 refuses 2 '17 is no position' statement 2019-12-31 0 2021-12-31 17 --csv written
 refuses 2 'badbasis,none.csv,0,absent' statement 2019-12-31 0 2021-12-31 16 --basis none.csv --csv written
 refuses 2 'No such file' statement 2019-12-31 0 2021-12-31 16 --csv nowhere/written
+refuses 2 'parts is there already' statement 2019-12-31 0 2021-12-31 16 --csv written --policies parts
+refuses 2 'are one folder' statement 2019-12-31 0 2021-12-31 16 --csv written --policies ./written
 printf '7001-7004,first\n7005,second\n' >classes.csv
 printf 'first,basis.csv\nsecond,late.csv\n' >bases.csv
 echo 2021-12-11,q.xml,0 >late.csv

@@ -54,7 +54,7 @@ printf '1900-01-01,g.xml,400\n2020-01-01,q.xml,0\n2020-02-01,g.xml,400\n' >basis
 cp journal.life backups/no.backup && echo 0 >log/2024-01-02T100000-tuesday/status
 cd ..
 open_window --folder book
-TMPDIR=$work/browser timeout 160 python3 "$root/.ci/window/ways.py" "$(cat address)" "$PWD/book" "$life" "$shots" >said 2>times || complain "$(cat said; tail -n 5 times)"
+TMPDIR=$work/browser timeout 300 python3 "$root/.ci/window/ways.py" "$(cat address)" "$PWD/book" "$life" "$shots" >said 2>times || complain "$(cat said; tail -n 5 times)"
 
 go_on "hostile requests"
 timeout 60 python3 "$root/.ci/window/hostile.py" "$(cat address)" book >said || complain "$(cat said)"
@@ -67,16 +67,17 @@ printf 'one,book,basis.csv\ntwo,other,basis.csv\n' >books.csv
 mkdir other && cp book/*.xml book/basis.csv other && printf '%s\n' "$policy" | (cd other && "$life" run >../transcript)
 cksum book/journal.life other/journal.life >before
 under=$(command -v strace) || owes strace
-under="$under -D -f -qq -o $PWD/calls -e trace=openat,unlink,unlinkat,rename,truncate,mkdir"
+under="$under -D -f -qq -o $PWD/calls -e trace=openat,unlink,unlinkat,rename,truncate,mkdir,chdir"
 open_window --books books.csv
 under=
 python3 "$root/.ci/window/pages.py" "$(cat address)" "/=one" "/1/= postings, the last of 2024-04-05" "/2/=1 policy" \
     "/2/find?number=7001=in force" "/2/policy?number=7001&on=2021-01-01=127.22" >said || complain "$(cat said)"
 close_window
 let_go
-grep 'openat(.*journal.life"' calls | grep -v "$TMPDIR" >opened
+grep -E "openat\(.*\"$PWD/(book|other)/journal.life\"" calls >opened
 [ -s opened ] && ! grep -E 'O_WRONLY|O_RDWR|O_CREAT' opened || complain "the journal isn't opened for reading alone: $(head -n 3 opened)"
 grep -E "\"$PWD/(book|other)/" calls | grep -E 'O_WRONLY|O_RDWR|O_CREAT|unlink|rename|mkdir|truncate' >written
+grep -E "chdir\(\"$PWD/(book|other)" calls >>written
 [ ! -s written ] || complain "something is written beside the book: $(head -n 3 written)"
 cksum book/journal.life other/journal.life | cmp -s - before || complain "a journal changed"
 

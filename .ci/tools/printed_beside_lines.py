@@ -69,7 +69,7 @@ def changed(draw: random.Random, text: str) -> bytes:
     if what == 1:
         del data[at]
     elif what == 2:
-        data[at] = ord(draw.choice("0123456789,.-\nxrow"))
+        data[at] = ord(draw.choice("0123456789,.-\nxrow:/"))
     else:
         line = draw.choice(text.splitlines(keepends=True)).encode()
         data[0:0] = line

@@ -16,7 +16,7 @@ from typing import Iterator, NamedTuple
 from life_tools.arrays import Array, np
 from life_tools.columns import Columns, columns_at
 from life_tools.commands import Command
-from life_tools.day_columns import NEVER
+from life_tools.day_columns import FIRST, NEVER, anniversaries, years_at
 from life_tools.journal_columns import CLAIM, MATURE, REINSTATE, SETTLE
 from life_tools.progress import Progress
 from life_tools.rules import REINSTATEMENT_ANNIVERSARIES, Policy, anniversary, changed, end_of, issued
@@ -24,6 +24,7 @@ from life_tools.rules import REINSTATEMENT_ANNIVERSARIES, Policy, anniversary, c
 FLAGS = ("soon-after-reinstatement", "on-last-day", "paid-at-once", "last-day-of-right", "late-maturity")
 SOON, ON_LAST_DAY, AT_ONCE, LAST_DAY_OF_RIGHT, LATE = FLAGS
 DAYS_LATE = 90
+LONGEST_YEAR = 366
 DAY = datetime.timedelta(1)
 
 
@@ -104,16 +105,37 @@ def days_before(book: Columns) -> Array:
     return found
 
 
-def candidates(book: Columns) -> Array:
+def doubtful_claims(book: Columns) -> Array:
+    """The places of claims on the day of the posting before them, or some year behind a reinstatement."""
+    day, place = book.records.day, book.place
+    claims, reinstated = np.flatnonzero(book.records.kind == CLAIM), np.flatnonzero(book.records.kind == REINSTATE)
+    newest = np.full(len(book.policies), FIRST - 2 * LONGEST_YEAR)
+    newest[place[reinstated]] = day[reinstated]
+    is_one = (days_before(book)[claims] == day[claims]) | (day[claims] - newest[place[claims]] <= LONGEST_YEAR)
+    found: Array = claims[is_one]
+    return found
+
+
+def doubtful_reinstatements(book: Columns) -> Array:
+    """The places of reinstatements on an anniversary or on the last day of the cover, as the last day of the right is."""
+    found = np.flatnonzero(book.records.kind == REINSTATE)
+    day, place = book.records.day[found], book.place[found]
+    issued_on = book.policies.issued[place]
+    is_anniversary = anniversaries(issued_on, years_at(day) - years_at(issued_on)) == day
+    right: Array = found[is_anniversary | (day == book.policies.end[place] - 1)]
+    return right
+
+
+def candidates(book: Columns, days_late: int) -> Array:
     """The places of the policies of which a posting may be flagged: few, since each of their postings is looked at."""
     kind, day, place = book.records.kind, book.records.day, book.place
     claims, settled, matured = (np.flatnonzero(kind == code) for code in (CLAIM, SETTLE, MATURE))
     claimed = np.full(len(book.policies), NEVER)
     claimed[place[claims]] = day[claims]
     at_once = settled[day[settled] == claimed[place[settled]]]
-    late = matured[day[matured] > book.policies.end[place[matured]]]
-    on_last = claims[days_before(book)[claims] == day[claims]]
-    found: Array = np.unique(place[np.concatenate([on_last, np.flatnonzero(kind == REINSTATE), at_once, late])])
+    late = matured[day[matured] - book.policies.end[place[matured]] > days_late]
+    postings = np.concatenate([doubtful_claims(book), doubtful_reinstatements(book), at_once, late])
+    found: Array = np.unique(place[postings])
     return found
 
 
@@ -130,7 +152,7 @@ def postings_of(book: Columns, policies: Array) -> Iterator[Array]:
 def flags_of(book: Columns, days_late: int = DAYS_LATE) -> list[Flag]:
     """The flagged postings of a book, in their order."""
     watch, progress = Watch(days_late), Progress("looking at policies")
-    for done, postings in enumerate(postings_of(book, candidates(book))):
+    for done, postings in enumerate(postings_of(book, candidates(book, days_late))):
         policy: Policy | None = None
         for posting, command in zip(postings.tolist(), book.records.commands(postings)):
             after = changed(policy, command) if policy else issued(command)

@@ -8,7 +8,8 @@ A row of the map says what a field of a policy is taken from:
   plan,Tariff                  the column of the plan; each of its words has a row of its own:
   word,LV-W,whole              .. the word, and the plan that it is
   age,Age                      the column of the age at issue; or
-  birth,Born,DD.MM.YYYY        .. that of the day of birth: the age is that of the last birthday, or of the nearest one
+  birth,Born,DD.MM.YYYY        .. that of the day of birth: the age is that of the last birthday, or of the nearest one (of two
+                               that are as near that of the earlier)
   years,Term                   the column of the years, which is empty or 0 for whole life
   amount,Sum,1.234,56          the column of the amount, and an amount as it is written there; or the word `cents`
   premium,Yearly premium,1.234,56

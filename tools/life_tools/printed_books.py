@@ -68,7 +68,8 @@ def valuation_in(text: str) -> PrintedValuation:
     sums = tuple(sum(row.bounds[place] for row in rows) for place in range(bounds))
     demand(sums == total, f"the rows add up to {' and '.join(money(each) for each in sums)}, and the total is {lines[-1]}")
     demand(words == sum(row.word != "" for row in rows), f"{lines[-1]}: another number of rows has a word")
-    assert position is not None and words is not None
+    if position is None or words is None:
+        raise Wrong(f"{lines[0]} begins no valuation")
     return PrintedValuation(day_in(head[2]), position, measure, rows, total, words)
 
 

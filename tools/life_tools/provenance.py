@@ -48,9 +48,14 @@ def program_words(life: str | None = None) -> str:
     return f"revision {built['revision']}" if built.get("sum") == found else f"SHA-256 {found}"
 
 
+def shown(text: str) -> str:
+    """A text of which a page, a CSV and a workbook take each letter."""
+    return "".join(letter if letter.isprintable() else "?" for letter in text)
+
+
 def provenance(folder: str, position: int, title: str | None = None, life: str | None = None) -> dict[str, str]:
     """The facts, by their names."""
-    name = title or os.path.basename(os.path.realpath(folder))
+    name = shown(title or os.path.basename(os.path.realpath(folder)))
     made = datetime.datetime.now(datetime.timezone.utc)
     return {"book": name, "journal": f"SHA-256 {front_sum(folder, position)} up to position {position}",
             "program": program_words(life), "made": made.strftime("%Y-%m-%d %H:%M UTC")}

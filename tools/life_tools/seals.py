@@ -18,9 +18,9 @@ import os
 from dataclasses import dataclass
 from typing import NamedTuple, Sequence
 
-from life_tools.commands import day_at
+from life_tools.commands import EPOCH
 from life_tools.copied_folder import JOURNAL
-from life_tools.formats import MOST_COMMANDS, Wrong, bytes_of, day_in, demand, number_of, read_whole
+from life_tools.formats import LAST_DAY, MOST_COMMANDS, Wrong, bytes_of, day_in, demand, number_of, read_whole
 from life_tools.journals import FIRST_GATE, RECORD_SIZE, gate_of
 from life_tools.record_columns import BadJournal, columns_at
 from life_tools.tables import NAME, basis_rows, file_in
@@ -28,6 +28,8 @@ from life_tools.tables import NAME, basis_rows, file_in
 VERSION = "1"
 MOST_SEAL_BYTES = 2**20
 SUM_DIGITS = 64
+# days from 1970-01-01 within which Python counts
+FARTHEST = 10**6
 
 
 class Sealed(NamedTuple):
@@ -77,6 +79,15 @@ def sealed_files(folder: str, bases: Sequence[str]) -> tuple[Sealed, ...]:
     return tuple(found.values())
 
 
+def newest_of(days: Sequence[int], path: str) -> datetime.date | None:
+    """The latest of the days of records, which aren't judged here but for this."""
+    if not days:
+        return None
+    newest = EPOCH + datetime.timedelta(max(days)) if abs(max(days)) < FARTHEST else None
+    demand(newest and newest <= LAST_DAY, f"{path}: a record has no day of the calendar: life-tools read tells which")
+    return newest
+
+
 def seal_of(folder: str, position: int | None = None, bases: Sequence[str] = ("basis.csv",)) -> Seal:
     """The seal of a folder's journal at a position (the newest where none is told) and of these bases."""
     path = os.path.join(folder, JOURNAL)
@@ -85,8 +96,8 @@ def seal_of(folder: str, position: int | None = None, bases: Sequence[str] = ("b
     days = front.days()
     with memoryview(front.data) as data:
         found = sum_of(data[:gate_of(front.count)])
-    made, newest = datetime.datetime.now(datetime.timezone.utc).date(), day_at(max(days)) if days else None
-    return Seal(made, front.count, whole.count, newest, found, sealed_files(folder, bases))
+    made = datetime.datetime.now(datetime.timezone.utc).date()
+    return Seal(made, front.count, whole.count, newest_of(days, path), found, sealed_files(folder, bases))
 
 
 def text_of(seal: Seal) -> str:

@@ -55,9 +55,17 @@ def write_rows(path: str, rows: Sequence[Sequence[str]]) -> None:
         csv.writer(file, lineterminator="\n").writerows(rows)
 
 
+def demand_new(*folders: str) -> None:
+    """Demands that new folders can be made under these names."""
+    for folder in folders:
+        demand(not os.path.lexists(folder), f"{folder} is there already")
+        demand(os.path.isdir(os.path.dirname(os.path.abspath(folder))), f"{folder}: No such file or directory")
+    demand(len({os.path.abspath(folder) for folder in folders}) == len(folders), f"{' and '.join(folders)} are one folder")
+
+
 def write_folder(folder: str, write: Callable[[str], None]) -> None:
     """A new folder, which is there whole or not at all."""
-    demand(not os.path.lexists(folder), f"{folder} is there already")
+    demand_new(folder)
     part = f"{folder.rstrip('/')}.part"
     try:
         os.mkdir(part)

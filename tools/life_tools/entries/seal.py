@@ -5,7 +5,13 @@
 
 The front is the first 17 + 65 P bytes of journal.life, which no later posting changes. What its records say isn't judged:
 `life state` and `read` do that. The status is 1 where a front or a file is another one, or where postings are gone. Of a
-book of which `verify` finds postings gone no seal is made.
+book of which `verify` finds postings gone no seal is made. The lines of a seal are
+
+    seal,1,DAY ON WHICH IT WAS MADE
+    position,P,POSTINGS THAT THE JOURNAL HAD,LATEST DAY OF THE FRONT
+    front,BYTES,SHA-256
+    file,NAME,BYTES,SHA-256             the basis and each table that it names
+    sum,SHA-256 OF THE LINES ABOVE
 """
 from __future__ import annotations
 

@@ -4,7 +4,8 @@
 
 DAY1 and DAY2 are the days, P1 and P2 the positions at which it begins and ends. Every sheet adds up to what the program
 prints of both positions, and to the balances of its accounts; else nothing is written, and the status is 1. --mean has mean
-reserves in place of terminal ones; deficiency stands beside them in any case.
+reserves in place of terminal ones; deficiency stands beside them in any case. In the increase in reserves a posting of a day
+behind DAY2 counts on that day, and one of a policy that was there at P1 not before DAY1.
 """
 from __future__ import annotations
 
@@ -17,7 +18,7 @@ from life_tools.entries.why import position_in
 from life_tools.formats import day_in, remark
 from life_tools.periods import Asked, NotWhole
 from life_tools.provenance import provenance
-from life_tools.sheet_files import lines_of, write_csvs, write_folder, write_policies, write_workbook
+from life_tools.sheet_files import demand_new, lines_of, write_csvs, write_folder, write_policies, write_workbook
 from life_tools.sheet_pages import page
 from life_tools.statement import Statement, statement_of
 
@@ -49,6 +50,8 @@ def asked_in(options: argparse.Namespace) -> Asked:
 
 def run(options: argparse.Namespace) -> int:
     asked = asked_in(options)
+    # before the program is asked, and before a file is written
+    demand_new(*(folder for folder in (options.csv, options.policies) if folder))
     try:
         statement = statement_of(asked)
     except NotWhole as wrong:

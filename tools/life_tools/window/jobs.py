@@ -13,6 +13,14 @@ MOST_WAITING = 8
 AT_ONCE = 0.3
 
 
+# so many results are kept that have no file of their own
+MOST_SMALL = 400
+
+
+def has_file(result: object) -> bool:
+    return getattr(result, "path", None) is not None
+
+
 class TooMuch(Wrong):
     """More is asked than is done at a time."""
 
@@ -82,8 +90,12 @@ class Jobs:
     def throw_away(self) -> None:
         """Forgets the results that were asked for longest ago, where there are too many."""
         with self.changed:
-            ended = [key for key, job in self.known.items() if job.ended.is_set()]
-            dropped = [self.known.pop(key) for key in ended[:max(len(ended) - self.most_kept, 0)]]
+            # what the whole window rests on has a name alone, and isn't counted
+            ended = [key for key, job in self.known.items() if job.ended.is_set() and not isinstance(key, str)]
+            large = [key for key in ended if has_file(self.known[key].result)]
+            small = [key for key in ended if not has_file(self.known[key].result)]
+            out = large[:max(len(large) - self.most_kept, 0)] + small[:max(len(small) - MOST_SMALL, 0)]
+            dropped = [self.known.pop(key) for key in out]
         for job in dropped:
             if not job.failure:
                 self.forget(job.result)

@@ -21,7 +21,8 @@ from life_tools.copied_folder import JOURNAL, basis_files, copy_basis
 from life_tools.formats import bytes_of, demand
 from life_tools.journals import EMPTY, count_of
 from life_tools.policy_columns import Policies
-from life_tools.record_columns import copy_front, front_count, front_sum
+from life_tools.provenance import front_sum
+from life_tools.record_columns import copy_front, front_count
 from life_tools.window import tables
 from life_tools.window.jobs import Job, Jobs
 from life_tools.window.kept_columns import keep, kept
@@ -62,7 +63,7 @@ class LookedAt:
         return self.positions[-1]
 
     def sum_at(self, position: int) -> str:
-        """The SHA-256 of the journal of the first so many postings alone, for a position that the tables were made for."""
+        """The SHA-256 of the front of so many postings, of a position that the tables were made for."""
         return self.sums[position]
 
     def open(self) -> None:
@@ -81,7 +82,7 @@ class LookedAt:
     def take_book(self, book: Columns) -> None:
         """From now on the position can be looked at."""
         keep(self.policies_at(book.count), POLICIES, book.policies)
-        self.sums[book.count] = front_sum(self.journal, book.count)
+        self.sums[book.count] = front_sum(self.desk, book.count)
         self.positions.append(book.count)
 
     def policies_at(self, position: int) -> str:
@@ -127,7 +128,7 @@ class LookedAt:
         """Takes what was posted since the copy was made, which has to be its front."""
         first = self.newest
         job.at("copying the journal")
-        demand(front_sum(self.book.journal, first) == self.sums[first],
+        demand(front_sum(self.book.folder, first) == self.sums[first],
                f"{self.book.journal} isn't the journal any more of which this window was opened: open another one")
         self.take_copy()
         if front_count(self.journal) == first:

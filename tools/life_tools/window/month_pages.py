@@ -8,7 +8,9 @@ from life_tools.day_columns import number_at
 from life_tools.entries.report import HEADS
 from life_tools.formats import MEASURES
 from life_tools.positions import on_day
+from life_tools.provenance import provenance
 from life_tools.report_pages import apart, money
+from life_tools.revisions import revision
 from life_tools.window import pictures
 from life_tools.window.asked import Asked, BadRequest
 from life_tools.window.downloads import csv_parts, workbook
@@ -127,9 +129,14 @@ def report_xlsx(book: LookedAt, asked: Asked, at: int) -> Answer:
 
 def about(book: LookedAt, it: Valuation) -> list[list[str]]:
     return [["what", "is"], ["book", book.book.name], ["day", str(it.on)], ["position", str(it.position)],
-            ["measure", it.measure], ["basis", book.book.basis], ["journal looked at, SHA-256", book.sum_at(book.newest)],
-            ["printed by life", ", ".join(map(money, it.total))],
-            ["made", f"{datetime.datetime.now():%Y-%m-%d %H:%M}"]]
+            ["measure", it.measure], ["basis", book.book.basis], ["printed by life", ", ".join(map(money, it.total))],
+            *origin_of(book, it.position)]
+
+
+def origin_of(book: LookedAt, position: int) -> list[list[str]]:
+    """Journal, program, tools and moment."""
+    facts = provenance(book.desk, position, book.book.name)
+    return [[name, facts[name]] for name in ("journal", "program", "made")] + [["tools", revision()]]
 
 
 # --- a movement ---
@@ -208,7 +215,7 @@ def movement_csv(book: LookedAt, asked: Asked, at: int) -> Answer:
 def movement_xlsx(book: LookedAt, asked: Asked, at: int) -> Answer:
     run, words = asked_movement(book, asked, at)
     of_what = [["what", "is"], ["book", book.book.name], ["from", f"{words[0]} at position {words[1]}"],
-               ["to", f"{words[2]} at position {words[3]}"], ["made", f"{datetime.datetime.now():%Y-%m-%d %H:%M}"]]
+               ["to", f"{words[2]} at position {words[3]}"], *origin_of(book, int(words[3]))]
     return File(f"movement-{words[0]}-{words[2]}.xlsx", XLSX, workbook([("about", of_what), ("movement", movement_table(run))]))
 
 

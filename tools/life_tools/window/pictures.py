@@ -4,10 +4,11 @@ from __future__ import annotations
 from html import escape
 from typing import Sequence
 
+from life_tools.drawing import unit_for
 from life_tools.report_pages import money
 
 WIDTH, HEIGHT = 720, 300
-LEFT, RIGHT, TOP, BOTTOM = 110, 20, 16, 40
+LEFT, RIGHT, TOP, BOTTOM = 128, 24, 16, 46
 # the steps of an axis are one of these times a power of ten
 ROUND = (1, 2, 5, 10)
 
@@ -35,6 +36,7 @@ class Curve:
         self.step = step_of(max(most, 100))
         self.top = max(-(-most // self.step), 1) * self.step
         self.years = max(points[-1][0] if points else 1, 1)
+        self.unit = unit_for(self.top)
 
     def across(self, year: int) -> float:
         return LEFT + (WIDTH - LEFT - RIGHT) * year / self.years
@@ -47,7 +49,7 @@ class Curve:
         for cents in range(0, self.top + 1, self.step):
             y = self.up(cents)
             parts.append(f'<line class="grid" x1="{LEFT}" x2="{WIDTH - RIGHT}" y1="{y:.1f}" y2="{y:.1f}"/>')
-            parts.append(text(LEFT - 10, y + 5, f"{cents // 100:,}", "left"))
+            parts.append(text(LEFT - 10, y + 5, self.unit.told(cents), "left"))
         every = max(step_of(self.years), 1)
         for year in range(0, self.years + 1, every):
             parts.append(text(self.across(year), HEIGHT - BOTTOM + 22, str(year), "middle"))

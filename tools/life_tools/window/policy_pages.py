@@ -6,13 +6,14 @@ import os
 from typing import Any
 
 from life_tools.formats import MEASURES, MOST_NUMBER
+from life_tools.printed_books import ValuedRow
 from life_tools.report_pages import money
 from life_tools.rules import completed
 from life_tools.tables import read_basis
 from life_tools.window import pictures
 from life_tools.window.asked import Asked, BadRequest
 from life_tools.window.due_lists import of_policy
-from life_tools.window.formulas import explained
+from life_tools.window.formulas import Explained, explained
 from life_tools.window.looked_at import LookedAt
 from life_tools.window.parts import RIGHT, Answer, Cell, Head, Page, Table, cells, heads, link
 from life_tools.window.policies import Known, curve_of, due_words, policy_at, standing_of, terms_of
@@ -67,9 +68,12 @@ def reserve_of(book: LookedAt, known: Known, at: int, on: datetime.date, measure
     row = row_of(valuation, known.policy.number)
     if row is None:
         raise BadRequest(f"number: the valuation has no row of policy {known.policy.number}")
+    printed: ValuedRow = row
     names = ("lower bound", "upper bound", "minimum, lower", "minimum, upper")
     basis = read_basis(os.path.join(book.desk, book.book.basis))
-    worked = explained(known.policy, at, on, basis, measure, row)
+    worked = book.kept(("why", known.policy.number, at, on, measure), f"the reserve of policy {known.policy.number}, worked out",
+                       lambda job: explained(known.policy, at, on, basis, measure, printed))
+    assert isinstance(worked, Explained)
     rates = Table("Rates of death", heads(("year", "age", "rate"), 0), [cells((it[0] + 1, *it[1:])) for it in worked.rates])
     bounds = [(name, money(cents)) for name, cents in zip(names, row.bounds)]
     return {"row": row, "bounds": bounds, "worked": worked, "rates": rates}
@@ -89,4 +93,5 @@ def picture_of(book: LookedAt, known: Known, at: int, on: datetime.date | None) 
     table = Table("The reserve on each anniversary", names,
                   [[*cells((place,)), Cell(str(day)), *cells(map(money, row.bounds) if not row.word else (row.word, ""))]
                    for place, (day, row) in enumerate(curve.rows)])
-    return {"picture": pictures.Curve(points, chosen, says).svg(), "curve": table}
+    drawn = pictures.Curve(points, chosen, says)
+    return {"picture": drawn.svg(), "unit": drawn.unit.words, "curve": table}

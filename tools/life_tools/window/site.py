@@ -8,7 +8,8 @@ import pkgutil
 from typing import Any, Callable
 from urllib.parse import quote, urlencode
 
-from life_tools.revisions import built_with
+from life_tools.provenance import program_words
+from life_tools.revisions import revision
 from life_tools.formats import Wrong
 from life_tools.window import audit_pages, day_pages, find_pages, month_pages, policy_pages, stand_pages, statement_pages
 from life_tools.window.asked import Asked, BadRequest
@@ -48,19 +49,14 @@ def file_of_package(name: str) -> bytes:
     return found
 
 
-def revision() -> str:
-    """Which tools these are, as they were installed."""
-    built = built_with()
-    return f"tools of revision {built['revision'][:12]}" if built else "tools of a clone"
-
-
 class Site:
     """The books of a window, and Flask's application over them."""
 
     def __init__(self, books: list[LookedAt], port: int) -> None:
         self.flask: Any = importlib.import_module("flask")
         jinja: Any = importlib.import_module("jinja2")
-        self.books, self.port, self.revision = books, port, revision()
+        self.books, self.port = books, port
+        self.origin = f"program {program_words()[:28]} · tools {revision()[:12]}"
         nowhere = os.path.join(os.path.dirname(books[0].folder), "nothing")
         self.app: Any = self.flask.Flask(PACKAGE, static_folder=None, template_folder=None, root_path=nowhere,
                                          instance_path=nowhere)
@@ -140,9 +136,9 @@ class Site:
         return self.flask.Response(text, status=status, mimetype="text/html")
 
     def waiting(self, book: LookedAt, job: Job) -> Any:
-        response = self.rendered("working.html", "One moment", {"book": book, "job": job}, 202)
-        # told with its address, since a page that was come to by a place within it would else not be fetched again
         request = self.flask.request
+        response = self.rendered("working.html", "One moment", {"book": book, "job": job, "is_file": "." in request.path}, 202)
+        # told with its address, since a page that was come to by a place within it would else not be fetched again
         words = urlencode(list(request.args.items(multi=True)))
         response.headers["Refresh"] = f"{REFRESH}; url={quote(request.path)}?{words}"
         return response
