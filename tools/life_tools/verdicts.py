@@ -4,8 +4,9 @@ from __future__ import annotations
 import os
 import tempfile
 
-from life_tools.copied_folder import run_in
+from life_tools.copied_folder import JOURNAL, run_in
 from life_tools.formats import MOST_BASIS_BYTES, Wrong
+from life_tools.journals import EMPTY
 from life_tools.program import life_command
 from life_tools.tables import NAME
 
@@ -30,6 +31,9 @@ def verdict_on(data: bytes, name: str, life: str | None = None) -> str:
             file.write(f"1900-01-01,{name},0\n")
         with open(os.path.join(desk, name), "wb") as table:
             table.write(data[:MOST_BASIS_BYTES + 1])
+        # a book without a command, since the launcher asks nothing of a folder that has none
+        with open(os.path.join(desk, JOURNAL), "wb") as journal:
+            journal.write(EMPTY)
         status, printed = run_in(desk, command, ["value", DAY])
     line = printed.splitlines()[0] if printed else ""
     if status not in (TAKEN, BAD_BASIS):
