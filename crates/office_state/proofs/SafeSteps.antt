@@ -87,18 +87,3 @@ untold_safe g disk held (Some p) none = subst (AreSafeSince g disk held []) (sym
 pub outlet_itself : (a : Option MomentRing) → SameOutlet a a
 outlet_itself None = tt
 outlet_itself (Some p) = ((refl, refl, refl, refl), refl)
-
-pub outlet_on : (a b c : Option MomentRing) → SameOutlet a b → SameOutlet b c → SameOutlet a c
-outlet_on None None None one other = tt
-outlet_on None (Some q) c one other = absurd one
-outlet_on (Some p) None c one other = absurd one
-outlet_on a None (Some r) one other = absurd other
-outlet_on a (Some q) None one other = absurd other
-outlet_on (Some p) (Some q) (Some r) one other =
-    ((other.0.0 ∙ one.0.0, other.0.1 ∙ one.0.1, other.0.2 ∙ one.0.2, other.0.3 ∙ one.0.3), other.1 ∙ one.1)
-
-pub outlet_told : (a b : Option MomentRing) (moment : ℕ) → TellsOne a b moment → SameOutlet a b
-outlet_told None None moment tells = tt
-outlet_told None (Some q) moment tells = absurd tells
-outlet_told (Some p) None moment tells = absurd tells
-outlet_told (Some p) (Some q) moment tells = tells.0
