@@ -1,5 +1,5 @@
 -- From the opening of an office to its end
-use Rattle.std.proofs.Common.{◌≡◌, List, Option, [], ap, sym, ◌∙◌, subst, Some}
+use Rattle.std.proofs.Common.{◌≡◌, ℕ, ◌≤◌, List, Option, [], ap, sym, ◌∙◌, subst, Some}
 use Rattle.std.specs.Prelude.{IfSome}
 use Rattle.outside_io.specs.declared.disks.Disk.{Ghosts}
 use Rattle.policy_types.specs.Accounts.{Booking}
@@ -59,8 +59,10 @@ module _ {D W : Type 0} (g : Ghosts D) (w : WatcherGhosts W) where
         → outlet ≡ outlet_of state
         → ((history : List Entry) → StandsFor state history → g.honest disk
         → IfSome outlet (λ ring. AreSafeSince g disk (opening_of state).commands (accepted_of history) (sent ring)))
+        → (g.honest disk → (early late : ℕ) (image : List ℕ) → early ≤ late → g.left_since disk late image → g.left_since disk early image)
         → HasClosed g w pass disk booked reports outlet
-    closed state disk booked reports outlet same given left ledger told ring safe = record {
+    closed state disk booked reports outlet same given left ledger told ring safe sooner = record {
+      sooner = sooner;
       opening = opening_on shared;
       opened = opened;
       whole = whole;

@@ -1,5 +1,5 @@
 -- How a shared office begins and ends
-use Rattle.std.specs.Prelude.{◌≡◌, List, [], Option, Some, IfSome}
+use Rattle.std.specs.Prelude.{◌≡◌, ℕ, ◌≤◌, List, [], Option, Some, IfSome}
 use Rattle.outside_io.specs.declared.disks.Disk.{Ghosts}
 use Rattle.policy_types.specs.Accounts.{Booking}
 use Rattle.policy_types.specs.declared.watcher.Report.{Report}
@@ -45,3 +45,6 @@ pub record HasClosed {D W : Type 0} (g : Ghosts D) (w : WatcherGhosts W) (pass :
   pub same : SameOutlet opening.outlet outlet
   pub safe : g.honest new
       → IfSome outlet (λ ring. AreSafeSince g new opening.opening.commands (accepted_of pass.seen) (sent ring))
+  -- what a crash left since a moment it left since each earlier one
+  pub sooner : g.honest new → (early late : ℕ) (image : List ℕ) → early ≤ late → g.left_since new late image
+      → g.left_since new early image
