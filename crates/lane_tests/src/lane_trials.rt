@@ -162,7 +162,7 @@ pub fn run_watched<W: Watching + Send, G: Gate + Sync, R: Threads + Wait + Sync>
     };
     issue_all(rt, &office, &mut pass, issued);
     let run = run_right(rt, alloc, &office, &mut pass, lanes, &basis, gate);
-    let (_, _, reports) = close(office, pass);
+    let (_, _, reports, _) = close(office, pass);
     match run {
         Some(run) => Ok((run, reports)),
         None => Err("right lanes, and memory".into()),

@@ -88,6 +88,6 @@ pub fn post_issues<D: Disk + Send, W: Watching + Send, R: Threads + Wait + Sync>
 {
     let (office, pass) = Office::start(alloc, disk, watchers)?;
     let (pass, accepted) = lanes(rt, &office, pass, &Issues { each }, 0, callers);
-    let (disk, _, _) = close(office, pass);
+    let (disk, _, _, _) = close(office, pass);
     Ok((disk, accepted))
 }

@@ -15,13 +15,14 @@ use Rattle.turn_lock.specs.Passes.{Holding, IsFirst, OwnsAll}
 use Rattle.shared_office.specs.Offices.{OfficeOpening}
 use Rattle.office_state.specs.States.{MomentRing}
 
--- The office was opened on a list of commands and the disk's count of faults, with these watchers and this outlet. Its first pass has all
--- turns and all shares. Where the disk that the office then holds is honest, it was so before, and the commands are
+-- The office was opened on a list of commands and the disk's count of faults, with these watchers and some outlet. Its first
+-- pass has all turns and all shares. Where the disk that the office then holds is honest, it was so before, and the commands are
 -- those of its file. It is the one that the pass's opening names, and which an office without turns leaves; that the disk
 -- which any office leaves says the same stands in what closing tells.
-pub record HasStartedOffice {D W : Type 0} (g : Ghosts D) (old : D) (watchers : W) (outlet : Option MomentRing)
-    (pass : Holding (OfficeOpening D W)) : Type 0 where
+pub record HasStartedOffice {D W : Type 0} (g : Ghosts D) (old : D) (watchers : W) (pass : Holding (OfficeOpening D W))
+    : Type 0 where
   pub opening : Opening
+  pub outlet : Option MomentRing
   pub held : D
   pub first : IsFirst (record { opening = opening; begun = old; held = held; watchers = watchers; outlet = outlet }) pass
   pub faults : opening.faults ≡ g.faults old

@@ -154,7 +154,7 @@ fn load_office<
         &mut nowhere,
     );
     let Ok(ran) = ran else {
-        let (disk, _, _) = close(office, pass);
+        let (disk, _, _, _) = close(office, pass);
         return Finished {
             ending: lack_memory(output),
             disk,
@@ -176,7 +176,7 @@ fn load_office<
         NO_LANE,
         gate,
     );
-    let (disk, _, _) = close(office, pass);
+    let (disk, _, _, _) = close(office, pass);
     let ending = write_loaded(alloc, &ran.transcript.lines, valued.answer, output);
     Finished { ending, disk }
 }

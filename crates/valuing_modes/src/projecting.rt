@@ -87,7 +87,7 @@ fn project_office<R: Threads + Wait + Sync, K: Sink, D: Disk, W: Watching, G: Ga
     let projected = cash_projection::project(
         rt, alloc, &office, &mut pass, basis, on, years, workers, gate,
     );
-    let (disk, _, _) = close(office, pass);
+    let (disk, _, _, _) = close(office, pass);
     let ending = write_answer(alloc, projected.answer, output);
     Finished { ending, disk }
 }

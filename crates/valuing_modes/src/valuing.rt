@@ -97,7 +97,7 @@ fn value_office<R: Threads + Wait + Sync, K: Sink, D: Disk, W: Watching, G: Gate
         workers,
     };
     let valued = snapshot_value::value(rt, alloc, &office, &mut pass, query, at, NO_LANE, gate);
-    let (disk, _, _) = close(office, pass);
+    let (disk, _, _, _) = close(office, pass);
     let ending = write_answer(rt, alloc, on, valued.answer, workers, output);
     Finished { ending, disk }
 }
