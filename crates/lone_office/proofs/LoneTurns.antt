@@ -123,7 +123,7 @@ module _ {D W : Type 0} (g : Ghosts D) (w : WatcherGhosts W) (old disk : D) (wat
     (pin : Placed) (later : List Placed) (grows : Grows first closing (pin ∷ later)) (dry : List ℕ) (asked : pin.1.call ≡ pin_call at)
     (follows : FollowsPin dry pin.0 pin.1.reply (map (λ (turn : Placed). turn.1.call) later)) where
   abbrev opened : OfficeOpening D W
-  opened = record { opening = started.opening; begun = old; held = started.held; watchers = watchers }
+  opened = record { opening = started.opening; begun = old; held = started.held; watchers = watchers; outlet = started.outlet }
 
   closing_opened : closing.opening ≡ Some opened
   closing_opened = grows.opening ∙ started.first.opened

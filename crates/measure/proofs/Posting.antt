@@ -17,7 +17,7 @@ use Rattle.measure.specs.Turns.{AllTake}
 module _ {D W : Type 0} (g : Ghosts D) (w : WatcherGhosts W) (old new : D) (watchers : W) (turns accepted : ℕ) (balances : Booking) (reports : List Report) (first last : Holding (OfficeOpening D W))
     (started : HasStartedOffice g old watchers first) (take : AllTake accepts turns accepted first last) {outlet : Option MomentRing} (closed : HasClosed g w last new balances reports outlet) (facts : PassFacts IsOfficeHistory last) where
   abbrev began : OfficeOpening D W
-  began = record { opening = started.opening; begun = old; held = started.held; watchers = watchers }
+  began = record { opening = started.opening; begun = old; held = started.held; watchers = watchers; outlet = started.outlet }
 
   -- what the last pass tells of the opening is what the first told
   one_opening : (opening : OfficeOpening D W) → last.opening ≡ Some opening → opening ≡ began

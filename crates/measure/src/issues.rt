@@ -37,7 +37,7 @@ impl<D: Disk, W: Watching, R: Wait> Lane<SharedState<D, W>, R> for Issues {
         while done < self.each {
             let command = issue(done * 32 + place + 1);
             let posted = gate.post(rt, pass, &command);
-            accepted += is_accepted(posted.answer.answer);
+            accepted += is_accepted(posted.answer);
             done += 1;
         }
         accepted

@@ -64,7 +64,7 @@ module _ {D W : Type 0} (g : Ghosts D) (w : WatcherGhosts W) (old disk : D) (lan
     (first closing : Holding (OfficeOpening D W)) (balances : Booking) (reports : List Report) (started : HasStartedOffice g old watchers first)
     (facts : PassFacts IsOfficeHistory closing) {outlet : Option MomentRing} (closed : HasClosed g w closing disk balances reports outlet) (script : AreScriptLanes lanes) where
   abbrev opened : OfficeOpening D W
-  opened = record { opening = started.opening; begun = old; held = started.held; watchers = watchers }
+  opened = record { opening = started.opening; begun = old; held = started.held; watchers = watchers; outlet = started.outlet }
 
   abbrev auditors : List Auditor
   auditors = w.handed watchers

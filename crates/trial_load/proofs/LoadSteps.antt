@@ -68,7 +68,7 @@ module _ {D W : Type 0} (g : Ghosts D) (w : WatcherGhosts W) (old disk : D) (lan
     (before : PassFacts IsOfficeHistory mid) (valued : HasValued basis load_day Terminal Now workers mid closing turn answer)
     (facts : PassFacts IsOfficeHistory closing) {outlet : Option MomentRing} (closed : HasClosed g w closing disk balances reports outlet) (right : AreLoadLanes lanes) where
   abbrev opened : OfficeOpening D W
-  opened = record { opening = started.opening; begun = old; held = started.held; watchers = watchers }
+  opened = record { opening = started.opening; begun = old; held = started.held; watchers = watchers; outlet = started.outlet }
 
   mid_opened : mid.opening ≡ Some opened
   mid_opened = ran.pass.opening ∙ started.first.opened
@@ -308,7 +308,7 @@ pub ends_unrun : {D W : Type 0} (g : Ghosts D) (w : WatcherGhosts W) (old disk :
     → HasStartedOffice g old watchers first → {outlet : Option MomentRing} → HasClosed g w closing disk balances reports outlet → closing ≡ first
     → SaysUnopened NoRoom output NoMemory → EndsLoading g old disk lanes workers basis output NoMemory
 ends_unrun {D = D} {W = W} g w old disk lanes workers basis watchers first closing balances reports output started closed same said =
-    let opened : OfficeOpening D W = record { opening = started.opening; begun = old; held = started.held; watchers = watchers } in
+    let opened : OfficeOpening D W = record { opening = started.opening; begun = old; held = started.held; watchers = watchers; outlet = started.outlet } in
     let is : closing.opening ≡ Some opened = ap (λ (p : Holding (OfficeOpening D W)). p.opening) same ∙ started.first.opened in
     let none : closing.seen ≡ [] = ap (λ (p : Holding (OfficeOpening D W)). p.seen) same ∙ started.first.seen in
     let one : closed.opening ≡ opened = same_opened closed.opening opened (sym closed.opened ∙ is) in
