@@ -23,12 +23,12 @@ use crate::refusing::refuse;
 use basis_book::{Basis, BasisRows, Name};
 use basis_shelf::fetch_basis;
 use indexmap::IndexMap;
-use lane_runner::{Ran, TranscriptLines, Unwritten, run_lanes};
+use lane_runner::{Ran, TranscriptLines, Unwritten, count_postings, run_lanes};
 use moment_ring::{MomentInlet, MomentOutlet, beside, moment_ring};
 use outside_io::{Disk, Gate, Moment, Shelf, Sink, Source, write_all_since};
 use policy_types::{Lane, Line, NoMemory, Report};
 use program_endings::{Ending, Finished, lack_memory, refuse_basis, refuse_journal};
-use shared_office::{Office, OfficeCalls, OfficePass, close};
+use shared_office::{Office, OfficePass, close, start_telling};
 use std::alloc::Global;
 use std::sync::Wait;
 use std::thread::Threads;
@@ -188,7 +188,7 @@ fn run_by<
         (between K.faults K.written K.pieces output.old output.new) result.ending }
 {
     let (outlet, moments) = ends;
-    match Office::start(alloc, disk, watchers, outlet) {
+    match start_telling(alloc, disk, watchers, outlet) {
         Ok((office, pass)) => run_office(
             rt, alloc, lanes, basis, office, pass, moments, output, gate,
         ),
@@ -307,16 +307,6 @@ fn write_reports<D: Disk, K: Sink<Beside = D>>(
         Ok(()) => ending_of(lines),
         Err(_) => Ending::WriteFault,
     }
-}
-
-// How many lines post a command, for as many of which there is to be room.
-fn count_postings(lanes: &[Lane]) -> usize {
-    let mut count = 0usize;
-    for lane in lanes {
-        let postings = lane.lines.as_slice().iter().filter(|line| matches!(**line, Line::Post(_))).count();
-        count = count.saturating_add(postings);
-    }
-    count
 }
 
 // Whether a line of a lane asks for values.
