@@ -31,7 +31,7 @@ fn devices_in_memory(rt: HostRuntime) -> Result<(), Fail> {
         };
         assert!(rt; right, "call {failing} fails");
     }
-    let mut sink = BytesSink::new(alloc, vec![in alloc; 2]?);
+    let mut sink = BytesSink::<MemoryDisk>::new(alloc, vec![in alloc; 2]?);
     let first = write_all(&mut sink, b"one ");
     let second = write_all(&mut sink, b"two ");
     let third = write_all(&mut sink, b"three");

@@ -1,5 +1,6 @@
 // A caller's projection while seven lanes post: each of them claims for a policy between its parts.
-ghost use Rattle.std.specs.Prelude.{◌≡◌, ◌≤◌};
+ghost use Rattle.std.specs.Prelude.{◌≡◌, ◌≤◌, []};
+ghost use Rattle.rtrb.specs.Ring.{received};
 
 use crate::lane_gates::Seven;
 use crate::lane_runner_tests::{claim, lane};
@@ -10,9 +11,10 @@ use crate::projection_meeting::{ISSUED, project_issues};
 use crate::projection_tests::Case;
 use basis_book::Basis;
 use memory_disk::MemoryDisk;
+use moment_ring::{MomentInlet, moment_ring};
 use outside_io::{Disk, OpenGate};
 use policy_types::{Lane, Line};
-use shared_office::{Office, OfficeCalls, OfficePass, close};
+use shared_office::{Office, OfficePass, close, start_telling};
 use std::alloc::{AllocError, Global};
 use std::sync::Wait;
 use std::test::Fail;
