@@ -76,7 +76,16 @@ fn both<D: Disk + Send, W: Watching + Send, R: Threads + Wait + Sync>(
             ensures { (result.0.turnstile ≡ other.turnstile) × (result.0.shares ≡ other.shares) }
         {
             let mut moments = moments;
-            let run = run_right(rt, alloc, office, &mut other, lanes, basis, gate, &mut moments);
+            let run = run_right(
+                rt,
+                alloc,
+                office,
+                &mut other,
+                lanes,
+                basis,
+                gate,
+                &mut moments,
+            );
             let posted = match run {
                 Some(run) => count_accepted(run.lines.as_slice()),
                 None => 0,

@@ -99,8 +99,7 @@ pub paired_on : {A P : Type 0} (outlet outlet' : Option (Producer ℕ A P)) (inl
     → SameOutlet outlet outlet' → SameConsumer inlet inlet' → ArePaired outlet' inlet'
 paired_on (Some p) (Some q) inlet inlet' paired same consumer =
     let out = same.0 in
-    let into = consumer.0 in
-    (
+    let into = consumer.0 in (
       into.0 ∙ paired.0 ∙ sym out.0,
       into.1 ∙ paired.1 ∙ sym out.1,
       into.2 ∙ paired.2 ∙ sym out.2,

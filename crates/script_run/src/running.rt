@@ -153,9 +153,7 @@ fn run_by_name<
     ensures files { H.files shelf.new ≡ H.files shelf.old }
 {
     match fetch_basis(alloc, name, shelf) {
-        Ok(basis) => run_by(
-            rt, alloc, lanes, &basis, ends, output, disk, watchers, gate,
-        ),
+        Ok(basis) => run_by(rt, alloc, lanes, &basis, ends, output, disk, watchers, gate),
         Err(cause) => Finished {
             ending: refuse_basis(alloc, cause, output),
             disk,
