@@ -179,7 +179,7 @@ fn real_streams_and_shelves(rt: HostRuntime) -> Result<(), Fail> {
     let name = "outside_io_stream.test";
     let mut sink = StdSink::<_, MemoryDisk>::new(File::create(&rt, name)?);
     let written = write_all(&mut sink, b"two\nlines");
-    let mut closed = StdSink::new(File::open(&rt, name)?);
+    let mut closed = StdSink::<_, MemoryDisk>::new(File::open(&rt, name)?);
     let refused = write_all(&mut closed, b"x");
     assert!(rt; (written, refused, closed.faults()) == (Ok(()), Err(WriteFault), 1));
     let mut shelf = FolderShelf::new(rt.clone()?);

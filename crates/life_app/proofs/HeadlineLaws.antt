@@ -35,7 +35,7 @@ use Rattle.snapshot_value.specs.Valuing.{IsValuedRow}
 use Rattle.office_state.specs.Images.{HoldsNow, IsLeftAlone, IsOneMore, IsPending}
 use Rattle.office_state.specs.Journals.{Opens}
 use Rattle.office_state.proofs.HistorySteps.{posting}
-use Rattle.transcript_text.specs.Transcript.{IsReplyText, IsTranscript, reports_text}
+use Rattle.transcript_text.specs.Transcript.{IsLineText, IsReplyText}
 use Rattle.watcher_set.specs.Noted.{Auditor, reports_of}
 use Rattle.program_endings.specs.declared.ending.Ending.{Ending}
 use Rattle.program_endings.specs.declared.ending.Ending.TheVariants.{Done, Usage, BadScript, BadBasis, BadJournal, ReadFault, WriteFault, DiskFault, NoMemory}
@@ -102,21 +102,12 @@ told_text clerk (Value on at workers) (Pinned position policies) commands basis 
 ]
 told_text _ _ _ _ _ _ _ is = absurd is
 
--- the text of a run line by line
-told_lines : (opening : Opening) (history : List Entry) (basis : List Dated) (dry : List ℕ) (lines : List AnsweredLine) (text : List ℕ)
-    → IsTranscript opening history basis dry lines text
-    → (texts : List (List ℕ)) × AllZip (IsToldLine opening.commands history basis dry) lines texts
-    × (text ≡ flat_map (λ (one : List ℕ). one) texts)
-told_lines opening history basis dry [] text is = ([], tt, is)
-told_lines opening history basis dry (line ∷ lines) text is =
-    let rest = told_lines opening history basis dry lines is.1.0 is.1.3 in (
-      is.0 ∷ rest.0,
-      (
-        told_text line.clerk line.line line.first.1.reply (commands_after opening (take line.first.0 history)) basis _ is.0 is.1.2,
-        rest.1,
-      ),
-      is.1.1 ∙ ap (λ (t : List ℕ). is.0 ++ t) rest.2,
-    )
+-- the texts of a run's lines
+told_lines : (opening : Opening) (history : List Entry) (basis : List Dated) (dry : List ℕ) (lines : List AnsweredLine) (texts : List (List ℕ))
+    → AllZip (IsLineText opening history basis dry) lines texts → AllZip (IsToldLine opening.commands history basis dry) lines texts
+told_lines opening history basis dry lines texts =
+    each_pair (IsLineText opening history basis dry) (IsToldLine opening.commands history basis dry)
+    (λ line text is. told_text line.clerk line.line line.first.1.reply (commands_after opening (take line.first.0 history)) basis _ text is) lines texts
 
 -- a posting that is pending was answered `fault` when all that is accepted was
 pub faulted_last : (history : List Entry) (command : Command) → IsPending history command → WasFaulted history (accepted_of history) command
@@ -160,14 +151,11 @@ there_once opening history held (command ∷ other ∷ more) image one opens = a
 module _ {D : Type 0} (g : Ghosts D) (old new : D) (output : Stream) where
   -- a run that ended so
   promised : (lanes : List Lane) (basis : List Dated) (auditors : List Auditor) (Wrote : List ℕ → Type 0)
-      (Replies : List Entry → List ℕ → Type 0) (ending : Ending) → (ran : IsRunOf g old new lanes basis auditors Wrote Replies)
+      (Replies : List Entry → List ℕ → Type 0) (ending : Ending) → (ran : IsRunOf g old new lanes basis auditors output Wrote Replies)
       → ((text : List ℕ) → Wrote text → HasWritten g old new ran.history ran.dry text output ending)
       → IsPromised g Opens old new lanes basis auditors output (status_of ending)
   promised lanes basis auditors Wrote Replies ending ran written =
       let opening = opened_on ran.commands (g.faults old) in
-      let told = told_lines opening ran.history basis ran.dry ran.answered ran.text ran.tells in
-      let behind = reports_text (reports_of auditors (accepted_of ran.history)) in
-      let wrote : Wrote (flat_map (λ (one : List ℕ). one) told.0 ++ behind) = subst (λ (t : List ℕ). Wrote (t ++ behind)) told.2 ran.wrote in
       record {
         commands = ran.commands;
         history = ran.history;
@@ -179,11 +167,12 @@ module _ {D : Type 0} (g : Ghosts D) (old new : D) (output : Stream) where
         distinct = ran.merge.distinct;
         theirs = ran.merge.theirs;
         answered = ran.lines;
-        texts = told.0;
-        told = told.1;
+        texts = ran.texts;
+        told = told_lines opening ran.history basis ran.dry ran.answered ran.texts ran.tells;
+        shown = ran.shown;
         ending = ending;
         exits = refl;
-        wrote = written _ wrote;
+        wrote = written _ ran.wrote;
         now = λ honest image left. there_now opening ran.history image (ran.disk.now honest image left);
         since = λ honest image left. elim (ran.disk.since honest image left) [
           | inl before ↦ inl before

@@ -7,7 +7,7 @@ use Rattle.std.specs.List.{AllByRecursion, AllZip, Contains, IsDistinct, flat_ma
 use Rattle.basis_book.specs.Dated.{Dated, IsPicked}
 use Rattle.outside_io.specs.Faults.{Rose}
 use Rattle.outside_io.specs.Shelves.{Files}
-use Rattle.outside_io.specs.Streams.{AppendsPart}
+use Rattle.outside_io.specs.Streams.{AppendsPart, TakenPiece}
 use Rattle.outside_io.specs.declared.disks.Disk.{Ghosts}
 use Rattle.plan_benefits.specs.Shapes.{shape_of}
 use Rattle.plan_benefits.specs.declared.fault.NotValued.{NotValued}
@@ -46,6 +46,7 @@ use Rattle.program_endings.specs.Writing.{Input, Shelving, Stream, WroteAll, Wro
 use Rattle.program_endings.specs.declared.ending.Ending.{Ending}
 use Rattle.program_endings.specs.declared.ending.Ending.TheVariants.{Done, BadScript, BadBasis, BadJournal, ReadFault, WriteFault, DiskFault, NoMemory}
 use Rattle.script_run.specs.Script.{IsRefused, asks_for_values}
+use Rattle.script_run.specs.Shown.{AreSafeWhenShown}
 
 -- by an entry of the basis: the bounds enclose the exact reserve of the amount at the policy's year, to at most two
 -- cents, by the rates of the age at issue and the duration, or the word says why the table has none
@@ -144,6 +145,9 @@ pub record IsPromised {D : Type 0} (g : Ghosts D) (Opens : List ℕ → List Com
   pub exits : status ≡ status_of ending
   pub wrote : HasWritten g old new history dry
       (flat_map (λ (text : List ℕ). text) texts ++ reports_text (reports_of auditors (accepted_of history))) output ending
+  -- and what was shown of the lines is safe by then
+  pub shown : g.honest new → (run : List TakenPiece) × (output.pieces_after ≡ run ++ output.pieces_before)
+      × AreSafeWhenShown g Opens new commands history lines texts run
   -- a crash after the run leaves all that was accepted; one within it what a crash before it left, or a front of these; once
   -- the opening has synced the file as it was, a front of these; and from a moment on, which is one of the run, it leaves at
   -- least what was accepted in any beginning of the history

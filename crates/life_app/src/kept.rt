@@ -47,9 +47,9 @@ pub enum BookMode {
 pub fn life_kept<
     R: Threads + Wait + Sync,
     S: Source,
-    K: Sink + Send,
-    H: Shelf,
     D: Disk + Send,
+    K: Sink<Beside = D> + Send,
+    H: Shelf,
     E: Disk,
     G: Gate + Sync,
 >(

@@ -41,9 +41,9 @@ pub struct Ended<D> {
 pub fn life<
     R: Threads + Wait + Sync,
     S: Source,
-    K: Sink + Send,
-    H: Shelf,
     D: Disk + Send,
+    K: Sink<Beside = D> + Send,
+    H: Shelf,
     G: Gate + Sync,
 >(
     rt: &R,
@@ -91,9 +91,9 @@ pub fn life<
 fn obey<
     R: Threads + Wait + Sync,
     S: Source,
-    K: Sink + Send,
-    H: Shelf,
     D: Disk + Send,
+    K: Sink<Beside = D> + Send,
+    H: Shelf,
     W: Watching + Send,
     G: Gate + Sync,
 >(

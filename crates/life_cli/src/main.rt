@@ -6,8 +6,8 @@ mod shipped;
 mod words;
 mod worked;
 
-use outside_io::{AnyFile, StdSink, write_all};
-use shipped::{leave, run_shipped};
+use outside_io::{AnyFile, write_all};
+use shipped::{OutputOf, leave, run_shipped};
 use std::alloc::AllocError;
 use std::env;
 use std::fs::File;
@@ -21,7 +21,7 @@ fn main(rt: HostRuntime) -> ExitCode {
     let code = match words_of(&rt) {
         Ok(words) => leave(run_shipped(&rt, rt, &words, AnyFile, AnyFile)),
         Err(AllocError) => {
-            let _ = write_all(&mut StdSink::new(rt.stdout()), b"nomemory\n");
+            let _ = write_all(&mut OutputOf::<AnyFile>::new(rt.stdout()), b"nomemory\n");
             ExitCode::from(9)
         }
     };

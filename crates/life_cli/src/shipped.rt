@@ -44,17 +44,20 @@ const MOST_COUNTED: u32 = 4_000_000;
 /// Standard input.
 pub type Input = StdSource<Stdin>;
 
-/// Standard output.
-pub type Output = StdSink<Stdout>;
+/// The disk of the journal's file, which was found so.
+pub type Journal<F> = FileDisk<HostRuntime, JournalOf<F>>;
+
+/// Standard output, beside that disk.
+pub type OutputOf<F> = StdSink<Stdout, Journal<F>>;
 
 /// The folder in which the program runs.
 pub type Folder = FolderShelf<HostRuntime>;
 
 /// What the program leaves: its exit status, and its devices with what they noted.
-pub struct Left<D, E> {
+pub struct Left<D: Disk, E> {
     pub status: u8,
     pub input: Input,
-    pub output: Output,
+    pub output: StdSink<Stdout, D>,
     pub shelf: Folder,
     pub disk: D,
     pub second: E,
@@ -76,7 +79,8 @@ pub fn run_shipped<R: Threads + Wait + Sync, F: FoundFile, C: FoundFile>(
         ⟦<FileDisk<HostRuntime, CheckpointOf<C>> as Disk>⟧ F.bytes C.bytes result.disk result.second words.now
         (input_from_start (⟦<Input as Source>⟧.faults result.input) (⟦<Input as Source>⟧.given result.input)
         (⟦<Input as Source>⟧.ended result.input))
-        (output_from_start (⟦<Output as Sink>⟧.faults result.output) (⟦<Output as Sink>⟧.written result.output))
+        (output_from_start (⟦<OutputOf<F> as Sink>⟧.faults result.output) (⟦<OutputOf<F> as Sink>⟧.written result.output)
+        (⟦<OutputOf<F> as Sink>⟧.pieces result.output))
         (shelf_from_start (⟦<Folder as Shelf>⟧.faults result.shelf) (⟦<Folder as Shelf>⟧.agrees result.shelf))
         (⟦<Input as Source>⟧.given result.input ≡ [])
         ((files : Files) → ⟦<Folder as Shelf>⟧.agrees result.shelf files) result.status }
@@ -91,14 +95,16 @@ pub fn run_shipped<R: Threads + Wait + Sync, F: FoundFile, C: FoundFile>(
         shipped_auditors
         (input_from_start (⟦<Input as Source>⟧.faults result.input) (⟦<Input as Source>⟧.given result.input)
         (⟦<Input as Source>⟧.ended result.input))
-        (output_from_start (⟦<Output as Sink>⟧.faults result.output) (⟦<Output as Sink>⟧.written result.output))
+        (output_from_start (⟦<OutputOf<F> as Sink>⟧.faults result.output) (⟦<OutputOf<F> as Sink>⟧.written result.output)
+        (⟦<OutputOf<F> as Sink>⟧.pieces result.output))
         (shelf_from_start (⟦<Folder as Shelf>⟧.faults result.shelf) (⟦<Folder as Shelf>⟧.agrees result.shelf)) result.status }
     // Each of the two files has its own name.
     ensures names { (result.disk.file.name.now ≡ codes "journal.life") × (result.second.file.name.now ≡ codes "checkpoint.life") }
     ensures ends { EndsDuly words.now
         (input_from_start (⟦<Input as Source>⟧.faults result.input) (⟦<Input as Source>⟧.given result.input)
         (⟦<Input as Source>⟧.ended result.input))
-        (output_from_start (⟦<Output as Sink>⟧.faults result.output) (⟦<Output as Sink>⟧.written result.output))
+        (output_from_start (⟦<OutputOf<F> as Sink>⟧.faults result.output) (⟦<OutputOf<F> as Sink>⟧.written result.output)
+        (⟦<OutputOf<F> as Sink>⟧.pieces result.output))
         (shelf_from_start (⟦<Folder as Shelf>⟧.faults result.shelf) (⟦<Folder as Shelf>⟧.agrees result.shelf))
         (filing_from_start F.bytes (⟦<FileDisk<HostRuntime, JournalOf<F>> as Disk>⟧.reads result.disk)
         (⟦<FileDisk<HostRuntime, JournalOf<F>> as Disk>⟧.honest result.disk)
@@ -135,7 +141,7 @@ pub fn run_shipped<R: Threads + Wait + Sync, F: FoundFile, C: FoundFile>(
 }
 
 /// Gives the devices back, and ends with the status that the run left.
-pub fn leave<D: Drop, E: Drop>(left: Left<D, E>) -> ExitCode
+pub fn leave<D: Disk + Drop, E: Drop>(left: Left<D, E>) -> ExitCode
     ensures { exit_status result ≡ left.status }
 {
     let Left {
@@ -160,7 +166,7 @@ fn obey<R: Threads + Wait + Sync, F: FoundFile, C: FoundFile>(
     alloc: Global,
     words: &[String],
     input: &mut Input,
-    output: &mut Output,
+    output: &mut OutputOf<F>,
     shelf: &mut Folder,
     disk: FileDisk<HostRuntime, JournalOf<F>>,
     second: FileDisk<HostRuntime, CheckpointOf<C>>,
@@ -169,19 +175,19 @@ fn obey<R: Threads + Wait + Sync, F: FoundFile, C: FoundFile>(
         (two_disks disk result.disk second result.second) words.now shipped_auditors
         (input_between (⟦<Input as Source>⟧.faults) (⟦<Input as Source>⟧.left) (⟦<Input as Source>⟧.given)
         (⟦<Input as Source>⟧.ended) input.old input.new)
-        (between (⟦<Output as Sink>⟧.faults) (⟦<Output as Sink>⟧.written) (⟦<Output as Sink>⟧.pieces) output.old output.new)
+        (between (⟦<OutputOf<F> as Sink>⟧.faults) (⟦<OutputOf<F> as Sink>⟧.written) (⟦<OutputOf<F> as Sink>⟧.pieces) output.old output.new)
         (shelf_between (⟦<Folder as Shelf>⟧.faults) (⟦<Folder as Shelf>⟧.agrees) shelf.old shelf.new)
         (input.new ≡ input.old) (shelf.new ≡ shelf.old) result.status }
     ensures ends { EndsDuly words.now
         (input_between (⟦<Input as Source>⟧.faults) (⟦<Input as Source>⟧.left) (⟦<Input as Source>⟧.given)
         (⟦<Input as Source>⟧.ended) input.old input.new)
-        (between (⟦<Output as Sink>⟧.faults) (⟦<Output as Sink>⟧.written) (⟦<Output as Sink>⟧.pieces) output.old output.new)
+        (between (⟦<OutputOf<F> as Sink>⟧.faults) (⟦<OutputOf<F> as Sink>⟧.written) (⟦<OutputOf<F> as Sink>⟧.pieces) output.old output.new)
         (shelf_between (⟦<Folder as Shelf>⟧.faults) (⟦<Folder as Shelf>⟧.agrees) shelf.old shelf.new)
         (filing_between ⟦<FileDisk<HostRuntime, JournalOf<F>> as Disk>⟧ disk result.disk) result.status }
     ensures due { (ending : AnEnding) → AskForBoth words.now
         → IsDueOfBoth ⟦<FileDisk<HostRuntime, JournalOf<F>> as Disk>⟧ ⟦<FileDisk<HostRuntime, CheckpointOf<C>> as Disk>⟧
         (two_disks disk result.disk second result.second)
-        (between (⟦<Output as Sink>⟧.faults) (⟦<Output as Sink>⟧.written) (⟦<Output as Sink>⟧.pieces) output.old output.new) ending
+        (between (⟦<OutputOf<F> as Sink>⟧.faults) (⟦<OutputOf<F> as Sink>⟧.written) (⟦<OutputOf<F> as Sink>⟧.pieces) output.old output.new) ending
         → (result.status ≡ status_of ending) ⊎ (result.status ≡ 9) }
 {
     let counting = Box::new(alloc, CountWatcher::new(MOST_COUNTED));

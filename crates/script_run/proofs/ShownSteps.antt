@@ -1,16 +1,15 @@
 -- What is shown of the lines of a run is safe by then
-use Rattle.std.proofs.Common.{◌≡◌, ◌⊎◌, ℕ, zero, suc, ◌+◌, ◌<◌, ◌≤◌, true, false, List, [], ◌∷◌, ◌++◌, length, map, take, Option, Some, refl, ap, sym, ◌∙◌, subst, inl, inr, append-nil, append_assoc, length-append, arith}
-use Rattle.std.specs.Prelude.{slice_get, IfSome, get_or}
+use Rattle.std.proofs.Common.{◌≡◌, ◌⊎◌, ℕ, zero, suc, ◌+◌, ◌<◌, ◌≤◌, true, false, List, [], ◌∷◌, ◌++◌, length, map, take, Option, Some, refl, ap, sym, ◌∙◌, subst, inl, inr, append-nil, append_assoc, length-append, arith, None, Result}
+use Rattle.std.specs.Prelude.{slice_get, IfSome}
 use Rattle.std.specs.List.{AllByRecursion, AllZip, flat_map}
-use Rattle.std.proofs.lemmas.Option.{same_Some, slice_get-get_or}
+use Rattle.std.proofs.lemmas.Option.{same_Some}
 use Rattle.basis_book.specs.Dated.{Dated}
 use Rattle.outside_io.specs.Streams.{TakenPiece, taken_bytes}
 use Rattle.outside_io.specs.declared.disks.Disk.{Ghosts}
-use Rattle.rtrb.specs.Ring.{known_items, received, sent}
+use Rattle.rtrb.specs.Ring.{SameConsumer, sent}
 use Rattle.rtrb.specs.declared.consumer.Consumer.{Consumer}
 use Rattle.rtrb.specs.declared.producer.Producer.{Producer}
 use Rattle.moment_ring.specs.Ends.{ArePaired, SameOutlet, told}
-use Rattle.rtrb.specs.Ring.{SameConsumer}
 use Rattle.policy_types.specs.declared.command.Command.{Command}
 use Rattle.policy_types.specs.declared.entry.Entry.{Entry}
 use Rattle.policy_types.specs.declared.entry.Reply.{Reply}
@@ -86,7 +85,7 @@ module _ (text : TranscriptLine → List ℕ) (lines : List TranscriptLine) (mom
 
 -- what was shown of the lines, and then of what stands behind them
 pub shown_whole : (text : TranscriptLine → List ℕ) (before mid now : List TakenPiece) (lines : List TranscriptLine) (moments : List ℕ)
-    (latest : ℕ) (written : Rattle.std.specs.Prelude.Result (Unit {0}) Unwritten) → HasShown text before mid lines moments latest written
+    (latest : ℕ) (written : Result (Unit {0}) Unwritten) → HasShown text before mid lines moments latest written
     → AddsBy mid now latest → (run : List TakenPiece) × (now ≡ run ++ before) × AreShown text run lines moments
 shown_whole text before mid now lines moments latest written shown more = (
   more.run ++ shown.run,
@@ -166,6 +165,12 @@ front_text : (text : TranscriptLine → List ℕ) (front back : List TranscriptL
     → flat_map (λ (t : List ℕ). t) (take (length front) (map text (front ++ back))) ≡ line_texts text front
 front_text text [] back = refl
 front_text text (line ∷ front) back = ap (λ (rest : List ℕ). text line ++ rest) (front_text text front back)
+
+-- the texts of all lines, one after the other
+pub all_texts : (text : TranscriptLine → List ℕ) (lines : List TranscriptLine)
+    → flat_map (λ (t : List ℕ). t) (map text lines) ≡ flat_map text lines
+all_texts text [] = refl
+all_texts text (line ∷ lines) = ap (λ (rest : List ℕ). text line ++ rest) (all_texts text lines)
 
 -- what is told of an accepted posting says so
 told_accepted : (line : Line) (reply : Reply) (outcome : Outcome) (commands : List Command) (basis : List Dated)

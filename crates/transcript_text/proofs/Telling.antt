@@ -27,13 +27,13 @@ use Rattle.lane_runner.specs.declared.transcript.Transcript.{Transcript}
 use Rattle.program_endings.specs.Replies.{ArePins, HasBlank, IsAnswered, IsPinned, IsUnfaulted}
 use Rattle.program_endings.proofs.ListSteps.{Has, all_has, any_none, any_some, contains_of_has, has_at, has_enumerate, has_filter, has_map, has_of_contains, of_all, of_enumerate, of_filter, of_map, parted, zip_left, zip_right, same_opened}
 use Rattle.program_endings.proofs.TurnSteps.{due_at, posted_first, posts, quiet_reply, unfaulted_if_answered}
-use Rattle.transcript_text.specs.Transcript.{IsTranscript}
+use Rattle.transcript_text.specs.Transcript.{IsLineText}
 use Rattle.transcript_text.specs.Lanes.{AreScriptLanes}
 use Rattle.lane_runner.specs.Tallies.{accepted_lines, any_faulted, any_lacked, has_faulted, lacks_memory, tells_accepted}
-use Rattle.transcript_text.specs.Told.{told_texts}
+use Rattle.transcript_text.specs.Told.{told_text}
 use Rattle.transcript_text.proofs.AcceptedSteps.{accepted_in_all, accepted_to, accepted_told, accepted_turns, accepts, enumerated, has_turns, is_acceptance, posting_told, posts_accepted}
 use Rattle.transcript_text.proofs.PlaceSteps.{has_places, of_places, places}
-use Rattle.transcript_text.proofs.TextSteps.{transcript_of}
+use Rattle.transcript_text.proofs.TextSteps.{texts_of}
 use Rattle.transcript_text.proofs.ToldSteps.{line_turn, turn_line, page_numbers, lacked_pin, told_fault, told_unfaulted, told_answered, lacked_which, not_lacked, told_blank, post_call}
 
 -- what is known of lanes that were run, once their office is closed
@@ -42,7 +42,8 @@ pub record Telling {D W : Type 0} (basis : List Dated) (lanes : List Lane) (clos
   pub opening : closing.opening ≡ Some opened
   pub history : IsOfficeHistory opened closing.seen
   pub merge : IsMerge closing.seen lanes transcript.callers (dry_of transcript.lines)
-  pub tells : IsTranscript opened.opening closing.seen basis (dry_of transcript.lines) shown (told_texts transcript.lines)
+  pub told : AllZip (IsToldOf opened.opening closing.seen basis) shown transcript.lines
+  pub tells : AllZip (IsLineText opened.opening closing.seen basis (dry_of transcript.lines)) shown (map told_text transcript.lines)
   pub pins : ArePins closing.seen (dry_of transcript.lines)
   pub none_dry : any_lacked transcript.lines ≡ false → dry_of transcript.lines ≡ []
   pub some_lacked : any_lacked transcript.lines ≡ true → HasBlank closing.seen ⊎ ((pin : ℕ) × Contains (dry_of transcript.lines) pin)
@@ -130,8 +131,8 @@ module _ {D W : Type 0} (basis : List Dated) (lanes : List Lane) (first closing 
   due : (k : ℕ) (entry : Entry) → slice_get closing.seen k ≡ Some entry → IsDue opened.opening (take k closing.seen) entry.caller entry.call entry.reply
   due k entry there = due_at opened.opening [] closing.seen k entry is_history.legal.due there
 
-  tells : IsTranscript opened.opening closing.seen basis dry ran.answered (told_texts transcript.lines)
-  tells = transcript_of opened.opening closing.seen basis dry ran.answered transcript.lines told ran.dry
+  tells : AllZip (IsLineText opened.opening closing.seen basis dry) ran.answered (map told_text transcript.lines)
+  tells = texts_of opened.opening closing.seen basis dry ran.answered transcript.lines told ran.dry
 
   pins : ArePins closing.seen dry
   pins = all_has (λ (n : ℕ). (entry : Entry) × (slice_get closing.seen n ≡ Some entry) × IsPinned entry.reply) dry one_pin
@@ -299,6 +300,7 @@ module _ {D W : Type 0} (basis : List Dated) (lanes : List Lane) (first closing 
     opening = closing_opened;
     history = is_history;
     merge = merge;
+    told = told;
     tells = tells;
     pins = pins;
     none_dry = none_dry;

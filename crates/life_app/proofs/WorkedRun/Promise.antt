@@ -1,7 +1,8 @@
 -- The worked run is as the headline says.
-use Rattle.std.proofs.Common.{◌≡◌, ◌++◌, ℕ, List, [], ◌∷◌, refl, sym, inl, inr, lit≤, lit<, codes, String, Global}
+use Rattle.std.proofs.Common.{◌≡◌, ◌+◌, ◌++◌, ℕ, List, [], ◌∷◌, refl, ap, sym, subst, inl, inr, lit≤, lit<, codes, String, Global}
 use Rattle.std.specs.Fmt.{digits}
-use Rattle.std.specs.List.{IsDistinct}
+use Rattle.std.specs.Prelude.{take}
+use Rattle.std.specs.List.{IsDistinct, flat_map}
 use Rattle.csv.proofs.OnLiterals.{csv_on_literals}
 use Rattle.life_dates.specs.Calendar.{date_of, date_at, year_of, month_of, days_before, days_before_year, days_of_months}
 use Rattle.life_dates.specs.DayText.{day_text}
@@ -13,6 +14,9 @@ use Rattle.life_args.specs.declared.mode.Mode.TheVariants.{Run}
 use Rattle.life_args.proofs.WorkedWords.{asks}
 use Rattle.lane_runner.specs.AnsweredLines.{AnsweredLine, AreLinesOf}
 use Rattle.policy_machine.specs.Merge.{IsMerge, Placed}
+use Rattle.policy_types.specs.declared.command.Command.{Command}
+use Rattle.policy_machine.specs.History.{accepted_of}
+use Rattle.script_run.specs.Shown.{AreSafeWhenShown}
 use Rattle.office_state.specs.Journals.{Opens}
 use Rattle.office_state.specs.Worked.{hand_issue, hand_premium, premium_turn}
 use Rattle.office_state.proofs.WorkedOffices.{valid_premium}
@@ -32,7 +36,9 @@ use Rattle.life_app.proofs.HeadlineLaws.{by_script, headline}
 use Rattle.life_app.specs.WorkedRun.Calls.{called, cut_disk, last_disk}
 use Rattle.life_app.specs.WorkedRun.Runs.{second_turns}
 use Rattle.life_app.specs.WorkedRun.Promise.{AreTyped, GivenByHand, HeadlineByHand, ObeyedByHand, PromisedByHand, given_script, output_of, premium_lanes, premium_script, premium_text, shelf_that_told, two_auditors}
-use Rattle.life_app.proofs.WorkedRun.Row.{facts, found_by_hand, legal_second, second_left}
+use Rattle.outside_io.specs.Streams.{TakenPiece}
+use Rattle.life_app.proofs.WorkedRun.First.{honest_last}
+use Rattle.life_app.proofs.WorkedRun.Row.{both_now, facts, found_by_hand, legal_second, second_left}
 
 pub asks_run : (words : List (String Global)) → AreTyped words (codes "run" ∷ []) → AskForRun words (codes "basis.csv")
 asks_run words same = asks _ (Run (codes "basis.csv")) (refl, record { pieces = []; spells = refl; only = tt; alone = refl; basis_is = refl }) words same
@@ -73,25 +79,59 @@ lines = record {
 told : List ℕ
 told = posting_text 1 hand_premium (Accepted 2)
 
-written : told ++ reports_text (reports_of two_auditors (hand_premium ∷ [])) ≡ premium_text
+written : flat_map (λ (text : List ℕ). text) (told ∷ []) ++ reports_text (reports_of two_auditors (hand_premium ∷ [])) ≡ premium_text
 unfolding digits told
 written = refl
 
-ran : IsRunOf called cut_disk last_disk premium_lanes [] two_auditors (WroteAll (output_of premium_text)) AreAnswered
-unfolding answered told digits
+-- one alone is the one among these
+one_alone : {A : Type 0} (x y : A) (before after : List A) → x ∷ [] ≡ before ++ y ∷ after → x ≡ y
+one_alone {A} x y [] after same = ap head same
+  where
+    head : List A → A
+    head [] = x
+    head (z ∷ zs) = z
+one_alone {A} x y (z ∷ before) after same = none before (ap tail same)
+  where
+    tail : List A → List A
+    tail [] = []
+    tail (w ∷ ws) = ws
+
+    none : (front : List A) → [] ≡ front ++ y ∷ after → x ≡ y
+    none [] never = cc
+    none (w ∷ front) never = cc
+
+only_piece : TakenPiece
+only_piece = record { bytes = premium_text; since = called.clock last_disk }
+
+only_line : AnsweredLine
+only_line = record { clerk = 1; line = Post hand_premium; first = (0, premium_turn (Accepted 2)); rest = [] }
+
+-- since the disk's last moment a crash leaves both commands
+shown : AreSafeWhenShown called Opens last_disk (hand_issue ∷ []) second_turns (only_line ∷ []) (told ∷ []) (only_piece ∷ [])
+shown later earlier piece split before after line there accepted reached image left =
+    let this : only_piece ≡ piece = one_alone only_piece piece later earlier split in
+    let one : only_line ≡ line = one_alone only_line line before after there in
+    let now : called.may_leave last_disk image =
+    facts.only_now last_disk image honest_last (subst (λ (p : TakenPiece). called.left_since last_disk p.since image) (sym this) left) in
+    subst (λ (l : AnsweredLine). (more : List Command) × Opens image ((hand_issue ∷ []) ++ accepted_of (take (l.first.0 + 1) second_turns) ++ more)) one
+    ([], inl (both_now image now))
+
+ran : IsRunOf called cut_disk last_disk premium_lanes [] two_auditors (output_of premium_text) (WroteAll (output_of premium_text)) AreAnswered
+unfolding answered told digits only_piece only_line
 ran = record {
   commands = hand_issue ∷ [];
   callers = 1 ∷ [];
   dry = [];
   history = second_turns;
   answered = answered;
-  text = told;
+  texts = told ∷ [];
   opened = second_left.opened;
   merge = merge;
   legal = legal_second;
   pins = tt;
   lines = lines;
-  tells = (told, ([], refl, refl, refl));
+  tells = (refl, tt);
+  shown = λ honest. (only_piece ∷ [], refl, shown);
   wrote = sym written;
   replies = ((tt, tt), refl);
   disk = second_left;

@@ -36,9 +36,16 @@ abbrev pub two_auditors : List Auditor
 two_auditors = (record { stops = λ commands. length commands == 4000000; number = λ commands. length commands })
     ∷ (record { stops = λ commands. false; number = λ commands. premiums_of commands }) ∷ []
 
--- an output that held nothing, took these bytes, and didn't fail
+-- an output that held nothing, took these bytes in one piece, by the disk's last moment, and didn't fail
 abbrev pub output_of : List ℕ → Stream
-output_of bytes = record { faults_before = 0; faults_after = 0; before = Some []; after = Some bytes }
+output_of bytes = record {
+  faults_before = 0;
+  faults_after = 0;
+  before = Some [];
+  after = Some bytes;
+  pieces_before = [];
+  pieces_after = (record { bytes = bytes; since = called.clock last_disk }) ∷ [];
+}
 
 -- a shelf that gave these answers, and didn't fail
 abbrev pub shelf_that_told : List Answer → Shelving
@@ -59,7 +66,7 @@ GivenByHand = ((words : List (String Global)) → AreTyped words (codes "run" �
 
 -- the program obeyed them, over the file that the crash had cut, and nothing was asked of the shelf
 abbrev pub ObeyedByHand : Type 0
-ObeyedByHand = IsRunOf called cut_disk last_disk premium_lanes [] two_auditors (WroteAll (output_of premium_text)) AreAnswered
+ObeyedByHand = IsRunOf called cut_disk last_disk premium_lanes [] two_auditors (output_of premium_text) (WroteAll (output_of premium_text)) AreAnswered
     × EndsScript called cut_disk last_disk premium_lanes [] two_auditors (output_of premium_text) Done
     × EndsLanes called cut_disk last_disk premium_lanes (codes "basis.csv") two_auditors (shelf_that_told []) (output_of premium_text) (Unit {0}) Done
     × EndsRead called cut_disk last_disk (codes "basis.csv") two_auditors given_script (output_of premium_text) (shelf_that_told []) (Unit {0}) Done

@@ -1,7 +1,7 @@
 use Rattle.std.proofs.Common.{◌≡◌, List, [], length, Some, ap, refl}
 use Rattle.outside_io.specs.FileCalls.{FileCall, file_reads, AreAllowed}
 use Rattle.outside_io.specs.Shelves.{Files, Agrees}
-use Rattle.outside_io.specs.Streams.{StreamPiece, passed_bytes, HasEnd}
+use Rattle.outside_io.specs.Streams.{StreamPiece, passed_bytes, pieces_by, HasEnd}
 use Rattle.outside_io.specs.FileLaws.{left_only_now}
 use Rattle.life_app.proofs.BooksSteps.{reasoned}
 use Rattle.life_cli.specs.Shipped.{two_disks}
@@ -22,11 +22,12 @@ returns-clause-obeys g c =
     let second = c.at-second.result in
     let disks = two_disks disk c.obey-status.result.disk second c.obey-status.result.second in
     let took = ap (λ (pieces : List StreamPiece). Some (passed_bytes pieces)) c.new-output.ensures.taken in
+    let none : pieces_by output.taken output.by ≡ [] = ap (λ (pieces : List StreamPiece). pieces_by pieces output.by) c.new-output.ensures.taken in
     let obeys =
     obeys_from_start _ _ _ _ _ _ _ _ input.faults input'.faults output.faults output'.faults shelf.faults shelf'.faults
-    (passed_bytes input.given) (passed_bytes input'.given) (HasEnd input'.given) (Some (passed_bytes output.taken)) (Some (passed_bytes output'.taken))
+    (passed_bytes input.given) (passed_bytes input'.given) (HasEnd input'.given) (Some (passed_bytes output.taken)) (Some (passed_bytes output'.taken)) (pieces_by output.taken output.by) (pieces_by output'.taken output'.by)
     (λ files. Agrees shelf'.answers files)
-    c.new-input.ensures.faults gave c.new-output.ensures.faults took c.new-shelf.ensures.faults
+    c.new-input.ensures.faults gave c.new-output.ensures.faults took none c.new-shelf.ensures.faults
     (
     kept_still _ _ disks _ _ _ _ _ (input' ≡ input) (shelf' ≡ shelf) (passed_bytes input'.given ≡ []) ((files : Files) → Agrees shelf'.answers files)
     (λ stays. cc (gave)) (λ stays. agrees_with_all shelf'.answers (cc (c.new-shelf.ensures.answers))) _ c.obey-status.ensures.obeys
@@ -46,8 +47,8 @@ returns-clause-obeys g c =
       };
       obeys = obeys;
       reason = λ both. reasoned _ _ disks _ _ _ _ _ _ _ _ obeys both;
-      due = due_from_start _ _ disks _ _ output.faults output'.faults (Some (passed_bytes output.taken)) (Some (passed_bytes output'.taken))
-          c.new-output.ensures.faults took c.obey-status.ensures.due;
+      due = due_from_start _ _ disks _ _ output.faults output'.faults (Some (passed_bytes output.taken)) (Some (passed_bytes output'.taken)) (pieces_by output.taken output.by) (pieces_by output'.taken output'.by)
+          c.new-output.ensures.faults took none c.obey-status.ensures.due;
     }
 
 pub returns-clause-promised : goal.returns-clause-promised
@@ -70,10 +71,11 @@ returns-clause-ends g c =
     let found = g.F.FoundFile.bytes in
     let torn = g.F.FoundFile.torn in
     ends_from_start _ _ input.faults input'.faults output.faults output'.faults shelf.faults shelf'.faults disk.file.faults disk'.file.faults
-    (passed_bytes input.given) (passed_bytes input'.given) (HasEnd input'.given) (Some (passed_bytes output.taken)) (Some (passed_bytes output'.taken))
+    (passed_bytes input.given) (passed_bytes input'.given) (HasEnd input'.given) (Some (passed_bytes output.taken)) (Some (passed_bytes output'.taken)) (pieces_by output.taken output.by) (pieces_by output'.taken output'.by)
     (λ files. Agrees shelf'.answers files) (AreAllowed found torn disk'.file.calls) (file_reads found torn disk.file.calls) found (file_reads found torn disk'.file.calls)
     c.new-input.ensures.faults (ap (λ (pieces : List StreamPiece). passed_bytes pieces) c.new-input.ensures.given) c.new-output.ensures.faults
-    (ap (λ (pieces : List StreamPiece). Some (passed_bytes pieces)) c.new-output.ensures.taken) c.new-shelf.ensures.faults c.at-disk.ensures.faults
+    (ap (λ (pieces : List StreamPiece). Some (passed_bytes pieces)) c.new-output.ensures.taken)
+    (ap (λ (pieces : List StreamPiece). pieces_by pieces output.by) c.new-output.ensures.taken) c.new-shelf.ensures.faults c.at-disk.ensures.faults
     (ap (λ (calls : List FileCall). file_reads found torn calls) c.at-disk.ensures.calls) c.obey-status.ensures.ends
 
 pub returns-clause-names : goal.returns-clause-names
