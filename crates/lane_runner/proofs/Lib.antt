@@ -6,6 +6,7 @@ pub mod RunSteps
 pub mod MergeSteps
 pub mod TellSteps
 pub mod GatherSteps
+pub mod ShowSteps
 pub mod TakeSteps
 pub mod SettleSteps
 pub mod LaneSteps

@@ -4,5 +4,6 @@ pub mod Transcripts
 pub mod Telling
 pub mod Evidence
 pub mod Written
+pub mod Shown
 pub mod Tallies
 pub mod inside
