@@ -88,6 +88,12 @@ taken_within run later earlier piece is =
 pub counted_more : (xs ys : List TranscriptLine) → accepted_lines (xs ++ ys) ≡ accepted_lines xs + accepted_lines ys
 counted_more xs ys = sum_by-append (λ (l : TranscriptLine). cond (tells_accepted l.outcome) 1 0) xs ys
 
+pub accepted_one : (told : TranscriptLine) → tells_accepted told.outcome ≡ true → accepted_lines (told ∷ []) ≡ 1
+accepted_one told accepted = ap (λ (b : Bool). 0 + cond {A = ℕ} b 1 0) accepted
+
+pub accepted_none : (told : TranscriptLine) → tells_accepted told.outcome ≡ false → accepted_lines (told ∷ []) ≡ 0
+accepted_none told other = ap (λ (b : Bool). 0 + cond {A = ℕ} b 1 0) other
+
 -- an accepted line is counted among all
 counted_before : (lines before after : List TranscriptLine) (told : TranscriptLine) → lines ≡ before ++ told ∷ after
     → tells_accepted told.outcome ≡ true → accepted_lines before < accepted_lines lines
@@ -314,6 +320,52 @@ module _ (text : TranscriptLine → List ℕ) (first : List TakenPiece) where
         latest_is = is.latest_is;
         enough = is.enough;
       })
+
+  -- one line more is gathered
+  pub showing_kept : (now : List TakenPiece) (lines : List TranscriptLine) (moments : List ℕ) (latest : ℕ) (words gathered bytes : List ℕ)
+      (stopped after : Option Unwritten) (told : TranscriptLine) → bytes ≡ gathered ++ words → words ≡ text told → after ≡ stopped
+      → accepted_lines (lines ++ told ∷ []) ≤ length moments → IsShowing text first now lines moments latest gathered stopped
+      → IsShowing text first now (lines ++ told ∷ []) moments latest bytes after
+  showing_kept now lines moments latest words gathered bytes stopped after told kept words_are same enough is =
+      showing_same now (lines ++ told ∷ []) moments latest (gathered ++ text told) bytes stopped after
+      (kept ∙ ap (λ back. gathered ++ back) words_are) same (showing_line now lines moments latest gathered stopped told enough is)
+
+  -- one line more, of which no more is handed on
+  pub showing_past : (now : List TakenPiece) (lines : List TranscriptLine) (moments : List ℕ) (latest : ℕ) (gathered bytes : List ℕ)
+      (stopped : Option Unwritten) (why : Unwritten) (told : TranscriptLine) → stopped ≡ Some why
+      → accepted_lines (lines ++ told ∷ []) ≤ length moments → IsShowing text first now lines moments latest gathered stopped
+      → IsShowing text first now (lines ++ told ∷ []) moments latest bytes stopped
+  showing_past now lines moments latest gathered bytes stopped why told held enough is =
+      showing_held now (lines ++ told ∷ []) moments latest (gathered ++ text told) bytes stopped why held
+      (showing_line now lines moments latest gathered stopped told enough is)
+
+  -- one line more, for which there is no memory
+  pub showing_lacking : (now : List TakenPiece) (lines : List TranscriptLine) (moments : List ℕ) (latest : ℕ) (gathered bytes : List ℕ)
+      (stopped after : Option Unwritten) (why : Unwritten) (told : TranscriptLine) → stopped ≡ None → after ≡ Some why → 0 < length (text told)
+      → accepted_lines (lines ++ told ∷ []) ≤ length moments → IsShowing text first now lines moments latest gathered stopped
+      → IsShowing text first now (lines ++ told ∷ []) moments latest bytes after
+  showing_lacking now lines moments latest gathered bytes stopped after why told going lacks some enough is =
+      showing_short now (lines ++ told ∷ []) moments latest (gathered ++ text told) bytes stopped after why going lacks
+      (omega (arith, some, length-append gathered (text told))) (showing_line now lines moments latest gathered stopped told enough is)
+
+  module _ (mid now : List TakenPiece) (lines : List TranscriptLine) (moments : List ℕ) (latest : ℕ) (words gathered : List ℕ)
+      (stopped : Option Unwritten) (told : TranscriptLine) (going : stopped ≡ None) (none : gathered ≡ []) (words_are : words ≡ text told)
+      (enough : accepted_lines (lines ++ told ∷ []) ≤ length moments) (is : IsShowing text first mid lines moments latest gathered stopped) where
+    owed : IsShowing text first mid (lines ++ told ∷ []) moments latest words stopped
+    owed = showing_same mid (lines ++ told ∷ []) moments latest (gathered ++ text told) words stopped stopped
+        (words_are ∙ ap (λ front. front ++ text told) (sym none)) refl (showing_line mid lines moments latest gathered stopped told enough is)
+
+    -- one line more was handed on, where nothing was gathered
+    pub showing_through : {T E : Type 0} (done : T) → AddsPieces {E = E} mid now latest words (Ok done)
+        → IsShowing text first now (lines ++ told ∷ []) moments latest gathered stopped
+    showing_through {T} {E} done adds =
+        showing_out {T = T} {E = E} mid now (lines ++ told ∷ []) moments latest words stopped going gathered stopped done adds none refl owed
+
+    -- the output failed at it
+    pub showing_lost : {T E : Type 0} (after : Option Unwritten) (why : Unwritten) (fault : E) → AddsPieces {T = T} mid now latest words (Err fault)
+        → after ≡ Some why → IsShowing text first now (lines ++ told ∷ []) moments latest gathered after
+    showing_lost {T} {E} after why fault adds failed =
+        showing_failed {T = T} {E = E} mid now (lines ++ told ∷ []) moments latest words stopped going gathered after why fault adds failed owed
 
   -- how it ends
   pub showing_ended : (now : List TakenPiece) (lines : List TranscriptLine) (moments : List ℕ) (latest : ℕ) (gathered : List ℕ)

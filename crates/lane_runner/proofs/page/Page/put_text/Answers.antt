@@ -1,6 +1,6 @@
 use Rattle.std.proofs.Common.{rules}
 use Rattle.lane_runner.proofs.GatherSteps.{put_text}
-use Rattle.lane_runner.proofs.page.Page.put.Goals as goal
+use Rattle.lane_runner.proofs.page.Page.put_text.Goals as goal
 
 pub returns-in-Ok-clause-put : goal.returns-in-Ok-clause-put
 returns-in-Ok-clause-put g c = λ faults first text put.
