@@ -1,6 +1,7 @@
 -- What was handed on stays behind the moments of the lines
 use Rattle.std.proofs.Common.{◌≡◌, ◌⊎◌, ℕ, zero, suc, ◌+◌, ◌≤◌, ◌<◌, Bool, true, false, List, [], ◌∷◌, ◌++◌, length, take, Option, Some, None, Result, Ok, Err, slice_get, inl, inr, refl, ap, sym, ◌∙◌, subst, append-nil, append_assoc, length-append, arith}
 use Rattle.std.specs.List.{AllByRecursion}
+use Rattle.std.specs.Option.{is_some}
 use Rattle.std.proofs.lemmas.List.Sums.{sum_by-append}
 use Rattle.std.proofs.Math.Bool.{cond}
 use Rattle.outside_io.specs.Streams.{AddsPieces, TakenPiece, taken_bytes}
@@ -240,10 +241,10 @@ module _ (text : TranscriptLine → List ℕ) (first : List TakenPiece) where
 
   -- where no more is handed on, nothing changes
   pub showing_held : (now : List TakenPiece) (lines : List TranscriptLine) (moments : List ℕ) (latest : ℕ) (gathered other : List ℕ)
-      (stopped : Option Unwritten) (why : Unwritten) → stopped ≡ Some why
+      (stopped : Option Unwritten) → is_some stopped ≡ true
       → IsShowing text first now lines moments latest gathered stopped → IsShowing text first now lines moments latest other stopped
-  showing_held now lines moments latest gathered other None why held is = absurd (cc)
-  showing_held now lines moments latest gathered other (Some same) why held is = record {
+  showing_held now lines moments latest gathered other None held is = absurd (cc)
+  showing_held now lines moments latest gathered other (Some same) held is = record {
     run = is.run;
     added = is.added;
     handed = is.handed;
@@ -266,16 +267,16 @@ module _ (text : TranscriptLine → List ℕ) (first : List TakenPiece) where
   module _ {T E : Type 0} (mid now : List TakenPiece) (lines : List TranscriptLine) (moments : List ℕ) (latest : ℕ) (gathered : List ℕ)
       (stopped : Option Unwritten) (going : stopped ≡ None) where
     -- all that is gathered was handed on
-    pub showing_out : (bytes : List ℕ) (after : Option Unwritten) (done : T) → AddsPieces {E = E} mid now latest gathered (Ok done)
-        → bytes ≡ [] → after ≡ stopped → IsShowing text first mid lines moments latest gathered stopped
+    pub showing_out : (words bytes : List ℕ) (after : Option Unwritten) (done : T) → AddsPieces {E = E} mid now latest words (Ok done)
+        → words ≡ gathered → bytes ≡ [] → after ≡ stopped → IsShowing text first mid lines moments latest gathered stopped
         → IsShowing text first now lines moments latest bytes after
-    showing_out bytes after done adds none same is =
+    showing_out words bytes after done adds words_are none same is =
         showing_same now lines moments latest [] bytes None after none (same ∙ going) (record {
           run = adds.run ++ still.run;
           added = added_more now mid still.run adds.run adds.added still.added;
           handed =
               append-nil (taken_bytes (adds.run ++ still.run)) ∙ taken_more adds.run still.run
-              ∙ ap (λ back. taken_bytes still.run ++ back) adds.whole ∙ still.handed;
+              ∙ ap (λ back. taken_bytes still.run ++ back) (adds.whole ∙ words_are) ∙ still.handed;
           shown = shown_pieces text adds.run still.run lines moments latest adds.all still.latest_is still.enough still.shown;
           latest_is = still.latest_is;
           enough = still.enough;
@@ -285,15 +286,16 @@ module _ (text : TranscriptLine → List ℕ) (first : List TakenPiece) where
         still = subst (IsShowing text first mid lines moments latest gathered) going is
 
     -- the output failed at it
-    pub showing_failed : (bytes : List ℕ) (after : Option Unwritten) (why : Unwritten) (fault : E) → AddsPieces {T = T} mid now latest gathered (Err fault)
-        → after ≡ Some why → IsShowing text first mid lines moments latest gathered stopped
+    pub showing_failed : (words bytes : List ℕ) (after : Option Unwritten) (why : Unwritten) (fault : E)
+        → AddsPieces {T = T} mid now latest words (Err fault) → words ≡ gathered → after ≡ Some why → IsShowing text first mid lines moments latest gathered stopped
         → IsShowing text first now lines moments latest bytes after
-    showing_failed bytes after why fault adds failed is =
+    showing_failed words bytes after why fault adds words_are failed is =
         showing_same now lines moments latest bytes bytes (Some why) after refl failed (record {
           run = adds.run ++ still.run;
           added = added_more now mid still.run adds.run adds.added still.added;
           handed = subst (IsFront (line_texts text lines)) (sym (taken_more adds.run still.run))
-              (front_behind (taken_bytes still.run) gathered (line_texts text lines) (taken_bytes adds.run) still.handed adds.part);
+              (front_behind (taken_bytes still.run) gathered (line_texts text lines) (taken_bytes adds.run) still.handed
+              (subst (λ (w : List ℕ). IsFront w (taken_bytes adds.run)) words_are adds.part));
           shown = shown_pieces text adds.run still.run lines moments latest adds.all still.latest_is still.enough still.shown;
           latest_is = still.latest_is;
           enough = still.enough;
@@ -332,11 +334,11 @@ module _ (text : TranscriptLine → List ℕ) (first : List TakenPiece) where
 
   -- one line more, of which no more is handed on
   pub showing_past : (now : List TakenPiece) (lines : List TranscriptLine) (moments : List ℕ) (latest : ℕ) (gathered bytes : List ℕ)
-      (stopped : Option Unwritten) (why : Unwritten) (told : TranscriptLine) → stopped ≡ Some why
+      (stopped : Option Unwritten) (told : TranscriptLine) → is_some stopped ≡ true
       → accepted_lines (lines ++ told ∷ []) ≤ length moments → IsShowing text first now lines moments latest gathered stopped
       → IsShowing text first now (lines ++ told ∷ []) moments latest bytes stopped
-  showing_past now lines moments latest gathered bytes stopped why told held enough is =
-      showing_held now (lines ++ told ∷ []) moments latest (gathered ++ text told) bytes stopped why held
+  showing_past now lines moments latest gathered bytes stopped told held enough is =
+      showing_held now (lines ++ told ∷ []) moments latest (gathered ++ text told) bytes stopped held
       (showing_line now lines moments latest gathered stopped told enough is)
 
   -- one line more, for which there is no memory
@@ -359,13 +361,13 @@ module _ (text : TranscriptLine → List ℕ) (first : List TakenPiece) where
     pub showing_through : {T E : Type 0} (done : T) → AddsPieces {E = E} mid now latest words (Ok done)
         → IsShowing text first now (lines ++ told ∷ []) moments latest gathered stopped
     showing_through {T} {E} done adds =
-        showing_out {T = T} {E = E} mid now (lines ++ told ∷ []) moments latest words stopped going gathered stopped done adds none refl owed
+        showing_out {T = T} {E = E} mid now (lines ++ told ∷ []) moments latest words stopped going words gathered stopped done adds refl none refl owed
 
     -- the output failed at it
     pub showing_lost : {T E : Type 0} (after : Option Unwritten) (why : Unwritten) (fault : E) → AddsPieces {T = T} mid now latest words (Err fault)
         → after ≡ Some why → IsShowing text first now (lines ++ told ∷ []) moments latest gathered after
     showing_lost {T} {E} after why fault adds failed =
-        showing_failed {T = T} {E = E} mid now (lines ++ told ∷ []) moments latest words stopped going gathered after why fault adds failed owed
+        showing_failed {T = T} {E = E} mid now (lines ++ told ∷ []) moments latest words stopped going words gathered after why fault adds refl failed owed
 
   -- how it ends
   pub showing_ended : (now : List TakenPiece) (lines : List TranscriptLine) (moments : List ℕ) (latest : ℕ) (gathered : List ℕ)

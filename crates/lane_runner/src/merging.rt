@@ -32,12 +32,14 @@ pub fn merge<R: Wait, X: Wording, D: Disk, K: Sink<Beside = D>>(
     rt: &R,
     alloc: Global,
     bell: &Parker,
+    count: usize,
     inlets: &mut [Inlet],
     moments: &mut MomentInlet<D>,
     page: &mut Page<D>,
     output: &mut K,
 )
-    requires few { all_to_come inlets.old ≤ 2 ^ 24 }
+    requires count { count ≡ all_to_come inlets.old }
+    requires few { count ≤ 2 ^ 24 }
     requires merged { IsMerged inlets.old page.old.lines }
     requires page { (page.old.lines ≡ []) × (page.old.bytes.items ≡ []) × (page.old.stopped ≡ None) }
     requires none { received moments.old.ring ≡ [] }
@@ -53,14 +55,14 @@ pub fn merge<R: Wait, X: Wording, D: Disk, K: Sink<Beside = D>>(
     ensures shown { IsShowing X.text (K.pieces output.old) (K.pieces output.new) page.new.lines (received moments.new.ring)
         page.new.latest page.new.bytes.items page.new.stopped }
 {
-    for _ in 0..count_to_come(inlets) {
+    for _ in 0..count {
         merge_next::<R, X, D, K>(rt, alloc, bell, inlets, moments, page, output);
     }
     page.flush(output);
 }
 
-// How many lines have yet to come.
-fn count_to_come(inlets: &[Inlet]) -> usize
+/// How many lines have yet to come.
+pub fn count_to_come(inlets: &[Inlet]) -> usize
     requires { all_to_come inlets.now ≤ 2 ^ 24 }
     ensures { result ≡ all_to_come inlets.now }
 {

@@ -18,7 +18,7 @@ ghost use Rattle.lane_runner.specs.inside.Showing.{IsShowing};
 ghost use Rattle.lane_runner.specs.inside.Parts.{HasEntered, HasLeft, HasLaneRoom, HasRunAt, HaveRun, IsEndOf, IsInletFor, IsReadySeat, IsReadyAt, IsSameSeat, IsSpent, IsWhole, shares_to_enter, told_in, turns_to_enter};
 
 use crate::answering::answer_lane;
-use crate::merging::merge;
+use crate::merging::{count_to_come, merge};
 use crate::page::Page;
 use crate::rooms::{Room, Seat, room_for};
 use crate::telling::{Inlet, Outlet};
@@ -282,14 +282,16 @@ fn run_beside<
     ensures shown { IsShowing X.text (K.pieces output.old) (K.pieces output.new) page.new.lines (received moments.new.ring)
         page.new.latest page.new.bytes.items page.new.stopped }
 {
+    let count = count_to_come(inlets);
     join_mut(
         rt,
         &mut ||
-            requires few { all_to_come inlets.now ≤ 2 ^ 24 }
+            requires count { count ≡ all_to_come inlets.now }
+            requires few { count ≤ 2 ^ 24 }
             requires merged { IsMerged inlets.now page.now.lines }
             requires page { (page.now.lines ≡ []) × (page.now.bytes.items ≡ []) × (page.now.stopped ≡ None) }
             requires unheard { received moments.now.ring ≡ [] }
-        { merge::<R, X, D, K>(rt, alloc, bell, inlets, moments, page, output) },
+        { merge::<R, X, D, K>(rt, alloc, bell, count, inlets, moments, page, output) },
         &mut ||
             requires ready { AllZip (IsReadySeat office.now) lanes.now seats.now }
         { run_all(rt, alloc, office, lanes, basis, gate, bell, seats) },
