@@ -53,19 +53,19 @@ loop-preserved g c = record {
 
 pub returns : goal.returns
 returns g c =
-    let same : c.flush.new.page.lines ≡ c.loop.page.lines = c.flush.ensures.lines in
+    let same : c.flush.new.self.lines ≡ c.loop.page.lines = c.flush.ensures.lines in
     record {
       taken = c.loop.invariant.taken;
       whole = omega (arith, c.loop.invariant.count);
       merged = subst (IsMerged c.loop.inlets) (sym same) c.loop.invariant.merged;
       later = omega (arith, c.flush.ensures.later, c.loop.invariant.later);
       put = subst (λ (lines : List TranscriptLine). HasPutOut (g.K.Sink.faults c.args.output.now) (g.K.Sink.faults c.flush.new.output)
-          (g.K.Sink.written c.args.output.now) (g.K.Sink.written c.flush.new.output) (line_texts g.X.Wording.text lines) c.flush.new.page.bytes.items
-          c.flush.new.page.stopped) (sym same) (c.flush.ensures.put _ _ _ c.loop.invariant.put);
+          (g.K.Sink.written c.args.output.now) (g.K.Sink.written c.flush.new.output) (line_texts g.X.Wording.text lines) c.flush.new.self.bytes.items
+          c.flush.new.self.stopped) (sym same) (c.flush.ensures.put _ _ _ c.loop.invariant.put);
       flushed = c.flush.ensures.empty;
       ring = c.loop.invariant.ring;
       counted = c.loop.invariant.counted ∙ ap accepted_lines (sym same);
       shown = subst (λ (lines : List TranscriptLine). IsShowing g.X.Wording.text (g.K.Sink.pieces c.args.output.now) (g.K.Sink.pieces c.flush.new.output)
-          lines (received c.loop.moments.ring) c.flush.new.page.latest c.flush.new.page.bytes.items c.flush.new.page.stopped) (sym same)
+          lines (received c.loop.moments.ring) c.flush.new.self.latest c.flush.new.self.bytes.items c.flush.new.self.stopped) (sym same)
           (c.flush.ensures.shown _ _ _ _ c.loop.invariant.shown);
     }
