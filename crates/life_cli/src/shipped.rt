@@ -166,19 +166,19 @@ fn obey<R: Threads + Wait + Sync, F: FoundFile, C: FoundFile>(
         (two_disks disk result.disk second result.second) words.now shipped_auditors
         (input_between (⟦<Input as Source>⟧.faults) (⟦<Input as Source>⟧.left) (⟦<Input as Source>⟧.given)
         (⟦<Input as Source>⟧.ended) input.old input.new)
-        (between (⟦<Output as Sink>⟧.faults) (⟦<Output as Sink>⟧.written) output.old output.new)
+        (between (⟦<Output as Sink>⟧.faults) (⟦<Output as Sink>⟧.written) (⟦<Output as Sink>⟧.pieces) output.old output.new)
         (shelf_between (⟦<Folder as Shelf>⟧.faults) (⟦<Folder as Shelf>⟧.agrees) shelf.old shelf.new)
         (input.new ≡ input.old) (shelf.new ≡ shelf.old) result.status }
     ensures ends { EndsDuly words.now
         (input_between (⟦<Input as Source>⟧.faults) (⟦<Input as Source>⟧.left) (⟦<Input as Source>⟧.given)
         (⟦<Input as Source>⟧.ended) input.old input.new)
-        (between (⟦<Output as Sink>⟧.faults) (⟦<Output as Sink>⟧.written) output.old output.new)
+        (between (⟦<Output as Sink>⟧.faults) (⟦<Output as Sink>⟧.written) (⟦<Output as Sink>⟧.pieces) output.old output.new)
         (shelf_between (⟦<Folder as Shelf>⟧.faults) (⟦<Folder as Shelf>⟧.agrees) shelf.old shelf.new)
         (filing_between ⟦<FileDisk<HostRuntime, JournalOf<F>> as Disk>⟧ disk result.disk) result.status }
     ensures due { (ending : AnEnding) → AskForBoth words.now
         → IsDueOfBoth ⟦<FileDisk<HostRuntime, JournalOf<F>> as Disk>⟧ ⟦<FileDisk<HostRuntime, CheckpointOf<C>> as Disk>⟧
         (two_disks disk result.disk second result.second)
-        (between (⟦<Output as Sink>⟧.faults) (⟦<Output as Sink>⟧.written) output.old output.new) ending
+        (between (⟦<Output as Sink>⟧.faults) (⟦<Output as Sink>⟧.written) (⟦<Output as Sink>⟧.pieces) output.old output.new) ending
         → (result.status ≡ status_of ending) ⊎ (result.status ≡ 9) }
 {
     let counting = Box::new(alloc, CountWatcher::new(MOST_COUNTED));

@@ -37,7 +37,7 @@ pub fn begin<H: Shelf, K: Sink, D: Disk>(
     ensures silent { OnOk result (output.new ≡ output.old) }
     ensures ended { IfErr result (λ finished. HasNotBegun D.Disk disk finished.disk basis.now
         (shelf_between H.faults H.agrees shelf.old shelf.new)
-        (between K.faults K.written output.old output.new) finished.ending) }
+        (between K.faults K.written K.pieces output.old output.new) finished.ending) }
     // Where the shelf failed this is told, and nothing else.
     ensures counted { H.faults shelf.old < H.faults shelf.new
         → MatchResult result (λ begun. ⊥) (λ finished. finished.ending ≡ ReadFault) }
@@ -65,7 +65,7 @@ fn open<K: Sink, D: Disk>(
     ensures facts { IfOk result (λ begun. PassFacts IsOfficeHistory begun.pass) }
     ensures silent { OnOk result (output.new ≡ output.old) }
     ensures ended { IfErr result (λ finished. IsUnopened D.Disk disk finished.disk
-        (between K.faults K.written output.old output.new) finished.ending) }
+        (between K.faults K.written K.pieces output.old output.new) finished.ending) }
 {
     match Office::start(alloc, disk, NoWatchers) {
         Ok((office, pass)) => Ok(Begun {

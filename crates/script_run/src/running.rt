@@ -57,7 +57,7 @@ pub fn run<
 ) -> Finished<D>
     requires told { (before : ℕ) → W.told watchers before [] }
     ensures ends { EndsRun D.Disk disk result.disk name.now (W.handed watchers) (input_between S.faults S.left S.given S.ended input.old input.new)
-        (between K.faults K.written output.old output.new) (shelf_between H.faults H.agrees shelf.old shelf.new)
+        (between K.faults K.written K.pieces output.old output.new) (shelf_between H.faults H.agrees shelf.old shelf.new)
         (shelf.new ≡ shelf.old) result.ending }
     // Where the input failed, or the shelf did, the run ends with that, and with nothing else.
     ensures heard { S.faults input.old < S.faults input.new → result.ending ≡ ReadFault }
@@ -98,7 +98,7 @@ fn run_script<
     requires lanes { AreScriptLanes lanes.now }
     requires told { (before : ℕ) → W.told watchers before [] }
     ensures ends { EndsLanes D.Disk disk result.disk lanes.now name.now (W.handed watchers) (shelf_between H.faults H.agrees shelf.old shelf.new)
-        (between K.faults K.written output.old output.new) (shelf.new ≡ shelf.old) result.ending }
+        (between K.faults K.written K.pieces output.old output.new) (shelf.new ≡ shelf.old) result.ending }
     ensures counted { H.faults shelf.old < H.faults shelf.new → result.ending ≡ ReadFault }
     ensures files { H.files shelf.new ≡ H.files shelf.old }
 {
@@ -131,7 +131,7 @@ fn run_by_name<
     requires lanes { AreScriptLanes lanes.now }
     requires told { (before : ℕ) → W.told watchers before [] }
     ensures ends { EndsByName D.Disk disk result.disk lanes.now name.now (W.handed watchers) (shelf_between H.faults H.agrees shelf.old shelf.new)
-        (between K.faults K.written output.old output.new) result.ending }
+        (between K.faults K.written K.pieces output.old output.new) result.ending }
     ensures counted { H.faults shelf.old < H.faults shelf.new → result.ending ≡ ReadFault }
     ensures files { H.files shelf.new ≡ H.files shelf.old }
 {
@@ -164,7 +164,7 @@ fn run_by<
     requires lanes { AreScriptLanes lanes.now }
     requires told { (before : ℕ) → W.told watchers before [] }
     ensures ends { EndsScript D.Disk disk result.disk lanes.now basis.now (W.handed watchers)
-        (between K.faults K.written output.old output.new) result.ending }
+        (between K.faults K.written K.pieces output.old output.new) result.ending }
 {
     match Office::start(alloc, disk, watchers) {
         Ok((office, pass)) => run_office(rt, alloc, lanes, basis, office, pass, output, gate),
@@ -198,7 +198,7 @@ fn run_office<
     requires facts { PassFacts IsOfficeHistory pass }
     ensures ends { (old : D) (watchers : W) → HasStartedOffice D.Disk old watchers pass
         → EndsScript D.Disk old result.disk lanes.now basis.now (W.handed watchers)
-        (between K.faults K.written output.old output.new) result.ending }
+        (between K.faults K.written K.pieces output.old output.new) result.ending }
 {
     let mut pass = pass;
     let ran = run_lanes::<R, ScriptWords, K, D, W, G>(

@@ -21,7 +21,7 @@ use watcher_set::NoWatchers;
 pub fn account<K: Sink, D: Disk>(alloc: Global, id: u32, output: &mut K, disk: D) -> Finished<D>
     requires { 1 ≤ id }
     ensures { EndsState D.Disk disk result.disk (policy_account id)
-        (between K.faults K.written output.old output.new) result.ending }
+        (between K.faults K.written K.pieces output.old output.new) result.ending }
 {
     match OfficeState::open(alloc, disk, NoWatchers) {
         Ok(office) => {
@@ -38,7 +38,7 @@ pub fn account<K: Sink, D: Disk>(alloc: Global, id: u32, output: &mut K, disk: D
 // Writes the account of a policy of a journal that opens.
 fn write_account<K: Sink, D: Disk>(alloc: Global, id: u32, output: &mut K, disk: D) -> Finished<D>
     requires { 1 ≤ id }
-    ensures { EndsReading D.Disk disk result.disk id (between K.faults K.written output.old output.new) result.ending }
+    ensures { EndsReading D.Disk disk result.disk id (between K.faults K.written K.pieces output.old output.new) result.ending }
 {
     match read_again(alloc, id, disk) {
         Ok(read) => Finished {

@@ -21,7 +21,7 @@ use watcher_set::NoWatchers;
 /// Writes all policies in order of issue, and the balances.
 pub fn state<K: Sink, D: Disk>(alloc: Global, output: &mut K, disk: D) -> Finished<D>
     ensures { EndsState D.Disk disk result.disk books_text
-        (between K.faults K.written output.old output.new) result.ending }
+        (between K.faults K.written K.pieces output.old output.new) result.ending }
 {
     match OfficeState::open(alloc, disk, NoWatchers) {
         Ok(office) => {

@@ -57,7 +57,7 @@ pub fn load<R: Threads + Wait + Sync, K: Sink, H: Shelf, D: Disk + Send, G: Gate
     requires workers { (1 ≤ workers) × (workers ≤ 64) }
     ensures ends { EndsLoad D.Disk disk result.disk seed count lanes workers
         (shelf_between H.faults H.agrees shelf.old shelf.new)
-        (between K.faults K.written output.old output.new) result.ending }
+        (between K.faults K.written K.pieces output.old output.new) result.ending }
     // Where the shelf failed this is told, and nothing else.
     ensures counted { H.faults shelf.old < H.faults shelf.new → result.ending ≡ ReadFault }
     ensures files { H.files shelf.new ≡ H.files shelf.old }
@@ -139,7 +139,7 @@ fn load_office<
     requires facts { PassFacts IsOfficeHistory pass }
     ensures ends { (old : D) (watchers : W) → HasStartedOffice D.Disk old watchers pass
         → EndsLoading D.Disk old result.disk lanes.now workers basis.now
-        (between K.faults K.written output.old output.new) result.ending }
+        (between K.faults K.written K.pieces output.old output.new) result.ending }
 {
     let mut pass = pass;
     let mut nowhere = BytesSink::new(alloc, Vec::new(alloc));
@@ -189,7 +189,7 @@ fn write_loaded<K: Sink>(
     output: &mut K,
 ) -> Ending
     requires answer { IsLoadAnswer answer }
-    ensures { EndsLoaded lines.now answer (between K.faults K.written output.old output.new) result }
+    ensures { EndsLoaded lines.now answer (between K.faults K.written K.pieces output.old output.new) result }
 {
     match answer {
         Ok(valuation) => write_line(alloc, lines, &valuation.rows, output),
@@ -206,7 +206,7 @@ fn write_line<K: Sink>(
 ) -> Ending
     requires rows { length rows.now ≤ most_commands }
     requires bounded { AreSummable rows.now }
-    ensures { EndsLine lines.now rows.now (between K.faults K.written output.old output.new) result }
+    ensures { EndsLine lines.now rows.now (between K.faults K.written K.pieces output.old output.new) result }
 {
     let Ok(line) = load_line(alloc, lines.accepted(), lines.refused(), rows) else {
         return Ending::NoMemory;

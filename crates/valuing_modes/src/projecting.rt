@@ -40,7 +40,7 @@ pub fn project<R: Threads + Wait + Sync, K: Sink, H: Shelf, D: Disk, G: Gate>(
     requires workers { (1 ≤ workers) × (workers ≤ 64) }
     ensures ends { EndsProject D.Disk disk result.disk on years basis.now
         (shelf_between H.faults H.agrees shelf.old shelf.new)
-        (between K.faults K.written output.old output.new) result.ending }
+        (between K.faults K.written K.pieces output.old output.new) result.ending }
     // Where the shelf failed this is told, and nothing else.
     ensures counted { H.faults shelf.old < H.faults shelf.new → result.ending ≡ ReadFault }
     ensures files { H.files shelf.new ≡ H.files shelf.old }
@@ -81,7 +81,7 @@ fn project_office<R: Threads + Wait + Sync, K: Sink, D: Disk, W: Watching, G: Ga
     requires facts { PassFacts IsOfficeHistory pass }
     ensures ends { (old : D) (watchers : W) → HasStartedOffice D.Disk old watchers pass
         → EndsProjecting D.Disk old result.disk on years basis.now
-        (between K.faults K.written output.old output.new) result.ending }
+        (between K.faults K.written K.pieces output.old output.new) result.ending }
 {
     let mut pass = pass;
     let projected = cash_projection::project(
@@ -99,7 +99,7 @@ fn write_answer<K: Sink>(
     output: &mut K,
 ) -> Ending
     requires lone { IsLoneProjection answer }
-    ensures ends { EndsPrinted answer (between K.faults K.written output.old output.new) result }
+    ensures ends { EndsPrinted answer (between K.faults K.written K.pieces output.old output.new) result }
 {
     match answer {
         Ok(projection) => write_projection(alloc, &projection, output),
@@ -110,7 +110,7 @@ fn write_answer<K: Sink>(
 
 fn write_projection<K: Sink>(alloc: Global, projection: &Projection, output: &mut K) -> Ending
     requires printable { CanBePrinted projection.now }
-    ensures ends { EndsPrinted (Ok projection.now) (between K.faults K.written output.old output.new) result }
+    ensures ends { EndsPrinted (Ok projection.now) (between K.faults K.written K.pieces output.old output.new) result }
 {
     let text = print_projection(alloc, projection);
     write_text(text.map(|text| text.into_vec()), output)

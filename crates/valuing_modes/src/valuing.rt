@@ -46,7 +46,7 @@ pub fn value<R: Threads + Wait + Sync, K: Sink, H: Shelf, D: Disk, G: Gate>(
     requires workers { (1 ≤ workers) × (workers ≤ 64) }
     ensures ends { EndsValue D.Disk disk result.disk on at measure basis.now
         (shelf_between H.faults H.agrees shelf.old shelf.new)
-        (between K.faults K.written output.old output.new) result.ending }
+        (between K.faults K.written K.pieces output.old output.new) result.ending }
     // Where the shelf failed this is told, and nothing else.
     ensures counted { H.faults shelf.old < H.faults shelf.new → result.ending ≡ ReadFault }
     ensures files { H.files shelf.new ≡ H.files shelf.old }
@@ -87,7 +87,7 @@ fn value_office<R: Threads + Wait + Sync, K: Sink, D: Disk, W: Watching, G: Gate
     requires facts { PassFacts IsOfficeHistory pass }
     ensures ends { (old : D) (watchers : W) → HasStartedOffice D.Disk old watchers pass
         → EndsValuing D.Disk old result.disk on at measure basis.now
-        (between K.faults K.written output.old output.new) result.ending }
+        (between K.faults K.written K.pieces output.old output.new) result.ending }
 {
     let mut pass = pass;
     let query = Query {
@@ -114,7 +114,7 @@ fn write_answer<R: Threads + Sync, K: Sink>(
     requires day { IsDay on }
     requires workers { (1 ≤ workers) × (workers ≤ 64) }
     requires lone { IsLoneAnswer answer }
-    ensures ends { EndsAnswer on answer (between K.faults K.written output.old output.new) result }
+    ensures ends { EndsAnswer on answer (between K.faults K.written K.pieces output.old output.new) result }
 {
     match answer {
         Ok(valuation) => write_values(rt, alloc, on, &valuation, workers, output),
@@ -136,7 +136,7 @@ fn write_values<R: Threads + Sync, K: Sink>(
     requires day { IsDay on }
     requires workers { (1 ≤ workers) × (workers ≤ 64) }
     requires writable { IsWritableBlock valuation.now }
-    ensures ends { EndsAnswer on (Ok valuation.now) (between K.faults K.written output.old output.new) result }
+    ensures ends { EndsAnswer on (Ok valuation.now) (between K.faults K.written K.pieces output.old output.new) result }
 {
     let printed = print_parts(
         rt,
@@ -160,7 +160,7 @@ fn write_values<R: Threads + Sync, K: Sink>(
 // Says that there are only so many commands.
 fn refuse_position<K: Sink>(alloc: Global, count: u32, output: &mut K) -> Ending
     ensures later { K.faults output.old ≤ K.faults output.new }
-    ensures says { SaysAhead count (between K.faults K.written output.old output.new) result }
+    ensures says { SaysAhead count (between K.faults K.written K.pieces output.old output.new) result }
 {
     match format!(in alloc; "refused,ahead,{count}\n") {
         Ok(line) => end(output, line.as_bytes(), Ending::Ahead),

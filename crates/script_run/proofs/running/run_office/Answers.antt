@@ -11,8 +11,8 @@ returns g c = record {
       _ _ started c.close-disk.ensures.facts c.close-disk.ensures.closed c.requires.lanes c.run_lanes-ran.result
       _ c.end_ran-ending.result c.run_lanes-ran.ensures.answered (stays _ _ c.run_lanes-ran.result c.run_lanes-ran.ensures.refused)
       (rw c.as_slice.ensures.value at (c.end_ran-ending.ensures.ends
-      (between g.K.Sink.faults g.K.Sink.written c.args.output.now c.args.output.now)
+      (between g.K.Sink.faults g.K.Sink.written g.K.Sink.pieces c.args.output.now c.args.output.now)
       (written_of g.K.Sink.faults g.K.Sink.written c.args.output.now c.run_lanes-ran.new.output c.args.pass c.run_lanes-ran.new.pass
-      c.run_lanes-ran.result (between g.K.Sink.faults g.K.Sink.written c.args.output.now c.args.output.now) refl refl
+      c.run_lanes-ran.result (between g.K.Sink.faults g.K.Sink.written g.K.Sink.pieces c.args.output.now c.args.output.now) refl refl
       c.run_lanes-ran.ensures.later c.run_lanes-ran.ensures.wrote c.run_lanes-ran.ensures.refused)));
 }

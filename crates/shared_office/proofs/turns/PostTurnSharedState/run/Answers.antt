@@ -1,4 +1,4 @@
 use Rattle.shared_office.proofs.turns.PostTurnSharedState.run.Goals as goal
 
-pub post-answer-requires-clause-stands : goal.post-answer-requires-clause-stands
-post-answer-requires-clause-stands g c = (c.requires.lent.0, c.requires.lent.3.stood.state)
+pub post-requires-clause-stands : goal.post-requires-clause-stands
+post-requires-clause-stands g c = (c.requires.lent.0, c.requires.lent.3.stood.state)
