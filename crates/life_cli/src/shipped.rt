@@ -87,9 +87,12 @@ pub fn run_shipped<R: Threads + Wait + Sync, F: FoundFile, C: FoundFile>(
         → Reads script lanes
         → IsGivenBasis IsBasis lanes name
         (shelf_from_start (⟦<Folder as Shelf>⟧.faults result.shelf) (⟦<Folder as Shelf>⟧.agrees result.shelf)) basis
-        → IsPromisedFromStart ⟦<FileDisk<HostRuntime, JournalOf<F>> as Disk>⟧ Opens F.bytes result.disk lanes basis
+        → IsPromisedFromStart ⟦<FileDisk<HostRuntime, JournalOf<F>> as Disk>⟧ Opens F.bytes result.disk lanes name basis
+        shipped_auditors
+        (input_from_start (⟦<Input as Source>⟧.faults result.input) (⟦<Input as Source>⟧.given result.input)
+        (⟦<Input as Source>⟧.ended result.input))
         (output_from_start (⟦<Output as Sink>⟧.faults result.output) (⟦<Output as Sink>⟧.written result.output))
-        result.status }
+        (shelf_from_start (⟦<Folder as Shelf>⟧.faults result.shelf) (⟦<Folder as Shelf>⟧.agrees result.shelf)) result.status }
     // Each of the two files has its own name.
     ensures names { (result.disk.file.name.now ≡ codes "journal.life") × (result.second.file.name.now ≡ codes "checkpoint.life") }
     ensures ends { EndsDuly words.now

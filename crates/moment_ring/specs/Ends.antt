@@ -1,6 +1,6 @@
 -- The ends of a ring of moments, of which the first may be missing
 use Rattle.std.specs.Prelude.{◌≡◌, ℕ, ◌<◌, List, [], ◌∷◌, ◌++◌, Option, Some, None}
-use Rattle.rtrb.specs.Ring.{IsPair, SameProducer, known_free, received, known_items, sent}
+use Rattle.rtrb.specs.Ring.{IsPair, SameProducer, known_free, received, sent}
 use Rattle.rtrb.specs.declared.producer.Producer.{Producer}
 use Rattle.rtrb.specs.declared.consumer.Consumer.{Consumer}
 
@@ -32,8 +32,13 @@ module _ {A P : Type 0} where
   ArePaired (Some outlet) inlet = IsPair outlet inlet
   ArePaired None inlet = ⊥
 
-  -- the ends of a new ring with room for so many moments
-  pub record IsRingFor (many : ℕ) (outlet : Option (Producer ℕ A P)) (inlet : Consumer ℕ A P) : Type 0 where
+  -- the two ends of a ring through which nothing went
+  pub record IsNewRing (outlet : Option (Producer ℕ A P)) (inlet : Consumer ℕ A P) : Type 0 where
     pub paired : ArePaired outlet inlet
     pub untold : told outlet ≡ []
     pub unheard : received inlet ≡ []
+
+  -- there is room for so many moments
+  abbrev pub HasRoomFor : ℕ → Option (Producer ℕ A P) → Type 0
+  HasRoomFor many (Some ring) = known_free ring ≡ many
+  HasRoomFor many None = ⊥

@@ -1,7 +1,7 @@
 // Both ends of a ring.
-ghost use Rattle.std.specs.Prelude.{◌≡◌, Some, ◌++◌, IfOk, IfSome};
+ghost use Rattle.std.specs.Prelude.{◌≡◌, ◌++◌, IfOk};
 ghost use Rattle.rtrb.specs.Ring.{ConsumerLooked, IsPair, known_items, received};
-ghost use Rattle.moment_ring.specs.Ends.{ArePaired, IsRingFor, SameOutlet, told};
+ghost use Rattle.moment_ring.specs.Ends.{ArePaired, HasRoomFor, IsNewRing, SameOutlet, told};
 
 use crate::inlet::MomentInlet;
 use crate::outlet::MomentOutlet;
@@ -15,7 +15,8 @@ pub fn moment_ring<D: Disk>(
     alloc: Global,
     many: usize,
 ) -> Result<(MomentOutlet<D>, MomentInlet<D>), NoMemory>
-    ensures { IfOk result (λ ends. IsRingFor many ends.0.ring ends.1.ring) }
+    ensures ends { IfOk result (λ ends. IsNewRing ends.0.ring ends.1.ring) }
+    ensures room { IfOk result (λ ends. HasRoomFor many ends.0.ring) }
 {
     let (outlet, inlet) = RingBuffer::new(alloc, many).map_err(|_| NoMemory)?;
     Ok((

@@ -60,6 +60,7 @@ impl<D: Disk> Sink for BytesSink<D> {
     fn write(&mut self, bytes: &[u8], since: &Moment<D>) -> Result<usize, Failed>
         ensures cause { HasCause (plan_faults (sink_plan self.old))
             (plan_faults (sink_plan self.new)) result }
+        ensures held { OnOk result (plan_faults (sink_plan self.new) ≡ plan_faults (sink_plan self.old)) }
         ensures bound { IfOk result (λ n. n ≤ length bytes.now) }
         ensures some { 0 < length bytes.now → IfOk result (λ n. 0 < n) }
         ensures bytes { WriteAppends (Some (sink_bytes self.old))

@@ -108,6 +108,7 @@ impl<W: Write, D: Disk> Sink for StdSink<W, D> {
 
     fn write(&mut self, bytes: &[u8], since: &Moment<D>) -> Result<usize, Failed>
         ensures cause { HasCause self.old.faults self.new.faults result }
+        ensures held { OnOk result (self.new.faults ≡ self.old.faults) }
         ensures bound { IfOk result (λ n. n ≤ length bytes.now) }
         ensures some { 0 < length bytes.now → IfOk result (λ n. 0 < n) }
         // Where the writer tells what it holds, just what is taken went there.

@@ -28,6 +28,7 @@ pub trait Sink {
     /// isn't empty is a fault.
     fn write(&mut self, bytes: &[u8], since: &Moment<Self::Beside>) -> Result<usize, Failed>
         ensures cause { HasCause (faults self.old) (faults self.new) result }
+        ensures held { OnOk result (faults self.new ≡ faults self.old) }
         ensures bound { IfOk result (λ n. n ≤ length bytes.now) }
         ensures some { 0 < length bytes.now → IfOk result (λ n. 0 < n) }
         ensures bytes { WriteAppends (written self.old) (written self.new) result bytes.now }
@@ -38,6 +39,7 @@ pub trait Sink {
 /// Writes all the bytes. At a fault a front of them was written, and not all. They are true from the beginning on.
 pub fn write_all<K: Sink>(sink: &mut K, bytes: &[u8]) -> Result<(), WriteFault>
     ensures cause { HasCause (K.faults sink.old) (K.faults sink.new) result }
+    ensures held { OnOk result (K.faults sink.new ≡ K.faults sink.old) }
     ensures whole { OnOk result (Appends (K.written sink.old) (K.written sink.new) bytes.now) }
     ensures part { OnErr result (AppendsPart (K.written sink.old) (K.written sink.new) bytes.now) }
     ensures tells { StillTells (K.written sink.old) (K.written sink.new) }
@@ -52,6 +54,7 @@ pub fn write_all_since<K: Sink>(
     since: &Moment<K::Beside>,
 ) -> Result<(), WriteFault>
     ensures cause { HasCause (K.faults sink.old) (K.faults sink.new) result }
+    ensures held { OnOk result (K.faults sink.new ≡ K.faults sink.old) }
     ensures whole { OnOk result (Appends (K.written sink.old) (K.written sink.new) bytes.now) }
     ensures part { OnErr result (AppendsPart (K.written sink.old) (K.written sink.new) bytes.now) }
     ensures tells { StillTells (K.written sink.old) (K.written sink.new) }

@@ -1,5 +1,5 @@
 -- How a run ends, by what its parts did
-use Rattle.std.proofs.Common.{◌≡◌, ℕ, Bool, true, false, List, [], ◌++◌, refl, ap, sym, ◌∙◌, subst, inl, inr, Some, Result, Ok, Err}
+use Rattle.std.proofs.Common.{◌≡◌, ℕ, Bool, true, false, List, [], ◌++◌, refl, ap, sym, ◌∙◌, subst, inl, inr, Some, Result, Ok, Err, Option}
 use Rattle.std.specs.Prelude.{IfOk, OnErr, if◌then◌else◌}
 use Rattle.outside_io.specs.Faults.{Rose}
 use Rattle.outside_io.specs.Streams.{AppendsPart}
@@ -18,6 +18,7 @@ use Rattle.office_state.specs.declared.faults.StartCause.TheVariants.{DiskFault 
 use Rattle.office_state.specs.Images.{IsLeftAlone, IsLeftBy}
 use Rattle.office_state.specs.Opening.{HasNotOpened}
 use Rattle.shared_office.specs.Offices.{IsOfficeHistory, OfficeOpening}
+use Rattle.office_state.specs.States.{MomentRing}
 use Rattle.shared_office.specs.Starting.{HasClosed, HasStartedOffice}
 use Rattle.turn_lock.specs.Passes.{Holding, PassFacts}
 use Rattle.lane_runner.specs.Transcripts.{HasAnsweredLanes, dry_of}
@@ -61,9 +62,9 @@ ends_as_told lines reports output ending is wrote =
 -- An office ran lanes and was closed.
 module _ {D W : Type 0} (g : Ghosts D) (w : WatcherGhosts W) (old disk : D) (lanes : List Lane) (basis : List Dated) (watchers : W)
     (first closing : Holding (OfficeOpening D W)) (balances : Booking) (reports : List Report) (started : HasStartedOffice g old watchers first)
-    (facts : PassFacts IsOfficeHistory closing) (closed : HasClosed g w closing disk balances reports) (script : AreScriptLanes lanes) where
+    (facts : PassFacts IsOfficeHistory closing) {outlet : Option MomentRing} (closed : HasClosed g w closing disk balances reports outlet) (script : AreScriptLanes lanes) where
   abbrev opened : OfficeOpening D W
-  opened = record { opening = started.opening; begun = old; held = started.held; watchers = watchers }
+  opened = record { opening = started.opening; begun = old; held = started.held; watchers = watchers; outlet = started.outlet }
 
   abbrev auditors : List Auditor
   auditors = w.handed watchers

@@ -1,5 +1,5 @@
 -- From the opening of an office to its end
-use Rattle.std.proofs.Common.{◌≡◌, List, Option, [], ap, sym, ◌∙◌, subst, Some}
+use Rattle.std.proofs.Common.{◌≡◌, ℕ, ◌≤◌, List, Option, [], ap, refl, sym, ◌∙◌, subst, Some}
 use Rattle.std.specs.Prelude.{IfSome}
 use Rattle.outside_io.specs.declared.disks.Disk.{Ghosts}
 use Rattle.policy_types.specs.Accounts.{Booking}
@@ -28,18 +28,22 @@ module _ {D W : Type 0} (g : Ghosts D) (w : WatcherGhosts W) where
   pub started : (old : D) (watchers handed : W) (outlet : Option MomentRing) (state : OfficeState D W g w) → HasOpened old state → outlet_of state ≡ outlet → handed ≡ watchers
       → (kept : OfficeState D W g w) → kept ≡ state → (pass : Holding (OfficeOpening D W))
       → IsFirst (record { opening = opening_of state; begun = begun_of state; held = disk_of kept; watchers = handed; outlet = outlet_of kept }) pass
-      → HasStartedOffice g old watchers outlet pass
-  started old watchers handed outlet state opened given same kept as_opened pass first = record {
-    opening = opening_of state;
-    held = disk_of state;
-    first = subst (λ begun. IsFirst (record { opening = opening_of state; begun = begun; held = disk_of state; watchers = watchers; outlet = outlet }) pass) opened.begun
-        (subst (λ ring. IsFirst (record { opening = opening_of state; begun = begun_of state; held = disk_of state; watchers = watchers; outlet = ring }) pass) given
-        (subst (λ these. IsFirst (record { opening = opening_of state; begun = begun_of state; held = disk_of state; watchers = these; outlet = outlet_of state }) pass) same
-        (subst (λ (s : OfficeState D W g w). IsFirst (record { opening = opening_of state; begun = begun_of state; held = disk_of s; watchers = handed; outlet = outlet_of s }) pass) as_opened first)));
-    faults = ap g.faults opened.begun;
-    honesty = opened.honesty;
-    opened = opened.opened;
-  }
+      → (begun : HasStartedOffice g old watchers pass) × (begun.outlet ≡ outlet)
+  started old watchers handed outlet state opened given same kept as_opened pass first = (
+    record {
+      opening = opening_of state;
+      outlet = outlet;
+      held = disk_of state;
+      first = subst (λ begun. IsFirst (record { opening = opening_of state; begun = begun; held = disk_of state; watchers = watchers; outlet = outlet }) pass) opened.begun
+          (subst (λ ring. IsFirst (record { opening = opening_of state; begun = begun_of state; held = disk_of state; watchers = watchers; outlet = ring }) pass) given
+          (subst (λ these. IsFirst (record { opening = opening_of state; begun = begun_of state; held = disk_of state; watchers = these; outlet = outlet_of state }) pass) same
+          (subst (λ (s : OfficeState D W g w). IsFirst (record { opening = opening_of state; begun = begun_of state; held = disk_of s; watchers = handed; outlet = outlet_of s }) pass) as_opened first)));
+      faults = ap g.faults opened.begun;
+      honesty = opened.honesty;
+      opened = opened.opened;
+    },
+    refl,
+  )
 
   -- an office that was closed again for want of memory, before any turn
   pub unopened : (old : D) (office : OfficeState D W g w) → HasOpened old office → (disk : D)
@@ -59,8 +63,10 @@ module _ {D W : Type 0} (g : Ghosts D) (w : WatcherGhosts W) where
         → outlet ≡ outlet_of state
         → ((history : List Entry) → StandsFor state history → g.honest disk
         → IfSome outlet (λ ring. AreSafeSince g disk (opening_of state).commands (accepted_of history) (sent ring)))
+        → (g.honest disk → (early late : ℕ) (image : List ℕ) → early ≤ late → g.left_since disk late image → g.left_since disk early image)
         → HasClosed g w pass disk booked reports outlet
-    closed state disk booked reports outlet same given left ledger told ring safe = record {
+    closed state disk booked reports outlet same given left ledger told ring safe sooner = record {
+      sooner = sooner;
       opening = opening_on shared;
       opened = opened;
       whole = whole;

@@ -1,5 +1,5 @@
 -- How a shared office begins and ends
-use Rattle.std.specs.Prelude.{◌≡◌, List, [], Option, Some, IfSome}
+use Rattle.std.specs.Prelude.{◌≡◌, ℕ, ◌≤◌, List, [], Option, Some, IfSome}
 use Rattle.outside_io.specs.declared.disks.Disk.{Ghosts}
 use Rattle.policy_types.specs.Accounts.{Booking}
 use Rattle.policy_types.specs.declared.watcher.Report.{Report}
@@ -15,13 +15,14 @@ use Rattle.turn_lock.specs.Passes.{Holding, IsFirst, OwnsAll}
 use Rattle.shared_office.specs.Offices.{OfficeOpening}
 use Rattle.office_state.specs.States.{MomentRing}
 
--- The office was opened on a list of commands and the disk's count of faults, with these watchers and this outlet. Its first pass has all
--- turns and all shares. Where the disk that the office then holds is honest, it was so before, and the commands are
+-- The office was opened on a list of commands and the disk's count of faults, with these watchers and some outlet. Its first
+-- pass has all turns and all shares. Where the disk that the office then holds is honest, it was so before, and the commands are
 -- those of its file. It is the one that the pass's opening names, and which an office without turns leaves; that the disk
 -- which any office leaves says the same stands in what closing tells.
-pub record HasStartedOffice {D W : Type 0} (g : Ghosts D) (old : D) (watchers : W) (outlet : Option MomentRing)
-    (pass : Holding (OfficeOpening D W)) : Type 0 where
+pub record HasStartedOffice {D W : Type 0} (g : Ghosts D) (old : D) (watchers : W) (pass : Holding (OfficeOpening D W))
+    : Type 0 where
   pub opening : Opening
+  pub outlet : Option MomentRing
   pub held : D
   pub first : IsFirst (record { opening = opening; begun = old; held = held; watchers = watchers; outlet = outlet }) pass
   pub faults : opening.faults ≡ g.faults old
@@ -45,3 +46,6 @@ pub record HasClosed {D W : Type 0} (g : Ghosts D) (w : WatcherGhosts W) (pass :
   pub same : SameOutlet opening.outlet outlet
   pub safe : g.honest new
       → IfSome outlet (λ ring. AreSafeSince g new opening.opening.commands (accepted_of pass.seen) (sent ring))
+  -- what a crash left since a moment it left since each earlier one
+  pub sooner : g.honest new → (early late : ℕ) (image : List ℕ) → early ≤ late → g.left_since new late image
+      → g.left_since new early image

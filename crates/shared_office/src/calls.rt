@@ -1,5 +1,5 @@
 // The calls of an office, each through a shared reference and a caller's pass.
-ghost use Rattle.std.specs.Prelude.{◌≡◌, ℕ, ◌≤◌, [], None, IfOk, IfErr};
+ghost use Rattle.std.specs.Prelude.{◌≡◌, ℕ, ◌≤◌, [], IfOk, IfErr};
 ghost use Rattle.money_ledgers.specs.Balances.{balances};
 ghost use Rattle.policy_types.specs.Valid.{IsValid};
 ghost use Rattle.policy_types.specs.declared.entry.Call.TheVariants.{Pin as PinCall, PinAt};
@@ -43,7 +43,7 @@ pub trait OfficeCalls<D: Disk, W: Watching> {
     /// where no office is opened. Nobody hears its moments: `start_telling` has an outlet for them.
     fn start(alloc: Global, disk: D, watchers: W) -> Result<(Self, OfficePass<D, W>), StartFault<D>>
         requires told { (before : ℕ) → W.told watchers before [] }
-        ensures started { IfOk result (λ made. HasStartedOffice D.Disk disk watchers None made.1
+        ensures started { IfOk result (λ made. HasStartedOffice D.Disk disk watchers made.1
             × (made.1.turnstile ≡ office made.0) × PassFacts IsOfficeHistory made.1) }
         ensures refused { IfErr result (λ fault. HasNotOpened D.Disk disk fault.disk fault.cause) };
 
@@ -199,7 +199,7 @@ pub fn start_telling<D: Disk, W: Watching>(
 ) -> Result<(Office<D, W>, OfficePass<D, W>), StartFault<D>>
     requires told { (before : ℕ) → W.told watchers before [] }
     requires untold { moments_told outlet.ring ≡ [] }
-    ensures started { IfOk result (λ made. HasStartedOffice D.Disk disk watchers outlet.ring made.1
+    ensures started { IfOk result (λ made. ((started : HasStartedOffice D.Disk disk watchers made.1) × (started.outlet ≡ outlet.ring))
         × (made.1.turnstile ≡ made.0) × PassFacts IsOfficeHistory made.1) }
     ensures refused { IfErr result (λ fault. HasNotOpened D.Disk disk fault.disk fault.cause) }
 {

@@ -8,6 +8,7 @@ ghost use Rattle.program_endings.specs.Writing.{between};
 ghost use Rattle.stating_modes.specs.inside.Rereading.{EndsReading, IsAccount};
 
 use crate::rereading::{Account, read_again};
+use moment_ring::MomentOutlet;
 use office_state::OfficeState;
 use outside_io::{Disk, Sink};
 use policy_types::NoMemory;
@@ -23,9 +24,9 @@ pub fn account<K: Sink, D: Disk>(alloc: Global, id: u32, output: &mut K, disk: D
     ensures { EndsState D.Disk disk result.disk (policy_account id)
         (between K.faults K.written K.pieces output.old output.new) result.ending }
 {
-    match OfficeState::open(alloc, disk, NoWatchers) {
+    match OfficeState::open(alloc, disk, NoWatchers, MomentOutlet::nowhere()) {
         Ok(office) => {
-            let (disk, _, _) = office.close();
+            let (disk, _, _, _) = office.close();
             write_account(alloc, id, output, disk)
         }
         Err(fault) => Finished {

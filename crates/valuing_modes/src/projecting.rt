@@ -12,6 +12,7 @@ ghost use Rattle.valuing_modes.specs.inside.Projected.{EndsPrinted, IsLoneProjec
 use basis_book::{Basis, Name};
 use cash_projection::{Projection, print_projection};
 use lone_office::{Begun, begin};
+use moment_ring::MomentOutlet;
 use outside_io::{Disk, Gate, Shelf, Sink};
 use program_endings::{Ending, Finished, lack_memory, write_text};
 use shared_office::{Office, OfficePass, close};
@@ -45,7 +46,7 @@ pub fn project<R: Threads + Wait + Sync, K: Sink, H: Shelf, D: Disk, G: Gate>(
     ensures counted { H.faults shelf.old < H.faults shelf.new → result.ending ≡ ReadFault }
     ensures files { H.files shelf.new ≡ H.files shelf.old }
 {
-    match begin(alloc, basis, shelf, output, disk) {
+    match begin(alloc, basis, shelf, output, disk, MomentOutlet::nowhere()) {
         Ok(begun) => {
             let Begun {
                 basis,
@@ -87,7 +88,7 @@ fn project_office<R: Threads + Wait + Sync, K: Sink, D: Disk, W: Watching, G: Ga
     let projected = cash_projection::project(
         rt, alloc, &office, &mut pass, basis, on, years, workers, gate,
     );
-    let (disk, _, _) = close(office, pass);
+    let (disk, _, _, _) = close(office, pass);
     let ending = write_answer(alloc, projected.answer, output);
     Finished { ending, disk }
 }

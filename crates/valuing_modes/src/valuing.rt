@@ -12,6 +12,7 @@ ghost use Rattle.valuing_modes.specs.inside.Valued.{EndsAnswer, IsLoneAnswer, Sa
 
 use basis_book::{Basis, Name};
 use lone_office::{Begun, begin};
+use moment_ring::MomentOutlet;
 use outside_io::{Disk, Gate, Shelf, Sink};
 use policy_types::{At, PinRefusal};
 use policy_value::Measure;
@@ -51,7 +52,7 @@ pub fn value<R: Threads + Wait + Sync, K: Sink, H: Shelf, D: Disk, G: Gate>(
     ensures counted { H.faults shelf.old < H.faults shelf.new → result.ending ≡ ReadFault }
     ensures files { H.files shelf.new ≡ H.files shelf.old }
 {
-    match begin(alloc, basis, shelf, output, disk) {
+    match begin(alloc, basis, shelf, output, disk, MomentOutlet::nowhere()) {
         Ok(begun) => {
             let Begun {
                 basis,
@@ -97,7 +98,7 @@ fn value_office<R: Threads + Wait + Sync, K: Sink, D: Disk, W: Watching, G: Gate
         workers,
     };
     let valued = snapshot_value::value(rt, alloc, &office, &mut pass, query, at, NO_LANE, gate);
-    let (disk, _, _) = close(office, pass);
+    let (disk, _, _, _) = close(office, pass);
     let ending = write_answer(rt, alloc, on, valued.answer, workers, output);
     Finished { ending, disk }
 }

@@ -16,14 +16,16 @@ use Rattle.policy_machine.specs.Merge.{IsMerge, Placed}
 use Rattle.office_state.specs.Journals.{Opens}
 use Rattle.office_state.specs.Worked.{hand_issue, hand_premium, premium_turn}
 use Rattle.office_state.proofs.WorkedOffices.{valid_premium}
-use Rattle.program_endings.specs.declared.ending.Ending.TheVariants.{Done}
+use Rattle.program_endings.specs.declared.ending.Ending.{Ending}
+use Rattle.program_endings.specs.declared.ending.Ending.TheVariants.{Done, BadScript, BadBasis, BadJournal, ReadFault, DiskFault, NoMemory}
+use Rattle.program_endings.specs.Status.{status_of}
 use Rattle.program_endings.specs.Replies.{AreAnswered}
 use Rattle.program_endings.specs.Writing.{IsWholeInput, WroteAll}
 use Rattle.script_run.specs.Outcome.{IsRunOf}
 use Rattle.script_run.specs.Running.{EndsLanes, EndsRead, EndsRun}
 use Rattle.transcript_text.specs.Transcript.{posting_text, reports_text}
 use Rattle.watcher_set.specs.Noted.{reports_of}
-use Rattle.life_app.specs.Headline.{IsPromised, IsUnrun}
+use Rattle.life_app.specs.Headline.{IsPromised, IsUnrun, SaysUnrun}
 use Rattle.life_app.specs.Obeys.{Does, Obeys}
 use Rattle.life_app.specs.Words.{AskForRun}
 use Rattle.life_app.proofs.HeadlineLaws.{by_script, headline}
@@ -121,16 +123,29 @@ obeyed words same = record { ending = Done; exits = refl; does = did words same 
 pub obeyed_by_hand : ObeyedByHand
 obeyed_by_hand = (ran, ran, ended, read, run_ended, obeyed)
 
-no_unrun : IsUnrun called Opens cut_disk last_disk (output_of premium_text) 0 → ⊥
-no_unrun unrun = unrun.failed refl
+-- a run that says in a line why it failed has no status 0
+unrun_fails : (ending : Ending)
+    → SaysUnrun called cut_disk last_disk (codes "basis.csv") given_script (output_of premium_text) (shelf_that_told []) ending
+    → 0 ≡ status_of ending → ⊥
+unrun_fails BadScript says none = cc
+unrun_fails BadBasis says none = cc
+unrun_fails BadJournal says none = cc
+unrun_fails ReadFault says none = cc
+unrun_fails DiskFault says none = cc
+unrun_fails NoMemory says none = cc
+unrun_fails _ says none = says
+
+no_unrun : IsUnrun called Opens cut_disk last_disk (codes "basis.csv") given_script (output_of premium_text) (shelf_that_told []) 0 → ⊥
+no_unrun unrun = unrun_fails unrun.ending unrun.says unrun.exits
 
 pub headline_by_hand : HeadlineByHand
-headline_by_hand words same = headline called cut_disk last_disk (output_of premium_text) facts.only_now premium_lanes [] two_auditors (codes "basis.csv") premium_script words
-    given_script (shelf_that_told []) ⊥ (Unit {0}) 0 (obeyed words same) (asks_run words same) whole reads_premium (inl (refl, refl))
+headline_by_hand words same = headline called cut_disk last_disk (output_of premium_text) (codes "basis.csv") given_script (shelf_that_told [])
+    facts.only_now premium_lanes [] two_auditors premium_script words ⊥ (Unit {0}) 0
+    (obeyed words same) (asks_run words same) whole reads_premium (inl (refl, refl))
 
-promised : IsPromised called Opens cut_disk last_disk premium_lanes [] (output_of premium_text) 0
-promised = elim (by_script called cut_disk last_disk (output_of premium_text) facts.only_now premium_lanes [] two_auditors (codes "basis.csv") premium_script
-    given_script (shelf_that_told []) (Unit {0}) Done whole reads_premium (inl (refl, refl)) run_ended) [
+promised : IsPromised called Opens cut_disk last_disk premium_lanes [] two_auditors (output_of premium_text) 0
+promised = elim (by_script called cut_disk last_disk (output_of premium_text) (codes "basis.csv") given_script (shelf_that_told [])
+    facts.only_now premium_lanes [] two_auditors premium_script (Unit {0}) Done whole reads_premium (inl (refl, refl)) run_ended) [
       | inl told ↦ told
       | inr unrun ↦ absurd (no_unrun unrun)
     ]

@@ -70,11 +70,12 @@ ObeyedByHand = IsRunOf called cut_disk last_disk premium_lanes [] two_auditors (
 -- so the headline says of it what is promised, or that no line was answered
 abbrev pub HeadlineByHand : Type 0
 HeadlineByHand = (words : List (String Global)) → AreTyped words (codes "run" ∷ [])
-    → IsPromised called Opens cut_disk last_disk premium_lanes [] (output_of premium_text) 0
-    ⊎ IsUnrun called Opens cut_disk last_disk (output_of premium_text) 0
+    → IsPromised called Opens cut_disk last_disk premium_lanes [] two_auditors (output_of premium_text) 0
+    ⊎ IsUnrun called Opens cut_disk last_disk (codes "basis.csv") given_script (output_of premium_text) (shelf_that_told []) 0
 
 -- and it is the first, from the start of that disk on
 abbrev pub PromisedByHand : Type 0
-PromisedByHand = IsPromised called Opens cut_disk last_disk premium_lanes [] (output_of premium_text) 0
-    × IsPromisedFromStart called Opens cut_file last_disk premium_lanes [] (output_of premium_text) 0
-    × (IsUnrun called Opens cut_disk last_disk (output_of premium_text) 0 → ⊥)
+PromisedByHand = IsPromised called Opens cut_disk last_disk premium_lanes [] two_auditors (output_of premium_text) 0
+    × IsPromisedFromStart called Opens cut_file last_disk premium_lanes (codes "basis.csv") [] two_auditors given_script
+    (output_of premium_text) (shelf_that_told []) 0
+    × (IsUnrun called Opens cut_disk last_disk (codes "basis.csv") given_script (output_of premium_text) (shelf_that_told []) 0 → ⊥)

@@ -11,7 +11,7 @@ loop-taken-preserved g c =
     let taken = c.loop-taken.taken in
     record {
       within = omega (arith, c.in-Ok.ensures.bound);
-      later = omega (arith, c.in-Ok.ensures.cause.later);
+      held = c.in-Ok.ensures.held ∙ c.loop-taken.invariant.held;
       written = appends_more _ (g.K.Sink.written c.loop-taken.sink) _ bytes taken c.in-Ok.n
           c.loop-taken.invariant.written (rw (take_rest bytes taken) at c.in-Ok.ensures.bytes);
       tells = c.in-Ok.ensures.tells ∙ c.loop-taken.invariant.tells;
