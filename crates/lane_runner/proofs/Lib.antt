@@ -1,6 +1,5 @@
 pub mod Places
 pub mod AnswerSteps
-pub mod EvidenceSteps
 pub mod SeatSteps
 pub mod RunSteps
 pub mod MergeSteps
