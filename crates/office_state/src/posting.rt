@@ -117,7 +117,8 @@ impl<D: Disk, W: Watching> OfficeState<D, W> {
         }
         match record(&mut self.journal, &encode(command)) {
             Ok(()) => {
-                self.outlet.tell(Moment::of(self.journal.disk()));
+                let moment = Moment::of(self.journal.disk());
+                self.outlet.tell(moment);
                 self.books.keep(place, command, after);
                 let position = self.books.count();
                 self.watchers.note(position, command);

@@ -25,7 +25,7 @@ impl<'a, D: Disk, W: Watching> Turn<SharedState<D, W>> for Post<'a> {
 
     ghost tells = { λ _ _ _ _. Unit {0} };
 
-    #[tactic(auto, using(crate::proofs::Turned::turned, crate::proofs::Turned::outlet_on))]
+    #[tactic(auto, using(crate::proofs::Turned::turned))]
     fn run(self, value: &mut SharedState<D, W>, caller: u64) -> Answer {
         value.state.post(caller, self.command)
     }
