@@ -12,6 +12,7 @@ mod transcript;
 mod transcript_lines;
 mod wording;
 
+pub use rooms::count_postings;
 pub use running::{Ran, run_lanes};
 pub use transcript::{Callers, Outcome, Transcript, TranscriptLine};
 pub use transcript_lines::TranscriptLines;
