@@ -1,5 +1,5 @@
 -- The worked run is as the headline says.
-use Rattle.std.proofs.Common.{◌≡◌, ◌+◌, ◌++◌, ℕ, List, [], ◌∷◌, refl, ap, sym, subst, inl, inr, lit≤, lit<, codes, String, Global}
+use Rattle.std.proofs.Common.{◌≡◌, ◌+◌, ◌++◌, ℕ, List, [], ◌∷◌, length, arith, refl, ap, sym, subst, inl, inr, lit≤, lit<, codes, String, Global}
 use Rattle.std.specs.Fmt.{digits}
 use Rattle.std.specs.Prelude.{take}
 use Rattle.std.specs.List.{IsDistinct, flat_map}
@@ -33,10 +33,12 @@ use Rattle.life_app.specs.Headline.{IsPromised, IsUnrun, SaysUnrun}
 use Rattle.life_app.specs.Obeys.{Does, Obeys}
 use Rattle.life_app.specs.Words.{AskForRun}
 use Rattle.life_app.proofs.HeadlineLaws.{by_script, headline}
-use Rattle.life_app.specs.WorkedRun.Calls.{called, cut_disk, last_disk}
+use Rattle.life_app.specs.WorkedRun.Calls.{Unsynced, called, cut_disk, cut_file, last_disk, untorn}
 use Rattle.life_app.specs.WorkedRun.Runs.{second_turns}
-use Rattle.life_app.specs.WorkedRun.Promise.{AreTyped, GivenByHand, HeadlineByHand, ObeyedByHand, PromisedByHand, given_script, output_of, premium_lanes, premium_script, premium_text, shelf_that_told, two_auditors}
+use Rattle.life_app.specs.WorkedRun.Promise.{AreTyped, GivenByHand, HeadlineByHand, ObeyedByHand, PromisedByHand, ToldOnceSafe, given_script, output_of, premium_lanes, premium_line, premium_script, premium_text, shelf_that_told, two_auditors}
+use Rattle.outside_io.specs.FileCalls.{FileCall, FileLeft}
 use Rattle.outside_io.specs.Streams.{TakenPiece}
+use Rattle.office_state.proofs.JournalLaws.{opens_to_one}
 use Rattle.life_app.proofs.WorkedRun.First.{honest_last}
 use Rattle.life_app.proofs.WorkedRun.Row.{both_now, facts, found_by_hand, legal_second, second_left}
 
@@ -103,21 +105,32 @@ one_alone {A} x y (z ∷ before) after same = none before (ap tail same)
 only_piece : TakenPiece
 only_piece = record { bytes = premium_text; since = called.clock last_disk }
 
-only_line : AnsweredLine
-only_line = record { clerk = 1; line = Post hand_premium; first = (0, premium_turn (Accepted 2)); rest = [] }
-
 -- since the disk's last moment a crash leaves both commands
-shown : AreSafeWhenShown called Opens last_disk (hand_issue ∷ []) second_turns (only_line ∷ []) (told ∷ []) (only_piece ∷ [])
+shown : AreSafeWhenShown called Opens last_disk (hand_issue ∷ []) second_turns (premium_line ∷ []) (told ∷ []) (only_piece ∷ [])
 shown later earlier piece split before after line there accepted reached image left =
     let this : only_piece ≡ piece = one_alone only_piece piece later earlier split in
-    let one : only_line ≡ line = one_alone only_line line before after there in
+    let one : premium_line ≡ line = one_alone premium_line line before after there in
     let now : called.may_leave last_disk image =
     facts.only_now last_disk image honest_last (subst (λ (p : TakenPiece). called.left_since last_disk p.since image) (sym this) left) in
     subst (λ (l : AnsweredLine). (more : List Command) × Opens image ((hand_issue ∷ []) ++ accepted_of (take (l.first.0 + 1) second_turns) ++ more)) one
     ([], inl (both_now image now))
 
+-- before the first call the file was as it was found
+as_found : (first : List ℕ) (calls : List FileCall) → FileLeft first untorn Unsynced calls 0 first
+as_found first [] = (lit≤ tt, inl refl)
+as_found first (call ∷ earlier) = inl (as_found first earlier)
+
+too_soon : AreSafeWhenShown called Opens last_disk (hand_issue ∷ []) second_turns (premium_line ∷ []) (told ∷ [])
+    ((record { bytes = premium_text; since = 0 }) ∷ []) → ⊥
+too_soon safe =
+    let opens = safe [] [] (record { bytes = premium_text; since = 0 }) refl [] [] premium_line refl tt (lit< tt) cut_file
+    (as_found cut_file last_disk.calls) in
+    let same : hand_issue ∷ [] ≡ (hand_issue ∷ []) ++ hand_premium ∷ opens.0 =
+    opens_to_one cut_file (hand_issue ∷ []) ((hand_issue ∷ []) ++ hand_premium ∷ opens.0) (second_left.opened honest_last) opens.1 in
+    absurd (let long = ap length same in omega (arith, long))
+
 ran : IsRunOf called cut_disk last_disk premium_lanes [] two_auditors (output_of premium_text) (WroteAll (output_of premium_text)) AreAnswered
-unfolding answered told digits only_piece only_line
+unfolding answered told digits only_piece
 ran = record {
   commands = hand_issue ∷ [];
   callers = 1 ∷ [];
@@ -192,3 +205,7 @@ promised = elim (by_script called cut_disk last_disk (output_of premium_text) (c
 
 pub promised_by_hand : PromisedByHand
 promised_by_hand = (promised, record { old = cut_disk; found = found_by_hand.1; told = inl promised }, no_unrun)
+
+pub told_once_safe : ToldOnceSafe
+unfolding told digits only_piece
+told_once_safe = (shown, too_soon)
