@@ -6,7 +6,7 @@ ghost use Rattle.lane_runner.specs.inside.Parts.{AreEnds, HasLaneRoom, IsInletFo
 use crate::page::Page;
 use crate::telling::{Inlet, Outlet, ring_for};
 use outside_io::Disk;
-use policy_types::{Lane, Line, NoMemory};
+use policy_types::{Lane, NoMemory};
 use shared_office::OfficePass;
 use std::alloc::Global;
 use watcher_set::Watching;
@@ -65,20 +65,4 @@ fn ring_of(alloc: Global, lane: &Lane) -> Result<(Outlet, Inlet), NoMemory>
     ensures ends { IfOk result (λ ring. AreEnds ring.0 ring.1) }
 {
     ring_for(alloc, lane.lines.as_slice().len())
-}
-
-/// How many lines post a command: for as many moments there is to be room.
-pub fn count_postings(lanes: &[Lane]) -> usize {
-    let mut count = 0usize;
-    for lane in lanes {
-        count = count.saturating_add(postings_in(lane.lines.as_slice()));
-    }
-    count
-}
-
-fn postings_in(lines: &[Line]) -> usize {
-    lines
-        .iter()
-        .filter(|line| matches!(**line, Line::Post(_)))
-        .count()
 }

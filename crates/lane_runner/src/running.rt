@@ -85,9 +85,25 @@ pub fn run_lanes<
     // What is known of every pass (`PassFacts`) is told of this one here.
     pass.caller();
     let room = room_for::<D, W>(alloc, lanes)?;
-    Ok(run_in::<R, X, D, K, W, G>(
-        rt, alloc, office, pass, lanes, basis, gate, moments, output, room,
-    ))
+    let run = Run {
+        rt,
+        alloc,
+        office,
+        lanes,
+        basis,
+        gate,
+    };
+    Ok(run_in::<R, X, D, K, W, G>(&run, pass, moments, output, room))
+}
+
+// What is the same for each lane of a run.
+struct Run<'a, R, D: Disk, W: Watching, G> {
+    rt: &'a R,
+    alloc: Global,
+    office: &'a Office<D, W>,
+    lanes: &'a [Lane],
+    basis: &'a Basis,
+    gate: &'a G,
 }
 
 // Runs lanes, for whose lines there is room.
@@ -99,25 +115,20 @@ fn run_in<
     W: Watching + Send,
     G: Gate + Sync,
 >(
-    rt: &R,
-    alloc: Global,
-    office: &Office<D, W>,
+    run: &Run<R, D, W, G>,
     pass: &mut OfficePass<D, W>,
-    lanes: &[Lane],
-    basis: &Basis,
-    gate: &G,
     moments: &mut MomentInlet<D>,
     output: &mut K,
     room: Room<D, W>,
 ) -> Ran<D>
-    requires lanes { AreRightLanes lanes.now }
-    requires ours { pass.old.turnstile ≡ office.now }
+    requires lanes { AreRightLanes run.now.lanes.now }
+    requires ours { pass.old.turnstile ≡ run.now.office.now }
     requires left { 2 ^ 40 ≤ pass.old.left }
     requires shares { 2 ^ 10 ≤ pass.old.shares }
     requires unheard { received moments.old.ring ≡ [] }
-    requires room { HasLaneRoom lanes.now room.outlets room.inlets room.seats room.callers }
+    requires room { HasLaneRoom run.now.lanes.now room.outlets room.inlets room.seats room.callers }
     requires page { (room.page.lines ≡ []) × (room.page.bytes.items ≡ []) × (room.page.stopped ≡ None) }
-    ensures answered { HasAnsweredLanes basis.now lanes.now pass.old pass.new result.transcript }
+    ensures answered { HasAnsweredLanes run.now.basis.now run.now.lanes.now pass.old pass.new result.transcript }
     ensures wrote { HasEnded (K.faults output.old) (K.faults output.new) (K.written output.old) (K.written output.new)
         (line_texts X.text result.transcript.lines) result.written }
     ensures shown { HasShown X.text (K.pieces output.old) (K.pieces output.new) result.transcript.lines
@@ -135,21 +146,9 @@ fn run_in<
     } = room;
     // What is known of every pass (`PassFacts`) is told of this one here.
     pass.caller();
-    enter_all(office, pass, outlets, &mut seats);
-    run_seats::<R, X, D, K, W, G>(
-        rt,
-        alloc,
-        office,
-        lanes,
-        basis,
-        gate,
-        &mut seats,
-        &mut inlets,
-        moments,
-        &mut page,
-        output,
-    );
-    leave_all(office, pass, seats, &mut callers);
+    enter_all(run.office, pass, outlets, &mut seats);
+    run_beside::<R, X, D, K, W, G>(run, &mut seats, &mut inlets, moments, &mut page, output);
+    leave_all(run.office, pass, seats, &mut callers);
     // What is known of every pass (`PassFacts`) is told of this one here.
     pass.caller();
     let written = page.written();
@@ -184,8 +183,8 @@ fn enter_all<D: Disk, W: Watching>(
     }
 }
 
-// Runs each lane in its seat, all at the same time, and writes what they tell.
-fn run_seats<
+// Runs each lane in its seat, all at the same time, and beside them the writer, which takes what they tell.
+fn run_beside<
     R: Threads + Wait + Sync,
     X: Wording + Send,
     D: Disk + Send,
@@ -193,25 +192,20 @@ fn run_seats<
     W: Watching + Send,
     G: Gate + Sync,
 >(
-    rt: &R,
-    alloc: Global,
-    office: &Office<D, W>,
-    lanes: &[Lane],
-    basis: &Basis,
-    gate: &G,
+    run: &Run<R, D, W, G>,
     seats: &mut Vec<Seat<D, W>>,
     inlets: &mut Vec<Inlet>,
     moments: &mut MomentInlet<D>,
     page: &mut Page<D>,
     output: &mut K,
 )
-    requires ready { AllZip (IsReadySeat office.now) lanes.now seats.old.items }
-    requires fed { AllZip IsInletFor lanes.now inlets.old.items }
+    requires ready { AllZip (IsReadySeat run.now.office.now) run.now.lanes.now seats.old.items }
+    requires fed { AllZip IsInletFor run.now.lanes.now inlets.old.items }
     requires ends { AllZip IsEndOf seats.old.items inlets.old.items }
-    requires few { length (lines_in lanes.now) ≤ 2 ^ 24 }
+    requires few { length (lines_in run.now.lanes.now) ≤ 2 ^ 24 }
     requires page { (page.old.lines ≡ []) × (page.old.bytes.items ≡ []) × (page.old.stopped ≡ None) }
     requires unheard { received moments.old.ring ≡ [] }
-    ensures run { HaveRun basis.now lanes.now seats.old.items seats.new.items }
+    ensures run { HaveRun run.now.basis.now run.now.lanes.now seats.old.items seats.new.items }
     ensures moved { IsPermutation (flat_map (λ seat. told_in seat) seats.new.items) page.new.lines }
     ensures sorted { AreInOrder page.new.lines }
     ensures later { K.faults output.old ≤ K.faults output.new }
@@ -223,65 +217,10 @@ fn run_seats<
     ensures shown { IsShowing X.text (K.pieces output.old) (K.pieces output.new) page.new.lines (received moments.new.ring)
         page.new.latest page.new.bytes.items page.new.stopped }
 {
+    let Run { rt, alloc, .. } = *run;
     let bell = Parker::new();
-    run_beside::<R, X, D, K, W, G>(
-        rt,
-        alloc,
-        office,
-        lanes,
-        basis,
-        gate,
-        &bell,
-        seats.as_mut_slice(),
-        inlets.as_mut_slice(),
-        moments,
-        page,
-        output,
-    );
-}
-
-// Runs the lanes, and beside them the writer, which takes what they tell.
-fn run_beside<
-    'a,
-    R: Threads + Wait + Sync,
-    X: Wording + Send,
-    D: Disk + Send,
-    K: Sink<Beside = D> + Send,
-    W: Watching + Send,
-    G: Gate + Sync,
->(
-    rt: &'a R,
-    alloc: Global,
-    office: &'a Office<D, W>,
-    lanes: &'a [Lane],
-    basis: &'a Basis,
-    gate: &'a G,
-    bell: &'a Parker,
-    seats: &'a mut [Seat<D, W>],
-    inlets: &'a mut [Inlet],
-    moments: &'a mut MomentInlet<D>,
-    page: &'a mut Page<D>,
-    output: &'a mut K,
-)
-    requires ready { AllZip (IsReadySeat office.now) lanes.now seats.old }
-    requires fed { AllZip IsInletFor lanes.now inlets.old }
-    requires ends { AllZip IsEndOf seats.old inlets.old }
-    requires few { all_to_come inlets.old ≤ 2 ^ 24 }
-    requires merged { IsMerged inlets.old page.old.lines }
-    requires page { (page.old.lines ≡ []) × (page.old.bytes.items ≡ []) × (page.old.stopped ≡ None) }
-    requires unheard { received moments.old.ring ≡ [] }
-    ensures run { HaveRun basis.now lanes.now seats.old seats.new }
-    ensures moved { IsPermutation (flat_map (λ seat. told_in seat) seats.new) page.new.lines }
-    ensures sorted { AreInOrder page.new.lines }
-    ensures later { K.faults output.old ≤ K.faults output.new }
-    ensures put { HasPutOut (K.faults output.old) (K.faults output.new) (K.written output.old) (K.written output.new)
-        (line_texts X.text page.new.lines) page.new.bytes.items page.new.stopped }
-    ensures flushed { page.new.stopped ≡ None → page.new.bytes.items ≡ [] }
-    ensures ring { SameConsumer moments.old.ring moments.new.ring }
-    ensures counted { length (received moments.new.ring) ≡ accepted_lines page.new.lines }
-    ensures shown { IsShowing X.text (K.pieces output.old) (K.pieces output.new) page.new.lines (received moments.new.ring)
-        page.new.latest page.new.bytes.items page.new.stopped }
-{
+    let seats = seats.as_mut_slice();
+    let inlets = inlets.as_mut_slice();
     let count = count_to_come(inlets);
     join_mut(
         rt,
@@ -291,10 +230,10 @@ fn run_beside<
             requires merged { IsMerged inlets.now page.now.lines }
             requires page { (page.now.lines ≡ []) × (page.now.bytes.items ≡ []) × (page.now.stopped ≡ None) }
             requires unheard { received moments.now.ring ≡ [] }
-        { merge::<R, X, D, K>(rt, alloc, bell, count, inlets, moments, page, output) },
+        { merge::<R, X, D, K>(rt, alloc, &bell, count, inlets, moments, page, output) },
         &mut ||
-            requires ready { AllZip (IsReadySeat office.now) lanes.now seats.now }
-        { run_all(rt, alloc, office, lanes, basis, gate, bell, seats) },
+            requires ready { AllZip (IsReadySeat run.now.office.now) run.now.lanes.now seats.now }
+        { run_all(run, &bell, seats) },
     );
     settle(seats, inlets);
 }
@@ -316,19 +255,28 @@ fn settle<D: Disk, W: Watching>(seats: &mut [Seat<D, W>], inlets: &mut [Inlet])
     settle(seats, inlets);
 }
 
-fn run_all<D: Disk + Send, W: Watching + Send, G: Gate + Sync, R: Threads + Wait + Sync>(
-    rt: &R,
-    alloc: Global,
-    office: &Office<D, W>,
-    lanes: &[Lane],
-    basis: &Basis,
-    gate: &G,
+// Runs each lane in its seat, all at the same time.
+fn run_all<
+    R: Threads + Wait + Sync,
+    D: Disk + Send,
+    W: Watching + Send,
+    G: Gate + Sync,
+>(
+    run: &Run<R, D, W, G>,
     bell: &Parker,
     seats: &mut [Seat<D, W>],
 )
-    requires ready { AllZip (IsReadySeat office.now) lanes.now seats.old }
-    ensures run { HaveRun basis.now lanes.now seats.old seats.new }
+    requires ready { AllZip (IsReadySeat run.now.office.now) run.now.lanes.now seats.old }
+    ensures run { HaveRun run.now.basis.now run.now.lanes.now seats.old seats.new }
 {
+    let Run {
+        rt,
+        alloc,
+        office,
+        lanes,
+        basis,
+        gate,
+    } = *run;
     for_each_mut(
         rt,
         seats,
