@@ -54,7 +54,7 @@ use Rattle.life_args.specs.declared.mode.Mode.{Mode}
 use Rattle.life_args.specs.declared.mode.Mode.TheVariants.{Run}
 use Rattle.life_app.specs.Obeys.{Does, EndsMode, Obeys, SaysUnasked}
 use Rattle.life_app.specs.Words.{AskForRun}
-use Rattle.life_app.specs.Headline.{HasWritten, IsEnclosingRow, IsGivenBasis, IsPromised, IsThere, IsToldLine, IsToldText, IsUnrun, IsWorthBy, SaysUnrun, WasFaulted}
+use Rattle.life_app.specs.Headline.{WroteAsEnded, IsEnclosingRow, IsGivenBasis, IsPromised, IsThere, IsToldLine, IsToldText, IsUnrun, IsWorthBy, SaysUnrun, WasFaulted}
 
 -- the rounded bounds of a row are bounds of the exact reserve
 worth_by : (policy : Policy) (entry : Dated) (on : ℤ) (shape : Result Shape NotValued) (t : ℕ) (worth : Worth)
@@ -152,7 +152,7 @@ module _ {D : Type 0} (g : Ghosts D) (old new : D) (output : Stream) where
   -- a run that ended so
   promised : (lanes : List Lane) (basis : List Dated) (auditors : List Auditor) (Wrote : List ℕ → Type 0)
       (Replies : List Entry → List ℕ → Type 0) (ending : Ending) → (ran : IsRunOf g old new lanes basis auditors output Wrote Replies)
-      → ((text : List ℕ) → Wrote text → HasWritten g old new ran.history ran.dry text output ending)
+      → ((text : List ℕ) → Wrote text → WroteAsEnded g old new ran.history ran.dry text output ending)
       → IsPromised g Opens old new lanes basis auditors output (status_of ending)
   promised lanes basis auditors Wrote Replies ending ran written =
       let opening = opened_on ran.commands (g.faults old) in

@@ -113,14 +113,14 @@ IsFrontThere Opens commands history image =
 
 -- What was written of a text, and why no more of it: all, and each posting and valuation was answered, or the disk failed in
 -- a posting, or memory was lacking for one; or a front and not all, since the output failed, or since memory was lacking.
-abbrev pub HasWritten : {D : Type 0} → Ghosts D → D → D → List Entry → List ℕ → List ℕ → Stream → Ending → Type 0
-HasWritten g old new history dry text output Done = WroteAll output text × AreAnswered history dry
-HasWritten g old new history dry text output DiskFault =
+abbrev pub WroteAsEnded : {D : Type 0} → Ghosts D → D → D → List Entry → List ℕ → List ℕ → Stream → Ending → Type 0
+WroteAsEnded g old new history dry text output Done = WroteAll output text × AreAnswered history dry
+WroteAsEnded g old new history dry text output DiskFault =
     WroteAll output text × HaveAFault history dry × Rose (g.faults old) (g.faults new)
-HasWritten g old new history dry text output WriteFault = WrotePart output text
-HasWritten g old new history dry text output NoMemory =
+WroteAsEnded g old new history dry text output WriteFault = WrotePart output text
+WroteAsEnded g old new history dry text output NoMemory =
     (WroteAll output text × LackMemory history dry) ⊎ AppendsPart output.before output.after text
-HasWritten _ _ _ _ _ _ _ _ = ⊥
+WroteAsEnded _ _ _ _ _ _ _ _ = ⊥
 
 -- The run of these lanes, by a basis, with these auditors, and with a disk before and after it.
 pub record IsPromised {D : Type 0} (g : Ghosts D) (Opens : List ℕ → List Command → Type 0) (old new : D) (lanes : List Lane)
@@ -143,7 +143,7 @@ pub record IsPromised {D : Type 0} (g : Ghosts D) (Opens : List ℕ → List Com
   pub told : AllZip (IsToldLine commands history basis dry) lines texts
   pub ending : Ending
   pub exits : status ≡ status_of ending
-  pub wrote : HasWritten g old new history dry
+  pub wrote : WroteAsEnded g old new history dry
       (flat_map (λ (text : List ℕ). text) texts ++ reports_text (reports_of auditors (accepted_of history))) output ending
   -- and what was shown of the lines is safe by then
   pub shown : g.honest new → (run : List TakenPiece) × (output.pieces_after ≡ run ++ output.pieces_before)

@@ -15,13 +15,13 @@ const CHECKPOINT: &str = "checkpoint.life";
 pub type Input = StdSource<Stdin>;
 
 /// The disk of the journal's file, which was found so.
-pub type Journal<F> = FileDisk<HostRuntime, JournalOf<F>>;
+pub type JournalDisk<F> = FileDisk<HostRuntime, JournalOf<F>>;
 
 /// Standard output, beside that disk.
-pub type OutputOf<F> = StdSink<Stdout, Journal<F>>;
+pub type OutputOf<F> = StdSink<Stdout, JournalDisk<F>>;
 
 /// The disk of the checkpoint's file, which was found so.
-pub type Checkpoint<C> = FileDisk<HostRuntime, CheckpointOf<C>>;
+pub type CheckpointDisk<C> = FileDisk<HostRuntime, CheckpointOf<C>>;
 
 /// The folder in which the program runs.
 pub type Folder = FolderShelf<HostRuntime>;
@@ -31,8 +31,8 @@ pub struct Devices<F: FoundFile, C: FoundFile> {
     pub input: Input,
     pub output: OutputOf<F>,
     pub shelf: Folder,
-    pub disk: Journal<F>,
-    pub second: Checkpoint<C>,
+    pub disk: JournalDisk<F>,
+    pub second: CheckpointDisk<C>,
 }
 
 /// The devices of the system, through which nothing has passed. The two files are found so.

@@ -19,7 +19,7 @@ ghost use Rattle.life_app.specs.Words.{AskForRun};
 ghost use Rattle.life_cli.specs.Completing.{EndsDuly};
 ghost use Rattle.life_cli.specs.Shipped.{ObeysFromStart, filing_from_start, shipped_auditors, input_from_start, output_from_start, shelf_from_start, two_disks};
 
-use crate::devices::{Checkpoint, Devices, Folder, Input, Journal, OutputOf};
+use crate::devices::{CheckpointDisk, Devices, Folder, Input, JournalDisk, OutputOf};
 use life_app::{EndedKept, life_kept};
 use outside_io::{Disk, FoundFile, OpenGate, Shelf, Sink, Source};
 use policy_types::Watcher;
@@ -39,8 +39,8 @@ pub struct Left<F: FoundFile, C: FoundFile> {
     pub input: Input,
     pub output: OutputOf<F>,
     pub shelf: Folder,
-    pub disk: Journal<F>,
-    pub second: Checkpoint<C>,
+    pub disk: JournalDisk<F>,
+    pub second: CheckpointDisk<C>,
 }
 
 /// Does what the words ask for, over standard input and output, the folder and its `journal.life` and `checkpoint.life`.
@@ -59,8 +59,8 @@ pub fn run_shipped<R: Threads + Wait + Sync, F: FoundFile, C: FoundFile>(
     requires shelf { (devices.shelf.faults ≡ 0) × (devices.shelf.answers ≡ []) }
     requires disk { (devices.disk.file.faults ≡ 0) × (devices.disk.file.calls ≡ []) }
     requires second { (devices.second.file.faults ≡ 0) × (devices.second.file.calls ≡ []) }
-    ensures obeys { ObeysFromStart ⟦<Journal<F> as Disk>⟧
-        ⟦<Checkpoint<C> as Disk>⟧ F.bytes C.bytes result.disk result.second words.now
+    ensures obeys { ObeysFromStart ⟦<JournalDisk<F> as Disk>⟧
+        ⟦<CheckpointDisk<C> as Disk>⟧ F.bytes C.bytes result.disk result.second words.now
         (input_from_start (⟦<Input as Source>⟧.faults result.input) (⟦<Input as Source>⟧.given result.input)
         (⟦<Input as Source>⟧.ended result.input))
         (output_from_start (⟦<OutputOf<F> as Sink>⟧.faults result.output) (⟦<OutputOf<F> as Sink>⟧.written result.output)
@@ -75,7 +75,7 @@ pub fn run_shipped<R: Threads + Wait + Sync, F: FoundFile, C: FoundFile>(
         → Reads script lanes
         → IsGivenBasis IsBasis lanes name
         (shelf_from_start (⟦<Folder as Shelf>⟧.faults result.shelf) (⟦<Folder as Shelf>⟧.agrees result.shelf)) basis
-        → IsPromisedFromStart ⟦<Journal<F> as Disk>⟧ Opens F.bytes result.disk lanes name basis
+        → IsPromisedFromStart ⟦<JournalDisk<F> as Disk>⟧ Opens F.bytes result.disk lanes name basis
         shipped_auditors
         (input_from_start (⟦<Input as Source>⟧.faults result.input) (⟦<Input as Source>⟧.given result.input)
         (⟦<Input as Source>⟧.ended result.input))
@@ -90,9 +90,9 @@ pub fn run_shipped<R: Threads + Wait + Sync, F: FoundFile, C: FoundFile>(
         (output_from_start (⟦<OutputOf<F> as Sink>⟧.faults result.output) (⟦<OutputOf<F> as Sink>⟧.written result.output)
         (⟦<OutputOf<F> as Sink>⟧.pieces result.output))
         (shelf_from_start (⟦<Folder as Shelf>⟧.faults result.shelf) (⟦<Folder as Shelf>⟧.agrees result.shelf))
-        (filing_from_start F.bytes (⟦<Journal<F> as Disk>⟧.reads result.disk)
-        (⟦<Journal<F> as Disk>⟧.honest result.disk)
-        (⟦<Journal<F> as Disk>⟧.faults result.disk)) result.status }
+        (filing_from_start F.bytes (⟦<JournalDisk<F> as Disk>⟧.reads result.disk)
+        (⟦<JournalDisk<F> as Disk>⟧.honest result.disk)
+        (⟦<JournalDisk<F> as Disk>⟧.faults result.disk)) result.status }
 {
     let Devices {
         mut input,
@@ -153,10 +153,10 @@ fn obey<R: Threads + Wait + Sync, F: FoundFile, C: FoundFile>(
     input: &mut Input,
     output: &mut OutputOf<F>,
     shelf: &mut Folder,
-    disk: Journal<F>,
-    second: Checkpoint<C>,
-) -> EndedKept<Journal<F>, Checkpoint<C>>
-    ensures obeys { ObeysKept ⟦<Journal<F> as Disk>⟧ ⟦<Checkpoint<C> as Disk>⟧
+    disk: JournalDisk<F>,
+    second: CheckpointDisk<C>,
+) -> EndedKept<JournalDisk<F>, CheckpointDisk<C>>
+    ensures obeys { ObeysKept ⟦<JournalDisk<F> as Disk>⟧ ⟦<CheckpointDisk<C> as Disk>⟧
         (two_disks disk result.disk second result.second) words.now shipped_auditors
         (input_between (⟦<Input as Source>⟧.faults) (⟦<Input as Source>⟧.left) (⟦<Input as Source>⟧.given)
         (⟦<Input as Source>⟧.ended) input.old input.new)
@@ -168,9 +168,9 @@ fn obey<R: Threads + Wait + Sync, F: FoundFile, C: FoundFile>(
         (⟦<Input as Source>⟧.ended) input.old input.new)
         (between (⟦<OutputOf<F> as Sink>⟧.faults) (⟦<OutputOf<F> as Sink>⟧.written) (⟦<OutputOf<F> as Sink>⟧.pieces) output.old output.new)
         (shelf_between (⟦<Folder as Shelf>⟧.faults) (⟦<Folder as Shelf>⟧.agrees) shelf.old shelf.new)
-        (filing_between ⟦<Journal<F> as Disk>⟧ disk result.disk) result.status }
+        (filing_between ⟦<JournalDisk<F> as Disk>⟧ disk result.disk) result.status }
     ensures due { (ending : AnEnding) → AskForBoth words.now
-        → IsDueOfBoth ⟦<Journal<F> as Disk>⟧ ⟦<Checkpoint<C> as Disk>⟧
+        → IsDueOfBoth ⟦<JournalDisk<F> as Disk>⟧ ⟦<CheckpointDisk<C> as Disk>⟧
         (two_disks disk result.disk second result.second)
         (between (⟦<OutputOf<F> as Sink>⟧.faults) (⟦<OutputOf<F> as Sink>⟧.written) (⟦<OutputOf<F> as Sink>⟧.pieces) output.old output.new) ending
         → (result.status ≡ status_of ending) ⊎ (result.status ≡ 9) }
