@@ -97,6 +97,7 @@ pub fn run_lanes<
 }
 
 // What is the same for each lane of a run.
+#[derive(Drop)]
 struct Run<'a, R, D: Disk, W: Watching, G> {
     rt: &'a R,
     alloc: Global,
