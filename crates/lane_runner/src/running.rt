@@ -257,12 +257,7 @@ fn settle<D: Disk, W: Watching>(seats: &mut [Seat<D, W>], inlets: &mut [Inlet])
 }
 
 // Runs each lane in its seat, all at the same time.
-fn run_all<
-    R: Threads + Wait + Sync,
-    D: Disk + Send,
-    W: Watching + Send,
-    G: Gate + Sync,
->(
+fn run_all<R: Threads + Wait + Sync, D: Disk + Send, W: Watching + Send, G: Gate + Sync>(
     run: &Run<R, D, W, G>,
     bell: &Parker,
     seats: &mut [Seat<D, W>],

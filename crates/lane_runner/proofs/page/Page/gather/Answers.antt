@@ -10,7 +10,7 @@ returns-clause-put g c = λ faults first text put.
     (put_same faults _ first _ text _ _ _ _ (search rules) (search rules) put))
 
 pub returns-then-keep-clause-shown : goal.returns-then-keep-clause-shown
-returns-then-keep-clause-shown g c = λ text first lines moments told words_are enough is. 
+returns-then-keep-clause-shown g c = λ text first lines moments told words_are enough is.
     subst (λ (latest : ℕ). IsShowing text first (g.K.Sink.pieces c.args.output.now) (lines ++ told ∷ []) moments latest c.keep.new.self.bytes.items
     c.keep.new.self.stopped) (sym c.keep.ensures.latest)
     (showing_kept text first (g.K.Sink.pieces c.args.output.now) lines moments c.args.self.now.latest c.args.words.now c.args.self.now.bytes.items

@@ -15,18 +15,18 @@ returns-in-Err-clause-put g c = λ faults first text put.
     (search rules) (search rules) refl (search rules) (search rules) put
 
 pub returns-then-is_some-clause-shown : goal.returns-then-is_some-clause-shown
-returns-then-is_some-clause-shown g c = λ text first lines moments told words_are enough is. 
+returns-then-is_some-clause-shown g c = λ text first lines moments told words_are enough is.
     showing_past text first (g.K.Sink.pieces c.args.output.now) lines moments c.args.self.now.latest c.args.self.now.bytes.items
     c.args.self.now.bytes.items c.args.self.now.stopped told (sym c.is_some.ensures ∙ c.if-is_some.true) enough is
 
 pub returns-in-Ok-clause-shown : goal.returns-in-Ok-clause-shown
-returns-in-Ok-clause-shown g c = λ text first lines moments told words_are enough is. 
+returns-in-Ok-clause-shown g c = λ text first lines moments told words_are enough is.
     showing_through text first (g.K.Sink.pieces c.args.output.now) (g.K.Sink.pieces c.write_all_since.new.sink) lines moments c.args.self.now.latest
     c.args.words.now c.args.self.now.bytes.items c.args.self.now.stopped told (search rules) (search rules) words_are enough is c.in-Ok.field-0
     c.in-Ok.ensures.pieces
 
 pub returns-in-Err-clause-shown : goal.returns-in-Err-clause-shown
-returns-in-Err-clause-shown g c = λ text first lines moments told words_are enough is. 
+returns-in-Err-clause-shown g c = λ text first lines moments told words_are enough is.
     showing_lost text first (g.K.Sink.pieces c.args.output.now) (g.K.Sink.pieces c.write_all_since.new.sink) lines moments c.args.self.now.latest
     c.args.words.now c.args.self.now.bytes.items c.args.self.now.stopped told (search rules) (search rules) words_are enough is (Some WriteFault) WriteFault
     c.in-Err.field-0 c.in-Err.ensures.pieces refl
