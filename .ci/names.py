@@ -17,6 +17,7 @@ ALLOWED = {
 
 ALLOWED_TYPES = {
     "Books": "of an office and of a checkpoint: what is kept of the accepted commands",
+    "Passed": "what went by, private to its crate: of a disk's time in outside_io, of a search in xtbml_subset",
 }
 
 DEFINITION = re.compile(

@@ -2,6 +2,7 @@
 // files.
 ghost use Rattle.std.specs.Prelude.{◌≤◌};
 
+use memory_disk::MemoryDisk;
 use outside_io::*;
 use std::collections::BTreeMap;
 use std::fs;
@@ -31,7 +32,7 @@ fn devices_in_memory(rt: HostRuntime) -> Result<(), Fail> {
         };
         assert!(rt; right, "call {failing} fails");
     }
-    let mut sink = BytesSink::new(alloc, vec![in alloc; 2]?);
+    let mut sink = BytesSink::<MemoryDisk>::new(alloc, vec![in alloc; 2]?);
     let first = write_all(&mut sink, b"one ");
     let second = write_all(&mut sink, b"two ");
     let third = write_all(&mut sink, b"three");
@@ -156,7 +157,7 @@ fn a_full_device_fails(rt: HostRuntime) -> Result<(), Fail> {
 #[test]
 fn a_pipe_is_a_stream(rt: HostRuntime) -> Result<(), Fail> {
     let (reader, writer) = pipe(&rt)?;
-    let mut sink = StdSink::new(writer);
+    let mut sink = StdSink::<_, MemoryDisk>::new(writer);
     let mut source = StdSource::new(reader);
     let written = write_all(&mut sink, b"through");
     drop(sink);
@@ -167,7 +168,7 @@ fn a_pipe_is_a_stream(rt: HostRuntime) -> Result<(), Fail> {
     assert!(rt; source.faults() == 0);
     let (reader, writer) = pipe(&rt)?;
     drop(reader);
-    let mut sink = StdSink::new(writer);
+    let mut sink = StdSink::<_, MemoryDisk>::new(writer);
     assert!(rt; (write_all(&mut sink, b"lost"), sink.faults()) == (Err(WriteFault), 1));
     Ok(())
 }
@@ -176,9 +177,9 @@ fn a_pipe_is_a_stream(rt: HostRuntime) -> Result<(), Fail> {
 fn real_streams_and_shelves(rt: HostRuntime) -> Result<(), Fail> {
     let alloc = rt.alloc();
     let name = "outside_io_stream.test";
-    let mut sink = StdSink::new(File::create(&rt, name)?);
+    let mut sink = StdSink::<_, MemoryDisk>::new(File::create(&rt, name)?);
     let written = write_all(&mut sink, b"two\nlines");
-    let mut closed = StdSink::new(File::open(&rt, name)?);
+    let mut closed = StdSink::<_, MemoryDisk>::new(File::open(&rt, name)?);
     let refused = write_all(&mut closed, b"x");
     assert!(rt; (written, refused, closed.faults()) == (Ok(()), Err(WriteFault), 1));
     let mut shelf = FolderShelf::new(rt.clone()?);

@@ -10,12 +10,12 @@ use Rattle.lane_runner.specs.declared.wording.Unwritten.TheVariants.{WriteFault,
 use Rattle.lane_runner.specs.Written.{HasEnded}
 use Rattle.lane_runner.specs.inside.Gathering.{HasPutOut}
 
-take_front : (n : ℕ) (xs ys : List ℕ) → n ≤ length xs → take n (xs ++ ys) ≡ take n xs
+pub take_front : (n : ℕ) (xs ys : List ℕ) → n ≤ length xs → take n (xs ++ ys) ≡ take n xs
 take_front zero xs ys short = refl
 take_front (suc n) [] ys short = absurd (omega arith)
 take_front (suc n) (x ∷ xs) ys short = ap (λ rest. x ∷ rest) (take_front n xs ys (omega arith))
 
-take_past : (xs ys : List ℕ) (n : ℕ) → take (length xs + n) (xs ++ ys) ≡ xs ++ take n ys
+pub take_past : (xs ys : List ℕ) (n : ℕ) → take (length xs + n) (xs ++ ys) ≡ xs ++ take n ys
 take_past [] ys n = ap (λ k. take k ys) (omega arith)
 take_past (x ∷ xs) ys n =
     let one : length (x ∷ xs) + n ≡ suc (length xs + n) = omega arith in

@@ -1,11 +1,11 @@
 pub mod Places
 pub mod AnswerSteps
-pub mod EvidenceSteps
 pub mod SeatSteps
 pub mod RunSteps
 pub mod MergeSteps
 pub mod TellSteps
 pub mod GatherSteps
+pub mod ShowSteps
 pub mod TakeSteps
 pub mod SettleSteps
 pub mod LaneSteps

@@ -1,5 +1,5 @@
 -- What was taken from lanes is what they have told
-use Rattle.std.proofs.Common.{◌≡◌, List, [], ◌∷◌, ◌++◌, length, map, refl, ap, sym, ◌∙◌, subst, length-append, arith}
+use Rattle.std.proofs.Common.{◌≡◌, ℕ, List, [], ◌∷◌, ◌++◌, length, map, take, drop, refl, ap, sym, ◌∙◌, subst, length-append, arith}
 use Rattle.std.specs.List.{AllByRecursion, AllZip, flat_map}
 use Rattle.std.specs.List.Sorted.{IsPermutation}
 use Rattle.rtrb.specs.Ring.{received}
@@ -13,7 +13,8 @@ use Rattle.lane_runner.specs.declared.telling.Outlet.{Outlet}
 use Rattle.lane_runner.specs.declared.transcript.TranscriptLine.{TranscriptLine}
 use Rattle.lane_runner.specs.inside.Merging.{HasLooked, HasTakenLines, IsMerged, all_to_come}
 use Rattle.lane_runner.specs.inside.Parts.{AreEnds, HasAnswered, HaveRun, IsEndOf, IsInletFor, IsSameSeat, IsSpent, IsWhole, Seat, told_in}
-use Rattle.lane_runner.proofs.RunSteps.{told_lines}
+use Rattle.lane_runner.proofs.RunSteps.{news_many, seats_many, told_lines}
+use Rattle.lane_runner.proofs.SeatSteps.{slice_whole}
 use Rattle.lane_runner.proofs.TakeSteps.{looked_merged}
 
 pub fed_to_come : (lanes : List Lane) (inlets : List Inlet) → AllZip IsInletFor lanes inlets → all_to_come inlets ≡ length (lines_in lanes)
@@ -93,10 +94,18 @@ module _ {D W : Type 0} where
       let rest = whole_taken seats inlets whole.1 in λ i. here i ++ rest i
 
   -- the merged lines are those that the lanes told
-  pub settled_moved : (olds news : List Inlet) (seats : List (Seat D W)) (lines : List TranscriptLine) → AllZip HasLooked olds news → AllZip IsWhole seats news
-      → IsMerged olds lines → IsPermutation (flat_map (λ (seat : Seat D W). told_in seat) seats) lines
-  settled_moved olds news seats lines looked whole merged =
-      subst (λ (l : List TranscriptLine). IsPermutation l lines) (whole_taken seats news whole) (looked_merged olds news lines looked merged).moved
+  pub settled_moved : (olds news : List Inlet) (seats all : List (Seat D W)) (lines : List TranscriptLine) → all ≡ seats → AllZip HasLooked olds news
+      → AllZip IsWhole seats news → IsMerged olds lines → IsPermutation (flat_map (λ (seat : Seat D W). told_in seat) all) lines
+  settled_moved olds news seats all lines same looked whole merged =
+      subst (λ (l : List TranscriptLine). IsPermutation l lines)
+      (whole_taken seats news whole ∙ ap (flat_map (λ (seat : Seat D W). told_in seat)) (sym same))
+      (looked_merged olds news lines looked merged).moved
+
+  -- a vector of the seats has those that were run
+  pub seats_whole : (basis : List Dated) (lanes : List Lane) (olds news : List (Seat D W)) (n : ℕ) → n ≡ length olds → HaveRun basis lanes olds news
+      → take n (news ++ drop (length news) olds) ≡ news
+  seats_whole basis lanes olds news n counted run =
+      slice_whole n news olds (news_many basis lanes olds news run ∙ sym (seats_many basis lanes olds news run)) counted
 
   pub ends_entered : (seats : List (Seat D W)) (outlets : List Outlet) (inlets : List Inlet) → map (λ (seat : Seat D W). seat.1) seats ≡ outlets
       → AllZip AreEnds outlets inlets → AllZip IsEndOf seats inlets

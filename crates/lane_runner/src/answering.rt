@@ -7,7 +7,6 @@ ghost use Rattle.rtrb.specs.Ring.{SameProducer, known_free, sent};
 ghost use Rattle.turn_lock.specs.Passes.{PassFacts};
 ghost use Rattle.shared_office.specs.Offices.{IsOfficeHistory};
 ghost use Rattle.snapshot_value.specs.Valuing.{most_turns};
-ghost use Rattle.lane_runner.specs.Evidence.{MayHandOver};
 ghost use Rattle.lane_runner.specs.Lanes.{IsRightLane, IsRightLine};
 ghost use Rattle.lane_runner.specs.Telling.{MayTellNext};
 ghost use Rattle.lane_runner.specs.inside.Parts.{HasAnswered, IsBoxed, IsRoomFor, outcome_of, turns_for, turns_needed};
@@ -18,20 +17,13 @@ use basis_book::Basis;
 use outside_io::{Disk, Gate};
 use policy_types::{At, Command, Lane, Line};
 use policy_value::Measure;
-use shared_office::{Office, OfficeCalls, OfficePass, Posted};
+use shared_office::{Office, OfficeCalls, OfficePass};
 use snapshot_value::{Query, Valuation, ValueFault, value};
 use std::alloc::Global;
 use std::sync::Wait;
 use std::thread::{Parker, Threads};
 use turn_lock::Turned;
 use watcher_set::Watching;
-
-// An answered line, and what its posting gave back, if it is one.
-#[derive(Drop)]
-struct Answered<D: Disk, W: Watching> {
-    told: TranscriptLine,
-    posted: Option<Posted<D, W>>,
-}
 
 /// Answers the lines of a lane, and tells each as soon as it is answered. For each there is room, and the bell is rung.
 pub fn answer_lane<D: Disk, W: Watching, G: Gate, R: Threads + Wait + Sync>(
@@ -93,26 +85,19 @@ fn answer_lines<D: Disk, W: Watching, G: Gate, R: Threads + Wait + Sync>(
 {
     for line in asked {
         gate.at(rt, number, 0);
-        let answered = answer_line(rt, alloc, office, pass, number, line, basis, gate);
-        hand_over(outlet, bell, pass, answered);
+        let told = answer_line(rt, alloc, office, pass, number, line, basis, gate);
+        hand_over(outlet, bell, told);
     }
 }
 
-// Tells an answered line, and wakes the writer. That of an accepted posting is told only once its command outlives a crash.
-fn hand_over<D: Disk, W: Watching>(
-    outlet: &mut Outlet,
-    bell: &Parker,
-    pass: &OfficePass<D, W>,
-    answered: Answered<D, W>,
-)
+// Tells an answered line, and wakes the writer.
+fn hand_over(outlet: &mut Outlet, bell: &Parker, told: TranscriptLine)
     requires room { 0 < known_free outlet.old.ring }
-    requires follows { MayTellNext (sent outlet.old.ring) answered.told }
-    requires safe { MayHandOver pass.now answered.told answered.posted }
+    requires follows { MayTellNext (sent outlet.old.ring) told }
     ensures ring { SameProducer outlet.old.ring outlet.new.ring }
-    ensures sent { sent outlet.new.ring ≡ sent outlet.old.ring ++ answered.told ∷ [] }
+    ensures sent { sent outlet.new.ring ≡ sent outlet.old.ring ++ told ∷ [] }
     ensures room { known_free outlet.old.ring ≡ known_free outlet.new.ring + 1 }
 {
-    let Answered { told, posted: _ } = answered;
     outlet.ring.push_reserved(told);
     bell.unpark();
 }
@@ -127,13 +112,12 @@ fn answer_line<D: Disk, W: Watching, G: Gate, R: Threads + Wait + Sync>(
     line: &Line,
     basis: &Basis,
     gate: &G,
-) -> Answered<D, W>
+) -> TranscriptLine
     requires right { IsRightLine line.now }
     requires ours { pass.old.turnstile ≡ office.now }
     requires left { turns_for line.now ≤ pass.old.left }
     requires facts { PassFacts IsOfficeHistory pass.old }
-    ensures answered { HasAnswered basis.now lane (line.now ∷ []) pass.old pass.new (result.told ∷ []) }
-    ensures safe { MayHandOver pass.new result.told result.posted }
+    ensures answered { HasAnswered basis.now lane (line.now ∷ []) pass.old pass.new (result ∷ []) }
     ensures facts { PassFacts IsOfficeHistory pass.new }
 {
     match *line {
@@ -151,26 +135,19 @@ fn answer_post<D: Disk, W: Watching, R: Wait>(
     pass: &mut OfficePass<D, W>,
     lane: u8,
     command: Command,
-) -> Answered<D, W>
+) -> TranscriptLine
     requires valid { IsValid command }
     requires ours { pass.old.turnstile ≡ office.now }
     requires left { 1 ≤ pass.old.left }
-    ensures answered { (basis : List Dated) → HasAnswered basis lane (PostLine command ∷ []) pass.old pass.new (result.told ∷ []) }
-    ensures safe { MayHandOver pass.new result.told result.posted }
+    ensures answered { (basis : List Dated) → HasAnswered basis lane (PostLine command ∷ []) pass.old pass.new (result ∷ []) }
     ensures facts { PassFacts IsOfficeHistory pass.new }
 {
-    let Turned {
+    let Turned { turn, answer } = office.post(rt, pass, &command);
+    TranscriptLine {
+        lane,
         turn,
-        answer: posted,
-    } = office.post(rt, pass, &command);
-    Answered {
-        told: TranscriptLine {
-            lane,
-            turn,
-            line: Line::Post(command),
-            outcome: Outcome::Posted(posted.answer),
-        },
-        posted: Some(posted),
+        line: Line::Post(command),
+        outcome: Outcome::Posted(answer),
     }
 }
 
@@ -179,22 +156,18 @@ fn answer_trim<D: Disk, W: Watching, R: Wait>(
     office: &Office<D, W>,
     pass: &mut OfficePass<D, W>,
     lane: u8,
-) -> Answered<D, W>
+) -> TranscriptLine
     requires ours { pass.old.turnstile ≡ office.now }
     requires left { 1 ≤ pass.old.left }
-    ensures answered { (basis : List Dated) → HasAnswered basis lane (TrimLine ∷ []) pass.old pass.new (result.told ∷ []) }
-    ensures safe { MayHandOver pass.new result.told result.posted }
+    ensures answered { (basis : List Dated) → HasAnswered basis lane (TrimLine ∷ []) pass.old pass.new (result ∷ []) }
     ensures facts { PassFacts IsOfficeHistory pass.new }
 {
     let Turned { turn, answer } = office.trim(rt, pass);
-    Answered {
-        told: TranscriptLine {
-            lane,
-            turn,
-            line: Line::Trim,
-            outcome: Outcome::Trimmed(answer),
-        },
-        posted: None,
+    TranscriptLine {
+        lane,
+        turn,
+        line: Line::Trim,
+        outcome: Outcome::Trimmed(answer),
     }
 }
 
@@ -209,12 +182,11 @@ fn answer_value<D: Disk, W: Watching, G: Gate, R: Threads + Wait + Sync>(
     workers: u8,
     basis: &Basis,
     gate: &G,
-) -> Answered<D, W>
+) -> TranscriptLine
     requires workers { (1 ≤ workers) × (workers ≤ 64) }
     requires ours { pass.old.turnstile ≡ office.now }
     requires left { most_turns ≤ pass.old.left }
-    ensures answered { HasAnswered basis.now lane (ValueLine on at workers ∷ []) pass.old pass.new (result.told ∷ []) }
-    ensures safe { MayHandOver pass.new result.told result.posted }
+    ensures answered { HasAnswered basis.now lane (ValueLine on at workers ∷ []) pass.old pass.new (result ∷ []) }
     ensures facts { PassFacts IsOfficeHistory pass.new }
 {
     let query = Query {
@@ -224,14 +196,11 @@ fn answer_value<D: Disk, W: Watching, G: Gate, R: Threads + Wait + Sync>(
         workers,
     };
     let Turned { turn, answer } = value(rt, alloc, office, pass, query, at, lane, gate);
-    Answered {
-        told: TranscriptLine {
-            lane,
-            turn,
-            line: Line::Value { on, at, workers },
-            outcome: told_of(boxed(alloc, answer)),
-        },
-        posted: None,
+    TranscriptLine {
+        lane,
+        turn,
+        line: Line::Value { on, at, workers },
+        outcome: told_of(boxed(alloc, answer)),
     }
 }
 

@@ -5,6 +5,7 @@
 mod answering;
 mod merging;
 mod page;
+mod postings;
 mod rooms;
 mod running;
 mod telling;
@@ -12,6 +13,7 @@ mod transcript;
 mod transcript_lines;
 mod wording;
 
+pub use postings::count_postings;
 pub use running::{Ran, run_lanes};
 pub use transcript::{Callers, Outcome, Transcript, TranscriptLine};
 pub use transcript_lines::TranscriptLines;

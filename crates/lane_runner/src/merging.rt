@@ -1,15 +1,20 @@
 // The lines of all lanes are merged by their turns, and written while the lanes go on.
-ghost use Rattle.std.specs.Prelude.{◌≡◌, ℕ, ◌+◌, ◌≤◌, ◌<◌, ◌^◌, List, [], Option, length, IsTrue, IfSome};
+ghost use Rattle.std.specs.Prelude.{◌≡◌, ℕ, ◌+◌, ◌≤◌, ◌<◌, ◌^◌, List, [], Option, None, length, IsTrue, IfSome};
 ghost use Rattle.std.specs.List.{AllByRecursion, AllZip};
+ghost use Rattle.rtrb.specs.Ring.{SameConsumer, received};
+ghost use Rattle.outside_io.specs.Streams.{TakenPiece};
+ghost use Rattle.lane_runner.specs.declared.transcript.TranscriptLine.{TranscriptLine as ALine};
+ghost use Rattle.lane_runner.specs.Tallies.{accepted_lines};
 ghost use Rattle.lane_runner.specs.Written.{line_texts};
 ghost use Rattle.lane_runner.specs.inside.Gathering.{HasPutOut};
 ghost use Rattle.lane_runner.specs.inside.Merging.{HasLooked, HasNext, HasTakenLines, IsMerged, IsNearerOf, IsNearest, all_to_come};
+ghost use Rattle.lane_runner.specs.inside.Showing.{IsShowing};
 
 use crate::page::Page;
 use crate::telling::Inlet;
-use crate::transcript_lines::TranscriptLines;
 use crate::wording::Wording;
-use outside_io::Sink;
+use moment_ring::MomentInlet;
+use outside_io::{Disk, Sink};
 use std::alloc::Global;
 use std::sync::Wait;
 use std::thread::Parker;
@@ -22,81 +27,106 @@ pub struct Near {
 }
 
 /// Takes the lines of all lanes by rising turns, and writes each as soon as no earlier one can come. The bell is rung
-/// whenever a line is told.
-pub fn merge<R: Wait, X: Wording, K: Sink>(
+/// whenever a line is told, behind the moment of an accepted one.
+pub fn merge<R: Wait, X: Wording, D: Disk, K: Sink<Beside = D>>(
     rt: &R,
     alloc: Global,
     bell: &Parker,
     count: usize,
     inlets: &mut [Inlet],
-    lines: &mut TranscriptLines,
-    page: &mut Page,
+    moments: &mut MomentInlet<D>,
+    page: &mut Page<D>,
     output: &mut K,
 )
     requires count { count ≡ all_to_come inlets.old }
     requires few { count ≤ 2 ^ 24 }
-    requires none { lines.old ≡ [] }
-    requires merged { IsMerged inlets.old lines.old }
-    requires page { (page.old.bytes.items ≡ []) × (page.old.stopped ≡ None) }
+    requires merged { IsMerged inlets.old page.old.lines }
+    requires page { (page.old.lines ≡ []) × (page.old.bytes.items ≡ []) × (page.old.stopped ≡ None) }
+    requires none { received moments.old.ring ≡ [] }
     ensures taken { AllZip HasTakenLines inlets.old inlets.new }
     ensures whole { all_to_come inlets.new ≡ 0 }
-    ensures merged { IsMerged inlets.new lines.new }
+    ensures merged { IsMerged inlets.new page.new.lines }
     ensures later { K.faults output.old ≤ K.faults output.new }
     ensures put { HasPutOut (K.faults output.old) (K.faults output.new) (K.written output.old) (K.written output.new)
-        (line_texts X.text lines.new) page.new.bytes.items page.new.stopped }
+        (line_texts X.text page.new.lines) page.new.bytes.items page.new.stopped }
     ensures flushed { page.new.stopped ≡ None → page.new.bytes.items ≡ [] }
+    ensures ring { SameConsumer moments.old.ring moments.new.ring }
+    ensures counted { length (received moments.new.ring) ≡ accepted_lines page.new.lines }
+    ensures shown { IsShowing X.text (K.pieces output.old) (K.pieces output.new) page.new.lines (received moments.new.ring)
+        page.new.latest page.new.bytes.items page.new.stopped }
 {
     for _ in 0..count {
-        merge_next::<R, X, K>(rt, alloc, bell, inlets, lines, page, output);
+        merge_next::<R, X, D, K>(rt, alloc, bell, inlets, moments, page, output);
     }
     page.flush(output);
 }
 
+/// How many lines have yet to come.
+pub fn count_to_come(inlets: &[Inlet]) -> usize
+    requires { all_to_come inlets.now ≤ 2 ^ 24 }
+    ensures { result ≡ all_to_come inlets.now }
+{
+    let mut count = 0;
+    for inlet in inlets {
+        count += inlet.left;
+    }
+    count
+}
+
 // Takes the next line, and writes it.
-fn merge_next<R: Wait, X: Wording, K: Sink>(
+fn merge_next<R: Wait, X: Wording, D: Disk, K: Sink<Beside = D>>(
     rt: &R,
     alloc: Global,
     bell: &Parker,
     inlets: &mut [Inlet],
-    lines: &mut TranscriptLines,
-    page: &mut Page,
+    moments: &mut MomentInlet<D>,
+    page: &mut Page<D>,
     output: &mut K,
 )
     requires some { 0 < all_to_come inlets.old }
-    requires few { length lines.old < 2 ^ 24 }
-    requires merged { IsMerged inlets.old lines.old }
+    requires few { length page.old.lines < 2 ^ 24 }
+    requires merged { IsMerged inlets.old page.old.lines }
+    requires counted { length (received moments.old.ring) ≡ accepted_lines page.old.lines }
     ensures taken { AllZip HasTakenLines inlets.old inlets.new }
     ensures fewer { all_to_come inlets.old ≡ all_to_come inlets.new + 1 }
-    ensures merged { IsMerged inlets.new lines.new }
-    ensures more { length lines.new ≡ length lines.old + 1 }
+    ensures merged { IsMerged inlets.new page.new.lines }
+    ensures more { length page.new.lines ≡ length page.old.lines + 1 }
     ensures later { K.faults output.old ≤ K.faults output.new }
     ensures put { (faults : ℕ) (first : Option (List ℕ))
-        → HasPutOut faults (K.faults output.old) first (K.written output.old) (line_texts X.text lines.old) page.old.bytes.items page.old.stopped
-        → HasPutOut faults (K.faults output.new) first (K.written output.new) (line_texts X.text lines.new) page.new.bytes.items page.new.stopped }
+        → HasPutOut faults (K.faults output.old) first (K.written output.old) (line_texts X.text page.old.lines) page.old.bytes.items page.old.stopped
+        → HasPutOut faults (K.faults output.new) first (K.written output.new) (line_texts X.text page.new.lines) page.new.bytes.items page.new.stopped }
+    ensures ring { SameConsumer moments.old.ring moments.new.ring }
+    ensures counted { length (received moments.new.ring) ≡ accepted_lines page.new.lines }
+    ensures shown { (first : List TakenPiece)
+        → IsShowing X.text first (K.pieces output.old) page.old.lines (received moments.old.ring) page.old.latest page.old.bytes.items page.old.stopped
+        → IsShowing X.text first (K.pieces output.new) page.new.lines (received moments.new.ring) page.new.latest page.new.bytes.items page.new.stopped }
 {
     let near = wait_for_next(rt, bell, inlets, page, output);
     let told = inlets[near.place].take();
-    page.put::<X, K>(alloc, &told, output);
-    lines.add(told);
+    page.put::<R, X, K>(rt, alloc, told, moments, output);
 }
 
 // Waits until each lane that has lines left has told its next one, and finds the first of these. What is gathered is
 // written before the writer sleeps.
-fn wait_for_next<R: Wait, K: Sink>(
+fn wait_for_next<R: Wait, D: Disk, K: Sink<Beside = D>>(
     rt: &R,
     bell: &Parker,
     inlets: &mut [Inlet],
-    page: &mut Page,
+    page: &mut Page<D>,
     output: &mut K,
 ) -> Near
     requires some { 0 < all_to_come inlets.old }
     ensures looked { AllZip HasLooked inlets.old inlets.new }
     ensures place { result.place < length inlets.new }
     ensures next { IsNearest inlets.new (Some result) }
+    ensures lines { page.new.lines ≡ page.old.lines }
     ensures later { K.faults output.old ≤ K.faults output.new }
     ensures put { (faults : ℕ) (first : Option (List ℕ)) (text : List ℕ)
         → HasPutOut faults (K.faults output.old) first (K.written output.old) text page.old.bytes.items page.old.stopped
         → HasPutOut faults (K.faults output.new) first (K.written output.new) text page.new.bytes.items page.new.stopped }
+    ensures shown { (text : ALine → List ℕ) (first : List TakenPiece) (lines : List ALine) (moments : List ℕ)
+        → IsShowing text first (K.pieces output.old) lines moments page.old.latest page.old.bytes.items page.old.stopped
+        → IsShowing text first (K.pieces output.new) lines moments page.new.latest page.new.bytes.items page.new.stopped }
 {
     for _ in rt.forever() {
         if let Some(near) = look(inlets) {

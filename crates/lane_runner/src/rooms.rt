@@ -1,7 +1,6 @@
 // The memory for what lanes answer is taken before they run.
-ghost use Rattle.std.specs.Prelude.{◌≡◌, ◌≤◌, ◌^◌, [], None, length, IfOk};
+ghost use Rattle.std.specs.Prelude.{◌≡◌, [], None, IfOk};
 ghost use Rattle.std.specs.List.{AllZip};
-ghost use Rattle.policy_types.specs.Lanes.{lines_in};
 ghost use Rattle.lane_runner.specs.inside.Parts.{AreEnds, HasLaneRoom, IsInletFor, IsRoomFor};
 
 use crate::page::Page;
@@ -22,13 +21,13 @@ pub struct Room<D: Disk, W: Watching> {
     pub inlets: Vec<Inlet>,
     pub seats: Vec<Seat<D, W>>,
     pub callers: Vec<u64>,
-    pub page: Page,
+    pub page: Page<D>,
 }
 
 /// Takes the memory for what is answered to lanes.
 pub fn room_for<D: Disk, W: Watching>(alloc: Global, lanes: &[Lane]) -> Result<Room<D, W>, NoMemory>
     ensures room { IfOk result (λ room. HasLaneRoom lanes.now room.outlets room.inlets room.seats room.callers) }
-    ensures page { IfOk result (λ room. (room.page.bytes.items ≡ []) × (room.page.stopped ≡ None)) }
+    ensures page { IfOk result (λ room. (room.page.lines ≡ []) × (room.page.bytes.items ≡ []) × (room.page.stopped ≡ None)) }
 {
     let count = lanes.len();
     let (outlets, inlets) = rings_for(alloc, lanes)?;
@@ -66,16 +65,4 @@ fn ring_of(alloc: Global, lane: &Lane) -> Result<(Outlet, Inlet), NoMemory>
     ensures ends { IfOk result (λ ring. AreEnds ring.0 ring.1) }
 {
     ring_for(alloc, lane.lines.as_slice().len())
-}
-
-/// The number of all lines.
-pub fn count_lines(lanes: &[Lane]) -> usize
-    requires { length (lines_in lanes.now) ≤ 2 ^ 24 }
-    ensures { result ≡ length (lines_in lanes.now) }
-{
-    let mut count = 0;
-    for lane in lanes {
-        count += lane.lines.as_slice().len();
-    }
-    count
 }

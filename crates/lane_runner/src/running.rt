@@ -8,21 +8,25 @@ ghost use Rattle.shared_office.specs.Offices.{IsOfficeHistory};
 ghost use Rattle.lane_runner.specs.Lanes.{AreRightLanes};
 ghost use Rattle.policy_types.specs.Lanes.{lines_in};
 ghost use Rattle.lane_runner.specs.Transcripts.{HasAnsweredLanes};
+ghost use Rattle.rtrb.specs.Ring.{SameConsumer, received};
+ghost use Rattle.lane_runner.specs.Shown.{HasShown};
+ghost use Rattle.lane_runner.specs.Tallies.{accepted_lines};
 ghost use Rattle.lane_runner.specs.Written.{HasEnded, line_texts};
 ghost use Rattle.lane_runner.specs.inside.Gathering.{HasPutOut};
 ghost use Rattle.lane_runner.specs.inside.Merging.{AreInOrder, HasLooked, IsMerged, all_to_come};
+ghost use Rattle.lane_runner.specs.inside.Showing.{IsShowing};
 ghost use Rattle.lane_runner.specs.inside.Parts.{HasEntered, HasLeft, HasLaneRoom, HasRunAt, HaveRun, IsEndOf, IsInletFor, IsReadySeat, IsReadyAt, IsSameSeat, IsSpent, IsWhole, shares_to_enter, told_in, turns_to_enter};
 
 use crate::answering::answer_lane;
-use crate::merging::merge;
+use crate::merging::{count_to_come, merge};
 use crate::page::Page;
-use crate::rooms::{Room, Seat, count_lines, room_for};
+use crate::rooms::{Room, Seat, room_for};
 use crate::telling::{Inlet, Outlet};
 use crate::transcript::{Callers, Transcript};
-use crate::transcript_lines::TranscriptLines;
 use crate::wording::{Unwritten, Wording};
 use basis_book::Basis;
-use outside_io::{Disk, Gate, Sink};
+use moment_ring::MomentInlet;
+use outside_io::{Disk, Gate, Moment, Sink};
 use policy_types::{Lane, NoMemory};
 use shared_office::{Office, OfficePass};
 use std::alloc::Global;
@@ -30,11 +34,13 @@ use std::sync::Wait;
 use std::thread::{Parker, Threads, for_each_mut, join_mut};
 use watcher_set::Watching;
 
-/// What lanes were answered, and what became of the text.
+/// What lanes were answered, what became of the text, and by which moment what comes behind it may be handed on.
 #[derive(Drop)]
-pub struct Ran {
+pub struct Ran<D: Disk> {
     pub transcript: Transcript,
     pub written: Result<(), Unwritten>,
+    /// The latest of the moments since which the accepted lines are safe.
+    pub latest: Moment<D>,
 }
 
 /// Runs lanes at the same time, each by a caller of its own, gives their lines by rising turns, and writes the text of each
@@ -46,8 +52,8 @@ pub struct Ran {
 pub fn run_lanes<
     R: Threads + Wait + Sync,
     X: Wording + Send,
-    K: Sink + Send,
     D: Disk + Send,
+    K: Sink<Beside = D> + Send,
     W: Watching + Send,
     G: Gate + Sync,
 >(
@@ -58,53 +64,77 @@ pub fn run_lanes<
     lanes: &[Lane],
     basis: &Basis,
     gate: &G,
+    moments: &mut MomentInlet<D>,
     output: &mut K,
-) -> Result<Ran, NoMemory>
+) -> Result<Ran<D>, NoMemory>
     requires lanes { AreRightLanes lanes.now }
     requires ours { pass.old.turnstile ≡ office.now }
     requires left { 2 ^ 40 ≤ pass.old.left }
     requires shares { 2 ^ 10 ≤ pass.old.shares }
+    requires unheard { received moments.old.ring ≡ [] }
     ensures answered { IfOk result (λ ran. HasAnsweredLanes basis.now lanes.now pass.old pass.new ran.transcript) }
     ensures wrote { IfOk result (λ ran. HasEnded (K.faults output.old) (K.faults output.new) (K.written output.old) (K.written output.new)
         (line_texts X.text ran.transcript.lines) ran.written) }
+    ensures shown { IfOk result (λ ran. HasShown X.text (K.pieces output.old) (K.pieces output.new) ran.transcript.lines
+        (received moments.new.ring) ran.latest ran.written) }
+    ensures ring { SameConsumer moments.old.ring moments.new.ring }
     ensures later { K.faults output.old ≤ K.faults output.new }
-    ensures refused { OnErr result ((pass.new ≡ pass.old) × (output.new ≡ output.old)) }
+    ensures refused { OnErr result ((pass.new ≡ pass.old) × (output.new ≡ output.old) × (moments.new ≡ moments.old)) }
     ensures facts { PassFacts IsOfficeHistory pass.new }
 {
     // What is known of every pass (`PassFacts`) is told of this one here.
     pass.caller();
     let room = room_for::<D, W>(alloc, lanes)?;
-    Ok(run_in::<R, X, K, D, W, G>(rt, alloc, office, pass, lanes, basis, gate, output, room))
+    let run = Run {
+        rt,
+        alloc,
+        office,
+        lanes,
+        basis,
+        gate,
+    };
+    Ok(run_in::<R, X, D, K, W, G>(&run, pass, moments, output, room))
+}
+
+// What is the same for each lane of a run.
+#[derive(Drop)]
+struct Run<'a, R, D: Disk, W: Watching, G> {
+    rt: &'a R,
+    alloc: Global,
+    office: &'a Office<D, W>,
+    lanes: &'a [Lane],
+    basis: &'a Basis,
+    gate: &'a G,
 }
 
 // Runs lanes, for whose lines there is room.
 fn run_in<
     R: Threads + Wait + Sync,
     X: Wording + Send,
-    K: Sink + Send,
     D: Disk + Send,
+    K: Sink<Beside = D> + Send,
     W: Watching + Send,
     G: Gate + Sync,
 >(
-    rt: &R,
-    alloc: Global,
-    office: &Office<D, W>,
+    run: &Run<R, D, W, G>,
     pass: &mut OfficePass<D, W>,
-    lanes: &[Lane],
-    basis: &Basis,
-    gate: &G,
+    moments: &mut MomentInlet<D>,
     output: &mut K,
     room: Room<D, W>,
-) -> Ran
-    requires lanes { AreRightLanes lanes.now }
-    requires ours { pass.old.turnstile ≡ office.now }
+) -> Ran<D>
+    requires lanes { AreRightLanes run.now.lanes.now }
+    requires ours { pass.old.turnstile ≡ run.now.office.now }
     requires left { 2 ^ 40 ≤ pass.old.left }
     requires shares { 2 ^ 10 ≤ pass.old.shares }
-    requires room { HasLaneRoom lanes.now room.outlets room.inlets room.seats room.callers }
-    requires page { (room.page.bytes.items ≡ []) × (room.page.stopped ≡ None) }
-    ensures answered { HasAnsweredLanes basis.now lanes.now pass.old pass.new result.transcript }
+    requires unheard { received moments.old.ring ≡ [] }
+    requires room { HasLaneRoom run.now.lanes.now room.outlets room.inlets room.seats room.callers }
+    requires page { (room.page.lines ≡ []) × (room.page.bytes.items ≡ []) × (room.page.stopped ≡ None) }
+    ensures answered { HasAnsweredLanes run.now.basis.now run.now.lanes.now pass.old pass.new result.transcript }
     ensures wrote { HasEnded (K.faults output.old) (K.faults output.new) (K.written output.old) (K.written output.new)
         (line_texts X.text result.transcript.lines) result.written }
+    ensures shown { HasShown X.text (K.pieces output.old) (K.pieces output.new) result.transcript.lines
+        (received moments.new.ring) result.latest result.written }
+    ensures ring { SameConsumer moments.old.ring moments.new.ring }
     ensures later { K.faults output.old ≤ K.faults output.new }
     ensures facts { PassFacts IsOfficeHistory pass.new }
 {
@@ -117,30 +147,20 @@ fn run_in<
     } = room;
     // What is known of every pass (`PassFacts`) is told of this one here.
     pass.caller();
-    let mut lines = TranscriptLines::new();
-    enter_all(office, pass, outlets, &mut seats);
-    run_seats::<R, X, K, D, W, G>(
-        rt,
-        alloc,
-        office,
-        lanes,
-        basis,
-        gate,
-        &mut seats,
-        &mut inlets,
-        &mut lines,
-        &mut page,
-        output,
-    );
-    leave_all(office, pass, seats, &mut callers);
+    enter_all(run.office, pass, outlets, &mut seats);
+    run_beside::<R, X, D, K, W, G>(run, &mut seats, &mut inlets, moments, &mut page, output);
+    leave_all(run.office, pass, seats, &mut callers);
     // What is known of every pass (`PassFacts`) is told of this one here.
     pass.caller();
+    let written = page.written();
+    let Page { lines, latest, .. } = page;
     Ran {
         transcript: Transcript {
             callers: Callers::new(callers),
             lines,
         },
-        written: page.written(),
+        written,
+        latest,
     }
 }
 
@@ -164,112 +184,57 @@ fn enter_all<D: Disk, W: Watching>(
     }
 }
 
-// Runs each lane in its seat, all at the same time, and writes what they tell.
-fn run_seats<
+// Runs each lane in its seat, all at the same time, and beside them the writer, which takes what they tell.
+fn run_beside<
     R: Threads + Wait + Sync,
     X: Wording + Send,
-    K: Sink + Send,
     D: Disk + Send,
+    K: Sink<Beside = D> + Send,
     W: Watching + Send,
     G: Gate + Sync,
 >(
-    rt: &R,
-    alloc: Global,
-    office: &Office<D, W>,
-    lanes: &[Lane],
-    basis: &Basis,
-    gate: &G,
+    run: &Run<R, D, W, G>,
     seats: &mut Vec<Seat<D, W>>,
     inlets: &mut Vec<Inlet>,
-    lines: &mut TranscriptLines,
-    page: &mut Page,
+    moments: &mut MomentInlet<D>,
+    page: &mut Page<D>,
     output: &mut K,
 )
-    requires ready { AllZip (IsReadySeat office.now) lanes.now seats.old.items }
-    requires fed { AllZip IsInletFor lanes.now inlets.old.items }
+    requires ready { AllZip (IsReadySeat run.now.office.now) run.now.lanes.now seats.old.items }
+    requires fed { AllZip IsInletFor run.now.lanes.now inlets.old.items }
     requires ends { AllZip IsEndOf seats.old.items inlets.old.items }
-    requires few { length (lines_in lanes.now) ≤ 2 ^ 24 }
-    requires none { lines.old ≡ [] }
-    requires page { (page.old.bytes.items ≡ []) × (page.old.stopped ≡ None) }
-    ensures run { HaveRun basis.now lanes.now seats.old.items seats.new.items }
-    ensures moved { IsPermutation (flat_map (λ seat. told_in seat) seats.new.items) lines.new }
-    ensures sorted { AreInOrder lines.new }
+    requires few { length (lines_in run.now.lanes.now) ≤ 2 ^ 24 }
+    requires page { (page.old.lines ≡ []) × (page.old.bytes.items ≡ []) × (page.old.stopped ≡ None) }
+    requires unheard { received moments.old.ring ≡ [] }
+    ensures run { HaveRun run.now.basis.now run.now.lanes.now seats.old.items seats.new.items }
+    ensures moved { IsPermutation (flat_map (λ seat. told_in seat) seats.new.items) page.new.lines }
+    ensures sorted { AreInOrder page.new.lines }
     ensures later { K.faults output.old ≤ K.faults output.new }
     ensures put { HasPutOut (K.faults output.old) (K.faults output.new) (K.written output.old) (K.written output.new)
-        (line_texts X.text lines.new) page.new.bytes.items page.new.stopped }
+        (line_texts X.text page.new.lines) page.new.bytes.items page.new.stopped }
     ensures flushed { page.new.stopped ≡ None → page.new.bytes.items ≡ [] }
+    ensures ring { SameConsumer moments.old.ring moments.new.ring }
+    ensures counted { length (received moments.new.ring) ≡ accepted_lines page.new.lines }
+    ensures shown { IsShowing X.text (K.pieces output.old) (K.pieces output.new) page.new.lines (received moments.new.ring)
+        page.new.latest page.new.bytes.items page.new.stopped }
 {
-    let count = count_lines(lanes);
+    let Run { rt, alloc, .. } = *run;
     let bell = Parker::new();
-    run_beside::<R, X, K, D, W, G>(
-        rt,
-        alloc,
-        office,
-        lanes,
-        basis,
-        gate,
-        &bell,
-        count,
-        seats.as_mut_slice(),
-        inlets.as_mut_slice(),
-        lines,
-        page,
-        output,
-    );
-}
-
-// Runs the lanes, and beside them the writer, which takes what they tell.
-fn run_beside<
-    'a,
-    R: Threads + Wait + Sync,
-    X: Wording + Send,
-    K: Sink + Send,
-    D: Disk + Send,
-    W: Watching + Send,
-    G: Gate + Sync,
->(
-    rt: &'a R,
-    alloc: Global,
-    office: &'a Office<D, W>,
-    lanes: &'a [Lane],
-    basis: &'a Basis,
-    gate: &'a G,
-    bell: &'a Parker,
-    count: usize,
-    seats: &'a mut [Seat<D, W>],
-    inlets: &'a mut [Inlet],
-    lines: &'a mut TranscriptLines,
-    page: &'a mut Page,
-    output: &'a mut K,
-)
-    requires ready { AllZip (IsReadySeat office.now) lanes.now seats.old }
-    requires fed { AllZip IsInletFor lanes.now inlets.old }
-    requires ends { AllZip IsEndOf seats.old inlets.old }
-    requires count { count ≡ all_to_come inlets.old }
-    requires few { count ≤ 2 ^ 24 }
-    requires none { lines.old ≡ [] }
-    requires merged { IsMerged inlets.old lines.old }
-    requires page { (page.old.bytes.items ≡ []) × (page.old.stopped ≡ None) }
-    ensures run { HaveRun basis.now lanes.now seats.old seats.new }
-    ensures moved { IsPermutation (flat_map (λ seat. told_in seat) seats.new) lines.new }
-    ensures sorted { AreInOrder lines.new }
-    ensures later { K.faults output.old ≤ K.faults output.new }
-    ensures put { HasPutOut (K.faults output.old) (K.faults output.new) (K.written output.old) (K.written output.new)
-        (line_texts X.text lines.new) page.new.bytes.items page.new.stopped }
-    ensures flushed { page.new.stopped ≡ None → page.new.bytes.items ≡ [] }
-{
+    let seats = seats.as_mut_slice();
+    let inlets = inlets.as_mut_slice();
+    let count = count_to_come(inlets);
     join_mut(
         rt,
         &mut ||
             requires count { count ≡ all_to_come inlets.now }
             requires few { count ≤ 2 ^ 24 }
-            requires none { lines.now ≡ [] }
-            requires merged { IsMerged inlets.now lines.now }
-            requires page { (page.now.bytes.items ≡ []) × (page.now.stopped ≡ None) }
-        { merge::<R, X, K>(rt, alloc, bell, count, inlets, lines, page, output) },
+            requires merged { IsMerged inlets.now page.now.lines }
+            requires page { (page.now.lines ≡ []) × (page.now.bytes.items ≡ []) × (page.now.stopped ≡ None) }
+            requires unheard { received moments.now.ring ≡ [] }
+        { merge::<R, X, D, K>(rt, alloc, &bell, count, inlets, moments, page, output) },
         &mut ||
-            requires ready { AllZip (IsReadySeat office.now) lanes.now seats.now }
-        { run_all(rt, alloc, office, lanes, basis, gate, bell, seats) },
+            requires ready { AllZip (IsReadySeat run.now.office.now) run.now.lanes.now seats.now }
+        { run_all(run, &bell, seats) },
     );
     settle(seats, inlets);
 }
@@ -291,19 +256,23 @@ fn settle<D: Disk, W: Watching>(seats: &mut [Seat<D, W>], inlets: &mut [Inlet])
     settle(seats, inlets);
 }
 
-fn run_all<D: Disk + Send, W: Watching + Send, G: Gate + Sync, R: Threads + Wait + Sync>(
-    rt: &R,
-    alloc: Global,
-    office: &Office<D, W>,
-    lanes: &[Lane],
-    basis: &Basis,
-    gate: &G,
+// Runs each lane in its seat, all at the same time.
+fn run_all<R: Threads + Wait + Sync, D: Disk + Send, W: Watching + Send, G: Gate + Sync>(
+    run: &Run<R, D, W, G>,
     bell: &Parker,
     seats: &mut [Seat<D, W>],
 )
-    requires ready { AllZip (IsReadySeat office.now) lanes.now seats.old }
-    ensures run { HaveRun basis.now lanes.now seats.old seats.new }
+    requires ready { AllZip (IsReadySeat run.now.office.now) run.now.lanes.now seats.old }
+    ensures run { HaveRun run.now.basis.now run.now.lanes.now seats.old seats.new }
 {
+    let Run {
+        rt,
+        alloc,
+        office,
+        lanes,
+        basis,
+        gate,
+    } = *run;
     for_each_mut(
         rt,
         seats,

@@ -101,7 +101,7 @@ impl TranscriptLines {
     }
 }
 
-fn is_accepted(outcome: &Outcome) -> bool
+pub(crate) fn is_accepted(outcome: &Outcome) -> bool
     ensures { result ≡ tells_accepted outcome.now }
 {
     matches!(*outcome, Outcome::Posted(Answer::Accepted(_)))

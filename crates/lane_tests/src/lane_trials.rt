@@ -3,6 +3,7 @@ ghost use Rattle.std.specs.Prelude.{◌≡◌, ℕ, ◌≤◌, [], ◌∷◌, Al
 ghost use Rattle.std.specs.List.{AllByRecursion, filter};
 ghost use Rattle.policy_types.specs.Lanes.{AreRising};
 ghost use Rattle.policy_types.specs.Valid.{IsCommandDay};
+ghost use Rattle.rtrb.specs.Ring.{received};
 ghost use Rattle.lane_runner.specs.Lanes.{AreRightLanes, IsRightLane, IsRightLine, is_value};
 ghost use Rattle.policy_types.specs.Lanes.{lines_in};
 
@@ -11,9 +12,10 @@ use crate::offices::{flat_basis, issue_all};
 use basis_book::Basis;
 use lane_runner::{TranscriptLines, run_lanes};
 use memory_disk::MemoryDisk;
+use moment_ring::{MomentInlet, moment_ring};
 use outside_io::{BytesSink, Disk, Gate};
 use policy_types::{Lane, Line};
-use shared_office::{Office, OfficeCalls, OfficePass, close};
+use shared_office::{Office, OfficePass, close, start_telling};
 use std::alloc::Global;
 use std::sync::Wait;
 use std::test::Fail;
@@ -83,6 +85,9 @@ fn is_day(day: i32) -> bool
     -25_567 <= day && day <= 84_005
 }
 
+/// For so many postings there is room in a ring of moments.
+pub const MOST_POSTED: usize = 65_536;
+
 /// What lanes were answered, as it was written, and how many callers ran them.
 #[derive(Drop)]
 pub struct Run {
@@ -104,15 +109,17 @@ pub(crate) fn run_right<
     lanes: &[Lane],
     basis: &Basis,
     gate: &G,
+    moments: &mut MomentInlet<D>,
 ) -> Option<Run>
-    requires { pass.old.turnstile ≡ office.now }
+    requires ours { pass.old.turnstile ≡ office.now }
+    requires unheard { received moments.old.ring ≡ [] }
     ensures { (pass.new.turnstile ≡ pass.old.turnstile) × (pass.new.shares ≡ pass.old.shares) }
 {
     if pass.left() < 1 << 40 || pass.shares() < 1 << 10 || !are_right(lanes) {
         return None;
     }
     let mut output = BytesSink::new(alloc, Vec::new(alloc));
-    let ran = run_lanes::<R, LineWords, BytesSink, D, W, G>(
+    let ran = run_lanes::<R, LineWords, D, BytesSink<D>, W, G>(
         rt,
         alloc,
         office,
@@ -120,6 +127,7 @@ pub(crate) fn run_right<
         lanes,
         basis,
         gate,
+        moments,
         &mut output,
     );
     let Ok(ran) = ran else {
@@ -157,12 +165,24 @@ pub fn run_watched<W: Watching + Send, G: Gate + Sync, R: Threads + Wait + Sync>
 {
     let basis = flat_basis(alloc)?;
     let empty = MemoryDisk::new(alloc, Vec::new(alloc), Vec::new(alloc));
-    let Ok((office, mut pass)) = Office::start(alloc, empty, watchers) else {
+    let Ok((outlet, mut moments)) = moment_ring(alloc, MOST_POSTED) else {
+        return Err("a ring".into());
+    };
+    let Ok((office, mut pass)) = start_telling(alloc, empty, watchers, outlet) else {
         return Err("an office".into());
     };
     issue_all(rt, &office, &mut pass, issued);
-    let run = run_right(rt, alloc, &office, &mut pass, lanes, &basis, gate);
-    let (_, _, reports) = close(office, pass);
+    let run = run_right(
+        rt,
+        alloc,
+        &office,
+        &mut pass,
+        lanes,
+        &basis,
+        gate,
+        &mut moments,
+    );
+    let (_, _, reports, _) = close(office, pass);
     match run {
         Some(run) => Ok((run, reports)),
         None => Err("right lanes, and memory".into()),

@@ -1,18 +1,20 @@
 // A caller's projection while seven lanes post: each of them claims for a policy between its parts.
-ghost use Rattle.std.specs.Prelude.{◌≡◌, ◌≤◌};
+ghost use Rattle.std.specs.Prelude.{◌≡◌, ◌≤◌, []};
+ghost use Rattle.rtrb.specs.Ring.{received};
 
 use crate::lane_gates::Seven;
 use crate::lane_runner_tests::{claim, lane};
-use crate::lane_trials::run_right;
+use crate::lane_trials::{MOST_POSTED, run_right};
 use crate::line_words::count_accepted;
 use crate::offices::{flat_basis, issue, issue_all};
 use crate::projection_meeting::{ISSUED, project_issues};
 use crate::projection_tests::Case;
 use basis_book::Basis;
 use memory_disk::MemoryDisk;
+use moment_ring::{MomentInlet, moment_ring};
 use outside_io::{Disk, OpenGate};
 use policy_types::{Lane, Line};
-use shared_office::{Office, OfficeCalls, OfficePass, close};
+use shared_office::{Office, OfficePass, close, start_telling};
 use std::alloc::{AllocError, Global};
 use std::sync::Wait;
 use std::test::Fail;
@@ -53,8 +55,10 @@ fn both<D: Disk + Send, W: Watching + Send, R: Threads + Wait + Sync>(
     basis: &Basis,
     lanes: &[Lane],
     gate: &Seven,
+    moments: MomentInlet<D>,
 ) -> (OfficePass<D, W>, bool, usize)
-    requires { (pass.turnstile ≡ office.now) × (3 ≤ pass.left) × (2 ≤ pass.shares) }
+    requires pass { (pass.turnstile ≡ office.now) × (3 ≤ pass.left) × (2 ≤ pass.shares) }
+    requires unheard { received moments.ring ≡ [] }
     ensures { (result.0.turnstile ≡ pass.turnstile) × (result.0.shares ≡ pass.shares) }
 {
     let mut other = office.enter(&mut pass);
@@ -68,10 +72,21 @@ fn both<D: Disk + Send, W: Watching + Send, R: Threads + Wait + Sync>(
             (pass, right)
         },
         move || -> (OfficePass<D, W>, usize)
-            requires { other.turnstile ≡ office.now }
+            requires { (other.turnstile ≡ office.now) × (received moments.ring ≡ []) }
             ensures { (result.0.turnstile ≡ other.turnstile) × (result.0.shares ≡ other.shares) }
         {
-            let posted = match run_right(rt, alloc, office, &mut other, lanes, basis, gate) {
+            let mut moments = moments;
+            let run = run_right(
+                rt,
+                alloc,
+                office,
+                &mut other,
+                lanes,
+                basis,
+                gate,
+                &mut moments,
+            );
+            let posted = match run {
                 Some(run) => count_accepted(run.lines.as_slice()),
                 None => 0,
             };
@@ -89,7 +104,10 @@ fn seven_lanes_post_during_a_projection(rt: HostRuntime) -> Result<(), Fail> {
     let lanes = seven_lanes(alloc)?;
     let gate = Seven::new();
     let empty = MemoryDisk::new(alloc, Vec::new(alloc), Vec::new(alloc));
-    let Ok((office, mut pass)) = Office::start(alloc, empty, NoWatchers) else {
+    let Ok((outlet, moments)) = moment_ring(alloc, MOST_POSTED) else {
+        return Err("a ring".into());
+    };
+    let Ok((office, mut pass)) = start_telling(alloc, empty, NoWatchers, outlet) else {
         return Err("an office".into());
     };
     issue_all(&rt, &office, &mut pass, 300);
@@ -104,6 +122,7 @@ fn seven_lanes_post_during_a_projection(rt: HostRuntime) -> Result<(), Fail> {
         &basis,
         lanes.as_slice(),
         &gate,
+        moments,
     );
     let afterwards = project_issues(&rt, alloc, &office, &mut pass, &basis, &POSTED, &OpenGate);
     close(office, pass);

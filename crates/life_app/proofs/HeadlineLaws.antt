@@ -35,7 +35,7 @@ use Rattle.snapshot_value.specs.Valuing.{IsValuedRow}
 use Rattle.office_state.specs.Images.{HoldsNow, IsLeftAlone, IsOneMore, IsPending}
 use Rattle.office_state.specs.Journals.{Opens}
 use Rattle.office_state.proofs.HistorySteps.{posting}
-use Rattle.transcript_text.specs.Transcript.{IsReplyText, IsTranscript, reports_text}
+use Rattle.transcript_text.specs.Transcript.{IsLineText, IsReplyText}
 use Rattle.watcher_set.specs.Noted.{Auditor, reports_of}
 use Rattle.program_endings.specs.declared.ending.Ending.{Ending}
 use Rattle.program_endings.specs.declared.ending.Ending.TheVariants.{Done, Usage, BadScript, BadBasis, BadJournal, ReadFault, WriteFault, DiskFault, NoMemory}
@@ -54,7 +54,7 @@ use Rattle.life_args.specs.declared.mode.Mode.{Mode}
 use Rattle.life_args.specs.declared.mode.Mode.TheVariants.{Run}
 use Rattle.life_app.specs.Obeys.{Does, EndsMode, Obeys, SaysUnasked}
 use Rattle.life_app.specs.Words.{AskForRun}
-use Rattle.life_app.specs.Headline.{IsEnclosingRow, IsGivenBasis, IsPromised, IsThere, IsToldLine, IsToldText, IsUnrun, IsWorthBy, WasFaulted}
+use Rattle.life_app.specs.Headline.{WroteAsEnded, IsEnclosingRow, IsGivenBasis, IsPromised, IsThere, IsToldLine, IsToldText, IsUnrun, IsWorthBy, SaysUnrun, WasFaulted}
 
 -- the rounded bounds of a row are bounds of the exact reserve
 worth_by : (policy : Policy) (entry : Dated) (on : ℤ) (shape : Result Shape NotValued) (t : ℕ) (worth : Worth)
@@ -102,21 +102,12 @@ told_text clerk (Value on at workers) (Pinned position policies) commands basis 
 ]
 told_text _ _ _ _ _ _ _ is = absurd is
 
--- the text of a run line by line
-told_lines : (opening : Opening) (history : List Entry) (basis : List Dated) (dry : List ℕ) (lines : List AnsweredLine) (text : List ℕ)
-    → IsTranscript opening history basis dry lines text
-    → (texts : List (List ℕ)) × AllZip (IsToldLine opening.commands history basis dry) lines texts
-    × (text ≡ flat_map (λ (one : List ℕ). one) texts)
-told_lines opening history basis dry [] text is = ([], tt, is)
-told_lines opening history basis dry (line ∷ lines) text is =
-    let rest = told_lines opening history basis dry lines is.1.0 is.1.3 in (
-      is.0 ∷ rest.0,
-      (
-        told_text line.clerk line.line line.first.1.reply (commands_after opening (take line.first.0 history)) basis _ is.0 is.1.2,
-        rest.1,
-      ),
-      is.1.1 ∙ ap (λ (t : List ℕ). is.0 ++ t) rest.2,
-    )
+-- the texts of a run's lines
+told_lines : (opening : Opening) (history : List Entry) (basis : List Dated) (dry : List ℕ) (lines : List AnsweredLine) (texts : List (List ℕ))
+    → AllZip (IsLineText opening history basis dry) lines texts → AllZip (IsToldLine opening.commands history basis dry) lines texts
+told_lines opening history basis dry lines texts =
+    each_pair (IsLineText opening history basis dry) (IsToldLine opening.commands history basis dry)
+    (λ line text is. told_text line.clerk line.line line.first.1.reply (commands_after opening (take line.first.0 history)) basis _ text is) lines texts
 
 -- a posting that is pending was answered `fault` when all that is accepted was
 pub faulted_last : (history : List Entry) (command : Command) → IsPending history command → WasFaulted history (accepted_of history) command
@@ -158,17 +149,13 @@ there_once opening history held (command ∷ []) image one opens = inr (
 there_once opening history held (command ∷ other ∷ more) image one opens = absurd one
 
 module _ {D : Type 0} (g : Ghosts D) (old new : D) (output : Stream) where
-  -- a run that was written so
+  -- a run that ended so
   promised : (lanes : List Lane) (basis : List Dated) (auditors : List Auditor) (Wrote : List ℕ → Type 0)
-      (Replies : List Entry → List ℕ → Type 0) (status : ℕ) → IsRunOf g old new lanes basis auditors Wrote Replies
-      → ((text : List ℕ) → Wrote text → (n : ℕ) × Appends output.before output.after (take n text))
-      → ((text : List ℕ) → Wrote text → (status ≡ 0) ⊎ (status ≡ 8) → Appends output.before output.after text)
-      → IsPromised g Opens old new lanes basis output status
-  promised lanes basis auditors Wrote Replies status ran front whole =
+      (Replies : List Entry → List ℕ → Type 0) (ending : Ending) → (ran : IsRunOf g old new lanes basis auditors output Wrote Replies)
+      → ((text : List ℕ) → Wrote text → WroteAsEnded g old new ran.history ran.dry text output ending)
+      → IsPromised g Opens old new lanes basis auditors output (status_of ending)
+  promised lanes basis auditors Wrote Replies ending ran written =
       let opening = opened_on ran.commands (g.faults old) in
-      let told = told_lines opening ran.history basis ran.dry ran.answered ran.text ran.tells in
-      let behind = reports_text (reports_of auditors (accepted_of ran.history)) in
-      let wrote : Wrote (flat_map (λ (one : List ℕ). one) told.0 ++ behind) = subst (λ (t : List ℕ). Wrote (t ++ behind)) told.2 ran.wrote in
       record {
         commands = ran.commands;
         history = ran.history;
@@ -180,16 +167,27 @@ module _ {D : Type 0} (g : Ghosts D) (old new : D) (output : Stream) where
         distinct = ran.merge.distinct;
         theirs = ran.merge.theirs;
         answered = ran.lines;
-        texts = told.0;
-        behind = behind;
-        told = told.1;
-        wrote = front _ wrote;
-        whole = λ status. whole _ wrote status;
+        texts = ran.texts;
+        told = told_lines opening ran.history basis ran.dry ran.answered ran.texts ran.tells;
+        shown = ran.shown;
+        ending = ending;
+        exits = refl;
+        wrote = written _ ran.wrote;
         now = λ honest image left. there_now opening ran.history image (ran.disk.now honest image left);
         since = λ honest image left. elim (ran.disk.since honest image left) [
           | inl before ↦ inl before
           | inr once ↦ inr (once.held, once.rest, once.front, there_once opening ran.history once.held once.more image once.one once.opens)
         ];
+        synced = λ honest.
+            let synced = ran.disk.synced honest in (
+              synced.0,
+              synced.1.later,
+              synced.1.passed,
+              λ image left. synced.1.safe image left ∙ synced.1.reads,
+              λ image left.
+                  let once = synced.2 image left in
+                  (once.held, once.rest, once.front, there_once opening ran.history once.held once.more image once.one once.opens),
+            );
         kept = λ honest some rest split.
             let kept = ran.disk.kept honest some rest split in (
               g.clock kept.stood,
@@ -199,120 +197,115 @@ module _ {D : Type 0} (g : Ghosts D) (old new : D) (output : Stream) where
             );
       }
 
-  -- a run that answered no line, and left the disk alone, or didn't touch it
-  unrun_alone : (status : ℕ) → (status ≡ 0 → ⊥) → (why : List ℕ) → WroteOrFailed output why → IsLeftAlone g old new
-      → IsUnrun g Opens old new output status
-  unrun_alone status failed why line alone = record { failed = failed; line = (why, line); since = alone.since }
+  module _ (name : List ℕ) (input : Input) (shelf : Shelving) where
+    -- a run that answered no line, and left the disk alone, or didn't touch it
+    unrun_alone : (ending : Ending) → SaysUnrun g old new name input output shelf ending → IsLeftAlone g old new
+        → IsUnrun g Opens old new name input output shelf (status_of ending)
+    unrun_alone ending says alone = record { ending = ending; exits = refl; says = says; since = alone.since }
 
-  pub unrun_untouched : (status : ℕ) → (status ≡ 0 → ⊥) → (why : List ℕ) → WroteOrFailed output why → new ≡ old
-      → ((disk : D) (image : List ℕ) → g.honest disk → g.left_since disk (g.clock disk) image → g.may_leave disk image)
-      → IsUnrun g Opens old new output status
-  unrun_untouched status failed why line same only_now = record {
-    failed = failed;
-    line = (why, line);
-    since = λ honest image left. inl (only_now old image (subst (λ (d : D). g.honest d) same honest)
-        (subst (λ (d : D). g.left_since d (g.clock old) image) same left));
-  }
+    pub unrun_untouched : (ending : Ending) → SaysUnrun g old new name input output shelf ending → new ≡ old
+        → ((disk : D) (image : List ℕ) → g.honest disk → g.left_since disk (g.clock disk) image → g.may_leave disk image)
+        → IsUnrun g Opens old new name input output shelf (status_of ending)
+    unrun_untouched ending says same only_now = record {
+      ending = ending;
+      exits = refl;
+      says = says;
+      since = λ honest image left. inl (only_now old image (subst (λ (d : D). g.honest d) same honest)
+          (subst (λ (d : D). g.left_since d (g.clock old) image) same left));
+    }
 
-  -- what is promised, of a run or of none
-  abbrev pub Told : List Lane → List Dated → ℕ → Type 0
-  Told lanes basis status = IsPromised g Opens old new lanes basis output status ⊎ IsUnrun g Opens old new output status
+    -- what is promised, of a run or of none
+    abbrev pub Told : List Lane → List Dated → List Auditor → ℕ → Type 0
+    Told lanes basis auditors status =
+        IsPromised g Opens old new lanes basis auditors output status ⊎ IsUnrun g Opens old new name input output shelf status
 
-  all_of : (text : List ℕ) → Appends output.before output.after text → (n : ℕ) × Appends output.before output.after (take n text)
-  all_of text all = (length text, subst (λ (t : List ℕ). Appends output.before output.after t) (sym (take_all (length text) text (le_refl (length text)))) all)
+    -- how a script's run ends, by what was written
+    by_ending : (lanes : List Lane) (basis : List Dated) (auditors : List Auditor) (ending : Ending)
+        → EndsScript g old new lanes basis auditors output ending → Told lanes basis auditors (status_of ending)
+    by_ending lanes basis auditors Done ends =
+        inl (promised lanes basis auditors _ _ Done ends (λ text all. (all, ends.replies)))
+    by_ending lanes basis auditors BadJournal ends = inr (unrun_alone BadJournal (ends.cause, ends.line, ends.shown) ends.alone)
+    by_ending lanes basis auditors WriteFault ends =
+        inl (promised lanes basis auditors _ _ WriteFault ends.1 (λ text part. (ends.0, part)))
+    by_ending lanes basis auditors DiskFault ends = elim ends.1 [
+      | inl said ↦ inr (unrun_alone DiskFault (said.0, ends.0) said.1)
+      | inr ran ↦ inl (promised lanes basis auditors _ _ DiskFault ran (λ text all. (all, ran.replies, ends.0)))
+    ]
+    by_ending lanes basis auditors NoMemory ends = elim ends [
+      | inl said ↦ inr (unrun_alone NoMemory said.0 said.1)
+      | inr (inl ran) ↦ inl (promised lanes basis auditors _ _ NoMemory ran (λ text part. inr part))
+      | inr (inr ran) ↦ inl (promised lanes basis auditors _ _ NoMemory ran (λ text all. inl (all, ran.replies)))
+    ]
+    by_ending lanes basis auditors _ ends = absurd ends
 
-  refused : (cause : StartCause) → SaysWhy cause output → IsLeftAlone g old new → IsUnrun g Opens old new output 5
-  refused NotAJournal line alone = unrun_alone 5 (λ never. cc) _ line alone
-  refused (BadRecord n) line alone = unrun_alone 5 (λ never. cc) _ line alone
-  refused _ line alone = absurd line
+    module _ (only_now : (disk : D) (image : List ℕ) → g.honest disk → g.left_since disk (g.clock disk) image → g.may_leave disk image) where
+      -- without a basis the disk isn't touched
+      without_basis : (lanes : List Lane) (basis : List Dated) (auditors : List Auditor) (ending : Ending) → new ≡ old
+          → EndsNoBasis name shelf output ending → Told lanes basis auditors (status_of ending)
+      without_basis lanes basis auditors BadBasis same ends = inr (unrun_untouched BadBasis ends same only_now)
+      without_basis lanes basis auditors ReadFault same ends = inr (unrun_untouched ReadFault (ends.1, inr ends.0) same only_now)
+      without_basis lanes basis auditors NoMemory same ends = inr (unrun_untouched NoMemory ends same only_now)
+      without_basis lanes basis auditors _ same ends = absurd ends
 
-  -- how a script's run ends, by what was written
-  by_ending : (lanes : List Lane) (basis : List Dated) (auditors : List Auditor) (ending : Ending)
-      → EndsScript g old new lanes basis auditors output ending → Told lanes basis (status_of ending)
-  by_ending lanes basis auditors Done ends = inl (promised lanes basis auditors _ _ 0 ends all_of (λ text all status. all))
-  by_ending lanes basis auditors BadJournal ends = inr (refused ends.cause ends.line ends.alone)
-  by_ending lanes basis auditors WriteFault ends =
-      inl (promised lanes basis auditors _ _ 7 ends.1 (λ text part. (part.taken, part.written))
-      (λ text part status. elim status [ inl zero ↦ cc | inr eight ↦ cc ]))
-  by_ending lanes basis auditors DiskFault ends = elim ends.1 [
-    | inl said ↦ inr (unrun_alone 8 (λ never. cc) _ said.0 said.1)
-    | inr ran ↦ inl (promised lanes basis auditors _ _ 8 ran all_of (λ text all status. all))
-  ]
-  by_ending lanes basis auditors NoMemory ends = elim ends [
-    | inl said ↦ inr (unrun_alone 9 (λ never. cc) _ said.0 said.1)
-    | inr (inl ran) ↦
-        inl (promised lanes basis auditors _ _ 9 ran (λ text part. (part.taken, part.written))
-        (λ text part status. elim status [ inl zero ↦ cc | inr eight ↦ cc ]))
-    | inr (inr ran) ↦ inl (promised lanes basis auditors _ _ 9 ran all_of (λ text all status. all))
-  ]
-  by_ending lanes basis auditors _ ends = absurd ends
+      -- nor without a script
+      without_script : (lanes : List Lane) (basis : List Dated) (auditors : List Auditor) (ending : Ending) → new ≡ old
+          → EndsUnread input output ending → Told lanes basis auditors (status_of ending)
+      without_script lanes basis auditors BadScript same ends = inr (unrun_untouched BadScript ends same only_now)
+      without_script lanes basis auditors ReadFault same ends = inr (unrun_untouched ReadFault (ends.1, inl ends.0) same only_now)
+      without_script lanes basis auditors NoMemory same ends = inr (unrun_untouched NoMemory ends same only_now)
+      without_script lanes basis auditors _ same ends = absurd ends
 
-  module _ (only_now : (disk : D) (image : List ℕ) → g.honest disk → g.left_since disk (g.clock disk) image → g.may_leave disk image) where
-    -- without a basis the disk isn't touched
-    without_basis : (lanes : List Lane) (basis : List Dated) (name : List ℕ) (shelf : Shelving) (ending : Ending) → new ≡ old
-        → EndsNoBasis name shelf output ending → Told lanes basis (status_of ending)
-    without_basis lanes basis name shelf BadBasis same ends = inr (unrun_untouched 4 (λ never. cc) _ ends.2 same only_now)
-    without_basis lanes basis name shelf ReadFault same ends = inr (unrun_untouched 6 (λ never. cc) _ ends.1 same only_now)
-    without_basis lanes basis name shelf NoMemory same ends = inr (unrun_untouched 9 (λ never. cc) _ ends same only_now)
-    without_basis lanes basis name shelf _ same ends = absurd ends
+      -- the lanes by the basis that is given
+      by_lanes : (lanes : List Lane) (basis : List Dated) (auditors : List Auditor) (ShelfStays : Type 0) (ending : Ending)
+          → IsGivenBasis IsBasis lanes name shelf basis → EndsLanes g old new lanes name auditors shelf output ShelfStays ending
+          → Told lanes basis auditors (status_of ending)
+      by_lanes lanes basis auditors ShelfStays ending (inl none) (inl ends) =
+          subst (λ (b : List Dated). Told lanes b auditors (status_of ending)) (sym none.1) (by_ending lanes [] auditors ending ends.2)
+      by_lanes lanes basis auditors ShelfStays ending (inl none) (inr ends) = absurd (false≢true (sym none.0 ∙ ends.0))
+      by_lanes lanes basis auditors ShelfStays ending (inr given) (inl ends) = absurd (false≢true (sym ends.0 ∙ given.0))
+      by_lanes lanes basis auditors ShelfStays ending (inr given) (inr (asks, inl by)) =
+          subst (λ (b : List Dated). Told lanes b auditors (status_of ending))
+          (one_basis given.1.0 name by.basis basis (by.is given.1.0 given.1.1) given.1.2) (by_ending lanes by.basis auditors ending by.ends)
+      by_lanes lanes basis auditors ShelfStays ending (inr given) (inr (asks, inr none)) =
+          without_basis lanes basis auditors ending none.0 none.1
 
-    -- nor without a script
-    without_script : (lanes : List Lane) (basis : List Dated) (input : Input) (ending : Ending) → new ≡ old
-        → EndsUnread input output ending → Told lanes basis (status_of ending)
-    without_script lanes basis input BadScript same (inl long) = inr (unrun_untouched 3 (λ never. cc) _ long.1 same only_now)
-    without_script lanes basis input BadScript same (inr fault) = inr (unrun_untouched 3 (λ never. cc) _ fault.1.2 same only_now)
-    without_script lanes basis input ReadFault same ends = inr (unrun_untouched 6 (λ never. cc) _ ends.1 same only_now)
-    without_script lanes basis input NoMemory same ends = inr (unrun_untouched 9 (λ never. cc) _ ends same only_now)
-    without_script lanes basis input _ same ends = absurd ends
+      -- the script that is given
+      pub by_script : (lanes : List Lane) (basis : List Dated) (auditors : List Auditor) (bytes : List ℕ) (ShelfStays : Type 0)
+          (ending : Ending) → IsWholeInput input bytes → Reads bytes lanes → IsGivenBasis IsBasis lanes name shelf basis
+          → EndsRun g old new name auditors input output shelf ShelfStays ending → Told lanes basis auditors (status_of ending)
+      by_script lanes basis auditors bytes ShelfStays ending whole reads given (inl read) =
+          let same : read.lanes ≡ lanes =
+          one_reading bytes read.lanes lanes
+          (subst (λ (bs : List ℕ). IsReadAs bs read.lanes) (one_whole input read.bytes bytes read.gave whole) read.read).1 reads in
+          by_lanes lanes basis auditors ShelfStays ending given
+          (subst (λ (ls : List Lane). EndsLanes g old new ls name auditors shelf output ShelfStays ending) same read.ends)
+      by_script lanes basis auditors bytes ShelfStays ending whole reads given (inr unread) =
+          without_script lanes basis auditors ending unread.0 unread.2
 
-    -- the lanes by the basis that is given
-    by_lanes : (lanes : List Lane) (basis : List Dated) (auditors : List Auditor) (name : List ℕ) (shelf : Shelving)
-        (ShelfStays : Type 0) (ending : Ending) → IsGivenBasis IsBasis lanes name shelf basis
-        → EndsLanes g old new lanes name auditors shelf output ShelfStays ending → Told lanes basis (status_of ending)
-    by_lanes lanes basis auditors name shelf ShelfStays ending (inl none) (inl ends) =
-        subst (λ (b : List Dated). Told lanes b (status_of ending)) (sym none.1) (by_ending lanes [] auditors ending ends.2)
-    by_lanes lanes basis auditors name shelf ShelfStays ending (inl none) (inr ends) = absurd (false≢true (sym none.0 ∙ ends.0))
-    by_lanes lanes basis auditors name shelf ShelfStays ending (inr given) (inl ends) = absurd (false≢true (sym ends.0 ∙ given.0))
-    by_lanes lanes basis auditors name shelf ShelfStays ending (inr given) (inr (asks, inl by)) =
-        subst (λ (b : List Dated). Told lanes b (status_of ending))
-        (one_basis given.1.0 name by.basis basis (by.is given.1.0 given.1.1) given.1.2) (by_ending lanes by.basis auditors ending by.ends)
-    by_lanes lanes basis auditors name shelf ShelfStays ending (inr given) (inr (asks, inr none)) =
-        without_basis lanes basis name shelf ending none.0 none.1
+      -- words that ask for a run were read, or there was no memory for them
+      unasked_run : (words : List (String Global)) (ending : Ending) → AskForRun words name → new ≡ old → SaysUnasked words output ending
+          → IsUnrun g Opens old new name input output shelf (status_of ending)
+      unasked_run words Usage asked same says = absurd (says.0 (Run name) asked)
+      unasked_run words NoMemory asked same says = unrun_untouched NoMemory says same only_now
+      unasked_run words _ asked same says = absurd says
 
-    -- the script that is given
-    pub by_script : (lanes : List Lane) (basis : List Dated) (auditors : List Auditor) (name bytes : List ℕ) (input : Input) (shelf : Shelving)
-        (ShelfStays : Type 0) (ending : Ending) → IsWholeInput input bytes → Reads bytes lanes → IsGivenBasis IsBasis lanes name shelf basis
-        → EndsRun g old new name auditors input output shelf ShelfStays ending → Told lanes basis (status_of ending)
-    by_script lanes basis auditors name bytes input shelf ShelfStays ending whole reads given (inl read) =
-        let same : read.lanes ≡ lanes =
-        one_reading bytes read.lanes lanes
-        (subst (λ (bs : List ℕ). IsReadAs bs read.lanes) (one_whole input read.bytes bytes read.gave whole) read.read).1 reads in
-        by_lanes lanes basis auditors name shelf ShelfStays ending given
-        (subst (λ (ls : List Lane). EndsLanes g old new ls name auditors shelf output ShelfStays ending) same read.ends)
-    by_script lanes basis auditors name bytes input shelf ShelfStays ending whole reads given (inr unread) =
-        without_script lanes basis input ending unread.0 unread.2
+      -- what the words ask for, and how it ended
+      by_words : (lanes : List Lane) (basis : List Dated) (auditors : List Auditor) (bytes : List ℕ) (words : List (String Global))
+          (InputStays ShelfStays : Type 0) (ending : Ending) → AskForRun words name
+          → IsWholeInput input bytes → Reads bytes lanes → IsGivenBasis IsBasis lanes name shelf basis
+          → Does g old new words auditors input output shelf InputStays ShelfStays ending → Told lanes basis auditors (status_of ending)
+      by_words lanes basis auditors bytes words InputStays ShelfStays ending asked whole reads given (inl (mode, for, ends)) =
+          by_script lanes basis auditors bytes ShelfStays ending whole reads given
+          (subst (λ (m : Mode). EndsMode g old new m auditors input output shelf InputStays ShelfStays ending)
+          (ask_once (map string_bytes words) mode (Run name) for asked) ends)
+      by_words lanes basis auditors bytes words InputStays ShelfStays ending asked whole reads given (inr unasked) =
+          inr (unasked_run words ending asked unasked.disk unasked.says)
 
-    -- what the words ask for, and how it ended
-    by_words : (lanes : List Lane) (basis : List Dated) (auditors : List Auditor) (name bytes : List ℕ) (words : List (String Global))
-        (input : Input) (shelf : Shelving) (InputStays ShelfStays : Type 0) (ending : Ending) → AskForRun words name
-        → IsWholeInput input bytes → Reads bytes lanes → IsGivenBasis IsBasis lanes name shelf basis
-        → Does g old new words auditors input output shelf InputStays ShelfStays ending → Told lanes basis (status_of ending)
-    by_words lanes basis auditors name bytes words input shelf InputStays ShelfStays ending asked whole reads given (inl (mode, for, ends)) =
-        by_script lanes basis auditors name bytes input shelf ShelfStays ending whole reads given
-        (subst (λ (m : Mode). EndsMode g old new m auditors input output shelf InputStays ShelfStays ending)
-        (ask_once (map string_bytes words) mode (Run name) for asked) ends)
-    by_words lanes basis auditors name bytes words input shelf InputStays ShelfStays ending asked whole reads given (inr unasked) =
-        inr (said ending unasked.says)
-      where
-        said : (ending : Ending) → SaysUnasked words output ending → IsUnrun g Opens old new output (status_of ending)
-        said Usage says = unrun_untouched 2 (λ never. cc) _ says.1 unasked.disk only_now
-        said NoMemory says = unrun_untouched 9 (λ never. cc) _ says unasked.disk only_now
-        said _ says = absurd says
-
-    pub headline : (lanes : List Lane) (basis : List Dated) (auditors : List Auditor) (name bytes : List ℕ) (words : List (String Global))
-        (input : Input) (shelf : Shelving) (InputStays ShelfStays : Type 0) (status : ℕ)
-        → Obeys g old new words auditors input output shelf InputStays ShelfStays status → AskForRun words name
-        → IsWholeInput input bytes → Reads bytes lanes → IsGivenBasis IsBasis lanes name shelf basis → Told lanes basis status
-    headline lanes basis auditors name bytes words input shelf InputStays ShelfStays status obeys asked whole reads given =
-        subst (λ (s : ℕ). Told lanes basis s) (sym obeys.exits)
-        (by_words lanes basis auditors name bytes words input shelf InputStays ShelfStays obeys.ending asked whole reads given obeys.does)
+      pub headline : (lanes : List Lane) (basis : List Dated) (auditors : List Auditor) (bytes : List ℕ) (words : List (String Global))
+          (InputStays ShelfStays : Type 0) (status : ℕ)
+          → Obeys g old new words auditors input output shelf InputStays ShelfStays status → AskForRun words name
+          → IsWholeInput input bytes → Reads bytes lanes → IsGivenBasis IsBasis lanes name shelf basis
+          → Told lanes basis auditors status
+      headline lanes basis auditors bytes words InputStays ShelfStays status obeys asked whole reads given =
+          subst (λ (s : ℕ). Told lanes basis auditors s) (sym obeys.exits)
+          (by_words lanes basis auditors bytes words InputStays ShelfStays obeys.ending asked whole reads given obeys.does)

@@ -38,23 +38,23 @@ module _ {D : Type 0} (g : Ghosts D) (old new : D) where
   untouched : new ≡ old → Left
   untouched same = (opened_on [] (g.faults old), ([], inr (inr (refl, same))))
 
-  ran : (lanes : List Lane) (basis : List Dated) (auditors : List Auditor) (Wrote : List ℕ → Type 0) (Replies : List Entry → List ℕ → Type 0)
-      → IsRunOf g old new lanes basis auditors Wrote Replies → Left
-  ran lanes basis auditors Wrote Replies run = by_turns (opened_on run.commands (g.faults old)) run.history run.disk
+  ran : (lanes : List Lane) (basis : List Dated) (auditors : List Auditor) (output : Stream) (Wrote : List ℕ → Type 0) (Replies : List Entry → List ℕ → Type 0)
+      → IsRunOf g old new lanes basis auditors output Wrote Replies → Left
+  ran lanes basis auditors output Wrote Replies run = by_turns (opened_on run.commands (g.faults old)) run.history run.disk
 
   script : (lanes : List Lane) (basis : List Dated) (auditors : List Auditor) (output : Stream) (ending : Ending)
       → EndsScript g old new lanes basis auditors output ending → Left
-  script lanes basis auditors output Done ends = ran _ _ _ _ _ ends
+  script lanes basis auditors output Done ends = ran _ _ _ _ _ _ ends
   script lanes basis auditors output BadJournal ends = all_alone ends.alone
-  script lanes basis auditors output WriteFault ends = ran _ _ _ _ _ ends.1
+  script lanes basis auditors output WriteFault ends = ran _ _ _ _ _ _ ends.1
   script lanes basis auditors output DiskFault ends = elim ends.1 [
     | inl said ↦ all_alone said.1
-    | inr run ↦ ran _ _ _ _ _ run
+    | inr run ↦ ran _ _ _ _ _ _ run
   ]
   script lanes basis auditors output NoMemory ends = elim ends [
     | inl said ↦ all_alone said.1
-    | inr (inl run) ↦ ran _ _ _ _ _ run
-    | inr (inr run) ↦ ran _ _ _ _ _ run
+    | inr (inl run) ↦ ran _ _ _ _ _ _ run
+    | inr (inr run) ↦ ran _ _ _ _ _ _ run
   ]
   script lanes basis auditors output _ ends = absurd ends
 

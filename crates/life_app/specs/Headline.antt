@@ -2,11 +2,12 @@
 -- once, in order; its valuations enclose the exact reserves; and what a crash leaves. Which file opens to which commands is
 -- a parameter: all that is asked of it is that a file opens to one list of commands at most, and an empty file to none. So is
 -- which files make which basis under a name: they make one at most.
-use Rattle.std.specs.Prelude.{◌≡◌, ◌≢◌, ◌⊎◌, ℕ, ℤ, ◌≤◌, ◌<ℤ◌, All, List, [], ◌∷◌, ◌++◌, nat_eq, true, false, take, Result, Ok, Err}
-use Rattle.std.specs.Io.KnownBytes.{Appends}
+use Rattle.std.specs.Prelude.{◌≡◌, ◌⊎◌, ℕ, ℤ, ◌≤◌, ◌<ℤ◌, All, List, [], ◌∷◌, ◌++◌, codes, nat_eq, true, false, take, Result, Ok, Err}
 use Rattle.std.specs.List.{AllByRecursion, AllZip, Contains, IsDistinct, flat_map}
 use Rattle.basis_book.specs.Dated.{Dated, IsPicked}
+use Rattle.outside_io.specs.Faults.{Rose}
 use Rattle.outside_io.specs.Shelves.{Files}
+use Rattle.outside_io.specs.Streams.{AppendsPart, TakenPiece}
 use Rattle.outside_io.specs.declared.disks.Disk.{Ghosts}
 use Rattle.plan_benefits.specs.Shapes.{shape_of}
 use Rattle.plan_benefits.specs.declared.fault.NotValued.{NotValued}
@@ -33,9 +34,19 @@ use Rattle.policy_value.specs.Covers.{AreByDuration, cap_along, cover_along}
 use Rattle.rate_table.specs.declared.shape.Shape.{Shape}
 use Rattle.lane_runner.specs.AnsweredLines.{AnsweredLine, AreLinesOf}
 use Rattle.report_text.specs.Block.{block_text}
-use Rattle.transcript_text.specs.Transcript.{posting_text, trim_text, unpinned_text, unvalued_text}
-use Rattle.program_endings.specs.Writing.{Shelving, Stream, WroteOrFailed}
-use Rattle.script_run.specs.Script.{asks_for_values}
+use Rattle.transcript_text.specs.Transcript.{posting_text, reports_text, trim_text, unpinned_text, unvalued_text}
+use Rattle.watcher_set.specs.Noted.{Auditor, reports_of}
+use Rattle.office_state.specs.Journals.{IsShown}
+use Rattle.office_state.specs.declared.faults.StartCause.{StartCause}
+use Rattle.program_endings.specs.Refusals.{SaysWhy}
+use Rattle.program_endings.specs.Replies.{AreAnswered, HaveAFault, LackMemory}
+use Rattle.program_endings.specs.Status.{status_of}
+use Rattle.program_endings.specs.WithoutBasis.{EndsNoBasis}
+use Rattle.program_endings.specs.Writing.{Input, Shelving, Stream, WroteAll, WroteLine, WrotePart}
+use Rattle.program_endings.specs.declared.ending.Ending.{Ending}
+use Rattle.program_endings.specs.declared.ending.Ending.TheVariants.{Done, BadScript, BadBasis, BadJournal, ReadFault, WriteFault, DiskFault, NoMemory}
+use Rattle.script_run.specs.Script.{IsRefused, asks_for_values}
+use Rattle.script_run.specs.Shown.{AreSafeWhenShown}
 
 -- by an entry of the basis: the bounds enclose the exact reserve of the amount at the policy's year, to at most two
 -- cents, by the rates of the age at issue and the duration, or the word says why the table has none
@@ -95,9 +106,25 @@ IsThere Opens commands history held image =
     Opens image (commands ++ held)
     ⊎ ((command : Command) × WasFaulted history held command × Opens image (commands ++ held ++ command ∷ []))
 
--- The run of these lanes, by a basis, with a disk before and after it.
+-- and so it is with a front of what the history accepted
+abbrev pub IsFrontThere : (List ℕ → List Command → Type 0) → List Command → List Entry → List ℕ → Type 0
+IsFrontThere Opens commands history image =
+    (held rest : List Command) × (accepted_of history ≡ held ++ rest) × IsThere Opens commands history held image
+
+-- What was written of a text, and why no more of it: all, and each posting and valuation was answered, or the disk failed in
+-- a posting, or memory was lacking for one; or a front and not all, since the output failed, or since memory was lacking.
+abbrev pub WroteAsEnded : {D : Type 0} → Ghosts D → D → D → List Entry → List ℕ → List ℕ → Stream → Ending → Type 0
+WroteAsEnded g old new history dry text output Done = WroteAll output text × AreAnswered history dry
+WroteAsEnded g old new history dry text output DiskFault =
+    WroteAll output text × HaveAFault history dry × Rose (g.faults old) (g.faults new)
+WroteAsEnded g old new history dry text output WriteFault = WrotePart output text
+WroteAsEnded g old new history dry text output NoMemory =
+    (WroteAll output text × LackMemory history dry) ⊎ AppendsPart output.before output.after text
+WroteAsEnded _ _ _ _ _ _ _ _ = ⊥
+
+-- The run of these lanes, by a basis, with these auditors, and with a disk before and after it.
 pub record IsPromised {D : Type 0} (g : Ghosts D) (Opens : List ℕ → List Command → Type 0) (old new : D) (lanes : List Lane)
-    (basis : List Dated) (output : Stream) (status : ℕ) : Type 0 where
+    (basis : List Dated) (auditors : List Auditor) (output : Stream) (status : ℕ) : Type 0 where
   -- one history, legal from the commands of the file on
   pub commands : List Command
   pub history : List Entry
@@ -110,30 +137,53 @@ pub record IsPromised {D : Type 0} (g : Ghosts D) (Opens : List ℕ → List Com
   pub distinct : IsDistinct nat_eq callers
   pub theirs : AllByRecursion (λ entry. Contains callers entry.caller) history
   pub answered : AreLinesOf lines history lanes callers dry
-  -- a front of the transcript and of some bytes behind it was written, and all of these at the statuses 0 and 8; that they
-  -- are the auditors' lines is said in `IsRunOf`
+  -- The transcript is their texts, and behind them stand the auditors' reports of what was accepted. What was written of
+  -- that, and why no more, is told by the status.
   pub texts : List (List ℕ)
-  pub behind : List ℕ
   pub told : AllZip (IsToldLine commands history basis dry) lines texts
-  pub wrote : (n : ℕ) × Appends output.before output.after (take n (flat_map (λ (text : List ℕ). text) texts ++ behind))
-  pub whole : (status ≡ 0) ⊎ (status ≡ 8)
-      → Appends output.before output.after (flat_map (λ (text : List ℕ). text) texts ++ behind)
-  -- a crash after the run leaves all that was accepted; one within it what a crash before it left, or a front of these;
-  -- and from a moment on, which is one of the run, it leaves at least what was accepted in any beginning of the history
+  pub ending : Ending
+  pub exits : status ≡ status_of ending
+  pub wrote : WroteAsEnded g old new history dry
+      (flat_map (λ (text : List ℕ). text) texts ++ reports_text (reports_of auditors (accepted_of history))) output ending
+  -- and what was shown of the lines is safe by then
+  pub shown : g.honest new → (run : List TakenPiece) × (output.pieces_after ≡ run ++ output.pieces_before)
+      × AreSafeWhenShown g Opens new commands history lines texts run
+  -- a crash after the run leaves all that was accepted; one within it what a crash before it left, or a front of these; once
+  -- the opening has synced the file as it was, a front of these; and from a moment on, which is one of the run, it leaves at
+  -- least what was accepted in any beginning of the history
   pub now : g.honest new → (image : List ℕ) → g.may_leave new image
       → IsThere Opens commands history (accepted_of history) image
-  pub since : g.honest new → (image : List ℕ) → g.left_since new (g.clock old) image → g.may_leave old image
-      ⊎ ((held rest : List Command) × (accepted_of history ≡ held ++ rest) × IsThere Opens commands history held image)
+  pub since : g.honest new → (image : List ℕ) → g.left_since new (g.clock old) image
+      → g.may_leave old image ⊎ IsFrontThere Opens commands history image
+  pub synced : g.honest new → (mid : D) × (g.clock old ≤ g.clock mid) × (g.clock mid ≤ g.clock new)
+      × ((image : List ℕ) → g.may_leave mid image → image ≡ g.reads old)
+      × ((image : List ℕ) → g.left_since new (g.clock mid) image → IsFrontThere Opens commands history image)
   pub kept : g.honest new → (front rest : List Entry) → history ≡ front ++ rest → (moment : ℕ)
       × (g.clock old ≤ moment) × (moment ≤ g.clock new) × ((image : List ℕ) → g.left_since new moment image
       → (more : List Command) × Opens image (commands ++ accepted_of front ++ more))
 
--- A run that failed and added no command: a text was written in place of a transcript, or the output failed; and a crash
--- leaves what it might have left before, or what opens to what the file did.
-pub record IsUnrun {D : Type 0} (g : Ghosts D) (Opens : List ℕ → List Command → Type 0) (old new : D) (output : Stream)
-    (status : ℕ) : Type 0 where
-  pub failed : status ≢ 0
-  pub line : (why : List ℕ) × WroteOrFailed output why
+-- The line in place of a transcript, by its cause: the script is refused, or a file of the basis, or the journal; a device
+-- failed; or memory was wanting.
+abbrev pub SaysUnrun : {D : Type 0} → Ghosts D → D → D → List ℕ → Input → Stream → Shelving → Ending → Type 0
+SaysUnrun g old new name input output shelf BadScript = IsRefused input output
+SaysUnrun g old new name input output shelf BadBasis = EndsNoBasis name shelf output BadBasis
+SaysUnrun g old new name input output shelf BadJournal =
+    (cause : StartCause) × SaysWhy cause output × (g.honest new → IsShown (g.reads old) cause)
+SaysUnrun g old new name input output shelf ReadFault =
+    WroteLine output (codes "readfault")
+    × (Rose input.faults_before input.faults_after ⊎ Rose shelf.faults_before shelf.faults_after)
+SaysUnrun g old new name input output shelf DiskFault =
+    WroteLine output (codes "diskfault") × Rose (g.faults old) (g.faults new)
+SaysUnrun g old new name input output shelf NoMemory = WroteLine output (codes "nomemory")
+SaysUnrun _ _ _ _ _ _ _ _ = ⊥
+
+-- A run that failed and added no command: that line was written, or the output failed in it; and a crash leaves what it might
+-- have left before, or what opens to what the file did.
+pub record IsUnrun {D : Type 0} (g : Ghosts D) (Opens : List ℕ → List Command → Type 0) (old new : D) (name : List ℕ)
+    (input : Input) (output : Stream) (shelf : Shelving) (status : ℕ) : Type 0 where
+  pub ending : Ending
+  pub exits : status ≡ status_of ending
+  pub says : SaysUnrun g old new name input output shelf ending
   pub since : g.honest new → (image : List ℕ) → g.left_since new (g.clock old) image → g.may_leave old image
       ⊎ ((commands : List Command) × Opens (g.reads old) commands × Opens image commands)
 
@@ -143,12 +193,15 @@ pub record IsFirstFound {D : Type 0} (g : Ghosts D) (bytes : List ℕ) (old : D)
   pub first : g.clock old ≡ 0
   pub reads : g.reads old ≡ bytes
 
--- The run of these lanes, by a basis, over a disk as it was found: it was as is promised, or failed and added no command.
+-- The run of these lanes, by a basis of this name, over a disk as it was found: it was as is promised, or failed and added no
+-- command.
 pub record IsPromisedFromStart {D : Type 0} (g : Ghosts D) (Opens : List ℕ → List Command → Type 0) (bytes : List ℕ) (new : D)
-    (lanes : List Lane) (basis : List Dated) (output : Stream) (status : ℕ) : Type 0 where
+    (lanes : List Lane) (name : List ℕ) (basis : List Dated) (auditors : List Auditor) (input : Input) (output : Stream)
+    (shelf : Shelving) (status : ℕ) : Type 0 where
   pub old : D
   pub found : IsFirstFound g bytes old
-  pub told : IsPromised g Opens old new lanes basis output status ⊎ IsUnrun g Opens old new output status
+  pub told : IsPromised g Opens old new lanes basis auditors output status
+      ⊎ IsUnrun g Opens old new name input output shelf status
 
 -- the basis that a run of these lanes is given: where a line asks for values, files that the shelf's answers agree with make
 -- it under this name, and else it is none

@@ -1,5 +1,6 @@
 -- Worked cases of what a run and `state` write, computed from the definitions alone. Day 18262 is 2020-01-01
 use Rattle.std.specs.Prelude.{◌≡◌, ◌++◌, ℕ, List, [], ◌∷◌, pos, codes}
+use Rattle.std.specs.List.{AllZip}
 use Rattle.policy_types.specs.declared.command.Command.{Command}
 use Rattle.policy_types.specs.declared.command.Command.TheVariants.{Issue, Premium, Alter, Lapse, Reinstate, Claim, Settle, Mature, PaidUp, Upgrade}
 use Rattle.policy_types.specs.declared.command.Plan.TheVariants.{Endowment}
@@ -16,7 +17,7 @@ use Rattle.policy_types.specs.declared.script.Lane.{Lane}
 use Rattle.lane_runner.specs.AnsweredLines.{AnsweredLine, AreLinesOf}
 use Rattle.policy_machine.specs.History.{opened_on}
 use Rattle.policy_machine.specs.Worked.Cases.{policy_issue}
-use Rattle.transcript_text.specs.Transcript.{IsTranscript, posting_text, reports_text, trim_text, unpinned_text, unvalued_text, watcher_text}
+use Rattle.transcript_text.specs.Transcript.{IsLineText, posting_text, reports_text, trim_text, unpinned_text, unvalued_text, watcher_text}
 use Rattle.stating_modes.specs.Books.{books_text, policy_account}
 
 abbrev pub first_premium : Command
@@ -92,7 +93,8 @@ clerks_answers =
 -- two clerks' lines stand in the order of their turns
 abbrev pub TwoClerks : Type 0
 TwoClerks = AreLinesOf clerks_answers clerks_turns clerks_lanes (11 ∷ 12 ∷ []) []
-    × IsTranscript (opened_on [] 0) clerks_turns [] [] clerks_answers (codes "5,premium,7001,refused,unknown" ++ 10 ∷ codes "3,issue,7001,accepted,1" ++ 10 ∷ codes "5,premium,7001,accepted,2" ++ 10 ∷ [])
+    × AllZip (IsLineText (opened_on [] 0) clerks_turns [] []) clerks_answers ((codes "5,premium,7001,refused,unknown" ++ 10 ∷ [])
+    ∷ (codes "3,issue,7001,accepted,1" ++ 10 ∷ []) ∷ (codes "5,premium,7001,accepted,2" ++ 10 ∷ []) ∷ [])
 
 -- a trim, and why a valuation on 2021-01-01 has no rows
 abbrev pub OtherLines : Type 0

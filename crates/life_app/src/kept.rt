@@ -47,9 +47,9 @@ pub enum BookMode {
 pub fn life_kept<
     R: Threads + Wait + Sync,
     S: Source,
-    K: Sink + Send,
-    H: Shelf,
     D: Disk + Send,
+    K: Sink<Beside = D> + Send,
+    H: Shelf,
     E: Disk,
     G: Gate + Sync,
 >(
@@ -68,26 +68,26 @@ pub fn life_kept<
     requires fresh { AllByRecursion (λ b. noted b ≡ []) watchers.items }
     ensures obeys { ObeysKept D.Disk E.Disk (ended_disks disk second result) words.now
         (map (λ b. record { stops = stops b; number = number b }) watchers.items) (input_between S.faults S.left S.given S.ended input.old input.new)
-        (between K.faults K.written output.old output.new)
+        (between K.faults K.written K.pieces output.old output.new)
         (shelf_between H.faults H.agrees shelf.old shelf.new)
         (input.new ≡ input.old) (shelf.new ≡ shelf.old) result.status }
     ensures shelf { H.files shelf.new ≡ H.files shelf.old }
 
     // Where the words ask for nothing of both disks, each status but 0 and 9 has its reason, and what is due comes about.
     ensures reason { ¬ AskForBoth words.now → IsReasoned words.now (input_between S.faults S.left S.given S.ended input.old input.new)
-        (between K.faults K.written output.old output.new)
+        (between K.faults K.written K.pieces output.old output.new)
         (shelf_between H.faults H.agrees shelf.old shelf.new) (filing_between D.Disk disk result.disk) result.status }
     ensures due { (ending : AnEnding) → ¬ AskForBoth words.now
         → IsDueEnding words.now (input_between S.faults S.left S.given S.ended input.old input.new)
-        (between K.faults K.written output.old output.new)
+        (between K.faults K.written K.pieces output.old output.new)
         (shelf_between H.faults H.agrees shelf.old shelf.new) (filing_between D.Disk disk result.disk) ending
         → (result.status ≡ status_of ending) ⊎ (result.status ≡ 9) }
 
     // Where they do, each status has its reason too, and what is due by both disks comes about, but for want of memory.
     ensures reason_both { AskForBoth words.now → IsReasonedOfBoth D.Disk E.Disk (ended_disks disk second result)
-        (between K.faults K.written output.old output.new) result.status }
+        (between K.faults K.written K.pieces output.old output.new) result.status }
     ensures due_both { (ending : AnEnding) → AskForBoth words.now
-        → IsDueOfBoth D.Disk E.Disk (ended_disks disk second result) (between K.faults K.written output.old output.new) ending
+        → IsDueOfBoth D.Disk E.Disk (ended_disks disk second result) (between K.faults K.written K.pieces output.old output.new) ending
         → (result.status ≡ status_of ending) ⊎ (result.status ≡ 9) }
 
     // A file that opens to no commands reads as before, however the run ends, where its disk comes back honest.
@@ -129,7 +129,7 @@ fn state_by<K: Sink, D: Disk, E: Disk, L: Ledger>(
     requires parts { blank.parts ≡ L.parts }
     requires some { 0 < L.parts }
     ensures { EndsStateKept D.Disk E.Disk (disks_of disk second result)
-        (between K.faults K.written output.old output.new) result.ending }
+        (between K.faults K.written K.pieces output.old output.new) result.ending }
 {
     let mut steps: Steps<L> = Steps::open(blank);
     state_kept(alloc, output, disk, second, &mut steps)

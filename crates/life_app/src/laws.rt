@@ -66,7 +66,7 @@ pub fn runs_in_a_row<S: Source, K: Sink, H: Shelf, D: Disk>()
     ensures so { (old new : D) (input read : S) (output written : K) (shelf asked : H) (words : List (String Global))
         (auditors : List Auditor) (status : ℕ)
         → Obeys D.Disk old new words auditors (input_between S.faults S.left S.given S.ended input read)
-        (between K.faults K.written output written) (shelf_between H.faults H.agrees shelf asked)
+        (between K.faults K.written K.pieces output written) (shelf_between H.faults H.agrees shelf asked)
         (read ≡ input) (asked ≡ shelf) status
         → (opening : Opening) × ((history : List Entry) × IsLeftSo D.Disk old new opening history) }
 {}
@@ -84,7 +84,7 @@ pub fn runs_over_both<S: Source, K: Sink, H: Shelf, D: Disk, E: Disk>()
     ensures so { (disks : TwoDisks D E) (input read : S) (output written : K) (shelf asked : H) (words : List (String Global))
         (auditors : List Auditor) (status : ℕ) → D.honest disks.new → E.honest disks.kept
         → ObeysKept D.Disk E.Disk disks words auditors (input_between S.faults S.left S.given S.ended input read)
-        (between K.faults K.written output written) (shelf_between H.faults H.agrees shelf asked)
+        (between K.faults K.written K.pieces output written) (shelf_between H.faults H.agrees shelf asked)
         (read ≡ input) (asked ≡ shelf) status
         → IsLeftByCall D.Disk E.Disk disks }
 {}

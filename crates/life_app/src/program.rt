@@ -41,9 +41,9 @@ pub struct Ended<D> {
 pub fn life<
     R: Threads + Wait + Sync,
     S: Source,
-    K: Sink + Send,
-    H: Shelf,
     D: Disk + Send,
+    K: Sink<Beside = D> + Send,
+    H: Shelf,
     G: Gate + Sync,
 >(
     rt: &R,
@@ -60,19 +60,19 @@ pub fn life<
     requires fresh { AllByRecursion (λ b. noted b ≡ []) watchers.items }
     ensures obeys { Obeys D.Disk disk result.disk words.now
         (map (λ b. record { stops = stops b; number = number b }) watchers.items) (input_between S.faults S.left S.given S.ended input.old input.new)
-        (between K.faults K.written output.old output.new)
+        (between K.faults K.written K.pieces output.old output.new)
         (shelf_between H.faults H.agrees shelf.old shelf.new)
         (input.new ≡ input.old) (shelf.new ≡ shelf.old) result.status }
     ensures shelf { H.files shelf.new ≡ H.files shelf.old }
 
     // Each status but 0 and 9 has its reason: what the words, the script, a basis file or the journal are, or the device that failed.
     ensures reason { IsReasoned words.now (input_between S.faults S.left S.given S.ended input.old input.new)
-        (between K.faults K.written output.old output.new)
+        (between K.faults K.written K.pieces output.old output.new)
         (shelf_between H.faults H.agrees shelf.old shelf.new) (filing_between D.Disk disk result.disk) result.status }
 
     // An ending that is due, where the devices don't fail on which it rests, comes about, but for want of memory.
     ensures due { (ending : AnEnding) → IsDueEnding words.now (input_between S.faults S.left S.given S.ended input.old input.new)
-        (between K.faults K.written output.old output.new)
+        (between K.faults K.written K.pieces output.old output.new)
         (shelf_between H.faults H.agrees shelf.old shelf.new) (filing_between D.Disk disk result.disk) ending
         → (result.status ≡ status_of ending) ⊎ (result.status ≡ 9) }
 
@@ -91,9 +91,9 @@ pub fn life<
 fn obey<
     R: Threads + Wait + Sync,
     S: Source,
-    K: Sink + Send,
-    H: Shelf,
     D: Disk + Send,
+    K: Sink<Beside = D> + Send,
+    H: Shelf,
     W: Watching + Send,
     G: Gate + Sync,
 >(
@@ -109,7 +109,7 @@ fn obey<
 ) -> Finished<D>
     requires told { (before : ℕ) → W.told watchers before [] }
     ensures does { Does D.Disk disk result.disk words.now (W.handed watchers) (input_between S.faults S.left S.given S.ended input.old input.new)
-        (between K.faults K.written output.old output.new)
+        (between K.faults K.written K.pieces output.old output.new)
         (shelf_between H.faults H.agrees shelf.old shelf.new)
         (input.new ≡ input.old) (shelf.new ≡ shelf.old) result.ending }
     ensures heard { S.faults input.old < S.faults input.new → result.ending ≡ ReadFault }
@@ -170,7 +170,7 @@ fn obey<
 
 // Says why the words aren't obeyed.
 fn refuse_words<K: Sink>(fault: WordsFault, output: &mut K) -> Ending
-    ensures { SaysNoMode fault (between K.faults K.written output.old output.new) result }
+    ensures { SaysNoMode fault (between K.faults K.written K.pieces output.old output.new) result }
 {
     match fault {
         WordsFault::Usage => end(output, b"usage\n", Ending::Usage),

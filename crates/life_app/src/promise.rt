@@ -24,12 +24,13 @@ pub fn headline<S: Source, K: Sink, H: Shelf, D: Disk>()
         (words : List (String Global)) (auditors : List Auditor) (status : ℕ) (name bytes : List ℕ)
         (lanes : List Lane) (basis : List Dated)
         → Obeys D.Disk old new words auditors (input_between S.faults S.left S.given S.ended input read)
-        (between K.faults K.written output written) (shelf_between H.faults H.agrees shelf asked)
+        (between K.faults K.written K.pieces output written) (shelf_between H.faults H.agrees shelf asked)
         (read ≡ input) (asked ≡ shelf) status
         → AskForRun words name → IsWholeInput (input_between S.faults S.left S.given S.ended input read) bytes
         → Reads bytes lanes → IsGivenBasis IsBasis lanes name (shelf_between H.faults H.agrees shelf asked) basis
-        → IsPromised D.Disk Opens old new lanes basis (between K.faults K.written output written) status
-        ⊎ IsUnrun D.Disk Opens old new (between K.faults K.written output written) status }
+        → IsPromised D.Disk Opens old new lanes basis auditors (between K.faults K.written K.pieces output written) status
+        ⊎ IsUnrun D.Disk Opens old new name (input_between S.faults S.left S.given S.ended input read)
+        (between K.faults K.written K.pieces output written) (shelf_between H.faults H.agrees shelf asked) status }
     ensures one { (bytes : List ℕ) (commands others : List Command) → Opens bytes commands → Opens bytes others
         → commands ≡ others }
     ensures empty { Opens [] [] }

@@ -2,7 +2,7 @@
 
 ghost use Rattle.life_app.specs.WorkedRun.Calls.{HonestCalls, ReadsByHand};
 ghost use Rattle.life_app.specs.WorkedRun.Runs.{CrashesByHand, FoundByHand, LeftByHand, OpenedByHand, RanByHand, RowByHand};
-ghost use Rattle.life_app.specs.WorkedRun.Promise.{GivenByHand, HeadlineByHand, ObeyedByHand, PromisedByHand};
+ghost use Rattle.life_app.specs.WorkedRun.Promise.{GivenByHand, HeadlineByHand, ObeyedByHand, PromisedByHand, ToldOnceSafe};
 ghost use Rattle.life_app.specs.WorkedRun.Due.{BasisByHand, DueByHand, DueOfTheRun, NeedsByHand};
 ghost use Rattle.life_app.specs.WorkedRun.Both.{DueOfBothByHand, DueOfTheSaving, LeftOfTwoByHand, OtherwiseByHand, PartsOfTwoByHand, RowOfTwoByHand, SavedByHand, StatedByHand, TrustedByHand};
 ghost use Rattle.life_app.specs.WorkedRun.Told.{EnclosedByHand, EndedByHand, ModesByHand, ReasonsByHand};
@@ -28,12 +28,13 @@ pub fn runs_by_hand()
     ensures left { LeftByHand }
 {}
 
-/// The script of the third posting is run as is promised.
+/// The script of the third posting is run as is promised, and its line is told once safe.
 pub fn promise_by_hand()
     ensures given { GivenByHand }
     ensures obeyed { ObeyedByHand }
     ensures headline { HeadlineByHand }
     ensures promised { PromisedByHand }
+    ensures safe { ToldOnceSafe }
 {}
 
 /// Each mode has what it needs, or lacks it, and so some ending is due.

@@ -2,6 +2,7 @@
 use Rattle.std.proofs.Common.{◌≡◌, ◌⊎◌, inl, inr, ℕ, List, [], ◌∷◌, ◌++◌, map, refl, Option, Some, None, String}
 use Rattle.std.specs.Global.{Global}
 use Rattle.outside_io.specs.Shelves.{Files, Answer, Agrees}
+use Rattle.outside_io.specs.Streams.{TakenPiece}
 use Rattle.outside_io.specs.declared.disks.Disk.{Ghosts}
 use Rattle.watcher_set.specs.Noted.{Auditor}
 use Rattle.life_args.specs.declared.mode.Mode.{Mode}
@@ -92,40 +93,40 @@ module _ {D E : Type 0} (g : Ghosts D) (e : Ghosts E) (disks : TwoDisks D E) (wo
 -- Devices that had no fault at the start, and through which nothing had passed.
 module _ {D E : Type 0} (g : Ghosts D) (e : Ghosts E) (disks : TwoDisks D E) (words : List (String Global)) (auditors : List Auditor) (A B : Type 0) (status : ℕ) where
   pub obeys_from_start : (input_faults input_then output_faults output_then shelf_faults shelf_then : ℕ) (given given_then : List ℕ) (Ended : Type 0)
-      (written written_then : Option (List ℕ)) (Agrees : Files → Type 0)
-      → input_faults ≡ 0 → given ≡ [] → output_faults ≡ 0 → written ≡ Some [] → shelf_faults ≡ 0
+      (written written_then : Option (List ℕ)) (pieces pieces_then : List TakenPiece) (Agrees : Files → Type 0)
+      → input_faults ≡ 0 → given ≡ [] → output_faults ≡ 0 → written ≡ Some [] → pieces ≡ [] → shelf_faults ≡ 0
       → ObeysKept g e disks words auditors
       (record { faults_before = input_faults; faults_after = input_then; left_before = None; left_after = None; given_before = given; given_after = given_then; Ended = Ended })
-      (record { faults_before = output_faults; faults_after = output_then; before = written; after = written_then })
+      (record { faults_before = output_faults; faults_after = output_then; before = written; after = written_then; pieces_before = pieces; pieces_after = pieces_then })
       (record { faults_before = shelf_faults; faults_after = shelf_then; Agrees = Agrees }) A B status
-      → ObeysKept g e disks words auditors (input_from_start input_then given_then Ended) (output_from_start output_then written_then) (shelf_from_start shelf_then Agrees)
+      → ObeysKept g e disks words auditors (input_from_start input_then given_then Ended) (output_from_start output_then written_then pieces_then) (shelf_from_start shelf_then Agrees)
       A B status
-  obeys_from_start input_faults input_then output_faults output_then shelf_faults shelf_then given given_then Ended written written_then Agrees
-      e₁ e₂ e₃ e₄ e₅ obeys = rw (e₁, e₂, e₃, e₄, e₅) at obeys
+  obeys_from_start input_faults input_then output_faults output_then shelf_faults shelf_then given given_then Ended written written_then pieces pieces_then Agrees
+      e₁ e₂ e₃ e₄ e₅ e₆ obeys = rw (e₁, e₂, e₃, e₄, e₅, e₆) at obeys
 
 -- What is due by both disks, of an output from its start.
 module _ {D E : Type 0} (g : Ghosts D) (e : Ghosts E) (disks : TwoDisks D E) (words : List (String Global)) (status : ℕ) where
-  pub due_from_start : (output_faults output_then : ℕ) (written written_then : Option (List ℕ)) → output_faults ≡ 0 → written ≡ Some []
+  pub due_from_start : (output_faults output_then : ℕ) (written written_then : Option (List ℕ)) (pieces pieces_then : List TakenPiece) → output_faults ≡ 0 → written ≡ Some [] → pieces ≡ []
       → ((ending : Ending) → AskForBoth words
-      → IsDueOfBoth g e disks (record { faults_before = output_faults; faults_after = output_then; before = written; after = written_then }) ending
+      → IsDueOfBoth g e disks (record { faults_before = output_faults; faults_after = output_then; before = written; after = written_then; pieces_before = pieces; pieces_after = pieces_then }) ending
       → (status ≡ status_of ending) ⊎ (status ≡ 9))
-      → (ending : Ending) → AskForBoth words → IsDueOfBoth g e disks (output_from_start output_then written_then) ending
+      → (ending : Ending) → AskForBoth words → IsDueOfBoth g e disks (output_from_start output_then written_then pieces_then) ending
       → (status ≡ status_of ending) ⊎ (status ≡ 9)
-  due_from_start output_faults output_then written written_then e₁ e₂ due = rw (e₁, e₂) at due
+  due_from_start output_faults output_then written written_then pieces pieces_then e₁ e₂ e₃ due = rw (e₁, e₂, e₃) at due
 
 module _ (words : List (String Global)) (status : ℕ) where
   pub ends_from_start : (input_faults input_then output_faults output_then shelf_faults shelf_then disk_faults disk_then : ℕ) (given given_then : List ℕ) (Ended : Type 0)
-      (written written_then : Option (List ℕ)) (Agrees : Files → Type 0) (Honest : Type 0) (file found left : List ℕ)
-      → input_faults ≡ 0 → given ≡ [] → output_faults ≡ 0 → written ≡ Some [] → shelf_faults ≡ 0 → disk_faults ≡ 0 → file ≡ found
+      (written written_then : Option (List ℕ)) (pieces pieces_then : List TakenPiece) (Agrees : Files → Type 0) (Honest : Type 0) (file found left : List ℕ)
+      → input_faults ≡ 0 → given ≡ [] → output_faults ≡ 0 → written ≡ Some [] → pieces ≡ [] → shelf_faults ≡ 0 → disk_faults ≡ 0 → file ≡ found
       → EndsDuly words
       (record { faults_before = input_faults; faults_after = input_then; left_before = None; left_after = None; given_before = given; given_after = given_then; Ended = Ended })
-      (record { faults_before = output_faults; faults_after = output_then; before = written; after = written_then })
+      (record { faults_before = output_faults; faults_after = output_then; before = written; after = written_then; pieces_before = pieces; pieces_after = pieces_then })
       (record { faults_before = shelf_faults; faults_after = shelf_then; Agrees = Agrees })
       (record { before = file; after = left; Honest = Honest; faults_before = disk_faults; faults_after = disk_then }) status
-      → EndsDuly words (input_from_start input_then given_then Ended) (output_from_start output_then written_then) (shelf_from_start shelf_then Agrees)
+      → EndsDuly words (input_from_start input_then given_then Ended) (output_from_start output_then written_then pieces_then) (shelf_from_start shelf_then Agrees)
       (filing_from_start found left Honest disk_then) status
-  ends_from_start input_faults input_then output_faults output_then shelf_faults shelf_then disk_faults disk_then given given_then Ended written written_then Agrees Honest file
-      found left e₁ e₂ e₃ e₄ e₅ e₆ e₇ ends = rw (e₁, e₂, e₃, e₄, e₅, e₆, e₇) at ends
+  ends_from_start input_faults input_then output_faults output_then shelf_faults shelf_then disk_faults disk_then given given_then Ended written written_then pieces pieces_then Agrees Honest file
+      found left e₁ e₂ e₃ e₄ e₅ e₆ e₇ e₈ ends = rw (e₁, e₂, e₃, e₄, e₅, e₆, e₇, e₈) at ends
 
 -- Where there was no memory to begin, 9 is right in every case.
 module _ (words : List (String Global)) (input : Input) (output : Stream) (shelf : Shelving) (disk : Filing) (status : ℕ) where

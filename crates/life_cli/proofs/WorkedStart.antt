@@ -12,11 +12,11 @@ use Rattle.life_app.proofs.WorkedRun.First.{honest_last}
 use Rattle.life_app.proofs.WorkedRun.Row.{second_left}
 use Rattle.life_cli.specs.Completing.{EndsDuly}
 use Rattle.life_cli.specs.Shipped.{ObeysFromStart, filing_from_start, input_from_start, output_from_start, shelf_from_start}
-use Rattle.life_cli.specs.WorkedShipped.{ShippedByHand}
+use Rattle.life_cli.specs.WorkedShipped.{ShippedByHand, shown_pieces}
 
 obeys : (words : List (String Global)) → AreTyped words (codes "run" ∷ [])
     → ObeysFromStart called called cut_file saved_file last_disk second_disk words (input_from_start 0 premium_script (Unit {0}))
-    (output_from_start 0 (Some premium_text)) (shelf_from_start 0 (Agrees [])) ⊥ (Unit {0}) 0
+    (output_from_start 0 (Some premium_text) shown_pieces) (shelf_from_start 0 (Agrees [])) ⊥ (Unit {0}) 0
 obeys words same = record {
   old = cut_disk;
   second = second_disk;
@@ -28,7 +28,7 @@ obeys words same = record {
 }
 
 ends : (words : List (String Global)) → AreTyped words (codes "run" ∷ [])
-    → EndsDuly words (input_from_start 0 premium_script (Unit {0})) (output_from_start 0 (Some premium_text))
+    → EndsDuly words (input_from_start 0 premium_script (Unit {0})) (output_from_start 0 (Some premium_text) shown_pieces)
     (shelf_from_start 0 (Agrees [])) (filing_from_start cut_file (called.reads last_disk) (called.honest last_disk) 0) 0
 ends words same = record {
   reason = λ other. (Done, refl, tt);

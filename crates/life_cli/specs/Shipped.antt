@@ -2,6 +2,7 @@
 use Rattle.std.specs.Prelude.{◌≡◌, ◌⊎◌, ◌==◌, ℕ, false, List, [], ◌∷◌, length, Option, None, Some, String}
 use Rattle.std.specs.Global.{Global}
 use Rattle.outside_io.specs.Shelves.{Files}
+use Rattle.outside_io.specs.Streams.{TakenPiece}
 use Rattle.outside_io.specs.declared.disks.Disk.{Ghosts}
 use Rattle.watcher_set.specs.Noted.{Auditor}
 use Rattle.watcher_set.specs.Premiums.{premiums_of}
@@ -38,9 +39,15 @@ input_from_start faults given Ended = record {
 }
 
 -- an output that took nothing and had no fault at the start
-abbrev pub output_from_start : ℕ → Option (List ℕ) → Stream
-output_from_start faults written =
-    record { faults_before = 0; faults_after = faults; before = Some []; after = written }
+abbrev pub output_from_start : ℕ → Option (List ℕ) → List TakenPiece → Stream
+output_from_start faults written pieces = record {
+  faults_before = 0;
+  faults_after = faults;
+  before = Some [];
+  after = written;
+  pieces_before = [];
+  pieces_after = pieces;
+}
 
 -- a shelf that had no fault at the start
 abbrev pub shelf_from_start : ℕ → (Files → Type 0) → Shelving

@@ -1,12 +1,14 @@
 //! The program `life`: the top call on the real devices.
 #![tactic(auto)]
 
+mod devices;
 mod named_files;
 mod shipped;
 mod words;
 mod worked;
 
-use outside_io::{AnyFile, StdSink, write_all};
+use devices::{OutputOf, devices_of};
+use outside_io::{AnyFile, write_all};
 use shipped::{leave, run_shipped};
 use std::alloc::AllocError;
 use std::env;
@@ -19,9 +21,12 @@ use words::told_words;
 fn main(rt: HostRuntime) -> ExitCode {
     let held = hold_descriptors(&rt);
     let code = match words_of(&rt) {
-        Ok(words) => leave(run_shipped(&rt, rt, &words, AnyFile, AnyFile)),
+        Ok(words) => {
+            let devices = devices_of(rt, AnyFile, AnyFile);
+            leave(run_shipped(&rt, rt.alloc(), &words, devices))
+        }
         Err(AllocError) => {
-            let _ = write_all(&mut StdSink::new(rt.stdout()), b"nomemory\n");
+            let _ = write_all(&mut OutputOf::<AnyFile>::new(rt.stdout()), b"nomemory\n");
             ExitCode::from(9)
         }
     };

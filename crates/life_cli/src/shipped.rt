@@ -1,4 +1,5 @@
-// All of the program but what the system hands it, on the devices that it is shipped with.
+// All of the program but what the system hands it, on the devices that it is shipped with. Of the system it has threads and
+// waiting, and these devices: no way leads to another.
 ghost use Rattle.std.specs.Prelude.{◌≡◌, ◌⊎◌, ℕ, List, [], codes};
 ghost use Rattle.std.specs.Process.{exit_status};
 ghost use Rattle.outside_io.specs.Shelves.{Files};
@@ -18,65 +19,52 @@ ghost use Rattle.life_app.specs.Words.{AskForRun};
 ghost use Rattle.life_cli.specs.Completing.{EndsDuly};
 ghost use Rattle.life_cli.specs.Shipped.{ObeysFromStart, filing_from_start, shipped_auditors, input_from_start, output_from_start, shelf_from_start, two_disks};
 
-use crate::named_files::{CheckpointOf, JournalOf};
+use crate::devices::{CheckpointDisk, Devices, Folder, Input, JournalDisk, OutputOf};
 use life_app::{EndedKept, life_kept};
-use outside_io::{
-    Disk, FileDisk, FolderShelf, FoundFile, OpenGate, Shelf, Sink, Source, StdSink, StdSource,
-};
+use outside_io::{Disk, FoundFile, OpenGate, Shelf, Sink, Source};
 use policy_types::Watcher;
 use program_endings::lack_memory;
 use std::alloc::Global;
-use std::io::{Stdin, Stdout};
 use std::process::ExitCode;
 use std::sync::Wait;
 use std::thread::Threads;
 use watcher_set::{CountWatcher, PremiumWatcher};
 
-/// The file in which the policies are kept, in the folder in which the program runs.
-const JOURNAL: &str = "journal.life";
-
-/// The file in which the books are kept, at some position of the journal.
-const CHECKPOINT: &str = "checkpoint.life";
-
 /// The count of commands at which the first auditor is done.
 const MOST_COUNTED: u32 = 4_000_000;
 
-/// Standard input.
-pub type Input = StdSource<Stdin>;
-
-/// Standard output.
-pub type Output = StdSink<Stdout>;
-
-/// The folder in which the program runs.
-pub type Folder = FolderShelf<HostRuntime>;
-
 /// What the program leaves: its exit status, and its devices with what they noted.
-pub struct Left<D, E> {
+pub struct Left<F: FoundFile, C: FoundFile> {
     pub status: u8,
     pub input: Input,
-    pub output: Output,
+    pub output: OutputOf<F>,
     pub shelf: Folder,
-    pub disk: D,
-    pub second: E,
+    pub disk: JournalDisk<F>,
+    pub second: CheckpointDisk<C>,
 }
 
 /// Does what the words ask for, over standard input and output, the folder and its `journal.life` and `checkpoint.life`.
 ///
-/// What it promises is said of what these devices noted, and holds whatever the two files were before (`F`, `C`). It has two
-/// premises. A file of which something is said gave only answers that the disk model allows. And where `state` of all and
+/// What it promises is said of what these devices noted, which were handed in as they are made, and holds whatever the two
+/// files were before (`F`, `C`). It has two premises. A file of which something is said gave only answers that the disk model allows. And where `state` of all and
 /// `checkpoint` say something of the journal, both files did, and a checkpoint in the second tells the truth of it.
 pub fn run_shipped<R: Threads + Wait + Sync, F: FoundFile, C: FoundFile>(
     rt: &R,
-    system: HostRuntime,
+    alloc: Global,
     words: &[String],
-    found: F,
-    kept: C,
-) -> Left<FileDisk<HostRuntime, JournalOf<F>>, FileDisk<HostRuntime, CheckpointOf<C>>>
-    ensures obeys { ObeysFromStart ⟦<FileDisk<HostRuntime, JournalOf<F>> as Disk>⟧
-        ⟦<FileDisk<HostRuntime, CheckpointOf<C>> as Disk>⟧ F.bytes C.bytes result.disk result.second words.now
+    devices: Devices<F, C>,
+) -> Left<F, C>
+    requires input { (devices.input.faults ≡ 0) × (devices.input.given ≡ []) }
+    requires output { (devices.output.faults ≡ 0) × (devices.output.taken ≡ []) }
+    requires shelf { (devices.shelf.faults ≡ 0) × (devices.shelf.answers ≡ []) }
+    requires disk { (devices.disk.file.faults ≡ 0) × (devices.disk.file.calls ≡ []) }
+    requires second { (devices.second.file.faults ≡ 0) × (devices.second.file.calls ≡ []) }
+    ensures obeys { ObeysFromStart ⟦<JournalDisk<F> as Disk>⟧
+        ⟦<CheckpointDisk<C> as Disk>⟧ F.bytes C.bytes result.disk result.second words.now
         (input_from_start (⟦<Input as Source>⟧.faults result.input) (⟦<Input as Source>⟧.given result.input)
         (⟦<Input as Source>⟧.ended result.input))
-        (output_from_start (⟦<Output as Sink>⟧.faults result.output) (⟦<Output as Sink>⟧.written result.output))
+        (output_from_start (⟦<OutputOf<F> as Sink>⟧.faults result.output) (⟦<OutputOf<F> as Sink>⟧.written result.output)
+        (⟦<OutputOf<F> as Sink>⟧.pieces result.output))
         (shelf_from_start (⟦<Folder as Shelf>⟧.faults result.shelf) (⟦<Folder as Shelf>⟧.agrees result.shelf))
         (⟦<Input as Source>⟧.given result.input ≡ [])
         ((files : Files) → ⟦<Folder as Shelf>⟧.agrees result.shelf files) result.status }
@@ -87,26 +75,32 @@ pub fn run_shipped<R: Threads + Wait + Sync, F: FoundFile, C: FoundFile>(
         → Reads script lanes
         → IsGivenBasis IsBasis lanes name
         (shelf_from_start (⟦<Folder as Shelf>⟧.faults result.shelf) (⟦<Folder as Shelf>⟧.agrees result.shelf)) basis
-        → IsPromisedFromStart ⟦<FileDisk<HostRuntime, JournalOf<F>> as Disk>⟧ Opens F.bytes result.disk lanes basis
-        (output_from_start (⟦<Output as Sink>⟧.faults result.output) (⟦<Output as Sink>⟧.written result.output))
-        result.status }
+        → IsPromisedFromStart ⟦<JournalDisk<F> as Disk>⟧ Opens F.bytes result.disk lanes name basis
+        shipped_auditors
+        (input_from_start (⟦<Input as Source>⟧.faults result.input) (⟦<Input as Source>⟧.given result.input)
+        (⟦<Input as Source>⟧.ended result.input))
+        (output_from_start (⟦<OutputOf<F> as Sink>⟧.faults result.output) (⟦<OutputOf<F> as Sink>⟧.written result.output)
+        (⟦<OutputOf<F> as Sink>⟧.pieces result.output))
+        (shelf_from_start (⟦<Folder as Shelf>⟧.faults result.shelf) (⟦<Folder as Shelf>⟧.agrees result.shelf)) result.status }
     // Each of the two files has its own name.
     ensures names { (result.disk.file.name.now ≡ codes "journal.life") × (result.second.file.name.now ≡ codes "checkpoint.life") }
     ensures ends { EndsDuly words.now
         (input_from_start (⟦<Input as Source>⟧.faults result.input) (⟦<Input as Source>⟧.given result.input)
         (⟦<Input as Source>⟧.ended result.input))
-        (output_from_start (⟦<Output as Sink>⟧.faults result.output) (⟦<Output as Sink>⟧.written result.output))
+        (output_from_start (⟦<OutputOf<F> as Sink>⟧.faults result.output) (⟦<OutputOf<F> as Sink>⟧.written result.output)
+        (⟦<OutputOf<F> as Sink>⟧.pieces result.output))
         (shelf_from_start (⟦<Folder as Shelf>⟧.faults result.shelf) (⟦<Folder as Shelf>⟧.agrees result.shelf))
-        (filing_from_start F.bytes (⟦<FileDisk<HostRuntime, JournalOf<F>> as Disk>⟧.reads result.disk)
-        (⟦<FileDisk<HostRuntime, JournalOf<F>> as Disk>⟧.honest result.disk)
-        (⟦<FileDisk<HostRuntime, JournalOf<F>> as Disk>⟧.faults result.disk)) result.status }
+        (filing_from_start F.bytes (⟦<JournalDisk<F> as Disk>⟧.reads result.disk)
+        (⟦<JournalDisk<F> as Disk>⟧.honest result.disk)
+        (⟦<JournalDisk<F> as Disk>⟧.faults result.disk)) result.status }
 {
-    let alloc = system.alloc();
-    let mut input = StdSource::new(system.stdin());
-    let mut output = StdSink::new(system.stdout());
-    let mut shelf = FolderShelf::new(system);
-    let disk = FileDisk::at(system, JOURNAL, JournalOf { found });
-    let second = FileDisk::at(system, CHECKPOINT, CheckpointOf { found: kept });
+    let Devices {
+        mut input,
+        mut output,
+        mut shelf,
+        disk,
+        second,
+    } = devices;
     let EndedKept {
         status,
         disk,
@@ -132,7 +126,7 @@ pub fn run_shipped<R: Threads + Wait + Sync, F: FoundFile, C: FoundFile>(
 }
 
 /// Gives the devices back, and ends with the status that the run left.
-pub fn leave<D: Drop, E: Drop>(left: Left<D, E>) -> ExitCode
+pub fn leave<F: FoundFile + Drop, C: FoundFile + Drop>(left: Left<F, C>) -> ExitCode
     ensures { exit_status result ≡ left.status }
 {
     let Left {
@@ -157,28 +151,28 @@ fn obey<R: Threads + Wait + Sync, F: FoundFile, C: FoundFile>(
     alloc: Global,
     words: &[String],
     input: &mut Input,
-    output: &mut Output,
+    output: &mut OutputOf<F>,
     shelf: &mut Folder,
-    disk: FileDisk<HostRuntime, JournalOf<F>>,
-    second: FileDisk<HostRuntime, CheckpointOf<C>>,
-) -> EndedKept<FileDisk<HostRuntime, JournalOf<F>>, FileDisk<HostRuntime, CheckpointOf<C>>>
-    ensures obeys { ObeysKept ⟦<FileDisk<HostRuntime, JournalOf<F>> as Disk>⟧ ⟦<FileDisk<HostRuntime, CheckpointOf<C>> as Disk>⟧
+    disk: JournalDisk<F>,
+    second: CheckpointDisk<C>,
+) -> EndedKept<JournalDisk<F>, CheckpointDisk<C>>
+    ensures obeys { ObeysKept ⟦<JournalDisk<F> as Disk>⟧ ⟦<CheckpointDisk<C> as Disk>⟧
         (two_disks disk result.disk second result.second) words.now shipped_auditors
         (input_between (⟦<Input as Source>⟧.faults) (⟦<Input as Source>⟧.left) (⟦<Input as Source>⟧.given)
         (⟦<Input as Source>⟧.ended) input.old input.new)
-        (between (⟦<Output as Sink>⟧.faults) (⟦<Output as Sink>⟧.written) output.old output.new)
+        (between (⟦<OutputOf<F> as Sink>⟧.faults) (⟦<OutputOf<F> as Sink>⟧.written) (⟦<OutputOf<F> as Sink>⟧.pieces) output.old output.new)
         (shelf_between (⟦<Folder as Shelf>⟧.faults) (⟦<Folder as Shelf>⟧.agrees) shelf.old shelf.new)
         (input.new ≡ input.old) (shelf.new ≡ shelf.old) result.status }
     ensures ends { EndsDuly words.now
         (input_between (⟦<Input as Source>⟧.faults) (⟦<Input as Source>⟧.left) (⟦<Input as Source>⟧.given)
         (⟦<Input as Source>⟧.ended) input.old input.new)
-        (between (⟦<Output as Sink>⟧.faults) (⟦<Output as Sink>⟧.written) output.old output.new)
+        (between (⟦<OutputOf<F> as Sink>⟧.faults) (⟦<OutputOf<F> as Sink>⟧.written) (⟦<OutputOf<F> as Sink>⟧.pieces) output.old output.new)
         (shelf_between (⟦<Folder as Shelf>⟧.faults) (⟦<Folder as Shelf>⟧.agrees) shelf.old shelf.new)
-        (filing_between ⟦<FileDisk<HostRuntime, JournalOf<F>> as Disk>⟧ disk result.disk) result.status }
+        (filing_between ⟦<JournalDisk<F> as Disk>⟧ disk result.disk) result.status }
     ensures due { (ending : AnEnding) → AskForBoth words.now
-        → IsDueOfBoth ⟦<FileDisk<HostRuntime, JournalOf<F>> as Disk>⟧ ⟦<FileDisk<HostRuntime, CheckpointOf<C>> as Disk>⟧
+        → IsDueOfBoth ⟦<JournalDisk<F> as Disk>⟧ ⟦<CheckpointDisk<C> as Disk>⟧
         (two_disks disk result.disk second result.second)
-        (between (⟦<Output as Sink>⟧.faults) (⟦<Output as Sink>⟧.written) output.old output.new) ending
+        (between (⟦<OutputOf<F> as Sink>⟧.faults) (⟦<OutputOf<F> as Sink>⟧.written) (⟦<OutputOf<F> as Sink>⟧.pieces) output.old output.new) ending
         → (result.status ≡ status_of ending) ⊎ (result.status ≡ 9) }
 {
     let counting = Box::new(alloc, CountWatcher::new(MOST_COUNTED));

@@ -1,5 +1,5 @@
 -- An office at which one caller turned, to pin a position, read the policies there and give the pin up
-use Rattle.std.proofs.Common.{◌≡◌, ℕ, true, false, List, [], ◌∷◌, ◌++◌, map, take, Some, None, refl, ap, sym, ◌∙◌, subst, inl, inr}
+use Rattle.std.proofs.Common.{◌≡◌, ℕ, true, false, List, [], ◌∷◌, ◌++◌, map, take, Some, None, refl, ap, sym, ◌∙◌, subst, inl, inr, Option}
 use Rattle.std.specs.List.{Contains, cons_option, enumerate_from, filter_map, last_or}
 use Rattle.std.specs.Option.{unwrap_or}
 use Rattle.std.proofs.lemmas.Bool.{false≢true}
@@ -19,6 +19,7 @@ use Rattle.office_state.specs.Images.{AreQuiet, HasFaultedBefore, HoldsNow, Hold
 use Rattle.office_state.specs.Journals.{JournalBytes, Opens}
 use Rattle.office_state.proofs.KeptSteps.{keeps_none}
 use Rattle.shared_office.specs.Offices.{IsOfficeHistory, OfficeOpening}
+use Rattle.office_state.specs.States.{MomentRing}
 use Rattle.shared_office.specs.Starting.{HasClosed, HasStartedOffice}
 use Rattle.watcher_set.specs.declared.watching.Watching.{Ghosts as WatcherGhosts}
 use Rattle.turn_lock.specs.Passes.{Holding, PassFacts, callers}
@@ -118,11 +119,11 @@ first_turn (entry ∷ seen) pin later same =
 module _ {D W : Type 0} (g : Ghosts D) (w : WatcherGhosts W) (old disk : D) (watchers : W) (at : At)
     (first closing : Holding (OfficeOpening D W)) (balances : Booking) (reports : List Report)
     (started : HasStartedOffice g old watchers first) (facts : PassFacts IsOfficeHistory closing)
-    (closed : HasClosed g w closing disk balances reports)
+    {outlet : Option MomentRing} (closed : HasClosed g w closing disk balances reports outlet)
     (pin : Placed) (later : List Placed) (grows : Grows first closing (pin ∷ later)) (dry : List ℕ) (asked : pin.1.call ≡ pin_call at)
     (follows : FollowsPin dry pin.0 pin.1.reply (map (λ (turn : Placed). turn.1.call) later)) where
   abbrev opened : OfficeOpening D W
-  opened = record { opening = started.opening; begun = old; held = started.held; watchers = watchers }
+  opened = record { opening = started.opening; begun = old; held = started.held; watchers = watchers; outlet = started.outlet }
 
   closing_opened : closing.opening ≡ Some opened
   closing_opened = grows.opening ∙ started.first.opened

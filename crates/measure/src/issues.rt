@@ -37,7 +37,7 @@ impl<D: Disk, W: Watching, R: Wait> Lane<SharedState<D, W>, R> for Issues {
         while done < self.each {
             let command = issue(done * 32 + place + 1);
             let posted = gate.post(rt, pass, &command);
-            accepted += is_accepted(posted.answer.answer);
+            accepted += is_accepted(posted.answer);
             done += 1;
         }
         accepted
@@ -88,6 +88,6 @@ pub fn post_issues<D: Disk + Send, W: Watching + Send, R: Threads + Wait + Sync>
 {
     let (office, pass) = Office::start(alloc, disk, watchers)?;
     let (pass, accepted) = lanes(rt, &office, pass, &Issues { each }, 0, callers);
-    let (disk, _, _) = close(office, pass);
+    let (disk, _, _, _) = close(office, pass);
     Ok((disk, accepted))
 }

@@ -57,6 +57,8 @@ impl<'a, R: Clock> Disk for SleepingDisk<'a, R> {
 
     ghost only_now = { λ disk image known left. absurd known };
 
+    ghost sooner = { λ disk early late image known before left. absurd known };
+
     fn faults(&self) -> u64 {
         self.faults
     }

@@ -57,6 +57,11 @@ only_now_left first calls image was =
     let last : was.0 ≡ length calls = omega (arith, was.1, was.2) in
     rw (last, take-length calls) at was.3
 
+-- What was left since a moment was left since each earlier one.
+pub left_sooner : (first : List ℕ) (calls : List DiskCall) (early late : ℕ) (image : List ℕ) → early ≤ late
+    → WasImage first calls late image → WasImage first calls early image
+left_sooner first calls early late image before was = (was.0, omega (arith, before, was.1), was.2, was.3)
+
 -- What is read after all calls is an image.
 pub replayed_image : (first bytes : List ℕ) (calls : List DiskCall)
     → bytes ≡ bytes_after first calls → all_within first calls ≡ true → IsImage first calls bytes

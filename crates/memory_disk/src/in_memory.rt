@@ -4,7 +4,7 @@ ghost use Rattle.outside_io.specs.Disks.{HasDiskCause, Looks, Writes, Syncs, Ela
 ghost use Rattle.outside_io.specs.Plans.{plan_faults, plan_failing, plan_calls};
 ghost use Rattle.memory_disk.specs.Disk.{disk_first, disk_bytes, disk_calls, disk_plan, FollowsPlan, KeepsOrAdds};
 ghost use Rattle.memory_disk.specs.History.{IsImage, WasImage, IsWriteOf, image_of_writes, torn_after};
-ghost use Rattle.memory_disk.specs.HistoryLaws.{replayed_image, now_counts, only_now_left};
+ghost use Rattle.memory_disk.specs.HistoryLaws.{replayed_image, now_counts, left_sooner, only_now_left};
 ghost use Rattle.memory_disk.specs.declared.disk_call.DiskCall.TheVariants.{Len, Read, Sync};
 
 use crate::DiskCall;
@@ -123,6 +123,9 @@ impl Disk for MemoryDisk {
         (disk_calls disk) moment image passed left };
 
     ghost only_now = { λ disk image known left. only_now_left (disk_first disk) (disk_calls disk) image left };
+
+    ghost sooner = { λ disk early late image known before left.
+        left_sooner (disk_first disk) (disk_calls disk) early late image before left };
 
     fn faults(&self) -> u64 {
         self.plan.faults()

@@ -14,6 +14,7 @@ pub mod PinSteps
 pub mod HistorySteps
 pub mod ImageSteps
 pub mod KeptSteps
+pub mod SafeSteps
 pub mod PostedPins
 pub mod TurnSteps
 pub mod LeavingSteps

@@ -1,5 +1,5 @@
 -- The office of a journal that was started on a disk, and what is known where there is none
-use Rattle.std.proofs.Common.{◌≡◌, inl, inr, ℕ, ◌<◌, ◌≤◌, true, false, List, [], ◌++◌, length, ◌∙◌, sym, subst, refl, append-nil, arith, None, Err}
+use Rattle.std.proofs.Common.{◌≡◌, inl, inr, ℕ, ◌<◌, ◌≤◌, true, false, List, Option, [], ◌++◌, length, ◌∙◌, sym, subst, refl, append-nil, arith, None, Err}
 use Rattle.outside_io.specs.declared.disks.Disk.{Ghosts}
 use Rattle.outside_io.specs.Faults.{Rose}
 use Rattle.policy_machine.specs.Book.{judge}
@@ -12,6 +12,7 @@ use Rattle.watcher_set.specs.declared.watching.Watching.{Ghosts as WatcherGhosts
 use Rattle.journal_replay.specs.Replays.{HasReplayCause, IsStoppedAt, Stops, bodies_of}
 use Rattle.journal_replay.specs.declared.replaying.ReplayFault.{ReplayFault}
 use Rattle.journal_replay.specs.declared.replaying.ReplayFault.TheVariants as replay
+use Rattle.moment_ring.specs.Ends.{told}
 use Rattle.office_state.specs.declared.faults.StartCause.{StartCause}
 use Rattle.office_state.specs.declared.faults.StartCause.TheVariants.{BadRecord}
 use Rattle.office_state.specs.declared.state.OfficeState.{OfficeState}
@@ -19,7 +20,7 @@ use Rattle.office_state.specs.Images.{HoldsNow}
 use Rattle.office_state.specs.Journals.{Opens, IsShown}
 use Rattle.office_state.specs.Opening.{HasOpened, HasNotOpened, TellsFault}
 use Rattle.office_state.specs.Standing.{LeavesSince, StandsFor}
-use Rattle.office_state.specs.States.{commands_of, disk_of}
+use Rattle.office_state.specs.States.{MomentRing, commands_of, disk_of}
 use Rattle.office_state.specs.inside.Holding.{JournalHolds}
 use Rattle.office_state.specs.inside.Replays.{IsOfficeOf, HasNoOffice, MakeJournal, as_replay_cause}
 use Rattle.office_state.proofs.ReplaySteps.{stopped_shown}
@@ -27,6 +28,7 @@ use Rattle.office_state.proofs.OpeningSteps.{CountsNow, IsStarted, OnlyNow, Read
 use Rattle.office_state.proofs.KeepingSteps.{promised}
 use Rattle.office_state.proofs.ImageSteps.{holds_now}
 use Rattle.office_state.proofs.KeptSteps.{keeps_first, kept_now}
+use Rattle.office_state.proofs.SafeSteps.{untold_safe}
 
 -- the bodies that stop a replay are those of a journal, since there are some
 pub unfollowed : (bytes : List ℕ) (n : ℕ) (bodies : List (List ℕ)) → OpensToBodies bytes bodies
@@ -60,8 +62,8 @@ module _ {D : Type 0} (g : Ghosts D) (old : D) (journal : Journal D g) (started 
     alone = looked_alone g old journal started counts_now reads_image new none.looked;
   }
 
-  module _ {W : Type 0} {w : WatcherGhosts W} (watchers : W) (fresh : (before : ℕ) → w.told watchers before []) (state : OfficeState D W g w)
-      (made : IsOfficeOf journal old watchers state) where
+  module _ {W : Type 0} {w : WatcherGhosts W} (watchers : W) (fresh : (before : ℕ) → w.told watchers before []) (outlet : Option MomentRing) (untold : told outlet ≡ [])
+      (state : OfficeState D W g w) (made : IsOfficeOf journal old watchers outlet state) where
     -- the state with what it was opened on in plain sight
     abbrev known : OfficeState D W g w
     known = record state { begun = record state.begun { value = old }; recovered = record state.recovered { value = state.books } }
@@ -155,6 +157,8 @@ module _ {D : Type 0} (g : Ghosts D) (old : D) (journal : Journal D g) (started 
             images_kept = λ (honest : g.honest (disk_of state)).
                 keeps_first g old opening (disk_of state)
                 (kept_now g old opening (disk_of state) [] only_now honest (later honest) (now honest));
+            safe = λ (honest : g.honest (disk_of state)).
+                untold_safe g (disk_of state) opening.commands state.outlet.ring (subst (λ ring. told ring ≡ []) (sym made.outlet) untold);
             fault_count = quiet;
             alone = λ still. looked_alone g old journal started counts_now reads_image (disk_of state) made.stays.disk;
             told = subst (λ these. w.told these (length opening.commands) []) (sym made.watched) (fresh (length opening.commands));

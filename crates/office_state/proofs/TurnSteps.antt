@@ -1,7 +1,7 @@
 -- What one more turn does to an office
 use Rattle.std.proofs.Common.{◌≡◌, ◌⊎◌, ℕ, ◌+◌, ◌≤◌, Bool, true, false, List, [], ◌∷◌, ◌++◌, length, refl, ap, sym, ◌∙◌, subst, None, Option, Ok, Err, Result, length-append, arith, inl, inr}
 use Rattle.std.proofs.lemmas.List.{map-append}
-use Rattle.std.specs.Prelude.{OnOk, OnErr}
+use Rattle.std.specs.Prelude.{IfSome, OnOk, OnErr}
 use Rattle.std.specs.List.{AllByRecursion}
 use Rattle.outside_io.specs.declared.disks.Disk.{Ghosts}
 use Rattle.outside_io.specs.Faults.{Rose}
@@ -21,12 +21,15 @@ use Rattle.posting_journal.specs.States.{StandsFor as JournalStands, IsKept, cou
 use Rattle.posting_journal.specs.declared.journal.Journal.{Journal}
 use Rattle.watcher_set.specs.declared.watching.Watching.{Ghosts as WatcherGhosts}
 use Rattle.arrayvec.specs.ArrayVec.{ArrayVec}
+use Rattle.rtrb.specs.Ring.{sent}
+use Rattle.moment_ring.specs.Ends.{SameOutlet, TellsOne, told as moments_told}
+use Rattle.moment_ring.specs.declared.outlet.MomentOutlet.{MomentOutlet}
 use Rattle.journal_replay.specs.Replays.{bodies_of}
 use Rattle.office_state.specs.declared.books.Books.{Books}
 use Rattle.office_state.specs.declared.held.Held.{Held}
 use Rattle.office_state.specs.declared.state.OfficeState.{OfficeState}
 use Rattle.office_state.specs.declared.answer.Answer.TheVariants.{Accepted as AcceptedAt, DiskFault}
-use Rattle.office_state.specs.Images.{HasKept, HoldsAtLeast, HoldsNow, HoldsOnce, IsQuietReply, KeepsAccepted}
+use Rattle.office_state.specs.Images.{AreSafeSince, HasKept, HoldsAtLeast, HoldsNow, HoldsOnce, IsQuietReply, KeepsAccepted}
 use Rattle.office_state.specs.Journals.{JournalBytes}
 use Rattle.office_state.specs.Pins.{pins_held}
 use Rattle.office_state.specs.Posting.{CrashesIn}
@@ -37,6 +40,7 @@ use Rattle.office_state.specs.inside.Holding.{IsLeftBehind, JournalHolds}
 use Rattle.office_state.specs.inside.Records.{Records}
 use Rattle.office_state.proofs.HistorySteps.{accepted-same, all_before, all_in, all_up_to, commands-more, commands-same, faults-same, faults_after-more, faults_after-same, faults_met, faults-more, holds_all, holds_more, is_due, is_fresh, pending-now, posting}
 use Rattle.office_state.proofs.KeptSteps.{keeps_more, keeps_still, keeps_unaccepted, kept_now, least_now}
+use Rattle.office_state.proofs.SafeSteps.{told_more, told_on, told_same, safe_more, safe_on}
 use Rattle.office_state.proofs.ImageSteps.{holds_now, journal_of, journal_of_more, left_still, now_later, since_on, since_still}
 use Rattle.office_state.proofs.KeepingSteps.{all-more, promised}
 use Rattle.office_state.proofs.OpeningSteps.{OnlyNow}
@@ -79,9 +83,10 @@ module _ {D W : Type 0} {g : Ghosts D} {w : WatcherGhosts W} where
         → (pins : ArrayVec Held) → pins.items ≡ pins_held (turns ++ entry ∷ [])
         → floor_in books ≡ floor_of (turns ++ entry ∷ [])
         → (watchers : W) → ((before : ℕ) (heard : List Command) → w.told old.watchers before heard → w.told watchers before heard)
-        → StandsFor {w = w} (record { journal = old.journal; books = books; watchers = watchers; turns = old.turns + 1; pins = pins; begun = old.begun; recovered = old.recovered; counted = counted })
+        → (outlet : MomentOutlet D) → SameOutlet old.outlet.ring outlet.ring → moments_told outlet.ring ≡ moments_told old.outlet.ring
+        → StandsFor {w = w} (record { journal = old.journal; books = books; watchers = watchers; turns = old.turns + 1; pins = pins; outlet = outlet; begun = old.begun; recovered = old.recovered; counted = counted })
         (turns ++ entry ∷ [])
-    stands_still books counted entry as_was none quiet due pins pinned floored watchers told =
+    stands_still books counted entry as_was none quiet due pins pinned floored watchers told outlet same_outlet untold =
         let same : commands_after opening (turns ++ entry ∷ []) ≡ commands = commands-same opening turns entry none in
         let kept : commands_in books ≡ commands_after opening (turns ++ entry ∷ []) = as_was ∙ stands.listed ∙ sym same in
         let held = promised books (commands_after opening (turns ++ entry ∷ [])) (floor_of (turns ++ entry ∷ [])) kept floored in
@@ -110,6 +115,10 @@ module _ {D W : Type 0} {g : Ghosts D} {w : WatcherGhosts W} where
               since_still (begun_of old) (disk_of old) opening turns entry (stands.images_since honest);
           images_kept = λ (honest : g.honest (disk_of old)).
               keeps_still g (begun_of old) opening (disk_of old) turns entry none (stands.images_kept honest);
+          safe = λ (honest : g.honest (disk_of old)).
+              told_same old.outlet.ring outlet.ring (AreSafeSince g (disk_of old) opening.commands (accepted_of (turns ++ entry ∷ []))) same_outlet untold
+              (subst (λ cs. IfSome old.outlet.ring (λ ring. AreSafeSince g (disk_of old) opening.commands cs (sent ring)))
+              (sym (accepted-same turns entry none)) (stands.safe honest));
           fault_count = stands.fault_count ∙ sym (faults_after-same opening turns entry quiet);
           alone = λ still. stands.alone (all_before (λ (e : Entry). IsQuietReply e.reply) turns (entry ∷ []) still);
           told = subst (w.told watchers behind) (sym (accepted-same turns entry none)) (told behind (accepted_of turns) stands.told);
@@ -124,8 +133,9 @@ module _ {D W : Type 0} {g : Ghosts D} {w : WatcherGhosts W} where
     -- it stands for the same turns with other books of the same commands, and watchers who were told of the same
     pub stands_with : (books : Books) (counted : records_in old.journal ≡ length (commands_in books)) → commands_in books ≡ commands_of old
         → floor_in books ≡ floor_in old.books → (watchers : W) → ((before : ℕ) (heard : List Command) → w.told old.watchers before heard → w.told watchers before heard)
-        → StandsFor {w = w} (record { journal = old.journal; books = books; watchers = watchers; turns = old.turns; pins = old.pins; begun = old.begun; recovered = old.recovered; counted = counted }) turns
-    stands_with books counted as_was still watchers told =
+        → (outlet : MomentOutlet D) → SameOutlet old.outlet.ring outlet.ring → moments_told outlet.ring ≡ moments_told old.outlet.ring
+        → StandsFor {w = w} (record { journal = old.journal; books = books; watchers = watchers; turns = old.turns; pins = old.pins; outlet = outlet; begun = old.begun; recovered = old.recovered; counted = counted }) turns
+    stands_with books counted as_was still watchers told outlet same_outlet untold =
         let kept : commands_in books ≡ commands = as_was ∙ stands.listed in
         let floored : floor_in books ≡ floor_of turns = still ∙ stands.floor in
         let held = promised books commands (floor_of turns) kept floored in
@@ -144,6 +154,8 @@ module _ {D W : Type 0} {g : Ghosts D} {w : WatcherGhosts W} where
           images_now = stands.images_now;
           images_since = stands.images_since;
           images_kept = stands.images_kept;
+          safe = λ (honest : g.honest (disk_of old)).
+              told_same old.outlet.ring outlet.ring (AreSafeSince g (disk_of old) opening.commands (accepted_of turns)) same_outlet untold (stands.safe honest);
           fault_count = stands.fault_count;
           alone = stands.alone;
           told = told behind (accepted_of turns) stands.told;
@@ -224,6 +236,27 @@ module _ {D W : Type 0} {g : Ghosts D} {w : WatcherGhosts W} where
           (λ image. HoldsNow opening turns image ⊎ JournalBytes image (commands ++ command ∷ [])) (moments honest) least
           (stands.images_kept (honesty honest)) whole
 
+      -- what was safe stays so
+      safe_still : g.honest (disk_under journal) → (told : List ℕ) → AreSafeSince g (disk_of old) opening.commands (accepted_of turns) told
+          → AreSafeSince g (disk_under journal) opening.commands (accepted_of turns) told
+      safe_still honest told safe =
+          safe_on g (disk_of old) (disk_under journal) (λ image. HoldsNow opening turns image ⊎ JournalBytes image (commands ++ command ∷ []))
+          (moments honest) opening.commands (accepted_of turns) told least safe
+
+      -- and the command that was accepted is safe since the moment that is told
+      safe_accepted : (outlet : MomentOutlet D) → TellsOne old.outlet.ring outlet.ring (g.clock (disk_under journal)) → (entry : Entry)
+          → accepted_of (entry ∷ []) ≡ command ∷ [] → g.honest (disk_under journal)
+          → ((image : List ℕ) → g.left_since (disk_under journal) (g.clock (disk_under journal)) image → HoldsAtLeast (commands ++ command ∷ []) image)
+          → IfSome outlet.ring (λ ring. AreSafeSince g (disk_under journal) opening.commands (accepted_of (turns ++ entry ∷ [])) (sent ring))
+      safe_accepted outlet tells entry one honest since =
+          let now = g.clock (disk_under journal) in
+          told_more old.outlet.ring outlet.ring now (AreSafeSince g (disk_of old) opening.commands (accepted_of turns))
+          (AreSafeSince g (disk_under journal) opening.commands (accepted_of (turns ++ entry ∷ []))) tells
+          (λ told safe. subst (λ cs. AreSafeSince g (disk_under journal) opening.commands cs (told ++ now ∷ []))
+          (sym (accepted_of-push turns entry ∙ ap (λ cs. accepted_of turns ++ cs) one))
+          (safe_more g (disk_under journal) opening.commands (accepted_of turns) told command now (safe_still honest told safe) (omega arith) since))
+          (stands.safe (honesty honest))
+
       -- a crash in a posting in which the disk failed
       pub crash_faulted : (count : ℕ) → g.honest (disk_under journal)
           → CrashesIn g (disk_of old) (disk_under journal) opening turns command (DiskFault count)
@@ -259,9 +292,10 @@ module _ {D W : Type 0} {g : Ghosts D} {w : WatcherGhosts W} where
           (quiet : g.faults (disk_under journal) ≡ g.faults (disk_of old)) (more : commands_in books ≡ commands_of old ++ command ∷ [])
           (few : length (commands_of old) ≡ 4000000 → ⊥) (ok : result ≡ Ok value) (position : count ≡ length (commands_in books))
           (watchers : W) (told : (before : ℕ) (heard : List Command) → w.told old.watchers before heard → count ≡ before + length heard + 1 → w.told watchers before (heard ++ command ∷ []))
+          (outlet : MomentOutlet D) (tells : TellsOne old.outlet.ring outlet.ring (g.clock (disk_under journal)))
           (only_now : OnlyNow g) where
         pub stands_accepted : (caller : ℕ)
-            → StandsFor {w = w} (record { journal = journal; books = books; watchers = watchers; turns = old.turns + 1; pins = old.pins; begun = old.begun; recovered = old.recovered; counted = counted })
+            → StandsFor {w = w} (record { journal = journal; books = books; watchers = watchers; turns = old.turns + 1; pins = old.pins; outlet = outlet; begun = old.begun; recovered = old.recovered; counted = counted })
             (turns ++ posting caller command (Accepted count) ∷ [])
         stands_accepted caller =
             let entry = posting caller command (Accepted count) in
@@ -300,6 +334,10 @@ module _ {D W : Type 0} {g : Ghosts D} {w : WatcherGhosts W} where
               images_kept = λ (honest : g.honest (disk_under journal)). kept_more entry honest
                   (kept_now g (begun_of old) opening (disk_under journal) (turns ++ entry ∷ []) only_now honest
                   (later_on honest) (now honest));
+              safe = λ (honest : g.honest (disk_under journal)). safe_accepted outlet tells entry refl honest
+                  (λ (image : List ℕ) (left : g.left_since (disk_under journal) (g.clock (disk_under journal)) image).
+                  subst (λ cs. HoldsAtLeast cs image) grown
+                  (least_now opening (turns ++ entry ∷ []) image (now honest image (only_now (disk_under journal) image honest left))));
               fault_count = quiet ∙ stands.fault_count ∙ sym (faults_after-same opening turns entry refl);
               alone = λ still. absurd (all_in (λ (e : Entry). IsQuietReply e.reply) turns [] entry still);
               told = subst (w.told watchers behind) (sym (accepted_of-push turns entry)) (told behind (accepted_of turns) stands.told
@@ -318,7 +356,7 @@ module _ {D W : Type 0} {g : Ghosts D} {w : WatcherGhosts W} where
           (later : g.faults (disk_of old) ≤ g.faults (disk_under journal)) (rose : Rose (g.faults (disk_of old)) (g.faults (disk_under journal)))
           (err : result ≡ Err error) where
         pub stands_faulted : (caller : ℕ)
-            → StandsFor {w = w} (record { journal = journal; books = old.books; watchers = old.watchers; turns = old.turns + 1; pins = old.pins; begun = old.begun; recovered = old.recovered; counted = counted })
+            → StandsFor {w = w} (record { journal = journal; books = old.books; watchers = old.watchers; turns = old.turns + 1; pins = old.pins; outlet = old.outlet; begun = old.begun; recovered = old.recovered; counted = counted })
             (turns ++ posting caller command (Faulted count) ∷ [])
         stands_faulted caller =
             let entry = posting caller command (Faulted count) in
@@ -373,6 +411,11 @@ module _ {D W : Type 0} {g : Ghosts D} {w : WatcherGhosts W} where
                   keeps_unaccepted g (begun_of old) opening (disk_of old) (disk_under journal) turns entry
                   (λ image. HoldsNow opening turns image ⊎ JournalBytes image (commands ++ command ∷ []))
                   (moments honest) least (stands.images_kept (honesty honest)) refl;
+              safe = λ (honest : g.honest (disk_under journal)).
+                  subst (λ cs. IfSome old.outlet.ring (λ ring. AreSafeSince g (disk_under journal) opening.commands cs (sent ring)))
+                  (sym (accepted-same turns entry refl))
+                  (told_on old.outlet.ring (AreSafeSince g (disk_of old) opening.commands (accepted_of turns))
+                  (AreSafeSince g (disk_under journal) opening.commands (accepted_of turns)) (safe_still honest) (stands.safe (honesty honest)));
               fault_count = sym told ∙ sym (faults_after-more opening turns caller command count);
               alone = λ still. absurd (all_in (λ (e : Entry). IsQuietReply e.reply) turns [] entry still);
               told = subst (w.told old.watchers behind) (sym (accepted-same turns entry refl)) stands.told;

@@ -68,6 +68,15 @@ HoldsSince g disk moment opening history =
 abbrev pub HoldsAtLeast : List Command → List ℕ → Type 0
 HoldsAtLeast commands image = (more : List Command) × Opens image (commands ++ more)
 
+-- the moments since which the commands are safe: a crash since each leaves at least the commands held by then, and that one
+abbrev pub AreSafeSince : {D : Type 0} → Ghosts D → D → List Command → List Command → List ℕ → Type 0
+AreSafeSince g disk held [] [] = Unit {0}
+AreSafeSince g disk held (command ∷ commands) (moment ∷ moments) =
+    (moment ≤ g.clock disk)
+    × ((image : List ℕ) → g.left_since disk moment image → HoldsAtLeast (held ++ command ∷ []) image)
+    × AreSafeSince g disk (held ++ command ∷ []) commands moments
+AreSafeSince _ _ _ _ _ = ⊥
+
 -- The disk as it stood after these turns: a crash then left what holds now, and each image that one might have left
 -- since then holds at least the commands after them.
 pub record HasKept {D : Type 0} (g : Ghosts D) (begun new : D) (opening : Opening) (turns : List Entry) : Type 0 where

@@ -1,5 +1,5 @@
 -- The office stands for the history of its turns
-use Rattle.std.specs.Prelude.{◌≡◌, ◌⊎◌, ℕ, ◌+◌, ◌≤◌, List, drop, length}
+use Rattle.std.specs.Prelude.{◌≡◌, ◌⊎◌, ℕ, ◌+◌, ◌≤◌, List, IfSome, drop, length}
 use Rattle.outside_io.specs.declared.disks.Disk.{Ghosts}
 use Rattle.policy_types.specs.declared.command.Command.{Command}
 use Rattle.policy_types.specs.declared.entry.Entry.{Entry}
@@ -8,14 +8,15 @@ use Rattle.policy_machine.specs.Book.{book}
 use Rattle.policy_machine.specs.History.{Opening, IsLegal, accepted_of, commands_after, floor_of}
 use Rattle.office_state.specs.versions.Commands.{sets_of}
 use Rattle.posting_journal.specs.Opening.{IsSynced}
+use Rattle.rtrb.specs.Ring.{sent}
 use Rattle.versioned_book.specs.Settings.{own}
 use Rattle.versioned_book.specs.Versions.{versions_from}
 use Rattle.watcher_set.specs.declared.watching.Watching.{Ghosts as WatcherGhosts}
 use Rattle.office_state.specs.declared.state.OfficeState.{OfficeState}
-use Rattle.office_state.specs.Images.{AreQuiet, HoldsNow, HoldsOnce, HoldsSince, IsLeftAlone, KeepsAccepted, faults_after}
+use Rattle.office_state.specs.Images.{AreQuiet, AreSafeSince, HoldsNow, HoldsOnce, HoldsSince, IsLeftAlone, KeepsAccepted, faults_after}
 use Rattle.office_state.specs.Journals.{Opens}
 use Rattle.office_state.specs.Pins.{pins_held}
-use Rattle.office_state.specs.States.{balances_of, begun_of, commands_of, count_of, disk_of, floor_kept, kept_count, opening_of, pins_of, policies_of, turns_of, versions_left}
+use Rattle.office_state.specs.States.{balances_of, begun_of, commands_of, count_of, disk_of, floor_kept, kept_count, opening_of, outlet_of, pins_of, policies_of, turns_of, versions_left}
 use Rattle.office_state.specs.inside.Holding.{Holds}
 
 -- the turns are a legal history from the opening on, and the count is that of the commands after it
@@ -60,6 +61,9 @@ pub record StandsFor {D W : Type 0} {g : Ghosts D} {w : WatcherGhosts W} (state 
   -- what was accepted stays
   pub images_kept : g.honest (disk_of state)
       → KeepsAccepted g (begun_of state) (disk_of state) (opening_of state) turns
+  -- the moments told, one for each accepted command, are those since which these are safe
+  pub safe : g.honest (disk_of state) → IfSome (outlet_of state)
+      (λ ring. AreSafeSince g (disk_of state) (opening_of state).commands (accepted_of turns) (sent ring))
   pub fault_count : g.faults (disk_of state) ≡ faults_after (opening_of state) turns
   -- while no posting was accepted or met a fault, the disk is left as opening it left it
   pub alone : AreQuiet turns → IsLeftAlone g (begun_of state) (disk_of state)

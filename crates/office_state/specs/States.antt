@@ -1,5 +1,5 @@
 -- What a caller sees of an office
-use Rattle.std.specs.Prelude.{ℕ, List}
+use Rattle.std.specs.Prelude.{ℕ, List, Option}
 use Rattle.outside_io.specs.declared.disks.Disk.{Ghosts}
 use Rattle.policy_types.specs.declared.command.Command.{Command}
 use Rattle.policy_types.specs.declared.policy.Policy.{Policy}
@@ -8,10 +8,17 @@ use Rattle.policy_machine.specs.History.{Opening, opened_on}
 use Rattle.posting_journal.specs.States.{disk_of as disk_under}
 use Rattle.watcher_set.specs.declared.watching.Watching.{Ghosts as WatcherGhosts}
 use Rattle.watcher_set.specs.Noted.{Auditor}
+use Rattle.std.specs.declared.alloc.Global.{Global}
+use Rattle.rtrb.specs.declared.AnyItems.{AnyItems}
+use Rattle.rtrb.specs.declared.producer.Producer.{Producer}
 use Rattle.office_state.specs.declared.held.Held.{Held}
 use Rattle.office_state.specs.declared.state.OfficeState.{OfficeState}
 use Rattle.versioned_book.specs.Books.{versions_in}
 use Rattle.office_state.specs.inside.Books.{balances_in, commands_in, floor_in, kept_in, policies_in}
+
+-- the office's end of a ring of moments
+abbrev pub MomentRing : Type 0
+MomentRing = Producer ℕ Global AnyItems
 
 -- what an office was opened on, and the disk and the auditors as they were handed in
 pub record Opened (D : Type 0) : Type 0 where
@@ -69,6 +76,10 @@ module _ {D W : Type 0} {g : Ghosts D} {w : WatcherGhosts W} where
   -- the auditors as they were handed in
   abbrev pub auditors_of : OfficeState D W g w → List Auditor
   auditors_of state = w.handed state.watchers
+
+  -- the ring in which it tells since which moments the accepted commands are safe, where there is one
+  abbrev pub outlet_of : OfficeState D W g w → Option MomentRing
+  outlet_of state = state.outlet.ring
 
   abbrev pub opened_of : OfficeState D W g w → Opened D
   opened_of state = record { opening = opening_of state; begun = begun_of state; auditors = auditors_of state }

@@ -4,7 +4,7 @@ ghost use Rattle.std.specs.List.{Contains};
 ghost use Rattle.policy_types.specs.declared.entry.Entry.{Entry};
 ghost use Rattle.office_state.specs.Pins.{MayRead};
 ghost use Rattle.office_state.specs.Standing.{StandsFor};
-ghost use Rattle.office_state.specs.States.{disk_of, opened_of, pins_of, turns_of};
+ghost use Rattle.office_state.specs.States.{disk_of, opened_of, outlet_of, pins_of, turns_of};
 ghost use Rattle.office_state.specs.Turning.{read_turn};
 ghost use Rattle.office_state.specs.declared.held.Held.{Held as AHeld};
 
@@ -72,6 +72,7 @@ impl<D: Disk, W: Watching> OfficeState<D, W> {
         requires stands { (history : List Entry) × StandsFor self.old history }
         ensures opened { opened_of self.new ≡ opened_of self.old }
         ensures disk { disk_of self.new ≡ disk_of self.old }
+        ensures outlet { outlet_of self.new ≡ outlet_of self.old }
         ensures stands { (history : List Entry) → StandsFor self.old history
             → StandsFor self.new (history ++ read_turn caller pin first batch.new ∷ []) }
     {

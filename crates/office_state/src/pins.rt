@@ -4,7 +4,7 @@ ghost use Rattle.policy_types.specs.declared.entry.Entry.{Entry};
 ghost use Rattle.policy_machine.specs.Book.{book};
 ghost use Rattle.office_state.specs.Pins.{IsHeldBy};
 ghost use Rattle.office_state.specs.Standing.{StandsFor};
-ghost use Rattle.office_state.specs.States.{disk_of, opened_of, pins_of, turns_of};
+ghost use Rattle.office_state.specs.States.{disk_of, opened_of, outlet_of, pins_of, turns_of};
 ghost use Rattle.office_state.specs.Turning.{pin_turn, pin_at_turn, unpin_turn};
 ghost use Rattle.office_state.specs.inside.Books.{commands_in};
 ghost use Rattle.office_state.specs.inside.Pinning.{HasTaken, IsFull};
@@ -23,6 +23,7 @@ impl<D: Disk, W: Watching> OfficeState<D, W> {
         requires turns { turns_of self.old < 2 ^ 62 }
         ensures opened { opened_of self.new ≡ opened_of self.old }
         ensures disk { disk_of self.new ≡ disk_of self.old }
+        ensures outlet { outlet_of self.new ≡ outlet_of self.old }
         ensures number { IfOk result (λ info. info.number ≡ turns_of self.old) }
         ensures stands { (history : List Entry) → StandsFor self.old history
             → StandsFor self.new (history ++ pin_turn caller result ∷ []) }
@@ -44,6 +45,7 @@ impl<D: Disk, W: Watching> OfficeState<D, W> {
         requires turns { turns_of self.old < 2 ^ 62 }
         ensures opened { opened_of self.new ≡ opened_of self.old }
         ensures disk { disk_of self.new ≡ disk_of self.old }
+        ensures outlet { outlet_of self.new ≡ outlet_of self.old }
         ensures number { IfOk result (λ info. info.number ≡ turns_of self.old) }
         ensures stands { (history : List Entry) → StandsFor self.old history
             → StandsFor self.new (history ++ pin_at_turn caller p result ∷ []) }
@@ -67,6 +69,7 @@ impl<D: Disk, W: Watching> OfficeState<D, W> {
         requires held { IsHeldBy (pins_of self.old) caller pin }
         ensures opened { opened_of self.new ≡ opened_of self.old }
         ensures disk { disk_of self.new ≡ disk_of self.old }
+        ensures outlet { outlet_of self.new ≡ outlet_of self.old }
         ensures stands { (history : List Entry) → StandsFor self.old history
             → StandsFor self.new (history ++ unpin_turn caller pin ∷ []) }
     {

@@ -4,9 +4,10 @@ ghost use Rattle.policy_types.specs.Valid.{IsValid};
 ghost use Rattle.policy_types.specs.declared.command.Command.{Command as ACommand};
 ghost use Rattle.policy_types.specs.declared.entry.Entry.{Entry};
 ghost use Rattle.policy_machine.specs.Book.{judged_after};
+ghost use Rattle.moment_ring.specs.Ends.{CanTell, SameOutlet, told};
 ghost use Rattle.office_state.specs.Posting.{CrashesIn, IsBeforeWriting, turn_of};
 ghost use Rattle.office_state.specs.Standing.{StandsFor};
-ghost use Rattle.office_state.specs.States.{commands_of, disk_of, opened_of, opening_of, turns_of};
+ghost use Rattle.office_state.specs.States.{commands_of, disk_of, opened_of, opening_of, outlet_of, turns_of};
 ghost use Rattle.office_state.specs.inside.Books.{CanKeep, IsPlaceOf, commands_in, floor_in};
 ghost use Rattle.office_state.specs.inside.Turns.{one_more};
 ghost use Rattle.versioned_book.specs.Books.{IsPlaceIn};
@@ -15,7 +16,8 @@ use crate::answer::Answer;
 use crate::books::Books;
 use crate::recording::record;
 use crate::state::OfficeState;
-use outside_io::Disk;
+use moment_ring::MomentOutlet;
+use outside_io::{Disk, Moment};
 use policy_types::{Command, MOST_COMMANDS, NoMemory, Policy, Refusal};
 use record_codec::encode;
 use versioned_book::KeyPlace;
@@ -29,6 +31,7 @@ impl<D: Disk, W: Watching> OfficeState<D, W> {
         requires valid { IsValid command.now }
         requires stands { (history : List Entry) × StandsFor self.old history }
         ensures opened { opened_of self.new ≡ opened_of self.old }
+        ensures outlet { SameOutlet (outlet_of self.old) (outlet_of self.new) }
         ensures honesty { D.honest (disk_of self.new) → D.honest (disk_of self.old) }
         ensures unwritten { IsBeforeWriting result → disk_of self.new ≡ disk_of self.old }
         ensures stands { (history : List Entry) → StandsFor self.old history
@@ -47,6 +50,7 @@ impl<D: Disk, W: Watching> OfficeState<D, W> {
         requires valid { IsValid command.now }
         requires stands { (history : List Entry) × StandsFor self.old history }
         ensures opened { opened_of self.new ≡ opened_of self.old }
+        ensures outlet { SameOutlet (outlet_of self.old) (outlet_of self.new) }
         ensures honesty { D.honest (disk_of self.new) → D.honest (disk_of self.old) }
         ensures turns { turns_of self.new ≡ turns_of self.old }
         ensures unwritten { IsBeforeWriting result → disk_of self.new ≡ disk_of self.old }
@@ -56,7 +60,7 @@ impl<D: Disk, W: Watching> OfficeState<D, W> {
             → CrashesIn D.Disk (disk_of self.old) (disk_of self.new) (opening_of self.old) history command.now result }
     {
         let place = self.books.place_of(command);
-        if take_memory(&mut self.books, place, &mut self.watchers).is_err() {
+        if take_memory(&mut self.books, place, &mut self.watchers, &mut self.outlet).is_err() {
             return Answer::NoMemory;
         }
         self.decide_ready(place, command)
@@ -69,8 +73,10 @@ impl<D: Disk, W: Watching> OfficeState<D, W> {
         requires stands { (history : List Entry) × StandsFor self.old history }
         requires room { CanKeep self.old.books place.key }
         requires ready { W.has_room self.old.watchers }
+        requires tellable { CanTell (outlet_of self.old) }
         ensures ample { result ≢ Answer.NoMemory }
         ensures opened { opened_of self.new ≡ opened_of self.old }
+        ensures outlet { SameOutlet (outlet_of self.old) (outlet_of self.new) }
         ensures honesty { D.honest (disk_of self.new) → D.honest (disk_of self.old) }
         ensures turns { turns_of self.new ≡ turns_of self.old }
         ensures unwritten { IsBeforeWriting result → disk_of self.new ≡ disk_of self.old }
@@ -85,7 +91,8 @@ impl<D: Disk, W: Watching> OfficeState<D, W> {
         }
     }
 
-    // Records a command that the rules accept, keeps it and the policy that it left, and tells the watchers.
+    // Records a command that the rules accept, tells the moment since which it is safe, keeps it and the policy that it
+    // left, and tells the watchers.
     fn accept(&mut self, place: KeyPlace, command: &Command, after: Option<Policy>) -> Answer
         requires place { IsPlaceOf self.old.books place command.now }
         requires valid { IsValid command.now }
@@ -93,8 +100,10 @@ impl<D: Disk, W: Watching> OfficeState<D, W> {
         requires accepted { judged_after (commands_of self.old) command.now ≡ Ok after }
         requires room { CanKeep self.old.books place.key }
         requires ready { W.has_room self.old.watchers }
+        requires tellable { CanTell (outlet_of self.old) }
         ensures ample { result ≢ Answer.NoMemory }
         ensures opened { opened_of self.new ≡ opened_of self.old }
+        ensures outlet { SameOutlet (outlet_of self.old) (outlet_of self.new) }
         ensures honesty { D.honest (disk_of self.new) → D.honest (disk_of self.old) }
         ensures turns { turns_of self.new ≡ turns_of self.old }
         ensures unwritten { IsBeforeWriting result → disk_of self.new ≡ disk_of self.old }
@@ -108,6 +117,8 @@ impl<D: Disk, W: Watching> OfficeState<D, W> {
         }
         match record(&mut self.journal, &encode(command)) {
             Ok(()) => {
+                let moment = Moment::of(self.journal.disk());
+                self.outlet.tell(moment);
                 self.books.keep(place, command, after);
                 let position = self.books.count();
                 self.watchers.note(position, command);
@@ -118,11 +129,13 @@ impl<D: Disk, W: Watching> OfficeState<D, W> {
     }
 }
 
-// Takes the memory that a posting to the policy with this place may need: that of the books, and that of the watchers.
-fn take_memory<W: Watching>(
+// Takes the memory that a posting to the policy with this place may need: that of the books, that of the watchers, and
+// room for its moment.
+fn take_memory<D: Disk, W: Watching>(
     books: &mut Books,
     place: KeyPlace,
     watchers: &mut W,
+    outlet: &mut MomentOutlet<D>,
 ) -> Result<(), NoMemory>
     requires place { IsPlaceIn books.old.versions place }
     ensures commands { commands_in books.new ≡ commands_in books.old }
@@ -132,7 +145,15 @@ fn take_memory<W: Watching>(
     ensures place { IsPlaceIn books.new.versions place }
     ensures room { OnOk result (CanKeep books.new place.key) }
     ensures ready { OnOk result (W.has_room watchers.new) }
+    ensures outlet { SameOutlet outlet.old.ring outlet.new.ring }
+    ensures untold { told outlet.new.ring ≡ told outlet.old.ring }
+    ensures tellable { OnOk result (CanTell outlet.new.ring) }
 {
     books.reserve(place)?;
-    watchers.ready()
+    watchers.ready()?;
+    if outlet.has_room() {
+        Ok(())
+    } else {
+        Err(NoMemory)
+    }
 }

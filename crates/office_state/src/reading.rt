@@ -1,16 +1,18 @@
 // What is read of an office, and how it ends.
-ghost use Rattle.std.specs.Prelude.{◌≡◌, ◌<◌, ◌≤◌, Some, List, length, take, slice_get};
+ghost use Rattle.std.specs.Prelude.{◌≡◌, ◌<◌, ◌≤◌, Some, IfSome, List, length, take, slice_get};
 ghost use Rattle.policy_types.specs.declared.entry.Entry.{Entry};
 ghost use Rattle.money_ledgers.specs.Balances.{balances};
 ghost use Rattle.policy_machine.specs.Accounts.{ledger_of};
 ghost use Rattle.policy_machine.specs.Book.{book};
 ghost use Rattle.policy_machine.specs.History.{accepted_of, commands_after, floor_of};
 ghost use Rattle.watcher_set.specs.Noted.{reports_of};
-ghost use Rattle.office_state.specs.Images.{IsLeftBy};
+ghost use Rattle.rtrb.specs.Ring.{sent};
+ghost use Rattle.office_state.specs.Images.{AreSafeSince, IsLeftBy};
 ghost use Rattle.office_state.specs.Standing.{KeepsFew, StandsFor};
-ghost use Rattle.office_state.specs.States.{auditors_of, begun_of, commands_of, count_of, disk_of, floor_kept, kept_count, opening_of, turns_of};
+ghost use Rattle.office_state.specs.States.{auditors_of, begun_of, commands_of, count_of, disk_of, floor_kept, kept_count, opening_of, outlet_of, turns_of};
 
 use crate::state::OfficeState;
+use moment_ring::MomentOutlet;
 use money_ledgers::Ledger;
 use outside_io::Disk;
 use policy_types::Policy;
@@ -74,21 +76,26 @@ impl<D: Disk, W: Watching> OfficeState<D, W> {
         self.books.kept()
     }
 
-    /// Gives back the disk, and the ledger, and the reports of the watchers.
-    pub fn close(self) -> (D, Ledger, Reports)
+    /// Gives back the disk, and the ledger, and the reports of the watchers, and the outlet, in which the moments stand
+    /// since which the accepted commands are safe.
+    pub fn close(self) -> (D, Ledger, Reports, MomentOutlet<D>)
         ensures disk { result.0 ≡ disk_of self }
         ensures ledger { balances result.1 ≡ ledger_of (commands_of self) }
         ensures left { (history : List Entry) → StandsFor self history
             → IsLeftBy D.Disk (begun_of self) result.0 (opening_of self) history }
         ensures reports { (history : List Entry) → StandsFor self history
             → result.2 ≡ reports_of (auditors_of self) (accepted_of history) }
+        ensures outlet { result.3.ring ≡ outlet_of self }
+        ensures safe { (history : List Entry) → StandsFor self history → D.honest result.0
+            → IfSome result.3.ring (λ ring. AreSafeSince D.Disk result.0 (opening_of self).commands (accepted_of history) (sent ring)) }
     {
         let ledger = self.books.ledger();
         let OfficeState {
             journal,
             watchers,
+            outlet,
             ..
         } = self;
-        (journal.release(), ledger, watchers.finish())
+        (journal.release(), ledger, watchers.finish(), outlet)
     }
 }

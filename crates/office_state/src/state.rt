@@ -4,6 +4,7 @@ ghost use Rattle.posting_journal.specs.States.{count_of};
 
 use crate::books::Books;
 use crate::held::Pins;
+use moment_ring::MomentOutlet;
 use outside_io::Disk;
 use posting_journal::Journal;
 use std::snapshot::Snapshot;
@@ -19,6 +20,8 @@ pub struct OfficeState<D: Disk, W: Watching> {
     // How many turns it answered.
     pub(crate) turns: u64,
     pub(crate) pins: Pins,
+    // Where it tells since which moment each accepted command is safe.
+    pub(crate) outlet: MomentOutlet<D>,
     // What it was opened on, for contracts alone: the disk as it was handed in, and the books of its journal.
     pub(crate) begun: Snapshot<D>,
     pub(crate) recovered: Snapshot<Books>,

@@ -2,6 +2,7 @@
 ghost use Rattle.std.specs.Prelude.{ℕ, []};
 
 use memory_disk::MemoryDisk;
+use moment_ring::MomentOutlet;
 use office_state::{Answer, OfficeState, StartCause};
 use policy_types::{Command, Plan, Policy, Refusal, Status};
 use std::alloc::{AllocError, Global};
@@ -88,7 +89,7 @@ pub(crate) fn watched_on<W: Watching>(
         Vec::from_slice(alloc, bytes)?,
         Vec::from_slice(alloc, failing)?,
     );
-    match OfficeState::open(alloc, disk, watchers) {
+    match OfficeState::open(alloc, disk, watchers, MomentOutlet::nowhere()) {
         Ok(office) => Ok(Ok(Desk { office })),
         Err(fault) => Ok(Err(fault.cause)),
     }

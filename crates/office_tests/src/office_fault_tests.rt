@@ -119,7 +119,7 @@ fn opens_to(
     if !answers(&mut desk, postings) || desk.office.count() != count {
         return Ok(Vec::new(alloc));
     }
-    let (disk, _, _) = desk.office.close();
+    let (disk, _, _, _) = desk.office.close();
     ids(alloc, disk.bytes())
 }
 

@@ -278,7 +278,7 @@ fn stands(alloc: Global, row: &Row) -> Result<bool, AllocError> {
     };
     let answered = answers(&mut desk, row.postings);
     let shown = shows(&desk, desk.office.count(), &[row.policy]);
-    let (disk, balances, reports) = desk.office.close();
+    let (disk, balances, reports, _) = desk.office.close();
     let Ok(again) = office_on(alloc, disk.bytes(), &[])? else {
         return Ok(false);
     };

@@ -73,7 +73,7 @@ fn watchers_without_memory(rt: HostRuntime) -> Result<(), AllocError> {
     assert!(rt; desk.office.count() == 1 && shows(&desk, 1, &[first]));
     assert!(rt; desk.office.ledger() == nothing && desk.office.turns() == 2);
     assert!(rt; answers(&mut desk, &[accepted(issue(3, NEW_YEAR), 2)]));
-    let (disk, _, _) = desk.office.close();
+    let (disk, _, _, _) = desk.office.close();
     let Ok(again) = office_on(alloc, disk.bytes(), &[])? else {
         panic!(rt; "not opened again");
     };
@@ -127,7 +127,7 @@ fn reports_after<W: Watching>(
     if !answers(&mut desk, postings) {
         return Ok(None);
     }
-    let (_, _, reports) = desk.office.close();
+    let (_, _, reports, _) = desk.office.close();
     Ok(Some(reports))
 }
 

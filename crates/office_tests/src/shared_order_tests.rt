@@ -56,7 +56,7 @@ fn each_callers_postings_in_its_order(rt: HostRuntime) -> Result<(), AllocError>
             panic!(rt; "no office");
         };
         let pass = callers_issue(&rt, &office, pass, 0, callers, policies);
-        let (disk, ledger, reports) = close(office, pass);
+        let (disk, ledger, reports, _) = close(office, pass);
         assert_eq!(rt; ledger.cash, 0, "{name}");
         assert!(rt; reports.as_slice().is_empty(), "{name}");
         assert_eq!(rt; disk.bytes().len(), bytes, "{name}");
@@ -133,7 +133,7 @@ fn one_put_off_posts_behind_all_others(rt: HostRuntime) -> Result<(), AllocError
         panic!(rt; "no office");
     };
     let pass = put_off(&rt, &office, pass);
-    let (disk, _, _) = close(office, pass);
+    let (disk, _, _, _) = close(office, pass);
     let numbers = numbers(alloc, disk.bytes())?;
     assert_eq!(rt; numbers.len(), 351);
     for caller in 0..7 {

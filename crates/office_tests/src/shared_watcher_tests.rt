@@ -81,7 +81,7 @@ fn reported<D: Disk + Send, W: Watching + Send, R: Threads + Wait + Sync>(
 {
     let (office, pass) = Office::start(alloc, disk, watchers)?;
     let pass = two_pay(rt, &office, pass, policies);
-    let (disk, _, reports) = close(office, pass);
+    let (disk, _, reports, _) = close(office, pass);
     Ok((disk, reports))
 }
 

@@ -1,4 +1,5 @@
 pub mod FileSteps
 pub mod LawLemmas
-pub mod Moments
+pub mod MomentSteps
+pub mod PieceSteps
 pub mod StreamLemmas

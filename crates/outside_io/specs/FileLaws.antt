@@ -53,3 +53,11 @@ module _ (first : List ℕ) (torn : ℕ → List ℕ) (unsynced : List ℕ → T
   left_only_now (call ∷ earlier) image (inl before) =
       let early = left_in_time earlier (length (call ∷ earlier)) image before in absurd (omega arith)
   left_only_now (call ∷ earlier) image (inr now) = now.1
+
+  -- what was left since a moment was left since each earlier one
+  pub left_sooner : (calls : List FileCall) (early late : ℕ) (image : List ℕ) → early ≤ late
+      → FileLeft first torn unsynced calls late image → FileLeft first torn unsynced calls early image
+  left_sooner [] early late image before left = (omega (arith, before, left.0), left.1)
+  left_sooner (call ∷ earlier) early late image before (inl past) =
+      inl (left_sooner earlier early late image before past)
+  left_sooner (call ∷ earlier) early late image before (inr now) = inr (omega (arith, before, now.0), now.1)

@@ -25,11 +25,11 @@ abbrev pub SourceEnded : BytesSource → Type 0
 SourceEnded source = IsTrue source.ended
 
 -- the calls that are to fail, and those that were made
-abbrev pub sink_plan : BytesSink → FaultPlan
+abbrev pub sink_plan : {D : Type 0} → BytesSink D → FaultPlan
 sink_plan sink = sink.plan
 
 -- the bytes that were written
-abbrev pub sink_bytes : BytesSink → List ℕ
+abbrev pub sink_bytes : {D : Type 0} → BytesSink D → List ℕ
 sink_bytes sink = sink.bytes.items
 
 -- the bytes at a name of the map, where it has the name

@@ -1,5 +1,6 @@
 -- What the calls of a source and a sink do to the bytes that they tell of.
-use Rattle.std.specs.Prelude.{◌≡◌, ◌⊎◌, ℕ, ◌<◌, Option, Result, List, [], ◌∷◌, ◌++◌, length, take, is_some, IsOkAnd, MatchResult}
+use Rattle.std.specs.Prelude.{◌≡◌, ◌⊎◌, ℕ, ◌<◌, Option, Result, List, [], ◌∷◌, ◌++◌, length, take, is_some, IsOkAnd, MatchResult, OnOk, OnErr}
+use Rattle.std.specs.List.{AllByRecursion}
 use Rattle.std.specs.Io.KnownBytes.{Appends, Consumes}
 
 -- a device tells its bytes now exactly if it told them before
@@ -48,3 +49,33 @@ passed_bytes (piece ∷ earlier) = passed_bytes earlier ++ piece.bytes
 abbrev pub HasEnd : List StreamPiece → Type 0
 HasEnd [] = ⊥
 HasEnd (piece ∷ earlier) = HasEnd earlier ⊎ ((length piece.bytes ≡ 0) × (0 < piece.room))
+
+-- A piece that a sink took, and the moment by which it was handed on: what it says was so by then.
+pub record TakenPiece : Type 0 where
+  pub bytes : List ℕ
+  pub since : ℕ
+
+-- the bytes that were taken, in order; the newest piece stands first
+abbrev pub taken_bytes : List TakenPiece → List ℕ
+taken_bytes [] = []
+taken_bytes (piece ∷ earlier) = taken_bytes earlier ++ piece.bytes
+
+-- each piece that passed beside its moment
+abbrev pub pieces_by : List StreamPiece → List ℕ → List TakenPiece
+pieces_by (piece ∷ pieces) (moment ∷ moments) =
+    (record { bytes = piece.bytes; since = moment }) ∷ pieces_by pieces moments
+pieces_by _ _ = []
+
+-- a write that took n bytes is one piece more, by this moment; one that failed is none
+abbrev pub TakesPiece : {E : Type 0} → List TakenPiece → List TakenPiece → Result ℕ E → List ℕ → ℕ → Type 0
+TakesPiece before now result bytes since =
+    MatchResult result (λ n. now ≡ (record { bytes = take n bytes; since = since }) ∷ before) (λ _. now ≡ before)
+
+-- Pieces by this moment were taken: all the bytes, or a front of them and not all where a write failed.
+pub record AddsPieces {T E : Type 0} (before now : List TakenPiece) (since : ℕ) (bytes : List ℕ) (result : Result T E)
+    : Type 0 where
+  pub run : List TakenPiece
+  pub added : now ≡ run ++ before
+  pub all : AllByRecursion (λ (piece : TakenPiece). piece.since ≡ since) run
+  pub whole : OnOk result (taken_bytes run ≡ bytes)
+  pub part : OnErr result ((n : ℕ) × (n < length bytes) × (taken_bytes run ≡ take n bytes))

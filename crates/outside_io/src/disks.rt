@@ -87,4 +87,8 @@ pub trait Disk {
     /// Since this moment there is no other.
     ghost only_now: { (disk : Self) (image : List ℕ) → honest disk
         → left_since disk (clock disk) image → may_leave disk image };
+
+    /// What was left since a moment was left since each earlier one.
+    ghost sooner: { (disk : Self) (early late : ℕ) (image : List ℕ) → honest disk → early ≤ late
+        → left_since disk late image → left_since disk early image };
 }

@@ -2,7 +2,7 @@
 ghost use Rattle.std.specs.Prelude.{◌≡◌, ◌<◌, ℕ, List, [], true, length};
 ghost use Rattle.std.specs.Option.{ForSome};
 ghost use Rattle.outside_io.specs.FileCalls.{file_reads, writes_within, AreAllowed, FileImage, FileLeft};
-ghost use Rattle.outside_io.specs.FileLaws.{reads_as_left, left_by_now, left_only_now};
+ghost use Rattle.outside_io.specs.FileLaws.{reads_as_left, left_by_now, left_only_now, left_sooner};
 
 use crate::found_file::FoundFile;
 use crate::noted_file::NotedFile;
@@ -58,6 +58,9 @@ impl<R: Files<File = File> + AllocGlobal, F: FoundFile> Disk for FileDisk<R, F> 
         left_by_now F.bytes F.torn F.unsynced disk.file.calls moment image passed left };
 
     ghost only_now = { λ disk image known left. left_only_now F.bytes F.torn F.unsynced disk.file.calls image left };
+
+    ghost sooner = { λ disk early late image known before left.
+        left_sooner F.bytes F.torn F.unsynced disk.file.calls early late image before left };
 
     fn faults(&self) -> u64 {
         self.file.faults

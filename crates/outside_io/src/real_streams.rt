@@ -3,12 +3,13 @@ ghost use Rattle.std.specs.Prelude.{◌≡◌, ◌≢◌, ◌⊎◌, ◌<◌, �
 ghost use Rattle.std.specs.IoError.{error_kind};
 ghost use Rattle.std.specs.Io.KnownBytes.{ReadConsumes, WriteAppends};
 ghost use Rattle.outside_io.specs.Faults.{HasCause};
-ghost use Rattle.outside_io.specs.Streams.{passed_bytes, HasEnd, ReadGives, SeesEnd, StillTells};
+ghost use Rattle.outside_io.specs.Streams.{passed_bytes, pieces_by, HasEnd, ReadGives, SeesEnd, StillTells, TakesPiece};
 ghost use Rattle.outside_io.specs.StreamLaws.{nothing_told};
 
 use crate::counting::counted;
 use crate::pieces::Pieces;
-use crate::{Failed, Sink, Source};
+use crate::taken_moments::Moments;
+use crate::{Disk, Failed, Moment, Sink, Source};
 use std::io;
 use std::io::{ErrorKind, Read, Write};
 
@@ -69,48 +70,60 @@ impl<R: Read> Source for StdSource<R> {
 
 /// Writes to a writer that keeps nothing back, as standard output. A writer that takes nothing is at fault.
 #[derive(Drop)]
-pub struct StdSink<W: Write> {
+pub struct StdSink<W: Write, D: Disk> {
     writer: W,
     faults: u64,
     taken: Pieces,
+    by: Moments<D>,
 }
 
-impl<W: Write> StdSink<W> {
+impl<W: Write, D: Disk> StdSink<W, D> {
     /// It had no fault so far, and took nothing.
-    pub fn new(writer: W) -> StdSink<W>
+    pub fn new(writer: W) -> StdSink<W, D>
         ensures faults { result.faults ≡ 0 }
         ensures taken { result.taken ≡ [] }
+        ensures by { result.by ≡ [] }
     {
         StdSink {
             writer,
             faults: 0,
             taken: Pieces::new(),
+            by: Moments::new(),
         }
     }
 }
 
-impl<W: Write> Sink for StdSink<W> {
+impl<W: Write, D: Disk> Sink for StdSink<W, D> {
+    type Beside = D;
+
     ghost faults = { λ s. s.faults };
 
     ghost written = { λ s. Some (passed_bytes s.taken) };
+
+    ghost pieces = { λ s. pieces_by s.taken s.by };
 
     fn faults(&self) -> u64 {
         self.faults
     }
 
-    fn write(&mut self, bytes: &[u8]) -> Result<usize, Failed>
+    fn write(&mut self, bytes: &[u8], since: &Moment<D>) -> Result<usize, Failed>
         ensures cause { HasCause self.old.faults self.new.faults result }
+        ensures held { OnOk result (self.new.faults ≡ self.old.faults) }
         ensures bound { IfOk result (λ n. n ≤ length bytes.now) }
         ensures some { 0 < length bytes.now → IfOk result (λ n. 0 < n) }
         // Where the writer tells what it holds, just what is taken went there.
         ensures through { WriteAppends (W.contents self.old.writer) (W.contents self.new.writer) result bytes.now }
         ensures bytes { WriteAppends (Some (passed_bytes self.old.taken)) (Some (passed_bytes self.new.taken))
             result bytes.now }
+        ensures piece { TakesPiece (pieces_by self.old.taken self.old.by) (pieces_by self.new.taken self.new.by)
+            result bytes.now since.now }
     {
         // The call of the writer. Where it fails it took nothing, and nothing is noted.
         let many = counted(take_some(&mut self.writer, bytes), &mut self.faults)?;
         // The writer said how many bytes it took from the front.
         self.taken.note(bytes.len(), &bytes[..many]);
+        // And this is the moment by which they were handed on.
+        self.by.note(since);
         Ok(many)
     }
 }

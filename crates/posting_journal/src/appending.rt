@@ -21,6 +21,13 @@ impl<D: Disk> Journal<D> {
         self.count
     }
 
+    /// The disk under it.
+    pub fn disk(&self) -> &D
+        ensures { result.now ≡ disk_of self.now }
+    {
+        &self.disk
+    }
+
     /// Whether a record can be appended without a repair.
     pub fn is_clean(&self) -> bool
         ensures { result ≡ is_clean self.now }

@@ -27,7 +27,14 @@ StatusesOfEndings = (status_of Done ≡ 0) × (status_of Usage ≡ 2) × (status
 
 -- an output that held this, and then that, with so many faults in between
 abbrev pub output_with : ℕ → List ℕ → List ℕ → Stream
-output_with faults before after = record { faults_before = 3; faults_after = 3 + faults; before = Some before; after = Some after }
+output_with faults before after = record {
+  faults_before = 3;
+  faults_after = 3 + faults;
+  before = Some before;
+  after = Some after;
+  pieces_before = [];
+  pieces_after = [];
+}
 
 -- a line is written whole, with its line feed, behind what was written before; without a fault no less is enough
 abbrev pub LinesAreWhole : Type 0

@@ -3,7 +3,7 @@ use Rattle.std.specs.Prelude.{◌≡◌, ℕ, ◌⊎◌, List, [], ◌∷◌, �
 use Rattle.std.specs.Io.KnownBytes.{Appends, IsAtEnd}
 use Rattle.outside_io.specs.Faults.{Rose}
 use Rattle.outside_io.specs.Shelves.{Files}
-use Rattle.outside_io.specs.Streams.{AppendsPart}
+use Rattle.outside_io.specs.Streams.{AppendsPart, TakenPiece}
 
 -- an input at two moments: its count of faults, the bytes that are left in it where it tells them, the bytes that it gave
 -- so far, and whether a read of it has seen the end
@@ -42,17 +42,27 @@ abbrev pub IsWholeInput : Input → List ℕ → Type 0
 IsWholeInput input bytes =
     (input.left_before ≡ Some bytes) ⊎ ((input.given_after ≡ input.given_before ++ bytes) × input.Ended)
 
--- an output at two moments: its count of faults, and where it tells them the bytes that were written to it
+-- an output at two moments: its count of faults, where it tells them the bytes that were written to it, and the pieces
+-- that it took, each with the moment by which it was handed on
 pub record Stream : Type 0 where
   pub faults_before : ℕ
   pub faults_after : ℕ
   pub before : Option (List ℕ)
   pub after : Option (List ℕ)
+  pub pieces_before : List TakenPiece
+  pub pieces_after : List TakenPiece
 
--- a device between two moments, by its count of faults and what it tells
-abbrev pub between : {Device : Type 0} → (Device → ℕ) → (Device → Option (List ℕ)) → Device → Device → Stream
-between faults tells old new =
-    record { faults_before = faults old; faults_after = faults new; before = tells old; after = tells new }
+-- an output between two moments
+abbrev pub between : {Device : Type 0} → (Device → ℕ) → (Device → Option (List ℕ)) → (Device → List TakenPiece)
+    → Device → Device → Stream
+between faults tells pieces old new = record {
+  faults_before = faults old;
+  faults_after = faults new;
+  before = tells old;
+  after = tells new;
+  pieces_before = pieces old;
+  pieces_after = pieces new;
+}
 
 -- all these bytes were written
 abbrev pub WroteAll : Stream → List ℕ → Type 0

@@ -17,7 +17,7 @@ use std::alloc::Global;
 /// Says why no office was opened.
 pub fn refuse_journal<K: Sink>(alloc: Global, cause: StartCause, output: &mut K) -> Ending
     ensures later { K.faults output.old ≤ K.faults output.new }
-    ensures says { SaysUnopened cause (between K.faults K.written output.old output.new) result }
+    ensures says { SaysUnopened cause (between K.faults K.written K.pieces output.old output.new) result }
 {
     match cause {
         StartCause::DiskFault(_) => end(output, b"diskfault\n", Ending::DiskFault),
@@ -29,7 +29,7 @@ pub fn refuse_journal<K: Sink>(alloc: Global, cause: StartCause, output: &mut K)
 
 fn refuse_record<K: Sink>(alloc: Global, n: u32, output: &mut K) -> Ending
     ensures later { K.faults output.old ≤ K.faults output.new }
-    ensures says { SaysUnopened (BadRecord n) (between K.faults K.written output.old output.new) result }
+    ensures says { SaysUnopened (BadRecord n) (between K.faults K.written K.pieces output.old output.new) result }
 {
     match format!(in alloc; "badjournal,badrecord,{n}\n") {
         Ok(line) => end(output, line.as_bytes(), Ending::BadJournal),
@@ -40,7 +40,7 @@ fn refuse_record<K: Sink>(alloc: Global, n: u32, output: &mut K) -> Ending
 /// Says why there is no basis.
 pub fn refuse_basis<K: Sink>(alloc: Global, cause: NoBasis, output: &mut K) -> Ending
     ensures later { K.faults output.old ≤ K.faults output.new }
-    ensures says { SaysNoBasis cause (between K.faults K.written output.old output.new) result }
+    ensures says { SaysNoBasis cause (between K.faults K.written K.pieces output.old output.new) result }
     ensures failed { cause ≡ ShelfFailed → result ≡ ReadFault }
 {
     match cause {
@@ -52,7 +52,7 @@ pub fn refuse_basis<K: Sink>(alloc: Global, cause: NoBasis, output: &mut K) -> E
 
 fn refuse_file<K: Sink>(alloc: Global, bad: &BadBasis, output: &mut K) -> Ending
     ensures later { K.faults output.old ≤ K.faults output.new }
-    ensures says { SaysNoBasis (Bad bad.now) (between K.faults K.written output.old output.new) result }
+    ensures says { SaysNoBasis (Bad bad.now) (between K.faults K.written K.pieces output.old output.new) result }
 {
     match bad_basis_line(alloc, bad) {
         Ok(line) => end(output, line.as_slice(), Ending::BadBasis),

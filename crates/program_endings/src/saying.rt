@@ -15,7 +15,7 @@ use report_text::TextParts;
 /// Writes a line. Where the output fails, a front of it was written.
 pub fn say<K: Sink>(output: &mut K, line: &[u8])
     ensures later { K.faults output.old ≤ K.faults output.new }
-    ensures wrote { WroteOrFailed (between K.faults K.written output.old output.new) line.now }
+    ensures wrote { WroteOrFailed (between K.faults K.written K.pieces output.old output.new) line.now }
 {
     let _ = write_all(output, line);
 }
@@ -23,7 +23,7 @@ pub fn say<K: Sink>(output: &mut K, line: &[u8])
 /// Writes a line, and ends so.
 pub fn end<K: Sink>(output: &mut K, line: &[u8], ending: Ending) -> Ending
     ensures later { K.faults output.old ≤ K.faults output.new }
-    ensures wrote { WroteOrFailed (between K.faults K.written output.old output.new) line.now }
+    ensures wrote { WroteOrFailed (between K.faults K.written K.pieces output.old output.new) line.now }
     ensures so { result ≡ ending }
 {
     say(output, line);
@@ -33,7 +33,7 @@ pub fn end<K: Sink>(output: &mut K, line: &[u8], ending: Ending) -> Ending
 /// Says that there is no memory.
 pub fn lack_memory<K: Sink>(output: &mut K) -> Ending
     ensures later { K.faults output.old ≤ K.faults output.new }
-    ensures wrote { WroteLine (between K.faults K.written output.old output.new) (codes "nomemory") }
+    ensures wrote { WroteLine (between K.faults K.written K.pieces output.old output.new) (codes "nomemory") }
     ensures so { result ≡ NoRoom }
 {
     end(output, b"nomemory\n", Ending::NoMemory)
@@ -49,7 +49,7 @@ pub fn add(text: &mut Vec<u8>, more: &[u8]) -> Result<(), NoMemory>
 
 /// Writes a text, or says that there was no memory for it.
 pub fn write_text<K: Sink>(text: Result<Vec<u8>, NoMemory>, output: &mut K) -> Ending
-    ensures { EndsText text (between K.faults K.written output.old output.new) result }
+    ensures { EndsText text (between K.faults K.written K.pieces output.old output.new) result }
 {
     let Ok(text) = text else {
         return lack_memory(output);

@@ -15,7 +15,7 @@ use std::thread::Threads;
 #[derive(Drop)]
 pub(crate) struct Finished {
     pub status: u8,
-    pub output: BytesSink,
+    pub output: BytesSink<MemoryDisk>,
     pub disk: MemoryDisk,
 }
 

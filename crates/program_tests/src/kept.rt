@@ -11,7 +11,7 @@ use std::thread::Threads;
 #[derive(Drop)]
 pub(crate) struct Kept {
     pub status: u8,
-    pub output: BytesSink,
+    pub output: BytesSink<MemoryDisk>,
     pub disk: MemoryDisk,
     pub second: MemoryDisk,
 }

@@ -34,6 +34,8 @@ impl<D: Disk + Drop> Disk for LyingDisk<D> {
 
     ghost only_now = { λ liar image known left. D.only_now liar.disk image known.1 left };
 
+    ghost sooner = { λ liar early late image known before left. D.sooner liar.disk early late image known.1 before left };
+
     fn faults(&self) -> u64 {
         self.disk.faults()
     }

@@ -32,23 +32,23 @@ use Rattle.script_run.proofs.ScriptStatus.{never_long, never_readable, one_whole
 
 module _ {D : Type 0} (g : Ghosts D) (old new : D) (auditors : List Auditor) where
   -- no run goes on over a file that opens to none
-  ran_nowhere : {A : Type 0} (lanes : List Lane) (basis : List Dated) (Wrote : List ℕ → Type 0) (Replies : List Entry → List ℕ → Type 0)
-      → IsRunOf g old new lanes basis auditors Wrote Replies → g.honest new → OpensToNone (g.reads old) → A
-  ran_nowhere lanes basis Wrote Replies ran honest none = absurd (none ran.commands (ran.opened honest))
+  ran_nowhere : {A : Type 0} (lanes : List Lane) (basis : List Dated) (output : Stream) (Wrote : List ℕ → Type 0) (Replies : List Entry → List ℕ → Type 0)
+      → IsRunOf g old new lanes basis auditors output Wrote Replies → g.honest new → OpensToNone (g.reads old) → A
+  ran_nowhere lanes basis output Wrote Replies ran honest none = absurd (none ran.commands (ran.opened honest))
 
   reads_as_before : (lanes : List Lane) (basis : List Dated) (output : Stream) (ending : Ending) → EndsScript g old new lanes basis auditors output ending
       → g.honest new → OpensToNone (g.reads old) → g.reads new ≡ g.reads old
-  reads_as_before lanes basis output Done ends honest none = ran_nowhere _ _ _ _ ends honest none
+  reads_as_before lanes basis output Done ends honest none = ran_nowhere _ _ _ _ _ ends honest none
   reads_as_before lanes basis output BadJournal ends honest none = (ends.alone.unwritten honest (finished (g.reads old) none)).facts.reads
-  reads_as_before lanes basis output WriteFault ends honest none = ran_nowhere _ _ _ _ ends.1 honest none
+  reads_as_before lanes basis output WriteFault ends honest none = ran_nowhere _ _ _ _ _ ends.1 honest none
   reads_as_before lanes basis output DiskFault ends honest none = elim ends.1 [
     | inl said ↦ (said.1.unwritten honest (finished (g.reads old) none)).facts.reads
-    | inr ran ↦ ran_nowhere _ _ _ _ ran honest none
+    | inr ran ↦ ran_nowhere _ _ _ _ _ ran honest none
   ]
   reads_as_before lanes basis output NoMemory ends honest none = elim ends [
     | inl said ↦ (said.1.unwritten honest (finished (g.reads old) none)).facts.reads
-    | inr (inl ran) ↦ ran_nowhere _ _ _ _ ran honest none
-    | inr (inr ran) ↦ ran_nowhere _ _ _ _ ran honest none
+    | inr (inl ran) ↦ ran_nowhere _ _ _ _ _ ran honest none
+    | inr (inr ran) ↦ ran_nowhere _ _ _ _ _ ran honest none
   ]
   reads_as_before lanes basis output _ ends honest none = absurd ends
 
@@ -71,8 +71,8 @@ module _ {D : Type 0} (g : Ghosts D) (old new : D) (auditors : List Auditor) whe
   refused_at_opening lanes basis output BadJournal ends honest none disk_held = inl refl
   refused_at_opening lanes basis output NoMemory ends honest none disk_held = inr refl
   refused_at_opening lanes basis output DiskFault ends honest none disk_held = absurd (disk_held ends.0)
-  refused_at_opening lanes basis output Done ends honest none disk_held = ran_nowhere _ _ _ _ ends honest none
-  refused_at_opening lanes basis output WriteFault ends honest none disk_held = ran_nowhere _ _ _ _ ends.1 honest none
+  refused_at_opening lanes basis output Done ends honest none disk_held = ran_nowhere _ _ _ _ _ ends honest none
+  refused_at_opening lanes basis output WriteFault ends honest none disk_held = ran_nowhere _ _ _ _ _ ends.1 honest none
   refused_at_opening lanes basis output _ ends honest none disk_held = absurd ends
 
   -- the same of lanes with the basis that they need

@@ -1,8 +1,14 @@
 -- How a run ends, by what its parts did
-use Rattle.std.proofs.Common.{◌≡◌, ℕ, Bool, true, false, List, [], ◌++◌, refl, ap, sym, ◌∙◌, subst, inl, inr, Some, Result, Ok, Err}
-use Rattle.std.specs.Prelude.{IfOk, OnErr, if◌then◌else◌}
+use Rattle.std.proofs.Common.{◌≡◌, ℕ, Bool, true, false, List, [], ◌++◌, length, map, refl, ap, sym, ◌∙◌, subst, inl, inr, Some, Result, Ok, Err, Option}
+use Rattle.std.specs.Prelude.{IfOk, IfSome, OnErr, if◌then◌else◌}
 use Rattle.outside_io.specs.Faults.{Rose}
-use Rattle.outside_io.specs.Streams.{AppendsPart}
+use Rattle.std.specs.Global.{Global}
+use Rattle.std.specs.List.{AllZip}
+use Rattle.rtrb.specs.Ring.{sent}
+use Rattle.rtrb.specs.declared.AnyItems.{AnyItems}
+use Rattle.rtrb.specs.declared.consumer.Consumer.{Consumer}
+use Rattle.moment_ring.specs.Ends.{ArePaired, told}
+use Rattle.outside_io.specs.Streams.{AppendsPart, TakenPiece}
 use Rattle.outside_io.specs.declared.disks.Disk.{Ghosts}
 use Rattle.basis_book.specs.Dated.{Dated}
 use Rattle.policy_types.specs.Accounts.{Booking}
@@ -15,9 +21,11 @@ use Rattle.watcher_set.specs.Noted.{Auditor, reports_of}
 use Rattle.watcher_set.specs.declared.watching.Watching.{Ghosts as WatcherGhosts}
 use Rattle.office_state.specs.declared.faults.StartCause.{StartCause}
 use Rattle.office_state.specs.declared.faults.StartCause.TheVariants.{DiskFault as FaultyDisk, NotAJournal, BadRecord, NoMemory as NoRoom}
-use Rattle.office_state.specs.Images.{IsLeftAlone, IsLeftBy}
+use Rattle.office_state.specs.Images.{AreSafeSince, IsLeftAlone, IsLeftBy}
+use Rattle.office_state.specs.Journals.{Opens}
 use Rattle.office_state.specs.Opening.{HasNotOpened}
 use Rattle.shared_office.specs.Offices.{IsOfficeHistory, OfficeOpening}
+use Rattle.office_state.specs.States.{MomentRing}
 use Rattle.shared_office.specs.Starting.{HasClosed, HasStartedOffice}
 use Rattle.turn_lock.specs.Passes.{Holding, PassFacts}
 use Rattle.lane_runner.specs.Transcripts.{HasAnsweredLanes, dry_of}
@@ -31,10 +39,12 @@ use Rattle.program_endings.specs.Writing.{Input, Shelving, Stream, WroteAll}
 use Rattle.program_endings.specs.Refusals.{SaysUnopened}
 use Rattle.program_endings.proofs.FaultSteps.{rose_in}
 use Rattle.program_endings.proofs.ListSteps.{same_opened}
-use Rattle.transcript_text.specs.Transcript.{IsTranscript, reports_text}
+use Rattle.transcript_text.specs.Transcript.{IsLineText, reports_text}
 use Rattle.transcript_text.specs.Lanes.{AreScriptLanes}
-use Rattle.lane_runner.specs.Tallies.{any_faulted, any_lacked}
-use Rattle.transcript_text.specs.Told.{run_text, told_texts}
+use Rattle.lane_runner.specs.Shown.{HasShown}
+use Rattle.lane_runner.specs.Tallies.{accepted_lines, any_faulted, any_lacked}
+use Rattle.lane_runner.specs.declared.wording.Unwritten.{Unwritten}
+use Rattle.transcript_text.specs.Told.{run_text, told_text, told_texts}
 use Rattle.transcript_text.proofs.Telling.{Telling, telling}
 use Rattle.script_run.specs.declared.intake.Unread.{Unread}
 use Rattle.script_run.specs.declared.intake.Unread.TheVariants.{TooLong, BadRow, ReadFault, NoMemory as OutOfMemory}
@@ -42,7 +52,9 @@ use Rattle.script_run.specs.Running.{EndsRun}
 use Rattle.script_run.specs.Outcome.{EndsScript, IsRunOf}
 use Rattle.script_run.specs.Script.{EndsUnread, GaveBadRow, GaveTooMany}
 use Rattle.script_run.specs.inside.Unread.{SaysUnread}
-use Rattle.script_run.specs.inside.Ran.{EndsRan, EndsTold}
+use Rattle.script_run.specs.Shown.{AreSafeWhenShown}
+use Rattle.script_run.specs.inside.Ran.{AddsBy, EndsRan, EndsTold}
+use Rattle.script_run.proofs.ShownSteps.{all_heard, all_texts, safe_when_shown, shown_whole}
 
 -- a text that is written whole ends a run by what is told of its lines
 by_lines : (lines : List TranscriptLine) (reports : List Report) (output : Stream) (faulted lacked : Bool) → any_faulted lines ≡ faulted
@@ -61,9 +73,9 @@ ends_as_told lines reports output ending is wrote =
 -- An office ran lanes and was closed.
 module _ {D W : Type 0} (g : Ghosts D) (w : WatcherGhosts W) (old disk : D) (lanes : List Lane) (basis : List Dated) (watchers : W)
     (first closing : Holding (OfficeOpening D W)) (balances : Booking) (reports : List Report) (started : HasStartedOffice g old watchers first)
-    (facts : PassFacts IsOfficeHistory closing) (closed : HasClosed g w closing disk balances reports) (script : AreScriptLanes lanes) where
+    (facts : PassFacts IsOfficeHistory closing) {outlet : Option MomentRing} (closed : HasClosed g w closing disk balances reports outlet) (script : AreScriptLanes lanes) where
   abbrev opened : OfficeOpening D W
-  opened = record { opening = started.opening; begun = old; held = started.held; watchers = watchers }
+  opened = record { opening = started.opening; begun = old; held = started.held; watchers = watchers; outlet = started.outlet }
 
   abbrev auditors : List Auditor
   auditors = w.handed watchers
@@ -86,41 +98,76 @@ module _ {D W : Type 0} (g : Ghosts D) (w : WatcherGhosts W) (old disk : D) (lan
     all_told : Telling basis lanes closing transcript opened ran.answered
     all_told = telling basis lanes first closing transcript opened ran started.first facts closed.whole script
 
-    run_of : (Wrote : List ℕ → Type 0) (Replies : List Entry → List ℕ → Type 0) → Wrote (run_text transcript.lines reports)
-        → Replies closing.seen (dry_of transcript.lines) → IsRunOf g old disk lanes basis auditors Wrote Replies
-    run_of Wrote Replies wrote replies = record {
+    -- what is shown of the lines, from the office's opening on
+    abbrev Shown : Stream → Type 0
+    Shown output = g.honest disk → (run : List TakenPiece) × (output.pieces_after ≡ run ++ output.pieces_before)
+        × AreSafeWhenShown g Opens disk started.opening.commands closing.seen ran.answered (map told_text transcript.lines) run
+
+    run_of : (output : Stream) → Shown output → (Wrote : List ℕ → Type 0) (Replies : List Entry → List ℕ → Type 0)
+        → Wrote (run_text transcript.lines reports) → Replies closing.seen (dry_of transcript.lines)
+        → IsRunOf g old disk lanes basis auditors output Wrote Replies
+    run_of output shown Wrote Replies wrote replies = record {
       commands = started.opening.commands;
       callers = transcript.callers;
       dry = dry_of transcript.lines;
       history = closing.seen;
       answered = ran.answered;
-      text = told_texts transcript.lines;
+      texts = map told_text transcript.lines;
       opened = (left_from all_told.opening).opened;
       merge = all_told.merge;
       legal = subst (λ (n : ℕ). IsLegal (opened_on started.opening.commands n) closing.seen) started.faults all_told.history.legal;
       pins = all_told.pins;
       lines = ran.lines;
-      tells = subst (λ (n : ℕ). IsTranscript (opened_on started.opening.commands n) closing.seen basis (dry_of transcript.lines) ran.answered (told_texts transcript.lines))
+      tells = subst (λ (n : ℕ). AllZip (IsLineText (opened_on started.opening.commands n) closing.seen basis (dry_of transcript.lines)) ran.answered (map told_text transcript.lines))
           started.faults all_told.tells;
-      wrote = subst (λ (rs : List Report). Wrote (told_texts transcript.lines ++ reports_text rs)) (reports_from all_told.opening) wrote;
+      wrote = subst (λ (front : List ℕ). Wrote (front ++ reports_text (reports_of auditors (accepted_of closing.seen)))) (sym (all_texts told_text transcript.lines))
+          (subst (λ (rs : List Report). Wrote (told_texts transcript.lines ++ reports_text rs)) (reports_from all_told.opening) wrote);
+      shown = shown;
       replies = replies;
       disk = left_from all_told.opening;
     }
 
-    ends_told : (output : Stream) (ending : Ending) → EndsTold transcript.lines reports output ending
+    ends_told : (output : Stream) (ending : Ending) → Shown output → EndsTold transcript.lines reports output ending
         → EndsScript g old disk lanes basis auditors output ending
-    ends_told output Done ends = run_of (WroteAll output) AreAnswered ends.2 (all_told.answered ends.0 ends.1, all_told.none_dry ends.1)
-    ends_told output WriteFault ends = (ends.0, run_of (AppendsPart output.before output.after) AreAny ends.1 tt)
-    ends_told output DiskFault ends =
+    ends_told output Done shown ends =
+        run_of output shown (WroteAll output) AreAnswered ends.2 (all_told.answered ends.0 ends.1, all_told.none_dry ends.1)
+    ends_told output WriteFault shown ends = (ends.0, run_of output shown (AppendsPart output.before output.after) AreAny ends.1 tt)
+    ends_told output DiskFault shown ends =
         let fault = all_told.fault ends.0 in
         let left = left_from all_told.opening in
         let legal = subst (λ (n : ℕ). IsLegal (opened_on started.opening.commands n) closing.seen) started.faults all_told.history.legal in
         let rose = rose_in (opened_on started.opening.commands (g.faults old)) closing.seen fault.0 legal.due fault.1 in
-        (subst (Rose (g.faults old)) (sym left.faults) rose, inr (run_of (WroteAll output) HaveAFault ends.1 fault))
-    ends_told output NoMemory (inl unwritten) = inr (inl (run_of (AppendsPart output.before output.after) AreAny unwritten tt))
-    ends_told output NoMemory (inr short) =
-        inr (inr (run_of (WroteAll output) LackMemory short.2 (all_told.unfaulted short.0, all_told.some_lacked short.1)))
-    ends_told output _ ends = absurd ends
+        (subst (Rose (g.faults old)) (sym left.faults) rose, inr (run_of output shown (WroteAll output) HaveAFault ends.1 fault))
+    ends_told output NoMemory shown (inl unwritten) =
+        inr (inl (run_of output shown (AppendsPart output.before output.after) AreAny unwritten tt))
+    ends_told output NoMemory shown (inr short) =
+        inr (inr (run_of output shown (WroteAll output) LackMemory short.2 (all_told.unfaulted short.0, all_told.some_lacked short.1)))
+    ends_told output _ shown ends = absurd ends
+
+    -- each moment that was heard is that of an accepted command, since which it is safe
+    all_safe : g.honest disk → (moments rest : List ℕ) → moments ++ rest ≡ told outlet → length moments ≡ accepted_lines transcript.lines
+        → (inlet : Consumer ℕ Global AnyItems) → ArePaired outlet inlet
+        → AreSafeSince g disk started.opening.commands (accepted_of closing.seen) moments
+    all_safe honest moments rest split many inlet paired =
+        let same : closed.opening ≡ opened = same_opened closed.opening opened (sym closed.opened ∙ all_told.opening) in
+        let safe = subst (λ (o : OfficeOpening D W). IfSome outlet (λ (ring : MomentRing). AreSafeSince g disk o.opening.commands (accepted_of closing.seen) (sent ring)))
+        same (closed.safe honest) in
+        all_heard g disk started.opening.commands (accepted_of closing.seen) outlet moments rest split (many ∙ all_told.all_accepted) safe inlet paired
+
+    -- so what was handed on of the lines, and of what stands behind them, shows nothing too soon
+    shows : (before mid now : List TakenPiece) (moments rest : List ℕ) (latest : ℕ) (written : Result (Unit {0}) Unwritten)
+        → HasShown told_text before mid transcript.lines moments latest written → AddsBy mid now latest
+        → moments ++ rest ≡ told outlet → (inlet : Consumer ℕ Global AnyItems) → ArePaired outlet inlet
+        → g.honest disk → (run : List TakenPiece) × (now ≡ run ++ before)
+        × AreSafeWhenShown g Opens disk started.opening.commands closing.seen ran.answered (map told_text transcript.lines) run
+    shows before mid now moments rest latest written shown more split inlet paired honest =
+        let whole = shown_whole told_text before mid now transcript.lines moments latest written shown more in
+        let safe = all_safe honest moments rest split shown.counted inlet paired in (
+          whole.0,
+          whole.1,
+          safe_when_shown g disk started.opening closing.seen basis told_text ran.answered transcript.lines moments (closed.sooner honest)
+              all_told.told all_told.in_order safe whole.0 whole.2,
+        )
 
   -- where there was no memory to run them, nothing was turned
   untouched : closing ≡ first → IsLeftAlone g old disk × (g.faults disk ≡ g.faults old)
@@ -130,11 +177,18 @@ module _ {D W : Type 0} (g : Ghosts D) (w : WatcherGhosts W) (old disk : D) (lan
       let left = subst (IsLeftBy g old disk (opened_on started.opening.commands (g.faults old))) none (left_from is) in
       (left.alone tt, left.faults)
 
-  pub ends_ran : (ran : Result Ran Lack) (output : Stream) (ending : Ending) → IfOk ran (λ (done : Ran). HasAnsweredLanes basis lanes first closing done.transcript)
+  pub ends_ran : (ran : Result Ran Lack) (output : Stream) (ending : Ending) (mid : List TakenPiece) (moments rest : List ℕ)
+      → IfOk ran (λ (done : Ran). HasAnsweredLanes basis lanes first closing done.transcript)
+      → IfOk ran (λ (done : Ran). HasShown told_text output.pieces_before mid done.transcript.lines moments done.latest done.written)
+      → IfOk ran (λ (done : Ran). AddsBy mid output.pieces_after done.latest)
+      → moments ++ rest ≡ told outlet → (inlet : Consumer ℕ Global AnyItems) → ArePaired outlet inlet
       → OnErr ran (closing ≡ first) → EndsRan ran reports output ending → EndsScript g old disk lanes basis auditors output ending
-  ends_ran (Ok ran) output ending answered same ends = ends_told ran.transcript answered output ending ends
-  ends_ran (Err lack) output NoMemory answered same ends = let left = untouched same in inl (ends, left.0, left.1)
-  ends_ran (Err lack) output _ answered same ends = absurd ends
+  ends_ran (Ok ran) output ending mid moments rest answered shown more split inlet paired same ends =
+      ends_told ran.transcript answered output ending
+      (shows ran.transcript answered output.pieces_before mid output.pieces_after moments rest ran.latest ran.written shown more split inlet paired) ends
+  ends_ran (Err lack) output NoMemory mid moments rest answered shown more split inlet paired same ends =
+      let left = untouched same in inl (ends, left.0, left.1)
+  ends_ran (Err lack) output _ mid moments rest answered shown more split inlet paired same ends = absurd ends
 
 -- what is known of an input that gave no script
 pub record StopsReading (input : Input) (unread : Unread) : Type 0 where

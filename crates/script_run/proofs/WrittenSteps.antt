@@ -4,7 +4,7 @@ use Rattle.std.specs.Prelude.{IfOk, OnErr}
 use Rattle.std.specs.Io.KnownBytes.{Appends}
 use Rattle.std.proofs.KnownBytes.{Appends-trans}
 use Rattle.outside_io.specs.Faults.{Rose}
-use Rattle.outside_io.specs.Streams.{AppendsPart}
+use Rattle.outside_io.specs.Streams.{AppendsPart, TakenPiece}
 use Rattle.policy_types.specs.declared.watcher.NoMemory.{NoMemory as Lack}
 use Rattle.policy_types.specs.declared.watcher.Report.{Report}
 use Rattle.office_state.proofs.HistorySteps.{rose_since}
@@ -21,10 +21,10 @@ use Rattle.transcript_text.specs.Told.{run_text, told_texts}
 use Rattle.script_run.specs.inside.Ran.{EndsTold, IsWritten, output_until}
 
 -- what was written of the lines' text, or nothing where they weren't run
-pub written_of : {K P : Type 0} (faults : K → ℕ) (written : K → Option (List ℕ)) (old new : K) (first closing : P) (ran : Result Ran Lack) (output : Stream)
+pub written_of : {K P Other : Type 0} (faults : K → ℕ) (written : K → Option (List ℕ)) (old new : K) (first closing : P) (ran : Result Ran Lack) (output : Stream)
     → output.faults_before ≡ faults old → output.before ≡ written old → faults old ≤ faults new
     → IfOk ran (λ (done : Ran). HasEnded (faults old) (faults new) (written old) (written new) (told_texts done.transcript.lines) done.written)
-    → OnErr ran ((closing ≡ first) × (new ≡ old)) → IsWritten output (faults new) (written new) ran
+    → OnErr ran ((closing ≡ first) × (new ≡ old) × Other) → IsWritten output (faults new) (written new) ran
 written_of faults written old new first closing (Ok done) output count bytes passed wrote same = (
   subst (λ (n : ℕ). n ≤ faults new) (sym count) passed,
   subst (λ (n : ℕ). HasEnded n (faults new) output.before (written new) (told_texts done.transcript.lines) done.written) (sym count)
@@ -37,25 +37,26 @@ pub stays : (P Q : Type 0) (ran : Result Ran Lack) → OnErr ran (P × Q) → On
 stays P Q (Ok done) same = tt
 stays P Q (Err lack) same = same.0
 
-module _ (lines : List TranscriptLine) (reports : List Report) (first : Stream) (faults later : ℕ) (mid last : Option (List ℕ)) where
+module _ (lines : List TranscriptLine) (reports : List Report) (first : Stream) (faults later : ℕ) (mid last : Option (List ℕ))
+    (pieces : List TakenPiece) where
   -- the output failed in the lines
   pub told_failed : HasEnded first.faults_before faults first.before mid (told_texts lines) (Err WriteFault)
-      → EndsTold lines reports (output_until first faults mid) Failed
+      → EndsTold lines reports (output_until first faults mid pieces) Failed
   told_failed ended = (ended.0, part_more first.before mid (told_texts lines) (reports_text reports) ended.1)
 
   -- memory was wanting for a line
   pub told_short : HasEnded first.faults_before faults first.before mid (told_texts lines) (Err NoMemory)
-      → EndsTold lines reports (output_until first faults mid) NoRoom
+      → EndsTold lines reports (output_until first faults mid pieces) NoRoom
   told_short ended = inl (part_more first.before mid (told_texts lines) (reports_text reports) ended)
 
   -- or for the reports
   pub reports_short : Appends first.before mid (told_texts lines) → 0 < length (reports_text reports)
-      → EndsTold lines reports (output_until first faults mid) NoRoom
+      → EndsTold lines reports (output_until first faults mid pieces) NoRoom
   reports_short whole some = inl (part_whole first.before mid (told_texts lines) (reports_text reports) some whole)
 
   -- the output failed in them
   pub reports_failed : first.faults_before ≤ faults → Rose faults later → Appends first.before mid (told_texts lines)
-      → AppendsPart mid last (reports_text reports) → EndsTold lines reports (output_until first later last) Failed
+      → AppendsPart mid last (reports_text reports) → EndsTold lines reports (output_until first later last pieces) Failed
   reports_failed passed rose whole part = (
     rose_since first.faults_before faults later passed rose,
     part_behind first.before mid last (told_texts lines) (reports_text reports) (run_text lines reports) whole refl part,

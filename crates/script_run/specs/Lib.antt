@@ -1,4 +1,5 @@
 pub mod Script
+pub mod Shown
 pub mod Outcome
 pub mod Running
 pub mod Worked

@@ -1,11 +1,14 @@
 -- Worked cases of scripts as an input gives them, and of how a run ends that read none
 use Rattle.std.specs.Prelude.{◌≡◌, ℕ, true, false, List, [], ◌∷◌, ◌++◌, None, codes, pos, length}
 use Rattle.policy_types.specs.declared.entry.At.TheVariants.{Now}
+use Rattle.outside_io.specs.Streams.{taken_bytes}
+use Rattle.policy_types.specs.declared.entry.Reply.TheVariants.{Accepted, Blank, Faulted}
 use Rattle.policy_types.specs.declared.script.Line.TheVariants.{Value, Trim}
 use Rattle.program_endings.specs.declared.ending.Ending.TheVariants.{BadScript, ReadFault}
 use Rattle.program_endings.specs.Writing.{Input}
 use Rattle.program_endings.specs.Worked.{output_with}
 use Rattle.script_run.specs.Script.{EndsUnread, GaveTooMany, asks_for_values, bad_row_text}
+use Rattle.script_run.specs.Shown.{IsAcceptedReply}
 
 -- a valuation in the second lane, and none
 abbrev pub AskedForValues : Type 0
@@ -42,3 +45,8 @@ RefusedRow = EndsUnread (input_that_gave (codes "9,lapse,1,2020-01-01") (Unit {0
 abbrev pub FailedInput : Type 0
 FailedInput = EndsUnread (input_that_gave (codes "1,tr") ⊥ 1) (output_with 0 [] (codes "readfault" ++ 10 ∷ [])) ReadFault
     × (EndsUnread (input_that_gave (codes "1,tr") ⊥ 0) (output_with 0 [] (codes "readfault" ++ 10 ∷ [])) ReadFault → ⊥)
+
+-- only an accepted posting's reply is to be safe, and pieces are put together from the first one on
+abbrev pub ShownInOrder : Type 0
+ShownInOrder = IsAcceptedReply (Accepted 3) × (IsAcceptedReply (Faulted 1) → ⊥) × (IsAcceptedReply Blank → ⊥)
+    × (taken_bytes ((record { bytes = codes "cd"; since = 7 }) ∷ (record { bytes = codes "ab"; since = 4 }) ∷ []) ≡ codes "abcd")

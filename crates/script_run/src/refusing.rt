@@ -12,7 +12,7 @@ use std::alloc::Global;
 /// Says why there is no script.
 pub fn refuse<K: Sink>(alloc: Global, unread: Unread, output: &mut K) -> Ending
     ensures later { K.faults output.old ≤ K.faults output.new }
-    ensures says { SaysUnread unread (between K.faults K.written output.old output.new) result }
+    ensures says { SaysUnread unread (between K.faults K.written K.pieces output.old output.new) result }
 {
     match unread {
         Unread::TooLong => end(output, b"badscript,toolong\n", Ending::BadScript),
@@ -24,7 +24,7 @@ pub fn refuse<K: Sink>(alloc: Global, unread: Unread, output: &mut K) -> Ending
 
 fn refuse_row<K: Sink>(alloc: Global, row: u32, field: u32, output: &mut K) -> Ending
     ensures later { K.faults output.old ≤ K.faults output.new }
-    ensures says { SaysUnread (BadRow row field) (between K.faults K.written output.old output.new) result }
+    ensures says { SaysUnread (BadRow row field) (between K.faults K.written K.pieces output.old output.new) result }
 {
     match format!(in alloc; "badscript,{row},{field}\n") {
         Ok(line) => end(output, line.as_bytes(), Ending::BadScript),

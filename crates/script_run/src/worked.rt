@@ -1,16 +1,17 @@
 //! Worked cases of scripts as an input gives them, each a theorem over the definitions alone.
 
-ghost use Rattle.script_run.specs.Worked.{AskedForValues, BadRowText, FailedInput, OneByteTooMany, RefusedRow};
+ghost use Rattle.script_run.specs.Worked.{AskedForValues, BadRowText, FailedInput, OneByteTooMany, RefusedRow, ShownInOrder};
 
 use command_csv::faults_are_placed;
 
-/// Scripts that ask for values or don't, that are too long, or have a row that is no line; and an input that failed.
+/// Scripts that ask for values or don't, that are too long, or have a row that is no line; an input that failed; and what is to be safe of what is shown.
 pub fn scripts_by_hand()
     ensures values { AskedForValues }
     ensures text { BadRowText }
     ensures long { OneByteTooMany }
     ensures row { RefusedRow }
     ensures failed { FailedInput }
+    ensures shown { ShownInOrder }
 {
     faults_are_placed();
 }

@@ -1,5 +1,4 @@
 pub mod Offices
 pub mod Pins
 pub mod Starting
-pub mod Telling
 pub mod inside

@@ -1,18 +1,20 @@
 -- The histories of an office that several callers share
-use Rattle.std.specs.Prelude.{◌≤◌, List, length}
+use Rattle.std.specs.Prelude.{◌≤◌, List, Option, length}
 use Rattle.std.specs.List.{AllByRecursion}
 use Rattle.policy_types.specs.declared.entry.Entry.{Entry}
 use Rattle.policy_types.specs.Limits.{most_commands}
 use Rattle.policy_types.specs.Valid.{IsValid}
 use Rattle.policy_machine.specs.History.{Opening, IsLegal, commands_after}
+use Rattle.office_state.specs.States.{MomentRing}
 
 -- what an office was opened on: its opening, the disk as it was handed in and as the office held it once it was open, and the
--- watchers as they were handed in
+-- watchers and the outlet of moments as they were handed in
 pub record OfficeOpening (D W : Type 0) : Type 0 where
   pub opening : Opening
   pub begun : D
   pub held : D
   pub watchers : W
+  pub outlet : Option MomentRing
 
 -- a history of the office: every reply is the one due; the accepted commands are valid, and not more than there may be
 pub record IsOfficeHistory {D W : Type 0} (opened : OfficeOpening D W) (history : List Entry) : Type 0 where

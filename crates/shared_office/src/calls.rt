@@ -1,25 +1,25 @@
 // The calls of an office, each through a shared reference and a caller's pass.
-ghost use Rattle.std.specs.Prelude.{◌≡◌, ℕ, ◌≤◌, [], take, Some, IfOk, IfErr};
+ghost use Rattle.std.specs.Prelude.{◌≡◌, ℕ, ◌≤◌, [], IfOk, IfErr};
 ghost use Rattle.money_ledgers.specs.Balances.{balances};
 ghost use Rattle.policy_types.specs.Valid.{IsValid};
 ghost use Rattle.policy_types.specs.declared.entry.Call.TheVariants.{Pin as PinCall, PinAt};
+ghost use Rattle.moment_ring.specs.Ends.{told as moments_told};
 ghost use Rattle.office_state.specs.Opening.{HasNotOpened, HasOpened};
 ghost use Rattle.office_state.specs.Posting.{turn_of};
 ghost use Rattle.office_state.specs.Turning.{read_turn, trim_turn, unpin_turn};
 ghost use Rattle.turn_lock.specs.Passes.{PassFacts, TableId, TakesTurn, all_shares};
-ghost use Rattle.shared_office.specs.Offices.{IsOfficeHistory, OfficeOpening};
+ghost use Rattle.shared_office.specs.Offices.{IsOfficeHistory};
 ghost use Rattle.shared_office.specs.Pins.{HoldsPin, KeepsOtherPins, KeepsPins, pinning_turn};
 ghost use Rattle.shared_office.specs.Starting.{HasClosed, HasStartedOffice};
-ghost use Rattle.shared_office.specs.Telling.{IsSafeToTell};
 ghost use Rattle.shared_office.specs.inside.Pinning.{pin_told};
 
 use crate::batch::Batch;
 use crate::pin::Pin;
-use crate::posted::Posted;
 use crate::state::SharedState;
 use crate::turns::{PinNewest, PinPosition, Post, ReadPart, Trim, Unpin};
+use moment_ring::MomentOutlet;
 use money_ledgers::Ledger;
-use office_state::{Held, OfficeState, PinInfo, StartCause, StartFault};
+use office_state::{Answer, Held, OfficeState, PinInfo, StartCause, StartFault};
 use outside_io::Disk;
 use policy_types::{Command, PinRefusal};
 use std::alloc::Global;
@@ -40,26 +40,24 @@ pub trait OfficeCalls<D: Disk, W: Watching> {
     ghost office: { Self → TableId };
 
     /// The office of the disk's journal, with watchers who were told of nothing yet, and its first pass. They are dropped
-    /// where no office is opened.
+    /// where no office is opened. Nobody hears its moments: `start_telling` has an outlet for them.
     fn start(alloc: Global, disk: D, watchers: W) -> Result<(Self, OfficePass<D, W>), StartFault<D>>
         requires told { (before : ℕ) → W.told watchers before [] }
         ensures started { IfOk result (λ made. HasStartedOffice D.Disk disk watchers made.1
             × (made.1.turnstile ≡ office made.0) × PassFacts IsOfficeHistory made.1) }
         ensures refused { IfErr result (λ fault. HasNotOpened D.Disk disk fault.disk fault.cause) };
 
-    /// Posts a command. An acceptance may be told: the command outlives a crash.
+    /// Posts a command. Where it is accepted, the outlet is told the moment since which it outlives a crash.
     fn post<R: Wait>(
         &self,
         rt: &R,
         pass: &mut OfficePass<D, W>,
         command: &Command,
-    ) -> Turned<Posted<D, W>>
+    ) -> Turned<Answer>
         requires ours { pass.old.turnstile ≡ office self.now }
         requires left { 1 ≤ pass.old.left }
         requires valid { IsValid command.now }
-        ensures turn { TakesTurn result.turn (turn_of pass.old.caller command.now result.answer.answer) pass.old pass.new }
-        ensures safe { (opened : OfficeOpening D W) → pass.new.opening ≡ Some opened
-            → IsSafeToTell opened.opening (take result.turn pass.new.seen) command.now result.answer }
+        ensures turn { TakesTurn result.turn (turn_of pass.old.caller command.now result.answer) pass.old pass.new }
         ensures facts { PassFacts IsOfficeHistory pass.new }
         ensures pins { KeepsPins pass.old pass.new };
 
@@ -130,18 +128,7 @@ impl<D: Disk, W: Watching> OfficeCalls<D, W> for Office<D, W> {
         disk: D,
         watchers: W,
     ) -> Result<(Office<D, W>, OfficePass<D, W>), StartFault<D>> {
-        let handed = Snapshot::of(&watchers);
-        let state = OfficeState::open(alloc, disk, watchers)?;
-        let opened = Snapshot::of(&state);
-        let shared = SharedState {
-            state,
-            handed,
-            opened,
-        };
-        match Turnstile::new(alloc, shared) {
-            Ok(made) => Ok(made),
-            Err(NoRoom { value }) => Err(without_memory(value.into_state())),
-        }
+        start_telling(alloc, disk, watchers, MomentOutlet::nowhere())
     }
 
     fn post<R: Wait>(
@@ -149,7 +136,7 @@ impl<D: Disk, W: Watching> OfficeCalls<D, W> for Office<D, W> {
         rt: &R,
         pass: &mut OfficePass<D, W>,
         command: &Command,
-    ) -> Turned<Posted<D, W>> {
+    ) -> Turned<Answer> {
         self.turn(rt, pass, Post { command })
     }
 
@@ -202,14 +189,42 @@ impl<D: Disk, W: Watching> OfficeCalls<D, W> for Office<D, W> {
     }
 }
 
-/// Gives back the disk, with the ledger and what the watchers have to say. The pass has all shares.
+/// The office of the disk's journal, with watchers who were told of nothing yet and an outlet in which no moment was told,
+/// and its first pass. Both are dropped where no office is opened.
+pub fn start_telling<D: Disk, W: Watching>(
+    alloc: Global,
+    disk: D,
+    watchers: W,
+    outlet: MomentOutlet<D>,
+) -> Result<(Office<D, W>, OfficePass<D, W>), StartFault<D>>
+    requires told { (before : ℕ) → W.told watchers before [] }
+    requires untold { moments_told outlet.ring ≡ [] }
+    ensures started { IfOk result (λ made. ((started : HasStartedOffice D.Disk disk watchers made.1) × (started.outlet ≡ outlet.ring))
+        × (made.1.turnstile ≡ made.0) × PassFacts IsOfficeHistory made.1) }
+    ensures refused { IfErr result (λ fault. HasNotOpened D.Disk disk fault.disk fault.cause) }
+{
+    let handed = Snapshot::of(&watchers);
+    let state = OfficeState::open(alloc, disk, watchers, outlet)?;
+    let opened = Snapshot::of(&state);
+    let shared = SharedState {
+        state,
+        handed,
+        opened,
+    };
+    match Turnstile::new(alloc, shared) {
+        Ok(made) => Ok(made),
+        Err(NoRoom { value }) => Err(without_memory(value.into_state())),
+    }
+}
+
+/// Gives back the disk, with the ledger, what the watchers have to say, and the outlet of moments. The pass has all shares.
 pub fn close<D: Disk, W: Watching>(
     office: Office<D, W>,
     pass: OfficePass<D, W>,
-) -> (D, Ledger, Reports)
+) -> (D, Ledger, Reports, MomentOutlet<D>)
     requires ours { pass.turnstile ≡ office }
     requires all { pass.shares ≡ all_shares }
-    ensures closed { HasClosed D.Disk W.Watching pass result.0 (balances result.1) result.2 }
+    ensures closed { HasClosed D.Disk W.Watching pass result.0 (balances result.1) result.2 result.3.ring }
     ensures facts { PassFacts IsOfficeHistory pass }
 {
     office.close(pass).into_state().close()
@@ -219,7 +234,7 @@ pub fn close<D: Disk, W: Watching>(
 fn without_memory<D: Disk, W: Watching>(state: OfficeState<D, W>) -> StartFault<D>
     ensures { (old : D) → HasOpened old state → HasNotOpened D.Disk old result.disk result.cause }
 {
-    let (disk, _, _) = state.close();
+    let (disk, _, _, _) = state.close();
     StartFault {
         cause: StartCause::NoMemory,
         disk,

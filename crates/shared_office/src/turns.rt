@@ -1,10 +1,8 @@
 // Each call of the office as a turn of its caller.
-use crate::posted::Posted;
 use crate::state::SharedState;
-use office_state::{Held, PinInfo, PolicyBatch};
+use office_state::{Answer, Held, PinInfo, PolicyBatch};
 use outside_io::Disk;
 use policy_types::{Command, PinRefusal};
-use std::snapshot::Snapshot;
 use turn_lock::Turn;
 use watcher_set::Watching;
 
@@ -18,23 +16,18 @@ impl<'a, D: Disk, W: Watching> Turn<SharedState<D, W>> for Post<'a> {
     ghost use Rattle.std.specs.Prelude.{refl};
     ghost use Rattle.policy_types.specs.Valid.{IsValid};
     ghost use Rattle.office_state.specs.Posting.{turn_of};
-    ghost use Rattle.shared_office.specs.Telling.{IsSafeToTell};
 
-    type Answer = Posted<D, W>;
+    type Answer = Answer;
 
     ghost needs = { λ post caller seen made. IsValid post.command.now };
 
-    ghost entry = { λ post caller posted. turn_of caller post.command.now posted.answer };
+    ghost entry = { λ post caller answer. turn_of caller post.command.now answer };
 
-    ghost tells = { λ post opened before posted. IsSafeToTell opened.opening before post.command.now posted };
+    ghost tells = { λ _ _ _ _. Unit {0} };
 
     #[tactic(auto, using(crate::proofs::Turned::turned))]
-    fn run(self, value: &mut SharedState<D, W>, caller: u64) -> Posted<D, W> {
-        let answer = value.state.post(caller, self.command);
-        Posted {
-            answer,
-            stood: Snapshot::of(&value.state),
-        }
+    fn run(self, value: &mut SharedState<D, W>, caller: u64) -> Answer {
+        value.state.post(caller, self.command)
     }
 
     ghost by_caller = { λ _ _ _. refl };

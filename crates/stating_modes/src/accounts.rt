@@ -8,6 +8,7 @@ ghost use Rattle.program_endings.specs.Writing.{between};
 ghost use Rattle.stating_modes.specs.inside.Rereading.{EndsReading, IsAccount};
 
 use crate::rereading::{Account, read_again};
+use moment_ring::MomentOutlet;
 use office_state::OfficeState;
 use outside_io::{Disk, Sink};
 use policy_types::NoMemory;
@@ -21,11 +22,11 @@ use watcher_set::NoWatchers;
 pub fn account<K: Sink, D: Disk>(alloc: Global, id: u32, output: &mut K, disk: D) -> Finished<D>
     requires { 1 ≤ id }
     ensures { EndsState D.Disk disk result.disk (policy_account id)
-        (between K.faults K.written output.old output.new) result.ending }
+        (between K.faults K.written K.pieces output.old output.new) result.ending }
 {
-    match OfficeState::open(alloc, disk, NoWatchers) {
+    match OfficeState::open(alloc, disk, NoWatchers, MomentOutlet::nowhere()) {
         Ok(office) => {
-            let (disk, _, _) = office.close();
+            let (disk, _, _, _) = office.close();
             write_account(alloc, id, output, disk)
         }
         Err(fault) => Finished {
@@ -38,7 +39,7 @@ pub fn account<K: Sink, D: Disk>(alloc: Global, id: u32, output: &mut K, disk: D
 // Writes the account of a policy of a journal that opens.
 fn write_account<K: Sink, D: Disk>(alloc: Global, id: u32, output: &mut K, disk: D) -> Finished<D>
     requires { 1 ≤ id }
-    ensures { EndsReading D.Disk disk result.disk id (between K.faults K.written output.old output.new) result.ending }
+    ensures { EndsReading D.Disk disk result.disk id (between K.faults K.written K.pieces output.old output.new) result.ending }
 {
     match read_again(alloc, id, disk) {
         Ok(read) => Finished {

@@ -9,6 +9,7 @@ ghost use Rattle.stating_modes.specs.Books.{books_text};
 ghost use Rattle.stating_modes.specs.Stating.{EndsState};
 ghost use Rattle.program_endings.specs.Writing.{between};
 
+use moment_ring::MomentOutlet;
 use office_state::OfficeState;
 use outside_io::{Disk, Sink};
 use policy_types::NoMemory;
@@ -21,12 +22,12 @@ use watcher_set::NoWatchers;
 /// Writes all policies in order of issue, and the balances.
 pub fn state<K: Sink, D: Disk>(alloc: Global, output: &mut K, disk: D) -> Finished<D>
     ensures { EndsState D.Disk disk result.disk books_text
-        (between K.faults K.written output.old output.new) result.ending }
+        (between K.faults K.written K.pieces output.old output.new) result.ending }
 {
-    match OfficeState::open(alloc, disk, NoWatchers) {
+    match OfficeState::open(alloc, disk, NoWatchers, MomentOutlet::nowhere()) {
         Ok(office) => {
             let text = books(alloc, &office);
-            let (disk, _, _) = office.close();
+            let (disk, _, _, _) = office.close();
             Finished {
                 ending: write_text(text, output),
                 disk,

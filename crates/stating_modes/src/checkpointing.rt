@@ -26,7 +26,7 @@ pub fn checkpoint<K: Sink, D: Disk, E: Disk>(
     second: E,
 ) -> FinishedKept<D, E>
     ensures { EndsCheckpoint D.Disk E.Disk (disks_of disk second result)
-        (between K.faults K.written output.old output.new) result.ending }
+        (between K.faults K.written K.pieces output.old output.new) result.ending }
 {
     checkpoint_by::<K, D, E, Brand>(alloc, output, disk, second, Blank::new(1))
 }
@@ -43,7 +43,7 @@ fn checkpoint_by<K: Sink, D: Disk, E: Disk, L: Ledger>(
     requires parts { blank.parts ≡ L.parts }
     requires some { 0 < L.parts }
     ensures { EndsCheckpoint D.Disk E.Disk (disks_of disk second result)
-        (between K.faults K.written output.old output.new) result.ending }
+        (between K.faults K.written K.pieces output.old output.new) result.ending }
 {
     let mut steps: Steps<L> = Steps::open(blank);
     match reopen_both(alloc, disk, second, &mut steps) {
@@ -69,7 +69,7 @@ fn save_books<K: Sink, E: Disk>(
 ) -> Ending
     requires { IsSoundSnapshot books.now }
     ensures { EndsSaving store.old store.new books.now
-        (between K.faults K.written output.old output.new) result }
+        (between K.faults K.written K.pieces output.old output.new) result }
 {
     match books.snapshot(alloc) {
         Ok(snapshot) => save(alloc, &snapshot, store, output),
@@ -86,7 +86,7 @@ fn save<K: Sink, E: Disk>(
 ) -> Ending
     requires { IsSoundSnapshot snapshot.now }
     ensures { EndsSaving store.old store.new snapshot.now
-        (between K.faults K.written output.old output.new) result }
+        (between K.faults K.written K.pieces output.old output.new) result }
 {
     let Ok(line) = line_of(alloc, snapshot) else {
         return lack_memory(output);
@@ -105,7 +105,7 @@ fn save_with_line<K: Sink, E: Disk>(
     requires line { line.items ≡ checkpoint_text snapshot.now }
     ensures ample { result ≢ Ending.NoMemory }
     ensures ends { EndsSaving store.old store.new snapshot.now
-        (between K.faults K.written output.old output.new) result }
+        (between K.faults K.written K.pieces output.old output.new) result }
 {
     match store.save(snapshot) {
         Ok(()) => write_text(Ok(line), output),

@@ -31,7 +31,7 @@ pub fn state_kept<K: Sink, D: Disk, E: Disk, L: Ledger>(
 ) -> FinishedKept<D, E>
     ensures few { IsStateTold result.ending → ReadsFew D.Disk E.Disk (disks_of disk second result) steps.old steps.new }
     ensures ends { EndsStateKept D.Disk E.Disk (disks_of disk second result)
-        (between K.faults K.written output.old output.new) result.ending }
+        (between K.faults K.written K.pieces output.old output.new) result.ending }
 {
     match reopen_both(alloc, disk, second, steps) {
         Ok(opened) => {

@@ -4,3 +4,5 @@ pub mod TextSteps
 pub mod ToldSteps
 pub mod Telling
 pub mod WritableSteps
+pub mod PlaceSteps
+pub mod AcceptedSteps

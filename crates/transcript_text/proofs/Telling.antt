@@ -1,5 +1,5 @@
 -- What is told of the lanes that were run, against the history of their office
-use Rattle.std.proofs.Common.{◌≡◌, ◌⊎◌, ℕ, ◌-◌, ◌==◌, Bool, true, false, List, [], ◌∷◌, ◌++◌, map, take, Some, refl, ap, sym, ◌∙◌, subst, inl, inr, arith}
+use Rattle.std.proofs.Common.{◌≡◌, ◌⊎◌, ℕ, ◌+◌, ◌-◌, ◌==◌, Bool, true, false, List, [], ◌∷◌, ◌++◌, length, map, take, Some, refl, ap, sym, ◌∙◌, subst, inl, inr, arith}
 use Rattle.std.specs.Prelude.{slice_get}
 use Rattle.std.specs.List.{AllByRecursion, AllZip, Contains, enumerate_from}
 use Rattle.std.proofs.lemmas.Bool.{eq-eqb}
@@ -13,7 +13,8 @@ use Rattle.policy_types.specs.declared.entry.Reply.TheVariants.{Faulted}
 use Rattle.policy_types.specs.declared.script.Line.{Line}
 use Rattle.policy_types.specs.declared.script.Line.TheVariants.{Post}
 use Rattle.policy_types.specs.declared.script.Lane.{Lane}
-use Rattle.policy_machine.specs.History.{IsDue, commands_after}
+use Rattle.policy_types.specs.Lanes.{AreRising}
+use Rattle.policy_machine.specs.History.{IsDue, accepted_of, commands_after}
 use Rattle.policy_machine.specs.Merge.{AnswersLine, IsMerge, Placed}
 use Rattle.office_state.specs.Images.{HasFaulted}
 use Rattle.shared_office.specs.Offices.{IsOfficeHistory, OfficeOpening}
@@ -24,13 +25,15 @@ use Rattle.lane_runner.specs.Transcripts.{HasAnsweredLanes, IsOutcome, IsTold as
 use Rattle.lane_runner.specs.declared.transcript.TranscriptLine.{TranscriptLine}
 use Rattle.lane_runner.specs.declared.transcript.Transcript.{Transcript}
 use Rattle.program_endings.specs.Replies.{ArePins, HasBlank, IsAnswered, IsPinned, IsUnfaulted}
-use Rattle.program_endings.proofs.ListSteps.{Has, all_has, any_none, any_some, contains_of_has, has_enumerate, has_filter, has_map, has_of_contains, of_all, of_enumerate, of_filter, of_map, parted, zip_left, zip_right, same_opened}
+use Rattle.program_endings.proofs.ListSteps.{Has, all_has, any_none, any_some, contains_of_has, has_at, has_enumerate, has_filter, has_map, has_of_contains, of_all, of_enumerate, of_filter, of_map, parted, zip_left, zip_right, same_opened}
 use Rattle.program_endings.proofs.TurnSteps.{due_at, posted_first, posts, quiet_reply, unfaulted_if_answered}
-use Rattle.transcript_text.specs.Transcript.{IsTranscript}
+use Rattle.transcript_text.specs.Transcript.{IsLineText}
 use Rattle.transcript_text.specs.Lanes.{AreScriptLanes}
-use Rattle.lane_runner.specs.Tallies.{any_faulted, any_lacked, has_faulted, lacks_memory}
-use Rattle.transcript_text.specs.Told.{told_texts}
-use Rattle.transcript_text.proofs.TextSteps.{transcript_of}
+use Rattle.lane_runner.specs.Tallies.{accepted_lines, any_faulted, any_lacked, has_faulted, lacks_memory, tells_accepted}
+use Rattle.transcript_text.specs.Told.{told_text}
+use Rattle.transcript_text.proofs.AcceptedSteps.{accepted_in_all, accepted_to, accepted_told, accepted_turns, accepts, enumerated, has_turns, is_acceptance, posting_told, posts_accepted}
+use Rattle.transcript_text.proofs.PlaceSteps.{has_places, of_places, places}
+use Rattle.transcript_text.proofs.TextSteps.{texts_of}
 use Rattle.transcript_text.proofs.ToldSteps.{line_turn, turn_line, page_numbers, lacked_pin, told_fault, told_unfaulted, told_answered, lacked_which, not_lacked, told_blank, post_call}
 
 -- what is known of lanes that were run, once their office is closed
@@ -39,10 +42,15 @@ pub record Telling {D W : Type 0} (basis : List Dated) (lanes : List Lane) (clos
   pub opening : closing.opening ≡ Some opened
   pub history : IsOfficeHistory opened closing.seen
   pub merge : IsMerge closing.seen lanes transcript.callers (dry_of transcript.lines)
-  pub tells : IsTranscript opened.opening closing.seen basis (dry_of transcript.lines) shown (told_texts transcript.lines)
+  pub told : AllZip (IsToldOf opened.opening closing.seen basis) shown transcript.lines
+  pub tells : AllZip (IsLineText opened.opening closing.seen basis (dry_of transcript.lines)) shown (map told_text transcript.lines)
   pub pins : ArePins closing.seen (dry_of transcript.lines)
   pub none_dry : any_lacked transcript.lines ≡ false → dry_of transcript.lines ≡ []
   pub some_lacked : any_lacked transcript.lines ≡ true → HasBlank closing.seen ⊎ ((pin : ℕ) × Contains (dry_of transcript.lines) pin)
+  pub in_order : (before after : List TranscriptLine) (line : TranscriptLine) → transcript.lines ≡ before ++ line ∷ after
+      → tells_accepted line.outcome ≡ true
+      → accepted_of (take (line.turn + 1) closing.seen) ≡ take (accepted_lines before + 1) (accepted_of closing.seen)
+  pub all_accepted : accepted_lines transcript.lines ≡ length (accepted_of closing.seen)
   pub fault : any_faulted transcript.lines ≡ true → (command : Command) × HasFaulted closing.seen command
   pub unfaulted : any_faulted transcript.lines ≡ false → AllByRecursion (λ (entry : Entry). IsUnfaulted entry.reply) closing.seen
   pub answered : any_faulted transcript.lines ≡ false → any_lacked transcript.lines ≡ false
@@ -123,8 +131,8 @@ module _ {D W : Type 0} (basis : List Dated) (lanes : List Lane) (first closing 
   due : (k : ℕ) (entry : Entry) → slice_get closing.seen k ≡ Some entry → IsDue opened.opening (take k closing.seen) entry.caller entry.call entry.reply
   due k entry there = due_at opened.opening [] closing.seen k entry is_history.legal.due there
 
-  tells : IsTranscript opened.opening closing.seen basis dry ran.answered (told_texts transcript.lines)
-  tells = transcript_of opened.opening closing.seen basis dry ran.answered transcript.lines told ran.dry
+  tells : AllZip (IsLineText opened.opening closing.seen basis dry) ran.answered (map told_text transcript.lines)
+  tells = texts_of opened.opening closing.seen basis dry ran.answered transcript.lines told ran.dry
 
   pins : ArePins closing.seen dry
   pins = all_has (λ (n : ℕ). (entry : Entry) × (slice_get closing.seen n ≡ Some entry) × IsPinned entry.reply) dry one_pin
@@ -207,9 +215,10 @@ module _ {D W : Type 0} (basis : List Dated) (lanes : List Lane) (first closing 
           others entry.reply
           (quiet_reply opened.opening (take (place.0 - 0) closing.seen) entry.caller entry.call entry.reply (due (place.0 - 0) entry there.1) quiet)
       one entry has true posted =
-          let of_line = turn_line ran.answered closing.seen lanes transcript.callers entry ran.lines.each (theirs entry has) has in
+          let place = has_enumerate 0 closing.seen entry has in
+          let of_line = turn_line ran.answered closing.seen lanes transcript.callers place.0 entry ran.lines.each (theirs entry has) place.1 in
           let line = of_line.0 in
-          let is_first_turn = posted_first dry line.line line.first line.rest (of_line.2.0, entry) (answers line of_line.1) of_line.2.1 posted in
+          let is_first_turn = posted_first dry line.line line.first line.rest (place.0, entry) (answers line of_line.1) of_line.2 posted in
           let same : line.first.1 ≡ entry = ap (λ (t : Placed). t.1) is_first_turn.0 in
           let pair = zip_left (IsToldOf opened.opening closing.seen basis) ran.answered transcript.lines line told of_line.1 in
           let commands = commands_after opened.opening (take line.first.0 closing.seen) in
@@ -234,11 +243,64 @@ module _ {D W : Type 0} (basis : List Dated) (lanes : List Lane) (first closing 
       (of_all (λ (l : TranscriptLine). has_faulted l.outcome ≡ false) transcript.lines line none has)
       (of_all (λ (l : TranscriptLine). lacks_memory l.outcome ≡ false) transcript.lines line none_lacked has))
 
+  -- the turn of a line that is told to be accepted was an accepted posting
+  told_place : (line : TranscriptLine) → Has transcript.lines line → tells_accepted line.outcome ≡ true → Has (places accepts 0 closing.seen) line.turn
+  told_place line has is =
+      let pair = zip_right (IsToldOf opened.opening closing.seen basis) ran.answered transcript.lines line told has in
+      let one = pair.0 in
+      let commands = commands_after opened.opening (take one.first.0 closing.seen) in
+      let posting = posting_told one.line one.first.1.reply line.outcome commands basis pair.2.outcome is in
+      let call = post_call dry one.line one.first one.rest posting.0 (answers one pair.1) posting.1 in
+      let outcome = subst (λ (l : Line). IsOutcome commands basis l one.first.1.reply line.outcome) posting.1 pair.2.outcome in
+      let accepted : accepts one.first.1 ≡ true =
+      ap (λ (c : Call). is_acceptance c one.first.1.reply) call ∙ accepted_told posting.0 one.first.1.reply line.outcome commands basis outcome ∙ is in
+      let place : 0 + one.first.0 ≡ line.turn = (let turn = pair.2.turn in omega (arith, turn)) in
+      subst (λ (n : ℕ). Has (places accepts 0 closing.seen) n) place
+      (has_places accepts 0 closing.seen one.first.0 one.first.1 (placed one pair.1) accepted)
+
+  -- and each of these is told
+  place_told : (n : ℕ) → Has (places accepts 0 closing.seen) n → Has (accepted_turns transcript.lines) n
+  place_told n has =
+      let found = of_places accepts 0 closing.seen n has in
+      let entry = found.2.0 in
+      let command = posts_accepted entry.call entry.reply found.2.2 in
+      let posted : posts entry.call ≡ true = ap posts command.1 in
+      let place : 0 + found.0 ≡ n = sym found.1 in
+      let among = subst (λ (k : ℕ). Has (enumerate_from 0 closing.seen) (k, entry)) place (enumerated 0 closing.seen found.0 entry found.2.1) in
+      let of_line = turn_line ran.answered closing.seen lanes transcript.callers n entry ran.lines.each (theirs entry (has_at closing.seen found.0 entry found.2.1)) among in
+      let line = of_line.0 in
+      let first = posted_first dry line.line line.first line.rest (n, entry) (answers line of_line.1) of_line.2 posted in
+      let pair = zip_left (IsToldOf opened.opening closing.seen basis) ran.answered transcript.lines line told of_line.1 in
+      let commands = commands_after opened.opening (take line.first.0 closing.seen) in
+      let same : line.first.1 ≡ entry = ap (λ (t : Placed). t.1) first.0 in
+      let outcome = subst (λ (l : Line). IsOutcome commands basis l line.first.1.reply pair.0.outcome) first.1.1 pair.2.outcome in
+      let here = subst (λ (e : Entry). IsOutcome commands basis (Post first.1.0) e.reply pair.0.outcome) same outcome in
+      let accepted : tells_accepted pair.0.outcome ≡ true =
+      sym (accepted_told first.1.0 entry.reply pair.0.outcome commands basis here)
+      ∙ ap (λ (c : Call). is_acceptance c entry.reply) (sym (sym (ap (λ (e : Entry). e.call) same) ∙ post_call dry line.line line.first line.rest first.1.0 (answers line of_line.1) first.1.1))
+      ∙ found.2.2 in
+      subst (λ (k : ℕ). Has (accepted_turns transcript.lines) k) (pair.2.turn ∙ ap (λ (t : Placed). t.0) first.0)
+      (has_turns transcript.lines pair.0 pair.1 accepted)
+
+  -- the lines' turns are those of the answered lines
+  same_turns : (ones : List AnsweredLine) (lines : List TranscriptLine) → AllZip (IsToldOf opened.opening closing.seen basis) ones lines
+      → map (λ (one : AnsweredLine). one.first.0) ones ≡ map (λ (line : TranscriptLine). line.turn) lines
+  same_turns [] [] all = refl
+  same_turns [] (line ∷ lines) all = absurd all
+  same_turns (one ∷ ones) [] all = absurd all
+  same_turns (one ∷ ones) (line ∷ lines) all = let rest = same_turns ones lines all.1 in let first = sym all.0.turn in λ i. first i ∷ rest i
+
+  rising : AreRising (map (λ (line : TranscriptLine). line.turn) transcript.lines)
+  rising = subst AreRising (same_turns ran.answered transcript.lines told) ran.lines.rising
+
   pub telling : Telling basis lanes closing transcript opened ran.answered
   telling = record {
+    in_order = accepted_to closing.seen transcript.lines rising told_place place_told;
+    all_accepted = accepted_in_all closing.seen transcript.lines rising told_place place_told;
     opening = closing_opened;
     history = is_history;
     merge = merge;
+    told = told;
     tells = tells;
     pins = pins;
     none_dry = none_dry;

@@ -1,5 +1,5 @@
 -- The text of what is told of answered lines is that of the lines
-use Rattle.std.proofs.Common.{◌≡◌, ◌↔◌, ℕ, ℤ, true, List, [], ◌∷◌, take, refl, ap, ap₂, sym, ◌∙◌, subst, inl, inr}
+use Rattle.std.proofs.Common.{◌≡◌, ◌↔◌, ℕ, ℤ, true, List, [], ◌∷◌, map, take, refl, ap, ap₂, sym, ◌∙◌, subst, inl, inr}
 use Rattle.std.specs.List.{AllZip, Contains}
 use Rattle.std.proofs.lemmas.Bool.{false≢true}
 use Rattle.basis_book.specs.Dated.{Dated}
@@ -17,8 +17,8 @@ use Rattle.lane_runner.specs.Transcripts.{AreDry, IsOutcome, IsTold as IsToldOf,
 use Rattle.lane_runner.specs.declared.transcript.TranscriptLine.{TranscriptLine}
 use Rattle.lane_runner.specs.declared.transcript.Outcome.{Outcome}
 use Rattle.lane_runner.specs.declared.transcript.Outcome.TheVariants.{Posted, Trimmed, Valued, ValueRefused, ValueNoMemory}
-use Rattle.transcript_text.specs.Transcript.{IsLineText, IsReplyText, IsTranscript, IsValuedText, posting_text, unpinned_text, unvalued_text}
-use Rattle.transcript_text.specs.Told.{IsWritableOutcome, outcome_text, told_text, told_texts}
+use Rattle.transcript_text.specs.Transcript.{IsLineText, IsReplyText, IsValuedText, posting_text, unpinned_text, unvalued_text}
+use Rattle.transcript_text.specs.Told.{IsWritableOutcome, outcome_text, told_text}
 
 -- a valuation that can be written is on a day
 pub value_day : (on : ℤ) (at : At) (workers : ℕ) (outcome : Outcome) → IsWritableOutcome (Value on at workers) outcome → IsDay on
@@ -68,10 +68,10 @@ module _ (opening : Opening) (history : List Entry) (basis : List Dated) (dry : 
       ap (λ n. outcome_text n told.line told.outcome) is.lane ∙ ap (λ l. outcome_text answered.clerk l told.outcome) is.line in
       subst (IsLineText opening history basis dry answered) (sym same) text
 
-  pub transcript_of : (answered : List AnsweredLine) (told : List TranscriptLine) → AllZip (IsToldOf opening history basis) answered told
-      → AreDry dry told → IsTranscript opening history basis dry answered (told_texts told)
-  transcript_of [] [] all lacked = refl
-  transcript_of [] (one ∷ told) all lacked = absurd all
-  transcript_of (one ∷ answered) [] all lacked = absurd all
-  transcript_of (answer ∷ answered) (one ∷ told) all lacked =
-      (told_text one, (told_texts told, refl, line_text answer one all.0 lacked.0, transcript_of answered told all.1 lacked.1))
+  pub texts_of : (answered : List AnsweredLine) (told : List TranscriptLine) → AllZip (IsToldOf opening history basis) answered told
+      → AreDry dry told → AllZip (IsLineText opening history basis dry) answered (map told_text told)
+  texts_of [] [] all lacked = tt
+  texts_of [] (one ∷ told) all lacked = absurd all
+  texts_of (one ∷ answered) [] all lacked = absurd all
+  texts_of (answer ∷ answered) (one ∷ told) all lacked =
+      (line_text answer one all.0 lacked.0, texts_of answered told all.1 lacked.1)

@@ -27,7 +27,7 @@ use Rattle.lane_runner.specs.Transcripts.{IsOutcome, lacked_memory}
 use Rattle.lane_runner.specs.declared.transcript.Outcome.{Outcome}
 use Rattle.lane_runner.specs.declared.transcript.Outcome.TheVariants.{Posted, Trimmed, Valued, ValueRefused, ValueNoMemory}
 use Rattle.program_endings.specs.Replies.{IsAnswered, IsPinned, IsUnfaulted}
-use Rattle.program_endings.proofs.ListSteps.{Has, front_back, has_enumerate, has_filter, has_flat_map, has_left, has_map, has_right, of_filter, of_flat_map}
+use Rattle.program_endings.proofs.ListSteps.{Has, front_back, has_filter, has_flat_map, has_left, has_map, has_right, of_filter, of_flat_map}
 use Rattle.policy_value.specs.declared.worth.Measure.TheVariants.{Terminal}
 use Rattle.program_endings.proofs.BlockSteps.{block_writable}
 use Rattle.lane_runner.specs.Tallies.{has_faulted, is_faulted, lacks_memory}
@@ -46,21 +46,20 @@ line_turn answered history (lane ∷ lanes) (caller ∷ callers) one turn are (i
 line_turn answered history (lane ∷ lanes) (caller ∷ callers) one turn are (inr later) has there =
     line_turn answered history lanes callers one turn are.2 later has there
 
--- each entry of a caller is a turn of an answered line
-pub turn_line : (answered : List AnsweredLine) (history : List Entry) (lanes : List Lane) (callers : List ℕ) (entry : Entry)
-    → AreOfLanes answered history lanes callers → Has callers entry.caller → Has history entry
-    → (one : AnsweredLine) × Has answered one × ((n : ℕ) × Has (turns_in one) (n, entry))
-turn_line answered history [] [] entry are caller has = absurd caller
-turn_line answered history [] (other ∷ callers) entry are caller has = absurd are
-turn_line answered history (lane ∷ lanes) [] entry are caller has = absurd caller
-turn_line answered history (lane ∷ lanes) (other ∷ callers) entry are (inl same) has =
-    let placed = has_enumerate 0 history entry has in
-    let turn : Has (turns_of history other) (placed.0, entry) =
-    has_filter (λ (turn : Placed). turn.1.caller == other) (enumerate_from 0 history) (placed.0, entry) (eq-eqb entry.caller other (sym same)) placed.1 in
-    let found = of_flat_map turns_in (lines_by lane.number answered) (placed.0, entry) (subst (λ (ts : List Placed). Has ts (placed.0, entry)) (sym are.1) turn) in
-    (found.0, (of_filter (λ (one : AnsweredLine). one.clerk == lane.number) answered found.0 found.1).0, (placed.0, found.2))
-turn_line answered history (lane ∷ lanes) (other ∷ callers) entry are (inr later) has =
-    turn_line answered history lanes callers entry are.2 later has
+-- each entry of a caller is, at its place, a turn of an answered line
+pub turn_line : (answered : List AnsweredLine) (history : List Entry) (lanes : List Lane) (callers : List ℕ) (n : ℕ) (entry : Entry)
+    → AreOfLanes answered history lanes callers → Has callers entry.caller → Has (enumerate_from 0 history) (n, entry)
+    → (one : AnsweredLine) × Has answered one × Has (turns_in one) (n, entry)
+turn_line answered history [] [] n entry are caller has = absurd caller
+turn_line answered history [] (other ∷ callers) n entry are caller has = absurd are
+turn_line answered history (lane ∷ lanes) [] n entry are caller has = absurd caller
+turn_line answered history (lane ∷ lanes) (other ∷ callers) n entry are (inl same) has =
+    let turn : Has (turns_of history other) (n, entry) =
+    has_filter (λ (turn : Placed). turn.1.caller == other) (enumerate_from 0 history) (n, entry) (eq-eqb entry.caller other (sym same)) has in
+    let found = of_flat_map turns_in (lines_by lane.number answered) (n, entry) (subst (λ (ts : List Placed). Has ts (n, entry)) (sym are.1) turn) in
+    (found.0, (of_filter (λ (one : AnsweredLine). one.clerk == lane.number) answered found.0 found.1).0, found.2)
+turn_line answered history (lane ∷ lanes) (other ∷ callers) n entry are (inr later) has =
+    turn_line answered history lanes callers n entry are.2 later has
 
 -- each caller's number of its page
 pub page_numbers : (history : List Entry) (ns : List ℕ) → map (λ (page : Page). page.0) (map (λ n. (n, entries_of history n)) ns) ≡ ns

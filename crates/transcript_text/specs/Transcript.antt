@@ -102,13 +102,6 @@ IsLineText opening history basis dry answered text =
     IsReplyText answered.clerk answered.line answered.first.1.reply
     (commands_after opening (take answered.first.0 history)) basis (Contains dry answered.first.0) text
 
--- the texts of the answered lines of a run, one after the other
-abbrev pub IsTranscript : Opening → List Entry → List Dated → List ℕ → List AnsweredLine → List ℕ → Type 0
-IsTranscript opening history basis dry [] text = text ≡ []
-IsTranscript opening history basis dry (answered ∷ lines) text =
-    (first : List ℕ) × ((rest : List ℕ) × (text ≡ first ++ rest)
-    × IsLineText opening history basis dry answered first × IsTranscript opening history basis dry lines rest)
-
 -- the line of an auditor's report: the auditor's number, how many commands were noted, and the auditor's own number of them
 abbrev pub watcher_text : ℕ → Report → List ℕ
 watcher_text number report = line_of (codes "watcher") (decimal number ∷ decimal report.seen ∷ decimal report.tally ∷ [])

@@ -1,5 +1,5 @@
 -- How a load ends, by what its parts did
-use Rattle.std.proofs.Common.{◌≡◌, ℕ, Bool, true, false, cond, List, [], ◌∷◌, ◌++◌, length, map, take, Some, Result, Ok, Err, refl, ap, sym, ◌∙◌, subst, inl, inr, arith, append-nil, append_assoc}
+use Rattle.std.proofs.Common.{◌≡◌, ℕ, Bool, true, false, cond, List, [], ◌∷◌, ◌++◌, length, map, take, Some, Result, Ok, Err, refl, ap, sym, ◌∙◌, subst, inl, inr, arith, append-nil, append_assoc, Option}
 use Rattle.std.specs.Prelude.{slice_get, if◌then◌else◌}
 use Rattle.std.specs.List.{AllByRecursion, AllZip, Contains}
 use Rattle.std.proofs.lemmas.List.Elements.{filter_map-append}
@@ -27,6 +27,7 @@ use Rattle.office_state.specs.declared.faults.StartCause.TheVariants.{DiskFault 
 use Rattle.office_state.specs.Images.{HasFaulted, IsLeftBy}
 use Rattle.office_state.specs.Opening.{HasNotOpened}
 use Rattle.shared_office.specs.Offices.{IsOfficeHistory, OfficeOpening}
+use Rattle.office_state.specs.States.{MomentRing}
 use Rattle.shared_office.specs.Starting.{HasClosed, HasStartedOffice}
 use Rattle.policy_value.specs.declared.worth.Measure.TheVariants.{Terminal}
 use Rattle.snapshot_value.specs.Valuing.{HasValued, AnswersPin as IsValueAnswer, IsValuedRow, dry_pins}
@@ -65,9 +66,9 @@ module _ {D W : Type 0} (g : Ghosts D) (w : WatcherGhosts W) (old disk : D) (lan
     (first mid closing : Holding (OfficeOpening D W)) (balances : Booking) (reports : List Report) (transcript : Transcript)
     (answer : Result Valuation ValueFault) (started : HasStartedOffice g old watchers first) (ran : HasAnsweredLanes basis lanes first mid transcript)
     (before : PassFacts IsOfficeHistory mid) (valued : HasValued basis load_day Terminal Now workers mid closing turn answer)
-    (facts : PassFacts IsOfficeHistory closing) (closed : HasClosed g w closing disk balances reports) (right : AreLoadLanes lanes) where
+    (facts : PassFacts IsOfficeHistory closing) {outlet : Option MomentRing} (closed : HasClosed g w closing disk balances reports outlet) (right : AreLoadLanes lanes) where
   abbrev opened : OfficeOpening D W
-  opened = record { opening = started.opening; begun = old; held = started.held; watchers = watchers }
+  opened = record { opening = started.opening; begun = old; held = started.held; watchers = watchers; outlet = started.outlet }
 
   mid_opened : mid.opening ≡ Some opened
   mid_opened = ran.pass.opening ∙ started.first.opened
@@ -304,10 +305,10 @@ module _ {D W : Type 0} (g : Ghosts D) (w : WatcherGhosts W) (old disk : D) (lan
 -- where there was no memory to run the lanes, nothing was turned
 pub ends_unrun : {D W : Type 0} (g : Ghosts D) (w : WatcherGhosts W) (old disk : D) (lanes : List Lane) (workers : ℕ) (basis : List Dated) (watchers : W)
     (first closing : Holding (OfficeOpening D W)) (balances : Booking) (reports : List Report) (output : Stream)
-    → HasStartedOffice g old watchers first → HasClosed g w closing disk balances reports → closing ≡ first
+    → HasStartedOffice g old watchers first → {outlet : Option MomentRing} → HasClosed g w closing disk balances reports outlet → closing ≡ first
     → SaysUnopened NoRoom output NoMemory → EndsLoading g old disk lanes workers basis output NoMemory
 ends_unrun {D = D} {W = W} g w old disk lanes workers basis watchers first closing balances reports output started closed same said =
-    let opened : OfficeOpening D W = record { opening = started.opening; begun = old; held = started.held; watchers = watchers } in
+    let opened : OfficeOpening D W = record { opening = started.opening; begun = old; held = started.held; watchers = watchers; outlet = started.outlet } in
     let is : closing.opening ≡ Some opened = ap (λ (p : Holding (OfficeOpening D W)). p.opening) same ∙ started.first.opened in
     let none : closing.seen ≡ [] = ap (λ (p : Holding (OfficeOpening D W)). p.seen) same ∙ started.first.seen in
     let one : closed.opening ≡ opened = same_opened closed.opening opened (sym closed.opened ∙ is) in

@@ -13,7 +13,7 @@ pub fn generate<K: Sink>(alloc: Global, seed: u32, count: u32, lanes: u8, output
     requires seed { seed < 2 ^ 31 }
     requires count { (1 ≤ count) × (count ≤ 100000) }
     requires lanes { (1 ≤ lanes) × (lanes ≤ 8) }
-    ensures { EndsGenerate seed count lanes (between K.faults K.written output.old output.new) result }
+    ensures { EndsGenerate seed count lanes (between K.faults K.written K.pieces output.old output.new) result }
 {
     write_text(make_script(alloc, seed, count, lanes), output)
 }

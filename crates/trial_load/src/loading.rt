@@ -1,5 +1,6 @@
 // A generated script is run, and its policies are valued then.
-ghost use Rattle.std.specs.Prelude.{◌≡◌, ◌<◌, ◌≤◌, ◌^◌, IfOk, All, codes, length};
+ghost use Rattle.std.specs.Prelude.{◌≡◌, ◌<◌, ◌≤◌, ◌^◌, [], IfOk, All, codes, length};
+ghost use Rattle.rtrb.specs.Ring.{received};
 ghost use Rattle.policy_types.specs.Limits.{most_commands};
 ghost use Rattle.shared_office.specs.Offices.{IsOfficeHistory};
 ghost use Rattle.shared_office.specs.Starting.{HasStartedOffice};
@@ -13,9 +14,10 @@ ghost use Rattle.report_text.specs.Block.{AreSummable};
 
 use basis_book::{Basis, Name};
 use itoa::Buffer;
-use lane_runner::{TranscriptLine, TranscriptLines, Wording, run_lanes};
+use lane_runner::{TranscriptLine, TranscriptLines, Wording, count_postings, run_lanes};
 use load_maker::make_lanes;
 use lone_office::{Begun, begin};
+use moment_ring::{MomentInlet, moment_ring};
 use outside_io::{BytesSink, Disk, Gate, Shelf, Sink, write_all};
 use policy_types::{At, Lane, NoMemory};
 use policy_value::{Measure, Rows};
@@ -57,7 +59,7 @@ pub fn load<R: Threads + Wait + Sync, K: Sink, H: Shelf, D: Disk + Send, G: Gate
     requires workers { (1 ≤ workers) × (workers ≤ 64) }
     ensures ends { EndsLoad D.Disk disk result.disk seed count lanes workers
         (shelf_between H.faults H.agrees shelf.old shelf.new)
-        (between K.faults K.written output.old output.new) result.ending }
+        (between K.faults K.written K.pieces output.old output.new) result.ending }
     // Where the shelf failed this is told, and nothing else.
     ensures counted { H.faults shelf.old < H.faults shelf.new → result.ending ≡ ReadFault }
     ensures files { H.files shelf.new ≡ H.files shelf.old }
@@ -74,7 +76,13 @@ pub fn load<R: Threads + Wait + Sync, K: Sink, H: Shelf, D: Disk + Send, G: Gate
             disk,
         };
     };
-    match begin(alloc, &name, shelf, output, disk) {
+    let Ok((outlet, moments)) = moment_ring(alloc, count_postings(script.as_slice())) else {
+        return Finished {
+            ending: lack_memory(output),
+            disk,
+        };
+    };
+    match begin(alloc, &name, shelf, output, disk, outlet) {
         Ok(begun) => {
             let Begun {
                 basis,
@@ -83,7 +91,7 @@ pub fn load<R: Threads + Wait + Sync, K: Sink, H: Shelf, D: Disk + Send, G: Gate
             } = begun;
             let lanes = script.as_slice();
             load_office(
-                rt, alloc, lanes, workers, &basis, office, pass, output, gate,
+                rt, alloc, lanes, workers, &basis, office, pass, moments, output, gate,
             )
         }
         Err(finished) => finished,
@@ -129,21 +137,24 @@ fn load_office<
     basis: &Basis,
     office: Office<D, W>,
     pass: OfficePass<D, W>,
+    moments: MomentInlet<D>,
     output: &mut K,
     gate: &G,
 ) -> Finished<D>
     requires lanes { AreLoadLanes lanes.now }
+    requires unheard { received moments.ring ≡ [] }
     requires workers { (1 ≤ workers) × (workers ≤ 64) }
     requires ours { pass.turnstile ≡ office }
     requires started { (old : D) × ((watchers : W) × HasStartedOffice D.Disk old watchers pass) }
     requires facts { PassFacts IsOfficeHistory pass }
     ensures ends { (old : D) (watchers : W) → HasStartedOffice D.Disk old watchers pass
         → EndsLoading D.Disk old result.disk lanes.now workers basis.now
-        (between K.faults K.written output.old output.new) result.ending }
+        (between K.faults K.written K.pieces output.old output.new) result.ending }
 {
     let mut pass = pass;
+    let mut moments = moments;
     let mut nowhere = BytesSink::new(alloc, Vec::new(alloc));
-    let ran = run_lanes::<R, NoWords, BytesSink, D, W, G>(
+    let ran = run_lanes::<R, NoWords, D, BytesSink<D>, W, G>(
         rt,
         alloc,
         &office,
@@ -151,10 +162,11 @@ fn load_office<
         lanes,
         basis,
         gate,
+        &mut moments,
         &mut nowhere,
     );
     let Ok(ran) = ran else {
-        let (disk, _, _) = close(office, pass);
+        let (disk, _, _, _) = close(office, pass);
         return Finished {
             ending: lack_memory(output),
             disk,
@@ -176,7 +188,7 @@ fn load_office<
         NO_LANE,
         gate,
     );
-    let (disk, _, _) = close(office, pass);
+    let (disk, _, _, _) = close(office, pass);
     let ending = write_loaded(alloc, &ran.transcript.lines, valued.answer, output);
     Finished { ending, disk }
 }
@@ -189,7 +201,7 @@ fn write_loaded<K: Sink>(
     output: &mut K,
 ) -> Ending
     requires answer { IsLoadAnswer answer }
-    ensures { EndsLoaded lines.now answer (between K.faults K.written output.old output.new) result }
+    ensures { EndsLoaded lines.now answer (between K.faults K.written K.pieces output.old output.new) result }
 {
     match answer {
         Ok(valuation) => write_line(alloc, lines, &valuation.rows, output),
@@ -206,7 +218,7 @@ fn write_line<K: Sink>(
 ) -> Ending
     requires rows { length rows.now ≤ most_commands }
     requires bounded { AreSummable rows.now }
-    ensures { EndsLine lines.now rows.now (between K.faults K.written output.old output.new) result }
+    ensures { EndsLine lines.now rows.now (between K.faults K.written K.pieces output.old output.new) result }
 {
     let Ok(line) = load_line(alloc, lines.accepted(), lines.refused(), rows) else {
         return Ending::NoMemory;

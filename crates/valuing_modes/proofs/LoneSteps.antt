@@ -1,5 +1,5 @@
 -- An office at which one caller turned, to value its policies
-use Rattle.std.proofs.Common.{ℕ, ℤ, List, [], Result, subst, append-nil}
+use Rattle.std.proofs.Common.{ℕ, ℤ, List, [], Result, subst, append-nil, Option}
 use Rattle.outside_io.specs.declared.disks.Disk.{Ghosts}
 use Rattle.basis_book.specs.Dated.{Dated}
 use Rattle.policy_types.specs.Accounts.{Booking}
@@ -10,6 +10,7 @@ use Rattle.policy_machine.specs.History.{IsDue, commands_after, opened_on}
 use Rattle.policy_machine.specs.Merge.{pin_call}
 use Rattle.office_state.specs.Images.{IsLeftBy}
 use Rattle.shared_office.specs.Offices.{IsOfficeHistory, OfficeOpening}
+use Rattle.office_state.specs.States.{MomentRing}
 use Rattle.shared_office.specs.Starting.{HasClosed, HasStartedOffice}
 use Rattle.watcher_set.specs.declared.watching.Watching.{Ghosts as WatcherGhosts}
 use Rattle.turn_lock.specs.Passes.{Holding, PassFacts}
@@ -27,7 +28,7 @@ use Rattle.valuing_modes.proofs.ValueSteps.{ends_valued, lone_answer, lone_ends}
 module _ {D W : Type 0} (g : Ghosts D) (w : WatcherGhosts W) (old disk : D) (watchers : W) (on : ℤ) (measure : Measure) (at : At) (workers turn : ℕ) (basis : List Dated)
     (first closing : Holding (OfficeOpening D W)) (balances : Booking) (reports : List Report) (answer : Result Valuation ValueFault)
     (started : HasStartedOffice g old watchers first) (facts : PassFacts IsOfficeHistory closing)
-    (closed : HasClosed g w closing disk balances reports)
+    {outlet : Option MomentRing} (closed : HasClosed g w closing disk balances reports outlet)
     (valued : HasValued basis on measure at workers first closing turn answer) where
   due : IsDue started.opening [] valued.pin.1.caller (pin_call at) valued.pin.1.reply
   due = lone_due g w old disk watchers at first closing balances reports started facts closed valued.pin valued.later valued.grows _ valued.answers.0 valued.answers.1

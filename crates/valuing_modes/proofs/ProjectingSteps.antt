@@ -1,5 +1,5 @@
 -- How `project` ends, by what its parts did
-use Rattle.std.proofs.Common.{◌≡◌, ℕ, ◌≤◌, ℤ, List, [], length, take, subst, Result, Ok, Err, append-nil, arith}
+use Rattle.std.proofs.Common.{◌≡◌, ℕ, ◌≤◌, ℤ, List, [], length, take, subst, Result, Ok, Err, append-nil, arith, Option}
 use Rattle.std.proofs.lemmas.Int.{ints}
 use Rattle.std.proofs.lemmas.List.{take_all}
 use Rattle.outside_io.specs.Streams.{AppendsPart}
@@ -20,6 +20,7 @@ use Rattle.policy_machine.specs.History.{Opening, IsDue, commands_after, opened_
 use Rattle.policy_machine.specs.Merge.{pin_call}
 use Rattle.office_state.specs.Images.{IsLeftBy}
 use Rattle.shared_office.specs.Offices.{IsOfficeHistory, OfficeOpening}
+use Rattle.office_state.specs.States.{MomentRing}
 use Rattle.shared_office.specs.Starting.{HasClosed, HasStartedOffice}
 use Rattle.watcher_set.specs.declared.watching.Watching.{Ghosts as WatcherGhosts}
 use Rattle.turn_lock.specs.Passes.{Holding, PassFacts}
@@ -117,7 +118,7 @@ module _ (opening : Opening) (caller : ℕ) (on : ℤ) (years : ℕ) (basis : Li
 module _ {D W : Type 0} (g : Ghosts D) (w : WatcherGhosts W) (old disk : D) (watchers : W) (on : ℤ) (years turn : ℕ) (basis : List Dated)
     (first closing : Holding (OfficeOpening D W)) (balances : Booking) (reports : List Report) (answer : Result Projection ValueFault)
     (started : HasStartedOffice g old watchers first) (facts : PassFacts IsOfficeHistory closing)
-    (closed : HasClosed g w closing disk balances reports)
+    {outlet : Option MomentRing} (closed : HasClosed g w closing disk balances reports outlet)
     (projected : HasProjected basis on years Now first closing turn answer) where
   due : IsDue started.opening [] projected.pin.1.caller (pin_call Now) projected.pin.1.reply
   due =

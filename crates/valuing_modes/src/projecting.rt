@@ -12,6 +12,7 @@ ghost use Rattle.valuing_modes.specs.inside.Projected.{EndsPrinted, IsLoneProjec
 use basis_book::{Basis, Name};
 use cash_projection::{Projection, print_projection};
 use lone_office::{Begun, begin};
+use moment_ring::MomentOutlet;
 use outside_io::{Disk, Gate, Shelf, Sink};
 use program_endings::{Ending, Finished, lack_memory, write_text};
 use shared_office::{Office, OfficePass, close};
@@ -40,12 +41,12 @@ pub fn project<R: Threads + Wait + Sync, K: Sink, H: Shelf, D: Disk, G: Gate>(
     requires workers { (1 ≤ workers) × (workers ≤ 64) }
     ensures ends { EndsProject D.Disk disk result.disk on years basis.now
         (shelf_between H.faults H.agrees shelf.old shelf.new)
-        (between K.faults K.written output.old output.new) result.ending }
+        (between K.faults K.written K.pieces output.old output.new) result.ending }
     // Where the shelf failed this is told, and nothing else.
     ensures counted { H.faults shelf.old < H.faults shelf.new → result.ending ≡ ReadFault }
     ensures files { H.files shelf.new ≡ H.files shelf.old }
 {
-    match begin(alloc, basis, shelf, output, disk) {
+    match begin(alloc, basis, shelf, output, disk, MomentOutlet::nowhere()) {
         Ok(begun) => {
             let Begun {
                 basis,
@@ -81,13 +82,13 @@ fn project_office<R: Threads + Wait + Sync, K: Sink, D: Disk, W: Watching, G: Ga
     requires facts { PassFacts IsOfficeHistory pass }
     ensures ends { (old : D) (watchers : W) → HasStartedOffice D.Disk old watchers pass
         → EndsProjecting D.Disk old result.disk on years basis.now
-        (between K.faults K.written output.old output.new) result.ending }
+        (between K.faults K.written K.pieces output.old output.new) result.ending }
 {
     let mut pass = pass;
     let projected = cash_projection::project(
         rt, alloc, &office, &mut pass, basis, on, years, workers, gate,
     );
-    let (disk, _, _) = close(office, pass);
+    let (disk, _, _, _) = close(office, pass);
     let ending = write_answer(alloc, projected.answer, output);
     Finished { ending, disk }
 }
@@ -99,7 +100,7 @@ fn write_answer<K: Sink>(
     output: &mut K,
 ) -> Ending
     requires lone { IsLoneProjection answer }
-    ensures ends { EndsPrinted answer (between K.faults K.written output.old output.new) result }
+    ensures ends { EndsPrinted answer (between K.faults K.written K.pieces output.old output.new) result }
 {
     match answer {
         Ok(projection) => write_projection(alloc, &projection, output),
@@ -110,7 +111,7 @@ fn write_answer<K: Sink>(
 
 fn write_projection<K: Sink>(alloc: Global, projection: &Projection, output: &mut K) -> Ending
     requires printable { CanBePrinted projection.now }
-    ensures ends { EndsPrinted (Ok projection.now) (between K.faults K.written output.old output.new) result }
+    ensures ends { EndsPrinted (Ok projection.now) (between K.faults K.written K.pieces output.old output.new) result }
 {
     let text = print_projection(alloc, projection);
     write_text(text.map(|text| text.into_vec()), output)

@@ -12,6 +12,7 @@ ghost use Rattle.valuing_modes.specs.inside.Valued.{EndsAnswer, IsLoneAnswer, Sa
 
 use basis_book::{Basis, Name};
 use lone_office::{Begun, begin};
+use moment_ring::MomentOutlet;
 use outside_io::{Disk, Gate, Shelf, Sink};
 use policy_types::{At, PinRefusal};
 use policy_value::Measure;
@@ -46,12 +47,12 @@ pub fn value<R: Threads + Wait + Sync, K: Sink, H: Shelf, D: Disk, G: Gate>(
     requires workers { (1 ≤ workers) × (workers ≤ 64) }
     ensures ends { EndsValue D.Disk disk result.disk on at measure basis.now
         (shelf_between H.faults H.agrees shelf.old shelf.new)
-        (between K.faults K.written output.old output.new) result.ending }
+        (between K.faults K.written K.pieces output.old output.new) result.ending }
     // Where the shelf failed this is told, and nothing else.
     ensures counted { H.faults shelf.old < H.faults shelf.new → result.ending ≡ ReadFault }
     ensures files { H.files shelf.new ≡ H.files shelf.old }
 {
-    match begin(alloc, basis, shelf, output, disk) {
+    match begin(alloc, basis, shelf, output, disk, MomentOutlet::nowhere()) {
         Ok(begun) => {
             let Begun {
                 basis,
@@ -87,7 +88,7 @@ fn value_office<R: Threads + Wait + Sync, K: Sink, D: Disk, W: Watching, G: Gate
     requires facts { PassFacts IsOfficeHistory pass }
     ensures ends { (old : D) (watchers : W) → HasStartedOffice D.Disk old watchers pass
         → EndsValuing D.Disk old result.disk on at measure basis.now
-        (between K.faults K.written output.old output.new) result.ending }
+        (between K.faults K.written K.pieces output.old output.new) result.ending }
 {
     let mut pass = pass;
     let query = Query {
@@ -97,7 +98,7 @@ fn value_office<R: Threads + Wait + Sync, K: Sink, D: Disk, W: Watching, G: Gate
         workers,
     };
     let valued = snapshot_value::value(rt, alloc, &office, &mut pass, query, at, NO_LANE, gate);
-    let (disk, _, _) = close(office, pass);
+    let (disk, _, _, _) = close(office, pass);
     let ending = write_answer(rt, alloc, on, valued.answer, workers, output);
     Finished { ending, disk }
 }
@@ -114,7 +115,7 @@ fn write_answer<R: Threads + Sync, K: Sink>(
     requires day { IsDay on }
     requires workers { (1 ≤ workers) × (workers ≤ 64) }
     requires lone { IsLoneAnswer answer }
-    ensures ends { EndsAnswer on answer (between K.faults K.written output.old output.new) result }
+    ensures ends { EndsAnswer on answer (between K.faults K.written K.pieces output.old output.new) result }
 {
     match answer {
         Ok(valuation) => write_values(rt, alloc, on, &valuation, workers, output),
@@ -136,7 +137,7 @@ fn write_values<R: Threads + Sync, K: Sink>(
     requires day { IsDay on }
     requires workers { (1 ≤ workers) × (workers ≤ 64) }
     requires writable { IsWritableBlock valuation.now }
-    ensures ends { EndsAnswer on (Ok valuation.now) (between K.faults K.written output.old output.new) result }
+    ensures ends { EndsAnswer on (Ok valuation.now) (between K.faults K.written K.pieces output.old output.new) result }
 {
     let printed = print_parts(
         rt,
@@ -160,7 +161,7 @@ fn write_values<R: Threads + Sync, K: Sink>(
 // Says that there are only so many commands.
 fn refuse_position<K: Sink>(alloc: Global, count: u32, output: &mut K) -> Ending
     ensures later { K.faults output.old ≤ K.faults output.new }
-    ensures says { SaysAhead count (between K.faults K.written output.old output.new) result }
+    ensures says { SaysAhead count (between K.faults K.written K.pieces output.old output.new) result }
 {
     match format!(in alloc; "refused,ahead,{count}\n") {
         Ok(line) => end(output, line.as_bytes(), Ending::Ahead),

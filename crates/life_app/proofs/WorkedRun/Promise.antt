@@ -1,7 +1,8 @@
 -- The worked run is as the headline says.
-use Rattle.std.proofs.Common.{◌≡◌, ◌++◌, ℕ, List, [], ◌∷◌, refl, sym, inl, inr, lit≤, lit<, codes, String, Global}
+use Rattle.std.proofs.Common.{◌≡◌, ◌+◌, ◌++◌, ℕ, List, [], ◌∷◌, length, arith, refl, ap, sym, subst, inl, inr, lit≤, lit<, codes, String, Global}
 use Rattle.std.specs.Fmt.{digits}
-use Rattle.std.specs.List.{IsDistinct}
+use Rattle.std.specs.Prelude.{take}
+use Rattle.std.specs.List.{IsDistinct, flat_map}
 use Rattle.csv.proofs.OnLiterals.{csv_on_literals}
 use Rattle.life_dates.specs.Calendar.{date_of, date_at, year_of, month_of, days_before, days_before_year, days_of_months}
 use Rattle.life_dates.specs.DayText.{day_text}
@@ -13,24 +14,33 @@ use Rattle.life_args.specs.declared.mode.Mode.TheVariants.{Run}
 use Rattle.life_args.proofs.WorkedWords.{asks}
 use Rattle.lane_runner.specs.AnsweredLines.{AnsweredLine, AreLinesOf}
 use Rattle.policy_machine.specs.Merge.{IsMerge, Placed}
+use Rattle.policy_types.specs.declared.command.Command.{Command}
+use Rattle.policy_machine.specs.History.{accepted_of}
+use Rattle.script_run.specs.Shown.{AreSafeWhenShown}
 use Rattle.office_state.specs.Journals.{Opens}
 use Rattle.office_state.specs.Worked.{hand_issue, hand_premium, premium_turn}
 use Rattle.office_state.proofs.WorkedOffices.{valid_premium}
-use Rattle.program_endings.specs.declared.ending.Ending.TheVariants.{Done}
+use Rattle.program_endings.specs.declared.ending.Ending.{Ending}
+use Rattle.program_endings.specs.declared.ending.Ending.TheVariants.{Done, BadScript, BadBasis, BadJournal, ReadFault, DiskFault, NoMemory}
+use Rattle.program_endings.specs.Status.{status_of}
 use Rattle.program_endings.specs.Replies.{AreAnswered}
 use Rattle.program_endings.specs.Writing.{IsWholeInput, WroteAll}
 use Rattle.script_run.specs.Outcome.{IsRunOf}
 use Rattle.script_run.specs.Running.{EndsLanes, EndsRead, EndsRun}
 use Rattle.transcript_text.specs.Transcript.{posting_text, reports_text}
 use Rattle.watcher_set.specs.Noted.{reports_of}
-use Rattle.life_app.specs.Headline.{IsPromised, IsUnrun}
+use Rattle.life_app.specs.Headline.{IsPromised, IsUnrun, SaysUnrun}
 use Rattle.life_app.specs.Obeys.{Does, Obeys}
 use Rattle.life_app.specs.Words.{AskForRun}
 use Rattle.life_app.proofs.HeadlineLaws.{by_script, headline}
-use Rattle.life_app.specs.WorkedRun.Calls.{called, cut_disk, last_disk}
+use Rattle.life_app.specs.WorkedRun.Calls.{Unsynced, called, cut_disk, cut_file, last_disk, untorn}
 use Rattle.life_app.specs.WorkedRun.Runs.{second_turns}
-use Rattle.life_app.specs.WorkedRun.Promise.{AreTyped, GivenByHand, HeadlineByHand, ObeyedByHand, PromisedByHand, given_script, output_of, premium_lanes, premium_script, premium_text, shelf_that_told, two_auditors}
-use Rattle.life_app.proofs.WorkedRun.Row.{facts, found_by_hand, legal_second, second_left}
+use Rattle.life_app.specs.WorkedRun.Promise.{AreTyped, GivenByHand, HeadlineByHand, ObeyedByHand, PromisedByHand, ToldOnceSafe, given_script, output_of, premium_lanes, premium_line, premium_script, premium_text, shelf_that_told, two_auditors}
+use Rattle.outside_io.specs.FileCalls.{FileCall, FileLeft}
+use Rattle.outside_io.specs.Streams.{TakenPiece}
+use Rattle.office_state.proofs.JournalLaws.{opens_to_one}
+use Rattle.life_app.proofs.WorkedRun.First.{honest_last}
+use Rattle.life_app.proofs.WorkedRun.Row.{both_now, facts, found_by_hand, legal_second, second_left}
 
 pub asks_run : (words : List (String Global)) → AreTyped words (codes "run" ∷ []) → AskForRun words (codes "basis.csv")
 asks_run words same = asks _ (Run (codes "basis.csv")) (refl, record { pieces = []; spells = refl; only = tt; alone = refl; basis_is = refl }) words same
@@ -71,25 +81,70 @@ lines = record {
 told : List ℕ
 told = posting_text 1 hand_premium (Accepted 2)
 
-written : told ++ reports_text (reports_of two_auditors (hand_premium ∷ [])) ≡ premium_text
+written : flat_map (λ (text : List ℕ). text) (told ∷ []) ++ reports_text (reports_of two_auditors (hand_premium ∷ [])) ≡ premium_text
 unfolding digits told
 written = refl
 
-ran : IsRunOf called cut_disk last_disk premium_lanes [] two_auditors (WroteAll (output_of premium_text)) AreAnswered
-unfolding answered told digits
+-- one alone is the one among these
+one_alone : {A : Type 0} (x y : A) (before after : List A) → x ∷ [] ≡ before ++ y ∷ after → x ≡ y
+one_alone {A} x y [] after same = ap head same
+  where
+    head : List A → A
+    head [] = x
+    head (z ∷ zs) = z
+one_alone {A} x y (z ∷ before) after same = none before (ap tail same)
+  where
+    tail : List A → List A
+    tail [] = []
+    tail (w ∷ ws) = ws
+
+    none : (front : List A) → [] ≡ front ++ y ∷ after → x ≡ y
+    none [] never = cc
+    none (w ∷ front) never = cc
+
+only_piece : TakenPiece
+only_piece = record { bytes = premium_text; since = called.clock last_disk }
+
+-- since the disk's last moment a crash leaves both commands
+shown : AreSafeWhenShown called Opens last_disk (hand_issue ∷ []) second_turns (premium_line ∷ []) (told ∷ []) (only_piece ∷ [])
+shown later earlier piece split before after line there accepted reached image left =
+    let this : only_piece ≡ piece = one_alone only_piece piece later earlier split in
+    let one : premium_line ≡ line = one_alone premium_line line before after there in
+    let now : called.may_leave last_disk image =
+    facts.only_now last_disk image honest_last (subst (λ (p : TakenPiece). called.left_since last_disk p.since image) (sym this) left) in
+    subst (λ (l : AnsweredLine). (more : List Command) × Opens image ((hand_issue ∷ []) ++ accepted_of (take (l.first.0 + 1) second_turns) ++ more)) one
+    ([], inl (both_now image now))
+
+-- before the first call the file was as it was found
+as_found : (first : List ℕ) (calls : List FileCall) → FileLeft first untorn Unsynced calls 0 first
+as_found first [] = (lit≤ tt, inl refl)
+as_found first (call ∷ earlier) = inl (as_found first earlier)
+
+too_soon : AreSafeWhenShown called Opens last_disk (hand_issue ∷ []) second_turns (premium_line ∷ []) (told ∷ [])
+    ((record { bytes = premium_text; since = 0 }) ∷ []) → ⊥
+too_soon safe =
+    let opens = safe [] [] (record { bytes = premium_text; since = 0 }) refl [] [] premium_line refl tt (lit< tt) cut_file
+    (as_found cut_file last_disk.calls) in
+    let same : hand_issue ∷ [] ≡ (hand_issue ∷ []) ++ hand_premium ∷ opens.0 =
+    opens_to_one cut_file (hand_issue ∷ []) ((hand_issue ∷ []) ++ hand_premium ∷ opens.0) (second_left.opened honest_last) opens.1 in
+    absurd (let long = ap length same in omega (arith, long))
+
+ran : IsRunOf called cut_disk last_disk premium_lanes [] two_auditors (output_of premium_text) (WroteAll (output_of premium_text)) AreAnswered
+unfolding answered told digits only_piece
 ran = record {
   commands = hand_issue ∷ [];
   callers = 1 ∷ [];
   dry = [];
   history = second_turns;
   answered = answered;
-  text = told;
+  texts = told ∷ [];
   opened = second_left.opened;
   merge = merge;
   legal = legal_second;
   pins = tt;
   lines = lines;
-  tells = (told, ([], refl, refl, refl));
+  tells = (refl, tt);
+  shown = λ honest. (only_piece ∷ [], refl, shown);
   wrote = sym written;
   replies = ((tt, tt), refl);
   disk = second_left;
@@ -121,19 +176,36 @@ obeyed words same = record { ending = Done; exits = refl; does = did words same 
 pub obeyed_by_hand : ObeyedByHand
 obeyed_by_hand = (ran, ran, ended, read, run_ended, obeyed)
 
-no_unrun : IsUnrun called Opens cut_disk last_disk (output_of premium_text) 0 → ⊥
-no_unrun unrun = unrun.failed refl
+-- a run that says in a line why it failed has no status 0
+unrun_fails : (ending : Ending)
+    → SaysUnrun called cut_disk last_disk (codes "basis.csv") given_script (output_of premium_text) (shelf_that_told []) ending
+    → 0 ≡ status_of ending → ⊥
+unrun_fails BadScript says none = cc
+unrun_fails BadBasis says none = cc
+unrun_fails BadJournal says none = cc
+unrun_fails ReadFault says none = cc
+unrun_fails DiskFault says none = cc
+unrun_fails NoMemory says none = cc
+unrun_fails _ says none = says
+
+no_unrun : IsUnrun called Opens cut_disk last_disk (codes "basis.csv") given_script (output_of premium_text) (shelf_that_told []) 0 → ⊥
+no_unrun unrun = unrun_fails unrun.ending unrun.says unrun.exits
 
 pub headline_by_hand : HeadlineByHand
-headline_by_hand words same = headline called cut_disk last_disk (output_of premium_text) facts.only_now premium_lanes [] two_auditors (codes "basis.csv") premium_script words
-    given_script (shelf_that_told []) ⊥ (Unit {0}) 0 (obeyed words same) (asks_run words same) whole reads_premium (inl (refl, refl))
+headline_by_hand words same = headline called cut_disk last_disk (output_of premium_text) (codes "basis.csv") given_script (shelf_that_told [])
+    facts.only_now premium_lanes [] two_auditors premium_script words ⊥ (Unit {0}) 0
+    (obeyed words same) (asks_run words same) whole reads_premium (inl (refl, refl))
 
-promised : IsPromised called Opens cut_disk last_disk premium_lanes [] (output_of premium_text) 0
-promised = elim (by_script called cut_disk last_disk (output_of premium_text) facts.only_now premium_lanes [] two_auditors (codes "basis.csv") premium_script
-    given_script (shelf_that_told []) (Unit {0}) Done whole reads_premium (inl (refl, refl)) run_ended) [
+promised : IsPromised called Opens cut_disk last_disk premium_lanes [] two_auditors (output_of premium_text) 0
+promised = elim (by_script called cut_disk last_disk (output_of premium_text) (codes "basis.csv") given_script (shelf_that_told [])
+    facts.only_now premium_lanes [] two_auditors premium_script (Unit {0}) Done whole reads_premium (inl (refl, refl)) run_ended) [
       | inl told ↦ told
       | inr unrun ↦ absurd (no_unrun unrun)
     ]
 
 pub promised_by_hand : PromisedByHand
 promised_by_hand = (promised, record { old = cut_disk; found = found_by_hand.1; told = inl promised }, no_unrun)
+
+pub told_once_safe : ToldOnceSafe
+unfolding told digits only_piece
+told_once_safe = (shown, too_soon)

@@ -11,7 +11,7 @@ use Rattle.posting_journal.specs.Files.{IsJournal}
 use Rattle.posting_journal.specs.Runs.{LooksOn}
 use Rattle.record_codec.specs.Spelling.{spelling_of}
 use Rattle.office_state.specs.Images.{HoldsNow, HoldsOnce, IsLeftAlone, IsLeftBy, KeepsAccepted}
-use Rattle.office_state.specs.Journals.{Opens}
+use Rattle.office_state.specs.Journals.{JournalBytes, Opens}
 use Rattle.office_state.specs.Worked.{hand_issue, hand_premium, premium_turn}
 use Rattle.office_state.proofs.JournalLaws.{opens_to_one}
 use Rattle.office_state.proofs.KeptSteps.{keeps_first, keeps_more, kept_now}
@@ -57,9 +57,12 @@ again_held moment image left = elim (since_cut moment image left) [
 now_cut : (image : List ℕ) → called.may_leave looked_disk image → HoldsNow second_opening [] image
 now_cut image left = inl (journal_of_issue image (as_cut image left))
 
+pub both_now : (image : List ℕ) → called.may_leave last_disk image → JournalBytes image both_commands
+both_now image left = journal_of_both image
+    (subst (λ (e : List ℕ). IsJournal e (spelling_of hand_issue ∷ spelling_of hand_premium ∷ [])) (sym (paid_again_safe image left)) paid_again)
+
 now_again : (image : List ℕ) → called.may_leave last_disk image → HoldsNow second_opening second_turns image
-now_again image left = inl (journal_of_both image
-    (subst (λ (e : List ℕ). IsJournal e (spelling_of hand_issue ∷ spelling_of hand_premium ∷ [])) (sym (paid_again_safe image left)) paid_again))
+now_again image left = inl (both_now image left)
 
 pub honest_looked : called.honest looked_disk
 honest_looked = (reopened_allowed, refl)

@@ -29,7 +29,7 @@ use Rattle.policy_value.specs.Rows.{IsInsured}
 use Rattle.policy_value.specs.declared.worth.Measure.TheVariants.{Terminal}
 use Rattle.policy_value.specs.declared.worth.Row.{Row}
 use Rattle.snapshot_value.specs.Valuing.{IsValuedRow}
-use Rattle.program_endings.specs.declared.ending.Ending.TheVariants.{Done, BadBasis}
+use Rattle.program_endings.specs.declared.ending.Ending.TheVariants.{Done, BadBasis, NoMemory}
 use Rattle.program_endings.specs.WithoutBasis.{EndsNoBasis}
 use Rattle.life_app.proofs.WorkedRun.Both.{stated_alone}
 use Rattle.script_run.specs.Running.{ReadsForValues}
@@ -37,15 +37,15 @@ use Rattle.life_app.specs.Headline.{IsEnclosingRow, IsEnclosingText, IsUnrun}
 use Rattle.life_app.specs.Needs.{HasBadFile}
 use Rattle.life_app.specs.WorkedRun.Calls.{called, cut_disk}
 use Rattle.life_app.specs.WorkedRun.Due.{value_lanes, value_script}
-use Rattle.life_app.specs.WorkedRun.Promise.{AreTyped, output_of}
+use Rattle.life_app.specs.WorkedRun.Promise.{AreTyped, given_script, output_of, shelf_that_told}
 use Rattle.life_app.specs.WorkedRun.Told.{EnclosedByHand, EndedByHand, ModesByHand, ReasonsByHand, absent_basis, first_endowment, first_value, five_text, two_bases, unstocked_shelf}
 use Rattle.life_app.proofs.HeadlineLaws.{each_pair, enclosing}
 use Rattle.life_app.proofs.WorkedRun.Promise.{asks_run}
 use Rattle.life_app.proofs.WorkedRun.First.{honest_last}
 use Rattle.life_app.proofs.WorkedRun.Row.{second_left}
 
-unrun : IsUnrun called Opens cut_disk cut_disk (output_of (codes "nomemory" ++ 10 ∷ [])) 9
-unrun = record { failed = λ never. cc; line = (_, inl refl); since = λ honest image left. inl left.1 }
+unrun : IsUnrun called Opens cut_disk cut_disk (codes "basis.csv") given_script (output_of (codes "nomemory" ++ 10 ∷ [])) (shelf_that_told []) 9
+unrun = record { ending = NoMemory; exits = refl; says = inl refl; since = λ honest image left. inl left.1 }
 
 pub ended_by_hand : EndedByHand
 ended_by_hand = (

@@ -7,7 +7,10 @@ use Rattle.outside_io.specs.Shelves.{Agrees, Answer}
 use Rattle.policy_types.specs.declared.script.Lane.{Lane}
 use Rattle.policy_types.specs.declared.script.Line.TheVariants.{Post}
 use Rattle.office_state.specs.Journals.{Opens}
-use Rattle.office_state.specs.Worked.{hand_premium}
+use Rattle.lane_runner.specs.AnsweredLines.{AnsweredLine}
+use Rattle.office_state.specs.Worked.{hand_issue, hand_premium, premium_turn}
+use Rattle.policy_types.specs.declared.entry.Reply.TheVariants.{Accepted}
+use Rattle.script_run.specs.Shown.{AreSafeWhenShown}
 use Rattle.program_endings.specs.Replies.{AreAnswered}
 use Rattle.program_endings.specs.Writing.{Input, IsWholeInput, Shelving, Stream, WroteAll}
 use Rattle.program_endings.specs.declared.ending.Ending.TheVariants.{Done}
@@ -20,6 +23,7 @@ use Rattle.life_app.specs.Headline.{IsGivenBasis, IsPromised, IsPromisedFromStar
 use Rattle.life_app.specs.Obeys.{Obeys}
 use Rattle.life_app.specs.Words.{AskForRun}
 use Rattle.life_app.specs.WorkedRun.Calls.{called, cut_disk, cut_file, last_disk}
+use Rattle.life_app.specs.WorkedRun.Runs.{second_turns}
 
 -- the clerk's one line
 abbrev pub premium_script : List ℕ
@@ -36,9 +40,16 @@ abbrev pub two_auditors : List Auditor
 two_auditors = (record { stops = λ commands. length commands == 4000000; number = λ commands. length commands })
     ∷ (record { stops = λ commands. false; number = λ commands. premiums_of commands }) ∷ []
 
--- an output that held nothing, took these bytes, and didn't fail
+-- an output that held nothing, took these bytes in one piece, by the disk's last moment, and didn't fail
 abbrev pub output_of : List ℕ → Stream
-output_of bytes = record { faults_before = 0; faults_after = 0; before = Some []; after = Some bytes }
+output_of bytes = record {
+  faults_before = 0;
+  faults_after = 0;
+  before = Some [];
+  after = Some bytes;
+  pieces_before = [];
+  pieces_after = (record { bytes = bytes; since = called.clock last_disk }) ∷ [];
+}
 
 -- a shelf that gave these answers, and didn't fail
 abbrev pub shelf_that_told : List Answer → Shelving
@@ -59,7 +70,7 @@ GivenByHand = ((words : List (String Global)) → AreTyped words (codes "run" �
 
 -- the program obeyed them, over the file that the crash had cut, and nothing was asked of the shelf
 abbrev pub ObeyedByHand : Type 0
-ObeyedByHand = IsRunOf called cut_disk last_disk premium_lanes [] two_auditors (WroteAll (output_of premium_text)) AreAnswered
+ObeyedByHand = IsRunOf called cut_disk last_disk premium_lanes [] two_auditors (output_of premium_text) (WroteAll (output_of premium_text)) AreAnswered
     × EndsScript called cut_disk last_disk premium_lanes [] two_auditors (output_of premium_text) Done
     × EndsLanes called cut_disk last_disk premium_lanes (codes "basis.csv") two_auditors (shelf_that_told []) (output_of premium_text) (Unit {0}) Done
     × EndsRead called cut_disk last_disk (codes "basis.csv") two_auditors given_script (output_of premium_text) (shelf_that_told []) (Unit {0}) Done
@@ -70,11 +81,24 @@ ObeyedByHand = IsRunOf called cut_disk last_disk premium_lanes [] two_auditors (
 -- so the headline says of it what is promised, or that no line was answered
 abbrev pub HeadlineByHand : Type 0
 HeadlineByHand = (words : List (String Global)) → AreTyped words (codes "run" ∷ [])
-    → IsPromised called Opens cut_disk last_disk premium_lanes [] (output_of premium_text) 0
-    ⊎ IsUnrun called Opens cut_disk last_disk (output_of premium_text) 0
+    → IsPromised called Opens cut_disk last_disk premium_lanes [] two_auditors (output_of premium_text) 0
+    ⊎ IsUnrun called Opens cut_disk last_disk (codes "basis.csv") given_script (output_of premium_text) (shelf_that_told []) 0
 
 -- and it is the first, from the start of that disk on
 abbrev pub PromisedByHand : Type 0
-PromisedByHand = IsPromised called Opens cut_disk last_disk premium_lanes [] (output_of premium_text) 0
-    × IsPromisedFromStart called Opens cut_file last_disk premium_lanes [] (output_of premium_text) 0
-    × (IsUnrun called Opens cut_disk last_disk (output_of premium_text) 0 → ⊥)
+PromisedByHand = IsPromised called Opens cut_disk last_disk premium_lanes [] two_auditors (output_of premium_text) 0
+    × IsPromisedFromStart called Opens cut_file last_disk premium_lanes (codes "basis.csv") [] two_auditors given_script
+    (output_of premium_text) (shelf_that_told []) 0
+    × (IsUnrun called Opens cut_disk last_disk (codes "basis.csv") given_script (output_of premium_text) (shelf_that_told []) 0 → ⊥)
+
+-- the clerk's line as the history answers it
+abbrev pub premium_line : AnsweredLine
+premium_line = record { clerk = 1; line = Post hand_premium; first = (0, premium_turn (Accepted 2)); rest = [] }
+
+-- handed on by the disk's last moment it is told once safe; handed on by the first one, since which a crash may have left the
+-- file as it was found, it isn't
+abbrev pub ToldOnceSafe : Type 0
+ToldOnceSafe = AreSafeWhenShown called Opens last_disk (hand_issue ∷ []) second_turns (premium_line ∷ [])
+    ((codes "1,premium,7001,accepted,2" ++ 10 ∷ []) ∷ []) ((record { bytes = premium_text; since = called.clock last_disk }) ∷ [])
+    × (AreSafeWhenShown called Opens last_disk (hand_issue ∷ []) second_turns (premium_line ∷ [])
+    ((codes "1,premium,7001,accepted,2" ++ 10 ∷ []) ∷ []) ((record { bytes = premium_text; since = 0 }) ∷ []) → ⊥)

@@ -42,7 +42,8 @@ use Rattle.life_app.specs.WorkedRun.Runs.{cut_run, looked_disk}
 abbrev pub EndedByHand : Type 0
 EndedByHand = AddsCommands cut_run (hand_issue ∷ []) []
     × WasFaulted (premium_turn (Faulted 4) ∷ []) [] hand_premium
-    × IsUnrun called Opens cut_disk cut_disk (output_of (codes "nomemory" ++ 10 ∷ [])) 9
+    × IsUnrun called Opens cut_disk cut_disk (codes "basis.csv") given_script (output_of (codes "nomemory" ++ 10 ∷ []))
+    (shelf_that_told []) 9
 
 -- the basis of the name that is meant where none is given, and which isn't there
 abbrev pub unstocked_shelf : Shelving

@@ -1,5 +1,5 @@
 -- What deciding a journal's records anew tells, while an office is opened
-use Rattle.std.specs.Prelude.{◌≡◌, List, [], None, Err}
+use Rattle.std.specs.Prelude.{◌≡◌, List, [], Option, None, Err}
 use Rattle.std.specs.List.{AllByRecursion}
 use Rattle.outside_io.specs.declared.disks.Disk.{Ghosts}
 use Rattle.policy_types.specs.declared.command.Command.{Command}
@@ -17,6 +17,7 @@ use Rattle.office_state.specs.declared.faults.StartCause.{StartCause}
 use Rattle.office_state.specs.declared.faults.StartCause.TheVariants.{DiskFault, NotAJournal, BadRecord, NoMemory}
 use Rattle.office_state.specs.declared.state.OfficeState.{OfficeState}
 use Rattle.office_state.specs.inside.Books.{commands_in, floor_in}
+use Rattle.office_state.specs.States.{MomentRing}
 
 -- the cause for which a journal isn't opened, as that for which no office is
 abbrev pub as_cause : JournalCause → StartCause
@@ -36,7 +37,7 @@ MakeJournal commands = AllByRecursion IsValid commands × IsAccepted commands
 
 -- the office of a journal's records, before any turn
 pub record IsOfficeOf {D W : Type 0} {g : Ghosts D} {w : WatcherGhosts W} (journal : Journal D g) (disk : D) (watchers : W)
-    (state : OfficeState D W g w) : Type 0 where
+    (ring : Option MomentRing) (state : OfficeState D W g w) : Type 0 where
   pub stays : StaysAs journal state.journal
   pub quiet : IsQuiet journal (disk_of state.journal)
   pub bodies : BodiesHave journal (disk_of state.journal) (λ bodies. bodies ≡ bodies_of (commands_in state.books))
@@ -46,6 +47,7 @@ pub record IsOfficeOf {D W : Type 0} {g : Ghosts D} {w : WatcherGhosts W} (journ
   pub recovered : state.recovered.value ≡ state.books
   pub begun : state.begun.value ≡ disk
   pub watched : state.watchers ≡ watchers
+  pub outlet : state.outlet.ring ≡ ring
 
 -- a journal's records make no office, for a cause
 pub record HasNoOffice {D : Type 0} {g : Ghosts D} (journal : Journal D g) (disk : D) (cause : StartCause) : Type 0 where

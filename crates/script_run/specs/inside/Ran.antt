@@ -1,7 +1,8 @@
 -- How a run ends by what was told of its lines
-use Rattle.std.specs.Prelude.{◌≡◌, ◌⊎◌, ℕ, ◌≤◌, Option, true, false, List, codes, Result, Ok, Err}
+use Rattle.std.specs.Prelude.{◌≡◌, ◌⊎◌, ℕ, ◌≤◌, ◌++◌, Option, true, false, List, codes, Result, Ok, Err}
 use Rattle.outside_io.specs.Faults.{Rose}
-use Rattle.outside_io.specs.Streams.{AppendsPart}
+use Rattle.std.specs.List.{AllByRecursion}
+use Rattle.outside_io.specs.Streams.{AppendsPart, TakenPiece}
 use Rattle.policy_types.specs.declared.watcher.NoMemory.{NoMemory as Lack}
 use Rattle.policy_types.specs.declared.watcher.Report.{Report}
 use Rattle.lane_runner.specs.declared.transcript.TranscriptLine.{TranscriptLine}
@@ -26,10 +27,16 @@ EndsTold lines reports output NoRoom =
     ⊎ ((any_faulted lines ≡ false) × (any_lacked lines ≡ true) × WroteAll output (run_text lines reports))
 EndsTold lines reports output _ = ⊥
 
--- an output since a first moment, up to where its count of faults and its bytes are these
-abbrev pub output_until : Stream → ℕ → Option (List ℕ) → Stream
-output_until first faults after =
-    record { faults_before = first.faults_before; faults_after = faults; before = first.before; after = after }
+-- an output since a first moment, up to where its count of faults, its bytes and its pieces are these
+abbrev pub output_until : Stream → ℕ → Option (List ℕ) → List TakenPiece → Stream
+output_until first faults after pieces =
+    record first { faults_after = faults; after = after; pieces_after = pieces }
+
+-- pieces were handed on, each by this moment
+pub record AddsBy (before now : List TakenPiece) (since : ℕ) : Type 0 where
+  pub run : List TakenPiece
+  pub added : now ≡ run ++ before
+  pub all : AllByRecursion (λ (piece : TakenPiece). piece.since ≡ since) run
 
 -- since a first moment of the output the text of the answered lines was written, or a front of it
 abbrev pub IsWritten : Stream → ℕ → Option (List ℕ) → Result Ran Lack → Type 0

@@ -7,9 +7,10 @@ use Rattle.policy_types.specs.declared.command.Command.{Command}
 use Rattle.policy_types.specs.declared.entry.Entry.{Entry}
 use Rattle.policy_types.specs.Limits.{most_commands}
 use Rattle.policy_types.specs.Valid.{IsValid}
+use Rattle.moment_ring.specs.Ends.{SameOutlet}
 use Rattle.watcher_set.specs.declared.watching.Watching.{Ghosts as WatcherGhosts}
 use Rattle.office_state.specs.Standing.{StandsFor}
-use Rattle.office_state.specs.States.{auditors_of, begun_of, disk_of, opening_of}
+use Rattle.office_state.specs.States.{auditors_of, begun_of, disk_of, opening_of, outlet_of}
 use Rattle.shared_office.specs.Offices.{IsOfficeHistory, OfficeOpening}
 use Rattle.shared_office.specs.declared.state.SharedState.{SharedState}
 
@@ -21,13 +22,15 @@ module _ {D W : Type 0} {g : Ghosts D} {w : WatcherGhosts W} where
     begun = begun_of shared.state;
     held = disk_of shared.opened.value;
     watchers = shared.handed.value;
+    outlet = outlet_of shared.opened.value;
   }
 
-  -- The state stands for the history, and its auditors are those that were handed in. Before the first turn its disk is
-  -- the one that the office held once it was open.
+  -- The state stands for the history, its auditors are those that were handed in, and its outlet is the same end of the same
+  -- ring. Before the first turn its disk is the one that the office held once it was open.
   pub record SharedStandsFor (shared : SharedState D W g w) (history : List Entry) : Type 0 where
     pub state : StandsFor shared.state history
     pub handed : auditors_of shared.state ≡ w.handed shared.handed.value
+    pub outlet : SameOutlet (outlet_of shared.opened.value) (outlet_of shared.state)
     pub untouched : history ≡ [] → disk_of shared.state ≡ disk_of shared.opened.value
 
   -- a history for which it stands is one of the office

@@ -14,8 +14,8 @@ loop-line-init g c = record {
   facts = c.requires.facts;
 }
 
-pub answer_line-answered-requires-clause-left : goal.answer_line-answered-requires-clause-left
-answer_line-answered-requires-clause-left g c κs within =
+pub answer_line-told-requires-clause-left : goal.answer_line-told-requires-clause-left
+answer_line-told-requires-clause-left g c κs within =
     next_left c.args.asked.now c.loop-line.line-index _ c.loop-line.pass.left _ c.args.pass.now.left c.loop-line-test.true c.requires.left
     c.loop-line.invariant.answered.grows.left c.loop-line.invariant.answered.few
 
@@ -25,11 +25,11 @@ hand_over-requires-clause-room g c = omega (arith, c.requires.room, c.loop-line.
 pub hand_over-requires-clause-follows : goal.hand_over-requires-clause-follows
 hand_over-requires-clause-follows g c =
     may_follow c.args.basis.now c.args.number (take (c.loop-line.line-index + 1) c.args.asked.now) _ c.args.pass.now c.loop-line.pass
-    c.answer_line-answered.new.pass (sent c.loop-line.outlet.ring) c.answer_line-answered.result.told c.answer_line-answered.ensures.facts
+    c.answer_line-told.new.pass (sent c.loop-line.outlet.ring) c.answer_line-told.result c.answer_line-told.ensures.facts
     (answered_next c.args.basis.now c.args.number c.args.asked.now c.loop-line.line-index _ c.args.pass.now c.loop-line.pass
-    c.answer_line-answered.new.pass (sent c.loop-line.outlet.ring) (sent c.loop-line.outlet.ring ++ c.answer_line-answered.result.told ∷ [])
-    c.answer_line-answered.result.told c.loop-line-test.true refl c.loop-line.invariant.answered c.answer_line-answered.ensures.answered)
-    c.answer_line-answered.ensures.answered (search rules)
+    c.answer_line-told.new.pass (sent c.loop-line.outlet.ring) (sent c.loop-line.outlet.ring ++ c.answer_line-told.result ∷ [])
+    c.answer_line-told.result c.loop-line-test.true refl c.loop-line.invariant.answered c.answer_line-told.ensures.answered)
+    c.answer_line-told.ensures.answered (search rules)
 
 pub loop-line-preserved : goal.loop-line-preserved
 loop-line-preserved g c = record {
@@ -44,7 +44,7 @@ loop-line-preserved g c = record {
   );
   room = omega (arith, c.hand_over.ensures.room, c.loop-line.invariant.room);
   answered = answered_next c.args.basis.now c.args.number c.args.asked.now c.loop-line.line-index _ c.args.pass.now c.loop-line.pass
-      c.answer_line-answered.new.pass (sent c.loop-line.outlet.ring) (sent c.hand_over.new.outlet.ring) c.answer_line-answered.result.told
-      c.loop-line-test.true c.hand_over.ensures.sent c.loop-line.invariant.answered c.answer_line-answered.ensures.answered;
-  facts = c.answer_line-answered.ensures.facts;
+      c.answer_line-told.new.pass (sent c.loop-line.outlet.ring) (sent c.hand_over.new.outlet.ring) c.answer_line-told.result
+      c.loop-line-test.true c.hand_over.ensures.sent c.loop-line.invariant.answered c.answer_line-told.ensures.answered;
+  facts = c.answer_line-told.ensures.facts;
 }

@@ -3,7 +3,6 @@ use Rattle.std.proofs.lemmas.Int.{ints}
 use Rattle.policy_types.specs.declared.script.Line.TheVariants.{Value}
 use Rattle.lane_runner.specs.inside.Parts.{HasAnswered}
 use Rattle.lane_runner.proofs.AnswerSteps.{answered_value, valued_boxed, valued_line}
-use Rattle.lane_runner.proofs.EvidenceSteps.{valuation_may}
 use Rattle.lane_runner.proofs.answering.answer_value.Goals as goal
 
 pub returns-clause-answered : goal.returns-clause-answered
@@ -15,8 +14,3 @@ returns-clause-answered g c =
     c.boxed.result c.args.pass.now c.value-turn.new.pass
     (valued_boxed c.args.basis.now (to_z w32 (of_z w32 c.args.on)) c.args.at c.args.workers c.value-turn.result.turn c.value-turn.result.answer
     c.boxed.result c.args.pass.now c.value-turn.new.pass c.boxed.ensures c.value-turn.ensures.valued)))
-
-pub returns-clause-safe : goal.returns-clause-safe
-returns-clause-safe g c =
-    rw c.told_of.ensures (valuation_may g.D.Disk g.W.Watching c.value-turn.new.pass c.value-turn.ensures.facts c.args.lane c.value-turn.result.turn
-    _ c.boxed.result)

@@ -1,8 +1,13 @@
-use Rattle.std.proofs.Common.{List, length, ap, sym, subst, arith}
+use Rattle.std.proofs.Common.{◌≡◌, List, length, refl, ap, sym, ◌∙◌, subst, arith}
+use Rattle.rtrb.specs.Ring.{received}
+use Rattle.lane_runner.specs.Tallies.{accepted_lines}
 use Rattle.lane_runner.specs.Written.{line_texts}
 use Rattle.lane_runner.specs.declared.transcript.TranscriptLine.{TranscriptLine}
 use Rattle.lane_runner.specs.inside.Gathering.{HasPutOut}
+use Rattle.lane_runner.specs.inside.Merging.{IsMerged}
+use Rattle.lane_runner.specs.inside.Showing.{IsShowing}
 use Rattle.lane_runner.proofs.GatherSteps.{put_none}
+use Rattle.lane_runner.proofs.ShowSteps.{showing_none}
 use Rattle.lane_runner.proofs.TakeSteps.{taken_more, taken_none}
 use Rattle.lane_runner.proofs.merging.merge.Goals as goal
 
@@ -11,13 +16,18 @@ loop-init g c = record {
   taken = taken_none c.args.inlets.now;
   count = omega (arith, c.requires.count);
   merged = c.requires.merged;
-  long = ap length c.requires.none;
+  long = ap length c.requires.page.0;
   later = omega arith;
   put = subst (λ (lines : List TranscriptLine). HasPutOut (g.K.Sink.faults c.args.output.now) (g.K.Sink.faults c.args.output.now)
       (g.K.Sink.written c.args.output.now) (g.K.Sink.written c.args.output.now) (line_texts g.X.Wording.text lines) c.args.page.now.bytes.items
-      c.args.page.now.stopped) (sym c.requires.none)
+      c.args.page.now.stopped) (sym c.requires.page.0)
       (put_none (g.K.Sink.faults c.args.output.now) (g.K.Sink.written c.args.output.now) c.args.page.now.bytes.items c.args.page.now.stopped
-      c.requires.page.0 c.requires.page.1);
+      c.requires.page.1 c.requires.page.2);
+  ring = ((refl, refl, refl, refl), refl);
+  counted = ap length c.requires.none ∙ ap accepted_lines (sym c.requires.page.0);
+  shown = showing_none g.X.Wording.text (g.K.Sink.pieces c.args.output.now) c.args.page.now.latest c.args.page.now.lines
+      (received c.args.moments.now.ring) c.args.page.now.bytes.items c.args.page.now.stopped c.requires.page.0 c.requires.none c.requires.page.1
+      c.requires.page.2;
 }
 
 pub loop-preserved : goal.loop-preserved
@@ -28,7 +38,34 @@ loop-preserved g c = record {
   long = omega (arith, c.merge_next.ensures.more, c.loop.invariant.long);
   later = omega (arith, c.merge_next.ensures.later, c.loop.invariant.later);
   put = c.merge_next.ensures.put _ _ c.loop.invariant.put;
+  ring = (
+    (
+      c.merge_next.ensures.ring.0.0 ∙ c.loop.invariant.ring.0.0,
+      c.merge_next.ensures.ring.0.1 ∙ c.loop.invariant.ring.0.1,
+      c.merge_next.ensures.ring.0.2 ∙ c.loop.invariant.ring.0.2,
+      c.merge_next.ensures.ring.0.3 ∙ c.loop.invariant.ring.0.3,
+    ),
+    c.merge_next.ensures.ring.1 ∙ c.loop.invariant.ring.1,
+  );
+  counted = c.merge_next.ensures.counted;
+  shown = c.merge_next.ensures.shown _ c.loop.invariant.shown;
 }
 
-pub returns-clause-put : goal.returns-clause-put
-returns-clause-put g c = c.flush.ensures.put _ _ _ c.loop.invariant.put
+pub returns : goal.returns
+returns g c =
+    let same : c.flush.new.self.lines ≡ c.loop.page.lines = c.flush.ensures.lines in
+    record {
+      taken = c.loop.invariant.taken;
+      whole = omega (arith, c.loop.invariant.count);
+      merged = subst (IsMerged c.loop.inlets) (sym same) c.loop.invariant.merged;
+      later = omega (arith, c.flush.ensures.later, c.loop.invariant.later);
+      put = subst (λ (lines : List TranscriptLine). HasPutOut (g.K.Sink.faults c.args.output.now) (g.K.Sink.faults c.flush.new.output)
+          (g.K.Sink.written c.args.output.now) (g.K.Sink.written c.flush.new.output) (line_texts g.X.Wording.text lines) c.flush.new.self.bytes.items
+          c.flush.new.self.stopped) (sym same) (c.flush.ensures.put _ _ _ c.loop.invariant.put);
+      flushed = c.flush.ensures.empty;
+      ring = c.loop.invariant.ring;
+      counted = c.loop.invariant.counted ∙ ap accepted_lines (sym same);
+      shown = subst (λ (lines : List TranscriptLine). IsShowing g.X.Wording.text (g.K.Sink.pieces c.args.output.now) (g.K.Sink.pieces c.flush.new.output)
+          lines (received c.loop.moments.ring) c.flush.new.self.latest c.flush.new.self.bytes.items c.flush.new.self.stopped) (sym same)
+          (c.flush.ensures.shown _ _ _ _ c.loop.invariant.shown);
+    }

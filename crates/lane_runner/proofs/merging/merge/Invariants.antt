@@ -1,17 +1,24 @@
 use Rattle.std.proofs.Common.{◌≡◌, ◌+◌, ◌≤◌, length}
 use Rattle.std.specs.List.{AllZip}
+use Rattle.rtrb.specs.Ring.{SameConsumer, received}
+use Rattle.lane_runner.specs.Tallies.{accepted_lines}
 use Rattle.lane_runner.specs.Written.{line_texts}
 use Rattle.lane_runner.specs.inside.Gathering.{HasPutOut}
 use Rattle.lane_runner.specs.inside.Merging.{HasTakenLines, IsMerged, all_to_come}
+use Rattle.lane_runner.specs.inside.Showing.{IsShowing}
 use Rattle.lane_runner.proofs.merging.merge.Given as goal
 
 abbrev pub invariant-loop : goal.invariant-loop
 invariant-loop g l = record {
   taken : AllZip HasTakenLines l.initial.inlets l.inlets;
   count : all_to_come l.inlets + l.counter ≡ l.count;
-  merged : IsMerged l.inlets l.lines;
-  long : length l.lines ≡ l.counter;
+  merged : IsMerged l.inlets l.page.lines;
+  long : length l.page.lines ≡ l.counter;
   later : g.K.Sink.faults l.initial.output ≤ g.K.Sink.faults l.output;
   put : HasPutOut (g.K.Sink.faults l.initial.output) (g.K.Sink.faults l.output) (g.K.Sink.written l.initial.output) (g.K.Sink.written l.output)
-      (line_texts g.X.Wording.text l.lines) l.page.bytes.items l.page.stopped;
+      (line_texts g.X.Wording.text l.page.lines) l.page.bytes.items l.page.stopped;
+  ring : SameConsumer l.initial.moments.ring l.moments.ring;
+  counted : length (received l.moments.ring) ≡ accepted_lines l.page.lines;
+  shown : IsShowing g.X.Wording.text (g.K.Sink.pieces l.initial.output) (g.K.Sink.pieces l.output) l.page.lines (received l.moments.ring)
+      l.page.latest l.page.bytes.items l.page.stopped;
 }

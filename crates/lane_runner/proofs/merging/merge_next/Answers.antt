@@ -1,10 +1,13 @@
-use Rattle.std.proofs.Common.{◌≡◌, ℕ, List, ◌++◌, ap, sym, ◌∙◌, subst}
+use Rattle.std.proofs.Common.{List, sym, ◌∙◌, subst}
 use Rattle.std.specs.List.{slice_set}
 use Rattle.std.proofs.lemmas.Option.{slice_get-get_or}
+use Rattle.rtrb.specs.Ring.{received}
+use Rattle.lane_runner.specs.declared.transcript.TranscriptLine.{TranscriptLine}
 use Rattle.lane_runner.specs.Written.{line_texts}
 use Rattle.lane_runner.specs.inside.Gathering.{HasPutOut}
 use Rattle.lane_runner.specs.inside.Merging.{IsMerged}
-use Rattle.lane_runner.proofs.TakeSteps.{can_take, looked_is_taken, looked_merged, looked_to_come, one_fewer, one_taken, taken_merged, taken_more, texts_push}
+use Rattle.lane_runner.specs.inside.Showing.{IsShowing}
+use Rattle.lane_runner.proofs.TakeSteps.{can_take, looked_is_taken, looked_merged, looked_to_come, one_fewer, one_taken, taken_merged, taken_more}
 use Rattle.lane_runner.proofs.merging.merge_next.Goals as goal
 
 pub take-told-requires-clause-some : goal.take-told-requires-clause-some
@@ -34,19 +37,24 @@ returns-clause-fewer g c =
 
 pub returns-clause-merged : goal.returns-clause-merged
 returns-clause-merged g c =
-    subst (IsMerged (slice_set c.wait_for_next-near.new.inlets c.wait_for_next-near.result.place c.take-told.new.self)) (sym c.add.ensures)
+    subst (IsMerged (slice_set c.wait_for_next-near.new.inlets c.wait_for_next-near.result.place c.take-told.new.self)) (sym c.put.ensures.lines)
     (taken_merged c.wait_for_next-near.new.inlets c.wait_for_next-near.result _ c.take-told.new.self c.take-told.result c.wait_for_next-near.ensures.next
     (slice_get-get_or c.wait_for_next-near.new.inlets c.wait_for_next-near.result.place c.index-inlets-near.result c.wait_for_next-near.ensures.place)
     c.take-told.ensures.ring c.take-told.ensures.received c.take-told.ensures.known c.take-told.ensures.left c.take-told.ensures.follows
-    c.args.lines.now
-    (looked_merged c.args.inlets.now c.wait_for_next-near.new.inlets c.args.lines.now c.wait_for_next-near.ensures.looked c.requires.merged))
+    c.wait_for_next-near.new.page.lines
+    (subst (IsMerged c.wait_for_next-near.new.inlets) (sym c.wait_for_next-near.ensures.lines)
+    (looked_merged c.args.inlets.now c.wait_for_next-near.new.inlets c.args.page.now.lines c.wait_for_next-near.ensures.looked c.requires.merged)))
 
 pub returns-clause-put : goal.returns-clause-put
 returns-clause-put g c = λ faults first put.
-    let texts : line_texts g.X.Wording.text c.add.new.self
-    ≡ line_texts g.X.Wording.text c.args.lines.now ++ g.X.Wording.text c.take-told.result
-    = ap (line_texts g.X.Wording.text) c.add.ensures ∙ texts_push g.X.Wording.text c.args.lines.now c.take-told.result in
-    subst (λ (text : List ℕ). HasPutOut faults (g.K.Sink.faults c.put.new.output) first (g.K.Sink.written c.put.new.output) text c.put.new.self.bytes.items
-    c.put.new.self.stopped) (sym texts)
-    (c.put.ensures.put faults first (line_texts g.X.Wording.text c.args.lines.now)
-    (c.wait_for_next-near.ensures.put faults first (line_texts g.X.Wording.text c.args.lines.now) put))
+    c.put.ensures.put faults first (subst (λ (lines : List TranscriptLine). HasPutOut faults (g.K.Sink.faults c.wait_for_next-near.new.output) first
+    (g.K.Sink.written c.wait_for_next-near.new.output) (line_texts g.X.Wording.text lines) c.wait_for_next-near.new.page.bytes.items
+    c.wait_for_next-near.new.page.stopped) (sym c.wait_for_next-near.ensures.lines)
+    (c.wait_for_next-near.ensures.put faults first (line_texts g.X.Wording.text c.args.page.now.lines) put))
+
+pub returns-clause-shown : goal.returns-clause-shown
+returns-clause-shown g c = λ first is.
+    c.put.ensures.shown first (subst (λ (lines : List TranscriptLine). IsShowing g.X.Wording.text first (g.K.Sink.pieces c.wait_for_next-near.new.output)
+    lines (received c.args.moments.now.ring) c.wait_for_next-near.new.page.latest c.wait_for_next-near.new.page.bytes.items
+    c.wait_for_next-near.new.page.stopped) (sym c.wait_for_next-near.ensures.lines)
+    (c.wait_for_next-near.ensures.shown g.X.Wording.text first c.args.page.now.lines (received c.args.moments.now.ring) is))

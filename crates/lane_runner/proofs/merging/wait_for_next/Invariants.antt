@@ -1,14 +1,21 @@
-use Rattle.std.proofs.Common.{ℕ, ◌≤◌, List, Option}
+use Rattle.std.proofs.Common.{◌≡◌, ℕ, ◌≤◌, List, Option}
 use Rattle.std.specs.List.{AllZip}
+use Rattle.outside_io.specs.Streams.{TakenPiece}
+use Rattle.lane_runner.specs.declared.transcript.TranscriptLine.{TranscriptLine}
 use Rattle.lane_runner.specs.inside.Gathering.{HasPutOut}
 use Rattle.lane_runner.specs.inside.Merging.{HasLooked}
+use Rattle.lane_runner.specs.inside.Showing.{IsShowing}
 use Rattle.lane_runner.proofs.merging.wait_for_next.Given as goal
 
 abbrev pub invariant-loop : goal.invariant-loop
 invariant-loop g l = record {
   looked : AllZip HasLooked l.initial.inlets l.inlets;
+  lines : l.page.lines ≡ l.initial.page.lines;
   later : g.K.Sink.faults l.initial.output ≤ g.K.Sink.faults l.output;
   put : (faults : ℕ) (first : Option (List ℕ)) (text : List ℕ)
       → HasPutOut faults (g.K.Sink.faults l.initial.output) first (g.K.Sink.written l.initial.output) text l.initial.page.bytes.items l.initial.page.stopped
       → HasPutOut faults (g.K.Sink.faults l.output) first (g.K.Sink.written l.output) text l.page.bytes.items l.page.stopped;
+  shown : (text : TranscriptLine → List ℕ) (first : List TakenPiece) (lines : List TranscriptLine) (moments : List ℕ)
+      → IsShowing text first (g.K.Sink.pieces l.initial.output) lines moments l.initial.page.latest l.initial.page.bytes.items l.initial.page.stopped
+      → IsShowing text first (g.K.Sink.pieces l.output) lines moments l.page.latest l.page.bytes.items l.page.stopped;
 }

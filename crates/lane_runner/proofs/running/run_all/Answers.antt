@@ -14,9 +14,9 @@ for_each_mut-requires-clause-accepts g c κs within = λ i p below here. (
   search rules,
   (
     (
-      (let long = zip_length (IsReadySeat c.args.office.now) c.args.lanes.now c.args.seats.now c.requires.ready in omega (arith, below, long)),
-      λ lane at. subst (IsReadySeat c.args.office.now lane) (sym here)
-          (zip_at (IsReadySeat c.args.office.now) c.args.lanes.now c.args.seats.now i lane p.now c.requires.ready at),
+      (let long = zip_length (IsReadySeat c.args.run.now.office.now) c.args.run.now.lanes.now c.args.seats.now c.requires.ready in omega (arith, below, long)),
+      λ lane at. subst (IsReadySeat c.args.run.now.office.now lane) (sym here)
+          (zip_at (IsReadySeat c.args.run.now.office.now) c.args.run.now.lanes.now c.args.seats.now i lane p.now c.requires.ready at),
     ),
     search rules,
   ),
@@ -24,13 +24,13 @@ for_each_mut-requires-clause-accepts g c κs within = λ i p below here. (
 
 pub returns : goal.returns
 returns g c =
-    let long : length c.args.lanes.now ≡ length c.args.seats.now = zip_length (IsReadySeat c.args.office.now) c.args.lanes.now c.args.seats.now c.requires.ready in
+    let long : length c.args.run.now.lanes.now ≡ length c.args.seats.now = zip_length (IsReadySeat c.args.run.now.office.now) c.args.run.now.lanes.now c.args.seats.now c.requires.ready in
     record {
-      run = have_run c.args.basis.now c.args.lanes.now c.args.seats.now c.for_each_mut.new.s long (omega (arith, long, c.for_each_mut.auto.s))
+      run = have_run c.args.run.now.basis.now c.args.run.now.lanes.now c.args.seats.now c.for_each_mut.new.s long (omega (arith, long, c.for_each_mut.auto.s))
           (λ i lane old new at_lane at_old at_new.
           let changes = c.for_each_mut.ensures i old (got c.args.seats.now i old old at_old).1 in
-          subst (λ (o : _). HasRunIn c.args.basis.now lane o new) (changes.1.argument_is ∙ (got c.args.seats.now i old old at_old).0)
-          (subst (λ (n : _). HasRunIn c.args.basis.now lane changes.1.argument.now n) (changes.1.left ∙ (got c.for_each_mut.new.s i new old at_new).0)
+          subst (λ (o : _). HasRunIn c.args.run.now.basis.now lane o new) (changes.1.argument_is ∙ (got c.args.seats.now i old old at_old).0)
+          (subst (λ (n : _). HasRunIn c.args.run.now.basis.now lane changes.1.argument.now n) (changes.1.left ∙ (got c.for_each_mut.new.s i new old at_new).0)
           (changes.1.call lane at_lane)));
     }
 

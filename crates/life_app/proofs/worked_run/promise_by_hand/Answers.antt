@@ -1,4 +1,4 @@
-use Rattle.life_app.proofs.WorkedRun.Promise.{given_by_hand, headline_by_hand, obeyed_by_hand, promised_by_hand}
+use Rattle.life_app.proofs.WorkedRun.Promise.{given_by_hand, headline_by_hand, obeyed_by_hand, promised_by_hand, told_once_safe}
 use Rattle.life_app.proofs.worked_run.promise_by_hand.Goals as goal
 
 pub returns-clause-given : goal.returns-clause-given
@@ -12,3 +12,6 @@ returns-clause-headline c = headline_by_hand
 
 pub returns-clause-promised : goal.returns-clause-promised
 returns-clause-promised c = promised_by_hand
+
+pub returns-clause-safe : goal.returns-clause-safe
+returns-clause-safe c = told_once_safe

@@ -1,7 +1,7 @@
 use Rattle.std.proofs.Common.{◌≡◌, List, [], length, Some, ap, refl}
 use Rattle.outside_io.specs.FileCalls.{FileCall, file_reads, AreAllowed}
 use Rattle.outside_io.specs.Shelves.{Files, Agrees}
-use Rattle.outside_io.specs.Streams.{StreamPiece, passed_bytes, HasEnd}
+use Rattle.outside_io.specs.Streams.{StreamPiece, passed_bytes, pieces_by, HasEnd}
 use Rattle.outside_io.specs.FileLaws.{left_only_now}
 use Rattle.life_app.proofs.BooksSteps.{reasoned}
 use Rattle.life_cli.specs.Shipped.{two_disks}
@@ -11,43 +11,44 @@ use Rattle.life_cli.proofs.shipped.run_shipped.Goals as goal
 
 pub returns-clause-obeys : goal.returns-clause-obeys
 returns-clause-obeys g c =
-    let input = c.new-input.result in
-    let output = c.new-output.result in
-    let shelf = c.new-shelf.result in
+    let input = c.args.devices.input in
+    let output = c.args.devices.output in
+    let shelf = c.args.devices.shelf in
     let input' = c.obey-status.new.input in
     let output' = c.obey-status.new.output in
     let shelf' = c.obey-status.new.shelf in
-    let gave = ap (λ (pieces : List StreamPiece). passed_bytes pieces) c.new-input.ensures.given in
-    let disk = c.at-disk.result in
-    let second = c.at-second.result in
+    let gave = ap (λ (pieces : List StreamPiece). passed_bytes pieces) c.requires.input.1 in
+    let disk = c.args.devices.disk in
+    let second = c.args.devices.second in
     let disks = two_disks disk c.obey-status.result.disk second c.obey-status.result.second in
-    let took = ap (λ (pieces : List StreamPiece). Some (passed_bytes pieces)) c.new-output.ensures.taken in
+    let took = ap (λ (pieces : List StreamPiece). Some (passed_bytes pieces)) c.requires.output.1 in
+    let none : pieces_by output.taken output.by ≡ [] = ap (λ (pieces : List StreamPiece). pieces_by pieces output.by) c.requires.output.1 in
     let obeys =
     obeys_from_start _ _ _ _ _ _ _ _ input.faults input'.faults output.faults output'.faults shelf.faults shelf'.faults
-    (passed_bytes input.given) (passed_bytes input'.given) (HasEnd input'.given) (Some (passed_bytes output.taken)) (Some (passed_bytes output'.taken))
+    (passed_bytes input.given) (passed_bytes input'.given) (HasEnd input'.given) (Some (passed_bytes output.taken)) (Some (passed_bytes output'.taken)) (pieces_by output.taken output.by) (pieces_by output'.taken output'.by)
     (λ files. Agrees shelf'.answers files)
-    c.new-input.ensures.faults gave c.new-output.ensures.faults took c.new-shelf.ensures.faults
+    c.requires.input.0 gave c.requires.output.0 took none c.requires.shelf.0
     (
     kept_still _ _ disks _ _ _ _ _ (input' ≡ input) (shelf' ≡ shelf) (passed_bytes input'.given ≡ []) ((files : Files) → Agrees shelf'.answers files)
-    (λ stays. cc (gave)) (λ stays. agrees_with_all shelf'.answers (cc (c.new-shelf.ensures.answers))) _ c.obey-status.ensures.obeys
+    (λ stays. cc (gave)) (λ stays. agrees_with_all shelf'.answers (cc (c.requires.shelf.1))) _ c.obey-status.ensures.obeys
     ) in
     record {
       old = disk;
       second = second;
       found = record {
-        faultless = c.at-disk.ensures.faults;
-        first = ap (λ (calls : List FileCall). length calls) c.at-disk.ensures.calls;
-        reads = ap (λ (calls : List FileCall). file_reads g.F.FoundFile.bytes g.F.FoundFile.torn calls) c.at-disk.ensures.calls;
+        faultless = c.requires.disk.0;
+        first = ap (λ (calls : List FileCall). length calls) c.requires.disk.1;
+        reads = ap (λ (calls : List FileCall). file_reads g.F.FoundFile.bytes g.F.FoundFile.torn calls) c.requires.disk.1;
       };
       second_found = record {
-        faultless = c.at-second.ensures.faults;
-        first = ap (λ (calls : List FileCall). length calls) c.at-second.ensures.calls;
-        reads = ap (λ (calls : List FileCall). file_reads g.C.FoundFile.bytes g.C.FoundFile.torn calls) c.at-second.ensures.calls;
+        faultless = c.requires.second.0;
+        first = ap (λ (calls : List FileCall). length calls) c.requires.second.1;
+        reads = ap (λ (calls : List FileCall). file_reads g.C.FoundFile.bytes g.C.FoundFile.torn calls) c.requires.second.1;
       };
       obeys = obeys;
       reason = λ both. reasoned _ _ disks _ _ _ _ _ _ _ _ obeys both;
-      due = due_from_start _ _ disks _ _ output.faults output'.faults (Some (passed_bytes output.taken)) (Some (passed_bytes output'.taken))
-          c.new-output.ensures.faults took c.obey-status.ensures.due;
+      due = due_from_start _ _ disks _ _ output.faults output'.faults (Some (passed_bytes output.taken)) (Some (passed_bytes output'.taken)) (pieces_by output.taken output.by) (pieces_by output'.taken output'.by)
+          c.requires.output.0 took none c.obey-status.ensures.due;
     }
 
 pub returns-clause-promised : goal.returns-clause-promised
@@ -59,10 +60,10 @@ returns-clause-promised g c = λ name script lanes basis run whole reads given.
 
 pub returns-clause-ends : goal.returns-clause-ends
 returns-clause-ends g c =
-    let input = c.new-input.result in
-    let output = c.new-output.result in
-    let shelf = c.new-shelf.result in
-    let disk = c.at-disk.result in
+    let input = c.args.devices.input in
+    let output = c.args.devices.output in
+    let shelf = c.args.devices.shelf in
+    let disk = c.args.devices.disk in
     let input' = c.obey-status.new.input in
     let output' = c.obey-status.new.output in
     let shelf' = c.obey-status.new.shelf in
@@ -70,11 +71,12 @@ returns-clause-ends g c =
     let found = g.F.FoundFile.bytes in
     let torn = g.F.FoundFile.torn in
     ends_from_start _ _ input.faults input'.faults output.faults output'.faults shelf.faults shelf'.faults disk.file.faults disk'.file.faults
-    (passed_bytes input.given) (passed_bytes input'.given) (HasEnd input'.given) (Some (passed_bytes output.taken)) (Some (passed_bytes output'.taken))
+    (passed_bytes input.given) (passed_bytes input'.given) (HasEnd input'.given) (Some (passed_bytes output.taken)) (Some (passed_bytes output'.taken)) (pieces_by output.taken output.by) (pieces_by output'.taken output'.by)
     (λ files. Agrees shelf'.answers files) (AreAllowed found torn disk'.file.calls) (file_reads found torn disk.file.calls) found (file_reads found torn disk'.file.calls)
-    c.new-input.ensures.faults (ap (λ (pieces : List StreamPiece). passed_bytes pieces) c.new-input.ensures.given) c.new-output.ensures.faults
-    (ap (λ (pieces : List StreamPiece). Some (passed_bytes pieces)) c.new-output.ensures.taken) c.new-shelf.ensures.faults c.at-disk.ensures.faults
-    (ap (λ (calls : List FileCall). file_reads found torn calls) c.at-disk.ensures.calls) c.obey-status.ensures.ends
+    c.requires.input.0 (ap (λ (pieces : List StreamPiece). passed_bytes pieces) c.requires.input.1) c.requires.output.0
+    (ap (λ (pieces : List StreamPiece). Some (passed_bytes pieces)) c.requires.output.1)
+    (ap (λ (pieces : List StreamPiece). pieces_by pieces output.by) c.requires.output.1) c.requires.shelf.0 c.requires.disk.0
+    (ap (λ (calls : List FileCall). file_reads found torn calls) c.requires.disk.1) c.obey-status.ensures.ends
 
 pub returns-clause-names : goal.returns-clause-names
 returns-clause-names g c = (c.obey-status.result.disk.named _ refl, c.obey-status.result.second.named _ refl)

@@ -9,20 +9,20 @@ use Rattle.script_run.proofs.running.write_reports.Goals as goal
 pub returns-in_default-clause-ends : goal.returns-in_default-clause-ends
 returns-in_default-clause-ends g c = λ first passed whole.
     reports_short c.args.lines.now c.args.reports.now first (g.K.Sink.faults c.args.output.now) (g.K.Sink.faults c.args.output.now)
-    (g.K.Sink.written c.args.output.now) (g.K.Sink.written c.args.output.now) whole c.in_default.ensures.some
+    (g.K.Sink.written c.args.output.now) (g.K.Sink.written c.args.output.now) (g.K.Sink.pieces c.args.output.now) whole c.in_default.ensures.some
 
-pub returns-in-Ok-write_all-clause-ends : goal.returns-in-Ok-write_all-clause-ends
-returns-in-Ok-write_all-clause-ends g c = λ first passed whole.
-    ends_as_told c.args.lines.now c.args.reports.now (output_until first (g.K.Sink.faults c.write_all.new.sink) (g.K.Sink.written c.write_all.new.sink))
+pub returns-in-Ok-write_all_since-clause-ends : goal.returns-in-Ok-write_all_since-clause-ends
+returns-in-Ok-write_all_since-clause-ends g c = λ first passed whole.
+    ends_as_told c.args.lines.now c.args.reports.now (output_until first (g.K.Sink.faults c.write_all_since.new.sink) (g.K.Sink.written c.write_all_since.new.sink) (g.K.Sink.pieces c.write_all_since.new.sink))
     c.ending_of.result c.ending_of.ensures
-    (reports_whole c.args.lines.now c.args.reports.now first (g.K.Sink.faults c.args.output.now) (g.K.Sink.faults c.write_all.new.sink)
-    (g.K.Sink.written c.args.output.now) (g.K.Sink.written c.write_all.new.sink) whole
-    (subst (Appends (g.K.Sink.written c.args.output.now) (g.K.Sink.written c.write_all.new.sink)) (c.as_slice.ensures.value ∙ c.in-Ok.ensures.text)
-    c.in-Ok-write_all.ensures.whole))
+    (reports_whole c.args.lines.now c.args.reports.now first (g.K.Sink.faults c.args.output.now) (g.K.Sink.faults c.write_all_since.new.sink)
+    (g.K.Sink.written c.args.output.now) (g.K.Sink.written c.write_all_since.new.sink) (g.K.Sink.pieces c.write_all_since.new.sink) whole
+    (subst (Appends (g.K.Sink.written c.args.output.now) (g.K.Sink.written c.write_all_since.new.sink)) (c.as_slice.ensures.value ∙ c.in-Ok.ensures.text)
+    c.in-Ok-write_all_since.ensures.whole))
 
 pub returns-clause-ends : goal.returns-clause-ends
 returns-clause-ends g c = λ first passed whole.
-    reports_failed c.args.lines.now c.args.reports.now first (g.K.Sink.faults c.args.output.now) (g.K.Sink.faults c.write_all.new.sink)
-    (g.K.Sink.written c.args.output.now) (g.K.Sink.written c.write_all.new.sink) passed c.in-Err.ensures.cause.failed whole
-    (subst (AppendsPart (g.K.Sink.written c.args.output.now) (g.K.Sink.written c.write_all.new.sink)) (c.as_slice.ensures.value ∙ c.in-Ok.ensures.text)
+    reports_failed c.args.lines.now c.args.reports.now first (g.K.Sink.faults c.args.output.now) (g.K.Sink.faults c.write_all_since.new.sink)
+    (g.K.Sink.written c.args.output.now) (g.K.Sink.written c.write_all_since.new.sink) (g.K.Sink.pieces c.write_all_since.new.sink) passed c.in-Err.ensures.cause.failed whole
+    (subst (AppendsPart (g.K.Sink.written c.args.output.now) (g.K.Sink.written c.write_all_since.new.sink)) (c.as_slice.ensures.value ∙ c.in-Ok.ensures.text)
     c.in-Err.ensures.part)

@@ -35,3 +35,6 @@ returns-clause-row c = inr (
 
 pub returns-clause-failed : goal.returns-clause-failed
 returns-clause-failed c = ((lit≤ tt, inl refl), (λ h. let no : 1 ≤ 0 = h.0 in omega arith))
+
+pub returns-clause-shown : goal.returns-clause-shown
+returns-clause-shown c = (tt, (λ is. is), (λ is. is), refl)

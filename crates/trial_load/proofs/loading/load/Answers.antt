@@ -19,7 +19,7 @@ load_office-requires-clause-lanes g c κs within =
 
 pub returns-in-Ok-begin-clause-ends : goal.returns-in-Ok-begin-clause-ends
 returns-in-Ok-begin-clause-ends g c =
-    let out : Stream = between g.K.Sink.faults g.K.Sink.written c.begin.new.output c.load_office.new.output in
+    let out : Stream = between g.K.Sink.faults g.K.Sink.written g.K.Sink.pieces c.begin.new.output c.load_office.new.output in
     let begun = c.in-Ok-begin.ensures.begun in
     inl (record {
       basis = c.in-Ok-begin.begun.basis;
@@ -35,7 +35,7 @@ returns-clause-ends g c =
     let disk = c.in-Err.finished.disk in
     let ending = c.in-Err.finished.ending in
     let shelf : Shelving = shelf_between g.H.Shelf.faults g.H.Shelf.agrees c.args.shelf.now c.begin.new.shelf in
-    let out : Stream = between g.K.Sink.faults g.K.Sink.written c.args.output.now c.begin.new.output in
+    let out : Stream = between g.K.Sink.faults g.K.Sink.written g.K.Sink.pieces c.args.output.now c.begin.new.output in
     let lanes = generated_lanes c.args.seed c.args.lanes c.args.count in
     ends_not_begun g.D.Disk c.args.disk disk (λ basis. EndsLoading g.D.Disk c.args.disk disk lanes c.args.workers basis out ending) (codes "basis.csv") shelf out ending
     (λ basis why. ends_unbegun g.D.Disk c.args.disk disk lanes c.args.workers basis out why.cause ending why.refused why.says)

@@ -13,7 +13,7 @@ write_loaded-ending-requires g c =
 
 pub returns : goal.returns
 returns g c =
-    let out : Stream = between g.K.Sink.faults g.K.Sink.written c.args.output.now c.write_loaded-ending.new.output in
+    let out : Stream = between g.K.Sink.faults g.K.Sink.written g.K.Sink.pieces c.args.output.now c.write_loaded-ending.new.output in
     record {
       ends = λ old watchers started.
           ends_loaded g.D.Disk g.W.Watching old c.close-disk-2.result.0 c.args.lanes.now c.args.workers c.value-valued.result.turn c.args.basis.now watchers

@@ -1,6 +1,7 @@
-use Rattle.std.proofs.Common.{Some, refl, rules}
+use Rattle.std.proofs.Common.{Some, refl, sym, ◌∙◌, rules}
 use Rattle.lane_runner.specs.declared.wording.Unwritten.TheVariants.{WriteFault}
 use Rattle.lane_runner.proofs.GatherSteps.{put_lost, put_through}
+use Rattle.lane_runner.proofs.ShowSteps.{showing_lost, showing_past, showing_through}
 use Rattle.lane_runner.proofs.page.Page.pass_on.Goals as goal
 
 pub returns-in-Ok-clause-put : goal.returns-in-Ok-clause-put
@@ -9,6 +10,23 @@ returns-in-Ok-clause-put g c = λ faults first text put.
 
 pub returns-in-Err-clause-put : goal.returns-in-Err-clause-put
 returns-in-Err-clause-put g c = λ faults first text put.
-    put_lost faults (g.K.Sink.faults c.args.output.now) (g.K.Sink.faults c.write_all.new.sink) first (g.K.Sink.written c.args.output.now)
-    (g.K.Sink.written c.write_all.new.sink) text c.args.words.now c.args.self.now.bytes.items c.args.self.now.stopped (Some WriteFault)
+    put_lost faults (g.K.Sink.faults c.args.output.now) (g.K.Sink.faults c.write_all_since.new.sink) first (g.K.Sink.written c.args.output.now)
+    (g.K.Sink.written c.write_all_since.new.sink) text c.args.words.now c.args.self.now.bytes.items c.args.self.now.stopped (Some WriteFault)
     (search rules) (search rules) refl (search rules) (search rules) put
+
+pub returns-then-is_some-clause-shown : goal.returns-then-is_some-clause-shown
+returns-then-is_some-clause-shown g c = λ text first lines moments told words_are enough is.
+    showing_past text first (g.K.Sink.pieces c.args.output.now) lines moments c.args.self.now.latest c.args.self.now.bytes.items
+    c.args.self.now.bytes.items c.args.self.now.stopped told (sym c.is_some.ensures ∙ c.if-is_some.true) enough is
+
+pub returns-in-Ok-clause-shown : goal.returns-in-Ok-clause-shown
+returns-in-Ok-clause-shown g c = λ text first lines moments told words_are enough is.
+    showing_through text first (g.K.Sink.pieces c.args.output.now) (g.K.Sink.pieces c.write_all_since.new.sink) lines moments c.args.self.now.latest
+    c.args.words.now c.args.self.now.bytes.items c.args.self.now.stopped told (search rules) (search rules) words_are enough is c.in-Ok.field-0
+    c.in-Ok.ensures.pieces
+
+pub returns-in-Err-clause-shown : goal.returns-in-Err-clause-shown
+returns-in-Err-clause-shown g c = λ text first lines moments told words_are enough is.
+    showing_lost text first (g.K.Sink.pieces c.args.output.now) (g.K.Sink.pieces c.write_all_since.new.sink) lines moments c.args.self.now.latest
+    c.args.words.now c.args.self.now.bytes.items c.args.self.now.stopped told (search rules) (search rules) words_are enough is (Some WriteFault) WriteFault
+    c.in-Err.field-0 c.in-Err.ensures.pieces refl

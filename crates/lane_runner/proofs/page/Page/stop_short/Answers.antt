@@ -1,6 +1,8 @@
-use Rattle.std.proofs.Common.{Some, refl}
+use Rattle.std.proofs.Common.{Some, refl, ap}
+use Rattle.std.specs.Option.{is_some}
 use Rattle.lane_runner.specs.declared.wording.Unwritten.TheVariants.{NoMemory}
 use Rattle.lane_runner.proofs.GatherSteps.{put_held, put_short}
+use Rattle.lane_runner.proofs.ShowSteps.{showing_lacking, showing_past}
 use Rattle.lane_runner.proofs.page.Page.stop_short.Goals as goal
 
 pub returns-in-None-clause-put : goal.returns-in-None-clause-put
@@ -11,3 +13,14 @@ returns-in-None-clause-put g c = λ faults first text more some put.
 pub returns-in-Some-clause-put : goal.returns-in-Some-clause-put
 returns-in-Some-clause-put g c = λ faults first text more some put.
     put_held faults _ first _ text more _ _ _ c.in-Some.is (c.flush.ensures.put faults first text put)
+
+pub returns-in-None-clause-shown : goal.returns-in-None-clause-shown
+returns-in-None-clause-shown g c = λ text first lines moments told some enough is.
+    showing_lacking text first (g.K.Sink.pieces c.flush.new.output) lines moments c.flush.new.self.latest c.flush.new.self.bytes.items
+    c.flush.new.self.bytes.items c.flush.new.self.stopped (Some NoMemory) NoMemory told c.in-None.is refl some enough
+    (c.flush.ensures.shown text first lines moments is)
+
+pub returns-in-Some-clause-shown : goal.returns-in-Some-clause-shown
+returns-in-Some-clause-shown g c = λ text first lines moments told some enough is.
+    showing_past text first (g.K.Sink.pieces c.flush.new.output) lines moments c.flush.new.self.latest c.flush.new.self.bytes.items
+    c.flush.new.self.bytes.items c.flush.new.self.stopped told (ap is_some c.in-Some.is) enough (c.flush.ensures.shown text first lines moments is)

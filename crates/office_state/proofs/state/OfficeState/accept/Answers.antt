@@ -1,4 +1,4 @@
-use Rattle.std.proofs.Common.{◌≡◌, ℕ, List, refl, ap, sym, ◌∙◌, subst, Ok, length}
+use Rattle.std.proofs.Common.{◌≡◌, ℕ, List, refl, ap, sym, ◌∙◌, subst, Ok, length, rules}
 use Rattle.policy_types.specs.declared.entry.Entry.{Entry}
 use Rattle.policy_types.specs.declared.entry.Reply.TheVariants.{Refused}
 use Rattle.policy_types.specs.declared.refusal.Refusal.TheVariants.{Full}
@@ -8,6 +8,9 @@ use Rattle.office_state.specs.Standing.{StandsFor}
 use Rattle.office_state.specs.States.{commands_of, opening_of}
 use Rattle.office_state.proofs.HistorySteps.{few_accepted, is_full, next_position, posting}
 use Rattle.office_state.proofs.PostedPins.{posted_floor, posted_pins}
+use Rattle.posting_journal.specs.States.{disk_of}
+use Rattle.moment_ring.specs.Ends.{TellsOne}
+use Rattle.office_state.proofs.SafeSteps.{outlet_itself}
 use Rattle.office_state.proofs.TurnSteps.{crash_accepted, crash_faulted, stands_accepted, stands_faulted, stands_still}
 use Rattle.office_state.proofs.state.OfficeState.accept.Goals as goal
 
@@ -17,11 +20,11 @@ returns-then-count-eq-MOST_COMMANDS-clause-stands g c = λ (history : List Entry
     let command = c.args.command.now in
     let decided = subst (λ cs. judged_after cs command ≡ Ok c.args.after) stands.listed c.requires.accepted in
     let full = sym (ap length stands.listed) ∙ sym c.count.ensures ∙ c.if-count-eq-MOST_COMMANDS.true in
-    stands_still old history stands old.books old.counted (posting caller command (Refused Full)) refl refl refl
+    stands_still old history stands old.books _ (posting caller command (Refused Full)) refl refl refl
     (is_full (commands_after (opening_of old) history) command c.args.after decided full)
     old.pins (stands.pins ∙ posted_pins history caller command (Refused Full) refl)
     (stands.floor ∙ posted_floor history caller command (Refused Full) refl)
-    old.watchers (λ before heard told. told)
+    old.watchers (λ before heard told. told) old.outlet (outlet_itself old.outlet.ring) refl
 
 pub note-requires-clause-next : goal.note-requires-clause-next
 note-requires-clause-next g c =
@@ -37,10 +40,12 @@ note-requires-clause-next g c =
 
 pub returns-in-Ok-clause-stands : goal.returns-in-Ok-clause-stands
 returns-in-Ok-clause-stands g c = λ (history : List Entry) (caller : ℕ) (stands : StandsFor c.args.self.now history).
+    let told : TellsOne c.args.self.now.outlet.ring c.tell.new.self.ring (g.D.Disk.clock (disk_of c.record.new.journal)) = search (rules) in
     stands_accepted c.args.self.now history stands c.args.command.now c.args.after c.record.new.journal c.record.result c.requires.valid
     c.requires.accepted c.record.ensures.disk.honesty (rw c.encode.ensures at c.record.ensures.records) c.keep.new.self _ c.count-position.result c.in-Ok.field-0
     c.keep.ensures.floor c.in-Ok.ensures.disk.quiet c.keep.ensures.commands (λ full. c.if-count-eq-MOST_COMMANDS.false (c.count.ensures ∙ full)) c.in-Ok.is c.count-position.ensures
-    c.note.new.self c.note.ensures.told g.met.D.Disk.only_now caller
+    c.note.new.self c.note.ensures.told c.tell.new.self
+    told g.met.D.Disk.only_now caller
 
 pub returns-in-Ok-clause-crash : goal.returns-in-Ok-clause-crash
 returns-in-Ok-clause-crash g c = λ (history : List Entry) (stands : StandsFor c.args.self.now history).

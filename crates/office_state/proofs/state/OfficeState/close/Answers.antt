@@ -1,7 +1,9 @@
 use Rattle.std.proofs.Common.{List, sym, subst}
+use Rattle.std.specs.Prelude.{IfSome}
 use Rattle.policy_types.specs.declared.entry.Entry.{Entry}
 use Rattle.policy_machine.specs.History.{accepted_of}
-use Rattle.office_state.specs.Images.{IsLeftBy}
+use Rattle.rtrb.specs.Ring.{sent}
+use Rattle.office_state.specs.Images.{AreSafeSince, IsLeftBy}
 use Rattle.office_state.specs.Standing.{StandsFor}
 use Rattle.office_state.specs.States.{begun_of, opening_of}
 use Rattle.office_state.proofs.LeavingSteps.{left_by}
@@ -11,6 +13,11 @@ pub returns-clause-left : goal.returns-clause-left
 returns-clause-left g c = λ (history : List Entry) (stands : StandsFor c.args.self history).
     subst (λ disk. IsLeftBy g.D.Disk (begun_of c.args.self) disk (opening_of c.args.self) history) (sym c.release.ensures)
     (left_by c.args.self history stands)
+
+pub returns-clause-safe : goal.returns-clause-safe
+returns-clause-safe g c = λ (history : List Entry) (stands : StandsFor c.args.self history).
+    subst (λ disk. g.D.Disk.honest disk → IfSome c.args.self.outlet.ring
+    (λ ring. AreSafeSince g.D.Disk disk (opening_of c.args.self).commands (accepted_of history) (sent ring))) (sym c.release.ensures) stands.safe
 
 pub returns-clause-reports : goal.returns-clause-reports
 returns-clause-reports g c = λ (history : List Entry) (stands : StandsFor c.args.self history).

@@ -15,22 +15,26 @@ returns-then-is_err-clause-stands g c = λ (history : List Entry) (caller : ℕ)
     old.pins (stands.pins ∙ posted_pins history caller c.args.command.now Blank refl)
     (c.take_memory.ensures.floor ∙ stands.floor ∙ posted_floor history caller c.args.command.now Blank refl)
     c.take_memory.new.watchers c.take_memory.ensures.told
+    c.take_memory.new.outlet c.take_memory.ensures.outlet c.take_memory.ensures.untold
 
 pub decide_ready-requires-clause-stands : goal.decide_ready-requires-clause-stands
 decide_ready-requires-clause-stands g c = (
   c.requires.stands.0,
   stands_with c.args.self.now c.requires.stands.0 c.requires.stands.1 c.take_memory.new.books _ c.take_memory.ensures.commands
-      c.take_memory.ensures.floor c.take_memory.new.watchers c.take_memory.ensures.told,
+      c.take_memory.ensures.floor c.take_memory.new.watchers c.take_memory.ensures.told
+      c.take_memory.new.outlet c.take_memory.ensures.outlet c.take_memory.ensures.untold,
 )
 
 pub returns-clause-stands : goal.returns-clause-stands
 returns-clause-stands g c = λ (history : List Entry) (caller : ℕ) (stands : StandsFor c.args.self.now history).
     c.decide_ready.ensures.stands history caller
     (stands_with c.args.self.now history stands c.take_memory.new.books _ c.take_memory.ensures.commands
-    c.take_memory.ensures.floor c.take_memory.new.watchers c.take_memory.ensures.told)
+    c.take_memory.ensures.floor c.take_memory.new.watchers c.take_memory.ensures.told
+    c.take_memory.new.outlet c.take_memory.ensures.outlet c.take_memory.ensures.untold)
 
 pub returns-clause-crash : goal.returns-clause-crash
 returns-clause-crash g c = λ (history : List Entry) (stands : StandsFor c.args.self.now history).
     c.decide_ready.ensures.crash history
     (stands_with c.args.self.now history stands c.take_memory.new.books _ c.take_memory.ensures.commands
-    c.take_memory.ensures.floor c.take_memory.new.watchers c.take_memory.ensures.told)
+    c.take_memory.ensures.floor c.take_memory.new.watchers c.take_memory.ensures.told
+    c.take_memory.new.outlet c.take_memory.ensures.outlet c.take_memory.ensures.untold)

@@ -8,6 +8,7 @@ use Rattle.office_state.specs.States.{opening_of}
 use Rattle.office_state.specs.inside.Books.{commands_in}
 use Rattle.office_state.proofs.HistorySteps.{is_refused, posting}
 use Rattle.office_state.proofs.PostedPins.{posted_floor, posted_pins}
+use Rattle.office_state.proofs.SafeSteps.{outlet_itself}
 use Rattle.office_state.proofs.TurnSteps.{stands_still}
 use Rattle.office_state.proofs.state.OfficeState.decide_ready.Goals as goal
 
@@ -22,4 +23,4 @@ returns-in-Err-clause-stands g c = λ (history : List Entry) (caller : ℕ) (sta
     (is_refused (commands_after (opening_of old) history) command c.in-Err.refusal decided)
     old.pins (stands.pins ∙ posted_pins history caller command (Refused c.in-Err.refusal) refl)
     (stands.floor ∙ posted_floor history caller command (Refused c.in-Err.refusal) refl)
-    old.watchers (λ before heard told. told)
+    old.watchers (λ before heard told. told) old.outlet (outlet_itself old.outlet.ring) refl

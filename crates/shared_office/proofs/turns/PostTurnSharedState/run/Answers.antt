@@ -1,4 +1,15 @@
+use Rattle.std.proofs.Common.{ap, ◌∙◌}
+use Rattle.office_state.specs.States.{Opened}
+use Rattle.shared_office.proofs.Turned.{outlet_on, turned}
 use Rattle.shared_office.proofs.turns.PostTurnSharedState.run.Goals as goal
 
-pub post-answer-requires-clause-stands : goal.post-answer-requires-clause-stands
-post-answer-requires-clause-stands g c = (c.requires.lent.0, c.requires.lent.3.stood.state)
+pub post-requires-clause-stands : goal.post-requires-clause-stands
+post-requires-clause-stands g c = (c.requires.lent.0, c.requires.lent.3.stood.state)
+
+pub returns-clause-stood : goal.returns-clause-stood
+returns-clause-stood g c = λ history seen made lent. record {
+  state = c.post.ensures.stands history lent.stood.state;
+  handed = ap (λ (opened : Opened g.row.D.Denot). opened.auditors) c.post.ensures.opened ∙ lent.stood.handed;
+  outlet = outlet_on _ _ _ lent.stood.outlet c.post.ensures.outlet;
+  untouched = λ none. turned history _ none;
+}

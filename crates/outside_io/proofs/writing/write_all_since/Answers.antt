@@ -1,8 +1,9 @@
 -- After one more piece the sink took the front that is longer by it.
 use Rattle.std.proofs.Common.{arith, ◌∙◌}
 use Rattle.std.proofs.lemmas.List.{take_rest}
+use Rattle.outside_io.proofs.PieceSteps.{adds_one, none_added}
 use Rattle.outside_io.proofs.StreamLemmas.{appends_more}
-use Rattle.outside_io.proofs.writing.write_all.Goals as goal
+use Rattle.outside_io.proofs.writing.write_all_since.Goals as goal
 
 pub loop-taken-preserved : goal.loop-taken-preserved
 loop-taken-preserved g c =
@@ -10,8 +11,10 @@ loop-taken-preserved g c =
     let taken = c.loop-taken.taken in
     record {
       within = omega (arith, c.in-Ok.ensures.bound);
-      later = omega (arith, c.in-Ok.ensures.cause.later);
+      held = c.in-Ok.ensures.held ∙ c.loop-taken.invariant.held;
       written = appends_more _ (g.K.Sink.written c.loop-taken.sink) _ bytes taken c.in-Ok.n
           c.loop-taken.invariant.written (rw (take_rest bytes taken) at c.in-Ok.ensures.bytes);
       tells = c.in-Ok.ensures.tells ∙ c.loop-taken.invariant.tells;
+      pieces = adds_one _ (g.K.Sink.pieces c.loop-taken.sink) _ _ bytes taken c.in-Ok.n
+          c.loop-taken.invariant.pieces (rw (take_rest bytes taken) at c.in-Ok.ensures.piece);
     }

@@ -1,0 +1,73 @@
+"""Each accepted line is read at the other end of a pipe behind the sync that makes its record safe, and before the next
+record is safe: the program is run with each sync held back, and the moments at which its lines are read are put between
+those of its syncs.
+
+usage: python3 as_soon.py PROGRAM FOLDER [--held-back]
+
+The program is first run so, and then behind a command that holds back what it writes, which has to be found; with
+--held-back only this is done.
+"""
+import re
+import subprocess
+import sys
+import time
+from pathlib import Path
+
+POSTINGS = 6
+HELD_MS = 50
+SCRIPT = "".join(f"1,issue,{7001 + k},2020-01-01,whole,40,0,1000.00,{20 + k}.00\n" for k in range(POSTINGS))
+# a record is two syncs: of its body, and of its gate
+SYNCS = 2
+
+
+def watch(program: str, folder: Path, behind: list[str]) -> tuple[list[float], list[float]]:
+    """When each accepted line was read, and when each sync of the journal's records began."""
+    script, log = folder / "script.csv", folder / "calls"
+    script.write_text(SCRIPT)
+    traced = ["strace", "-f", "-ttt", "-o", str(log), "-e", "trace=fsync,fdatasync",
+              "-e", f"inject=fsync,fdatasync:delay_exit={HELD_MS * 1000}", program, "run"]
+    with open(script, "rb") as given:
+        run = subprocess.Popen(traced, stdin=given, stdout=subprocess.PIPE, cwd=folder)
+        last = subprocess.Popen(behind, stdin=run.stdout, stdout=subprocess.PIPE) if behind else run
+        assert last.stdout is not None
+        read = [time.time() for line in iter(last.stdout.readline, b"") if b",accepted," in line]
+        if last.wait() or run.wait():
+            sys.exit("as_soon: the program failed under strace")
+    began = [float(found[1]) for found in re.finditer(r"^\d+ +(\d+\.\d+) f(?:data)?sync\(", log.read_text(), re.M)]
+    return read, began[-SYNCS * POSTINGS:]
+
+
+def amiss(read: list[float], began: list[float]) -> list[str]:
+    """What is wrong with the moments at which the lines were read."""
+    if len(read) != POSTINGS or len(began) != SYNCS * POSTINGS:
+        return [f"{len(read)} accepted lines and {len(began)} syncs of {POSTINGS} postings"]
+    told = []
+    for k, moment in enumerate(read):
+        safe = began[SYNCS * k + 1] + HELD_MS / 1000
+        if moment < safe:
+            told.append(f"line {k + 1} was read {(safe - moment) * 1000:.0f} ms before its record was safe")
+        # the sync of the next record's gate begins once that of its body has returned
+        if k + 1 < POSTINGS and moment > began[SYNCS * (k + 1) + 1]:
+            told.append(f"line {k + 1} was read {(moment - began[SYNCS * (k + 1) + 1]) * 1000:.0f} ms after the next body was safe")
+    return told
+
+
+def main() -> int:
+    program, folder = sys.argv[1], Path(sys.argv[2])
+    failed = False
+    if "--held-back" not in sys.argv:
+        plain = folder / "plain"
+        plain.mkdir()
+        for line in amiss(*watch(program, plain, [])):
+            print(f"as_soon: {line}", file=sys.stderr)
+            failed = True
+    held = folder / "held"
+    held.mkdir()
+    if not amiss(*watch(program, held, ["dd", "bs=8192", "iflag=fullblock", "status=none"])):
+        print("as_soon: a command that holds back what is written isn't found", file=sys.stderr)
+        failed = True
+    return int(failed)
+
+
+if __name__ == "__main__":
+    sys.exit(main())

@@ -1,0 +1,7 @@
+use Rattle.std.proofs.Common.{◌≡◌, take}
+use Rattle.std.specs.List.{count_by}
+use Rattle.lane_runner.specs.Lanes.{is_posting}
+use Rattle.lane_runner.proofs.postings.count_in.Given as goal
+
+abbrev pub invariant-loop-line : goal.invariant-loop-line
+invariant-loop-line l = l.count ≡ count_by is_posting (take l.line-index l.lines)

@@ -1,0 +1,57 @@
+// The devices of the program, made of what the system gives.
+ghost use Rattle.std.specs.Prelude.{◌≡◌, []};
+
+use crate::named_files::{CheckpointOf, JournalOf};
+use outside_io::{FileDisk, FolderShelf, FoundFile, StdSink, StdSource};
+use std::io::{Stdin, Stdout};
+
+/// The file in which the policies are kept, in the folder in which the program runs.
+const JOURNAL: &str = "journal.life";
+
+/// The file in which the books are kept, at some position of the journal.
+const CHECKPOINT: &str = "checkpoint.life";
+
+/// Standard input.
+pub type Input = StdSource<Stdin>;
+
+/// The disk of the journal's file, which was found so.
+pub type JournalDisk<F> = FileDisk<HostRuntime, JournalOf<F>>;
+
+/// Standard output, beside that disk.
+pub type OutputOf<F> = StdSink<Stdout, JournalDisk<F>>;
+
+/// The disk of the checkpoint's file, which was found so.
+pub type CheckpointDisk<C> = FileDisk<HostRuntime, CheckpointOf<C>>;
+
+/// The folder in which the program runs.
+pub type Folder = FolderShelf<HostRuntime>;
+
+/// All devices of a run.
+pub struct Devices<F: FoundFile, C: FoundFile> {
+    pub input: Input,
+    pub output: OutputOf<F>,
+    pub shelf: Folder,
+    pub disk: JournalDisk<F>,
+    pub second: CheckpointDisk<C>,
+}
+
+/// The devices of the system, through which nothing has passed. The two files are found so.
+pub fn devices_of<F: FoundFile, C: FoundFile>(
+    system: HostRuntime,
+    found: F,
+    kept: C,
+) -> Devices<F, C>
+    ensures input { (result.input.faults ≡ 0) × (result.input.given ≡ []) }
+    ensures output { (result.output.faults ≡ 0) × (result.output.taken ≡ []) }
+    ensures shelf { (result.shelf.faults ≡ 0) × (result.shelf.answers ≡ []) }
+    ensures disk { (result.disk.file.faults ≡ 0) × (result.disk.file.calls ≡ []) }
+    ensures second { (result.second.file.faults ≡ 0) × (result.second.file.calls ≡ []) }
+{
+    Devices {
+        input: StdSource::new(system.stdin()),
+        output: StdSink::new(system.stdout()),
+        shelf: FolderShelf::new(system),
+        disk: FileDisk::at(system, JOURNAL, JournalOf { found }),
+        second: FileDisk::at(system, CHECKPOINT, CheckpointOf { found: kept }),
+    }
+}

@@ -1,0 +1,68 @@
+// Moments of a disk's time, which only the disk tells.
+ghost use Rattle.std.specs.Prelude.{◌≡◌, max};
+
+use crate::Disk;
+use std::marker::Model;
+use std::snapshot::Snapshot;
+
+// The disk as it stood at a moment; or before all of its moments; or at the later of two.
+#[derive(Drop)]
+enum Passed<D: Disk> {
+    Start,
+    At {
+        disk: Snapshot<D>,
+    },
+    Later {
+        one: Snapshot<Passed<D>>,
+        other: Snapshot<Passed<D>>,
+    },
+}
+
+/// A moment of the disk's time. It is the beginning of all time, or the disk told it. It has no number when the program runs.
+#[derive(Drop)]
+pub struct Moment<D: Disk> {
+    passed: Passed<D>,
+}
+
+impl<D: Disk> Model for Moment<D> {
+    ghost use Rattle.std.specs.Prelude.{ℕ};
+    ghost use Rattle.outside_io.specs.inside.Passing.{latest};
+
+    ghost Value = { ℕ };
+
+    ghost view = { λ moment. latest D.Disk moment.passed };
+}
+
+impl<D: Disk> Moment<D> {
+    /// The beginning of all time.
+    pub fn start() -> Moment<D>
+        ensures { result ≡ 0 }
+    {
+        Moment {
+            passed: Passed::Start,
+        }
+    }
+
+    /// The disk's moment now.
+    pub fn of(disk: &D) -> Moment<D>
+        ensures { result ≡ D.clock disk.now }
+    {
+        Moment {
+            passed: Passed::At {
+                disk: Snapshot::of(disk),
+            },
+        }
+    }
+
+    /// The later of the two.
+    pub fn later(&self, other: &Moment<D>) -> Moment<D>
+        ensures { result ≡ max self.now other.now }
+    {
+        Moment {
+            passed: Passed::Later {
+                one: Snapshot::of(&self.passed),
+                other: Snapshot::of(&other.passed),
+            },
+        }
+    }
+}

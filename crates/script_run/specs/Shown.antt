@@ -1,0 +1,28 @@
+-- What is safe of a run by the time that a line of it is shown
+use Rattle.std.specs.Prelude.{◌≡◌, ℕ, ◌+◌, ◌<◌, List, ◌∷◌, ◌++◌, length, take}
+use Rattle.std.specs.List.{flat_map}
+use Rattle.outside_io.specs.Streams.{TakenPiece, taken_bytes}
+use Rattle.outside_io.specs.declared.disks.Disk.{Ghosts}
+use Rattle.policy_types.specs.declared.command.Command.{Command}
+use Rattle.policy_types.specs.declared.entry.Entry.{Entry}
+use Rattle.policy_types.specs.declared.entry.Reply.{Reply}
+use Rattle.policy_types.specs.declared.entry.Reply.TheVariants.{Accepted}
+use Rattle.policy_machine.specs.History.{accepted_of}
+use Rattle.lane_runner.specs.AnsweredLines.{AnsweredLine}
+
+abbrev pub IsAcceptedReply : Reply → Type 0
+IsAcceptedReply (Accepted position) = Unit {0}
+IsAcceptedReply _ = ⊥
+
+-- Told once safe. Of the pieces that the output took, newest first, each that reaches past where the text of an accepted line
+-- begins was handed on at a moment of the disk since which whatever a crash leaves opens to the commands from before, those
+-- that were accepted up to that line's turn, and perhaps more.
+abbrev pub AreSafeWhenShown : {D : Type 0} → Ghosts D → (List ℕ → List Command → Type 0) → D → List Command → List Entry
+    → List AnsweredLine → List (List ℕ) → List TakenPiece → Type 0
+AreSafeWhenShown g Opens new commands history lines texts pieces =
+    (later earlier : List TakenPiece) (piece : TakenPiece) → pieces ≡ later ++ piece ∷ earlier
+    → (before after : List AnsweredLine) (line : AnsweredLine) → lines ≡ before ++ line ∷ after
+    → IsAcceptedReply line.first.1.reply
+    → length (flat_map (λ (text : List ℕ). text) (take (length before) texts)) < length (taken_bytes (piece ∷ earlier))
+    → (image : List ℕ) → g.left_since new piece.since image
+    → (more : List Command) × Opens image (commands ++ accepted_of (take (line.first.0 + 1) history) ++ more)

@@ -1,0 +1,232 @@
+-- The accepted lines that are told of a run are the accepted commands of its history, in order
+use Rattle.std.proofs.Common.{◌≡◌, ℕ, zero, suc, ◌+◌, ◌<◌, Bool, true, false, cond, List, [], ◌∷◌, ◌++◌, length, map, take, Some, refl, ap, sym, ◌∙◌, subst, inl, inr, arith}
+use Rattle.std.specs.Prelude.{slice_get}
+use Rattle.std.specs.List.{AllZip, cons_option, count_by, enumerate_from}
+use Rattle.std.proofs.lemmas.Bool.{cond-false, cond-true, false≢true}
+use Rattle.std.proofs.lemmas.List.{take_at}
+use Rattle.std.proofs.lemmas.List.Elements.{filter_map-append}
+use Rattle.std.proofs.lemmas.List.Sums.{sum_by-cons}
+use Rattle.basis_book.specs.Dated.{Dated}
+use Rattle.policy_types.specs.Lanes.{AreRising}
+use Rattle.policy_types.specs.declared.command.Command.{Command}
+use Rattle.policy_types.specs.declared.entry.Call.{Call}
+use Rattle.policy_types.specs.declared.entry.Call.TheVariants.{Post as PostCall, Pin, PinAt, Read, Unpin, Trim as TrimCall}
+use Rattle.policy_types.specs.declared.entry.Entry.{Entry}
+use Rattle.policy_types.specs.declared.entry.Reply.{Reply}
+use Rattle.policy_types.specs.declared.entry.Reply.TheVariants.{Accepted, Refused, Faulted, Pinned, PinRefused, Slice, Unpinned, Floor, Blank}
+use Rattle.policy_types.specs.declared.script.Line.{Line}
+use Rattle.policy_types.specs.declared.script.Line.TheVariants.{Post, Value, Trim}
+use Rattle.policy_machine.specs.History.{accepted_by, accepted_of}
+use Rattle.office_state.specs.declared.answer.Answer.TheVariants.{Accepted as AnAccepted, Refused as ARefused, DiskFault, NoMemory}
+use Rattle.lane_runner.specs.Tallies.{accepted_lines, tells_accepted}
+use Rattle.lane_runner.specs.Transcripts.{IsOutcome}
+use Rattle.lane_runner.specs.declared.transcript.TranscriptLine.{TranscriptLine}
+use Rattle.lane_runner.specs.declared.transcript.Outcome.{Outcome}
+use Rattle.lane_runner.specs.declared.transcript.Outcome.TheVariants.{Posted, Trimmed, Valued, ValueRefused, ValueNoMemory}
+use Rattle.program_endings.proofs.ListSteps.{Has, front_back}
+use Rattle.transcript_text.proofs.PlaceSteps.{above, counted, counted_to, places, places_rise, rest_rises, rises, rising_alike}
+
+-- whether a turn was an accepted posting
+abbrev pub is_acceptance : Call → Reply → Bool
+is_acceptance (PostCall command) (Accepted position) = true
+is_acceptance _ _ = false
+
+abbrev pub accepts : Entry → Bool
+accepts entry = is_acceptance entry.call entry.reply
+
+one_more : (call : Call) (reply : Reply) (commands : List Command) → length (cons_option (accepted_by call reply) commands) ≡ cond (is_acceptance call reply) 1 0 + length commands
+one_more (PostCall command) (Accepted position) commands = omega arith
+one_more (PostCall command) (Refused refusal) commands = omega arith
+one_more (PostCall command) (Faulted count) commands = omega arith
+one_more (PostCall command) (Pinned position policies) commands = omega arith
+one_more (PostCall command) (PinRefused refusal) commands = omega arith
+one_more (PostCall command) (Slice policies) commands = omega arith
+one_more (PostCall command) Unpinned commands = omega arith
+one_more (PostCall command) (Floor floor) commands = omega arith
+one_more (PostCall command) Blank commands = omega arith
+one_more Pin reply commands = omega arith
+one_more (PinAt p) reply commands = omega arith
+one_more (Read pin first) reply commands = omega arith
+one_more (Unpin pin) reply commands = omega arith
+one_more TrimCall reply commands = omega arith
+
+pub accepted_counted : (history : List Entry) → length (accepted_of history) ≡ count_by accepts history
+accepted_counted [] = refl
+accepted_counted (entry ∷ history) =
+    let first = one_more entry.call entry.reply (accepted_of history) in
+    let rest = accepted_counted history in
+    let whole = sum_by-cons (λ (e : Entry). cond (accepts e) 1 0) entry history in
+    omega (arith, first, rest, whole)
+
+-- what is told of a posting tells its reply
+pub accepted_told : (command : Command) (reply : Reply) (outcome : Outcome) (commands : List Command) (basis : List Dated)
+    → IsOutcome commands basis (Post command) reply outcome → is_acceptance (PostCall command) reply ≡ tells_accepted outcome
+accepted_told command reply (Posted (AnAccepted position)) commands basis told = ap (is_acceptance (PostCall command)) told
+accepted_told command reply (Posted (ARefused refusal)) commands basis told = ap (is_acceptance (PostCall command)) told
+accepted_told command reply (Posted (DiskFault count)) commands basis told = ap (is_acceptance (PostCall command)) told
+accepted_told command reply (Posted NoMemory) commands basis told = ap (is_acceptance (PostCall command)) told
+accepted_told command reply (Trimmed floor) commands basis told = absurd told
+accepted_told command reply (Valued valuation) commands basis told = absurd told
+accepted_told command reply (ValueRefused refusal) commands basis told = absurd told
+accepted_told command reply ValueNoMemory commands basis told = absurd told
+
+-- no other line is told to be accepted
+pub posting_told : (line : Line) (reply : Reply) (outcome : Outcome) (commands : List Command) (basis : List Dated)
+    → IsOutcome commands basis line reply outcome → tells_accepted outcome ≡ true → (command : Command) × (line ≡ Post command)
+posting_told (Post command) reply outcome commands basis told accepted = (command, refl)
+posting_told Trim reply (Posted answer) commands basis told accepted = absurd told
+posting_told (Value on at workers) reply (Posted answer) commands basis told accepted = absurd told
+posting_told line reply (Trimmed floor) commands basis told accepted = absurd (false≢true accepted)
+posting_told line reply (Valued valuation) commands basis told accepted = absurd (false≢true accepted)
+posting_told line reply (ValueRefused refusal) commands basis told accepted = absurd (false≢true accepted)
+posting_told line reply ValueNoMemory commands basis told accepted = absurd (false≢true accepted)
+
+-- an accepted posting posts
+pub posts_accepted : (call : Call) (reply : Reply) → is_acceptance call reply ≡ true → (command : Command) × (call ≡ PostCall command)
+posts_accepted (PostCall command) reply accepted = (command, refl)
+posts_accepted Pin reply accepted = absurd (false≢true accepted)
+posts_accepted (PinAt p) reply accepted = absurd (false≢true accepted)
+posts_accepted (Read pin first) reply accepted = absurd (false≢true accepted)
+posts_accepted (Unpin pin) reply accepted = absurd (false≢true accepted)
+posts_accepted TrimCall reply accepted = absurd (false≢true accepted)
+
+-- an element beside its place
+pub enumerated : {A : Type 0} (n : ℕ) (xs : List A) (k : ℕ) (x : A) → slice_get xs k ≡ Some x → Has (enumerate_from n xs) (n + k, x)
+enumerated n [] k x there = cc
+enumerated n (y ∷ ys) zero x there = inl (let same : y ≡ x = cc in let place : n ≡ n + 0 = omega arith in λ i. (place i, same i))
+enumerated {A} n (y ∷ ys) (suc k) x there =
+    let place : (n + 1) + k ≡ n + suc k = omega arith in
+    inr (subst (λ (m : ℕ). Has (enumerate_from (n + 1) ys) (m, x)) place (enumerated (n + 1) ys k x there))
+
+-- the turns of the lines that are told to be accepted
+abbrev pub accepted_turns : List TranscriptLine → List ℕ
+accepted_turns [] = []
+accepted_turns (line ∷ lines) = cond (tells_accepted line.outcome) (line.turn ∷ accepted_turns lines) (accepted_turns lines)
+
+with_one : (line : TranscriptLine) (lines : List TranscriptLine) → tells_accepted line.outcome ≡ true
+    → accepted_turns (line ∷ lines) ≡ line.turn ∷ accepted_turns lines
+with_one line lines is = cond-true (tells_accepted line.outcome) (line.turn ∷ accepted_turns lines) (accepted_turns lines) is
+
+without : (line : TranscriptLine) (lines : List TranscriptLine) → tells_accepted line.outcome ≡ false
+    → accepted_turns (line ∷ lines) ≡ accepted_turns lines
+without line lines is = cond-false (tells_accepted line.outcome) (line.turn ∷ accepted_turns lines) (accepted_turns lines) is
+
+-- whether a line is told to be accepted, and then what follows of the lines with it
+by_telling : {P : Type 0} (line : TranscriptLine) → (tells_accepted line.outcome ≡ true → P) → (tells_accepted line.outcome ≡ false → P) → P
+by_telling {P} line yes no = by (tells_accepted line.outcome) refl
+  where
+    by : (b : Bool) → tells_accepted line.outcome ≡ b → P
+    by true is = yes is
+    by false is = no is
+
+split_turns : (before after : List TranscriptLine) (line : TranscriptLine) → tells_accepted line.outcome ≡ true
+    → accepted_turns (before ++ line ∷ after) ≡ accepted_turns before ++ line.turn ∷ accepted_turns after
+split_turns [] after line is = with_one line after is
+split_turns (one ∷ before) after line is =
+    let rest = split_turns before after line is in
+    by_telling one
+    (λ yes. with_one one (before ++ line ∷ after) yes ∙ ap (λ (ns : List ℕ). one.turn ∷ ns) rest
+    ∙ ap (λ (ns : List ℕ). ns ++ line.turn ∷ accepted_turns after) (sym (with_one one before yes)))
+    (λ no. without one (before ++ line ∷ after) no ∙ rest
+    ∙ ap (λ (ns : List ℕ). ns ++ line.turn ∷ accepted_turns after) (sym (without one before no)))
+
+pub many_turns : (lines : List TranscriptLine) → length (accepted_turns lines) ≡ accepted_lines lines
+many_turns [] = refl
+many_turns (line ∷ lines) =
+    let rest = many_turns lines in
+    let whole = sum_by-cons (λ (one : TranscriptLine). cond (tells_accepted one.outcome) 1 0) line lines in
+    by_telling line
+    (λ yes. let worth = ap {B = ℕ} (λ (b : Bool). cond b 1 0) yes in let long = ap length (with_one line lines yes) in omega (arith, rest, whole, worth, long))
+    (λ no. let worth = ap {B = ℕ} (λ (b : Bool). cond b 1 0) no in let long = ap length (without line lines no) in omega (arith, rest, whole, worth, long))
+
+pub of_turns : (lines : List TranscriptLine) (n : ℕ) → Has (accepted_turns lines) n
+    → (line : TranscriptLine) × Has lines line × (line.turn ≡ n) × (tells_accepted line.outcome ≡ true)
+of_turns [] n has = absurd has
+of_turns (line ∷ lines) n has = by_telling line
+    (λ yes. first yes (subst (λ (ns : List ℕ). Has ns n) (with_one line lines yes) has) (λ there. of_turns lines n there))
+    (λ no. later (of_turns lines n (subst (λ (ns : List ℕ). Has ns n) (without line lines no) has)))
+  where
+    later : ((one : TranscriptLine) × Has lines one × (one.turn ≡ n) × (tells_accepted one.outcome ≡ true))
+        → (one : TranscriptLine) × Has (line ∷ lines) one × (one.turn ≡ n) × (tells_accepted one.outcome ≡ true)
+    later found = (found.0, inr found.1, found.2, found.3)
+
+    first : tells_accepted line.outcome ≡ true → Has (line.turn ∷ accepted_turns lines) n
+        → (Has (accepted_turns lines) n → (one : TranscriptLine) × Has lines one × (one.turn ≡ n) × (tells_accepted one.outcome ≡ true))
+        → (one : TranscriptLine) × Has (line ∷ lines) one × (one.turn ≡ n) × (tells_accepted one.outcome ≡ true)
+    first yes (inl same) rest = (line, inl refl, same, yes)
+    first yes (inr there) rest = later (rest there)
+
+pub has_turns : (lines : List TranscriptLine) (line : TranscriptLine) → Has lines line → tells_accepted line.outcome ≡ true
+    → Has (accepted_turns lines) line.turn
+has_turns [] line has is = absurd has
+has_turns (one ∷ lines) line (inl same) is =
+    subst (λ (ns : List ℕ). Has ns line.turn) (sym (with_one one lines (ap (λ (l : TranscriptLine). tells_accepted l.outcome) same ∙ is)))
+    (inl (ap (λ (l : TranscriptLine). l.turn) same))
+has_turns (one ∷ lines) line (inr later) is =
+    let rest = has_turns lines line later is in
+    by_telling one
+    (λ yes. subst (λ (ns : List ℕ). Has ns line.turn) (sym (with_one one lines yes)) (inr rest))
+    (λ no. subst (λ (ns : List ℕ). Has ns line.turn) (sym (without one lines no)) rest)
+
+among : (lines : List TranscriptLine) (n : ℕ) → Has (accepted_turns lines) n → Has (map (λ (line : TranscriptLine). line.turn) lines) n
+among [] n has = absurd has
+among (line ∷ lines) n has = by_telling line
+    (λ yes. first (subst (λ (ns : List ℕ). Has ns n) (with_one line lines yes) has) (λ there. among lines n there))
+    (λ no. inr (among lines n (subst (λ (ns : List ℕ). Has ns n) (without line lines no) has)))
+  where
+    first : Has (line.turn ∷ accepted_turns lines) n
+        → (Has (accepted_turns lines) n → Has (map (λ (one : TranscriptLine). one.turn) lines) n)
+        → Has (map (λ (one : TranscriptLine). one.turn) (line ∷ lines)) n
+    first (inl same) rest = inl same
+    first (inr there) rest = inr (rest there)
+
+pub turns_rise : (lines : List TranscriptLine) → AreRising (map (λ (line : TranscriptLine). line.turn) lines) → AreRising (accepted_turns lines)
+turns_rise [] rising = tt
+turns_rise (line ∷ lines) rising =
+    let behind = map (λ (one : TranscriptLine). one.turn) lines in
+    let rest = turns_rise lines (rest_rises line.turn behind rising) in
+    by_telling line
+    (λ yes. subst AreRising (sym (with_one line lines yes))
+    (rises line.turn (accepted_turns lines) rest (λ m has. above line.turn behind rising m (among lines m has))))
+    (λ no. subst AreRising (sym (without line lines no)) rest)
+
+-- a front of the turns has a front of the accepted commands
+front_of : (history : List Entry) (m : ℕ) → accepted_of (take m history) ≡ take (length (accepted_of (take m history))) (accepted_of history)
+front_of history m =
+    let parts = front_back m history in
+    let front = accepted_of (take m history) in
+    let split : accepted_of history ≡ front ++ accepted_of parts.0 =
+    ap accepted_of parts.1 ∙ filter_map-append (λ (entry : Entry). accepted_by entry.call entry.reply) (take m history) parts.0 in
+    sym (ap (take (length front)) split ∙ take_at front (accepted_of parts.0) refl)
+
+-- Where the lines are told by rising turns, and tell of just the turns that were accepted postings.
+module _ (history : List Entry) (lines : List TranscriptLine) (rising : AreRising (map (λ (line : TranscriptLine). line.turn) lines))
+    (told_place : (line : TranscriptLine) → Has lines line → tells_accepted line.outcome ≡ true → Has (places accepts 0 history) line.turn)
+    (place_told : (n : ℕ) → Has (places accepts 0 history) n → Has (accepted_turns lines) n) where
+  same_places : accepted_turns lines ≡ places accepts 0 history
+  same_places =
+      rising_alike (accepted_turns lines) (places accepts 0 history) (turns_rise lines rising) (places_rise accepts 0 history)
+      (λ n has. let found = of_turns lines n has in
+      subst (λ (k : ℕ). Has (places accepts 0 history) k) found.2 (told_place found.0 found.1 found.3))
+      place_told
+
+  -- up to the turn of an accepted line one command more was accepted than in the lines before
+  pub accepted_to : (before after : List TranscriptLine) (line : TranscriptLine) → lines ≡ before ++ line ∷ after → tells_accepted line.outcome ≡ true
+      → accepted_of (take (line.turn + 1) history) ≡ take (accepted_lines before + 1) (accepted_of history)
+  accepted_to before after line split is =
+      let front = accepted_turns before in
+      let there : places accepts 0 history ≡ front ++ line.turn ∷ accepted_turns after =
+      sym same_places ∙ ap accepted_turns split ∙ split_turns before after line is in
+      let many = counted_to accepts 0 history front (accepted_turns after) line.turn there in
+      let commands = accepted_counted (take (line.turn + 1) history) in
+      let lines_before = many_turns before in
+      let long : length (accepted_of (take (line.turn + 1) history)) ≡ accepted_lines before + 1 = omega (arith, many, commands, lines_before) in
+      front_of history (line.turn + 1) ∙ ap (λ (k : ℕ). take k (accepted_of history)) long
+
+  pub accepted_in_all : accepted_lines lines ≡ length (accepted_of history)
+  accepted_in_all =
+      let long = ap length same_places in
+      let told = many_turns lines in
+      let all = counted accepts 0 history in
+      let commands = accepted_counted history in
+      omega (arith, long, told, all, commands)
