@@ -119,7 +119,7 @@ by_telling {P} line told untold = by (tells_accepted line.outcome) refl
     by true is = told is
     by false is = untold is
 
-split_turns : (before after : List TranscriptLine) (line : TranscriptLine) → tells_accepted line.outcome ≡ true
+pub split_turns : (before after : List TranscriptLine) (line : TranscriptLine) → tells_accepted line.outcome ≡ true
     → accepted_turns (before ++ line ∷ after) ≡ accepted_turns before ++ line.turn ∷ accepted_turns after
 split_turns [] after line is = with_one line after is
 split_turns (one ∷ before) after line is =
