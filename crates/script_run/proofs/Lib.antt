@@ -2,4 +2,5 @@ pub mod ScriptSteps
 pub mod RunSteps
 pub mod ScriptStatus
 pub mod RunStatus
+pub mod ShownSteps
 pub mod WrittenSteps

@@ -1,5 +1,5 @@
 -- How a run ends, by what its parts did
-use Rattle.std.proofs.Common.{◌≡◌, ℕ, Bool, true, false, List, [], ◌++◌, length, map, refl, ap, sym, ◌∙◌, subst, inl, inr, Some, Result, Ok, Err, Option}
+use Rattle.std.proofs.Common.{◌≡◌, ℕ, Bool, true, false, List, [], ◌++◌, length, map, refl, ap, sym, ◌∙◌, subst, inl, inr, codes, Some, Result, Ok, Err, Option}
 use Rattle.std.specs.Prelude.{IfOk, IfSome, OnErr, if◌then◌else◌}
 use Rattle.outside_io.specs.Faults.{Rose}
 use Rattle.std.specs.Global.{Global}
@@ -7,7 +7,7 @@ use Rattle.std.specs.List.{AllZip}
 use Rattle.rtrb.specs.Ring.{sent}
 use Rattle.rtrb.specs.declared.AnyItems.{AnyItems}
 use Rattle.rtrb.specs.declared.consumer.Consumer.{Consumer}
-use Rattle.moment_ring.specs.Ends.{ArePaired, told}
+use Rattle.moment_ring.specs.Ends.{ArePaired, SameOutlet, told}
 use Rattle.outside_io.specs.Streams.{AppendsPart, TakenPiece}
 use Rattle.outside_io.specs.declared.disks.Disk.{Ghosts}
 use Rattle.basis_book.specs.Dated.{Dated}
@@ -35,7 +35,7 @@ use Rattle.lane_runner.specs.declared.transcript.Transcript.{Transcript}
 use Rattle.program_endings.specs.declared.ending.Ending.{Ending}
 use Rattle.program_endings.specs.declared.ending.Ending.TheVariants.{Done, BadScript, BadJournal, ReadFault as InputFault, WriteFault, DiskFault, NoMemory}
 use Rattle.program_endings.specs.Replies.{AreAnswered, AreAny, HaveAFault, LackMemory}
-use Rattle.program_endings.specs.Writing.{Input, Shelving, Stream, WroteAll}
+use Rattle.program_endings.specs.Writing.{Input, Shelving, Stream, WroteAll, WroteLine}
 use Rattle.program_endings.specs.Refusals.{SaysUnopened}
 use Rattle.program_endings.proofs.FaultSteps.{rose_in}
 use Rattle.program_endings.proofs.ListSteps.{same_opened}
@@ -177,10 +177,22 @@ module _ {D W : Type 0} (g : Ghosts D) (w : WatcherGhosts W) (old disk : D) (lan
       let left = subst (IsLeftBy g old disk (opened_on started.opening.commands (g.faults old))) none (left_from is) in
       (left.alone tt, left.faults)
 
-  pub ends_ran : (ran : Result Ran Lack) (output : Stream) (ending : Ending) (mid : List TakenPiece) (moments rest : List ℕ)
-      → IfOk ran (λ (done : Ran). HasAnsweredLanes basis lanes first closing done.transcript)
-      → IfOk ran (λ (done : Ran). HasShown told_text output.pieces_before mid done.transcript.lines moments done.latest done.written)
-      → IfOk ran (λ (done : Ran). AddsBy mid output.pieces_after done.latest)
+  -- the office's outlet is the one with which it was opened
+  pub same_outlet : (ran : Result (Ran D) Lack) → IfOk ran (λ (done : Ran D). HasAnsweredLanes basis lanes first closing done.transcript)
+      → OnErr ran (closing ≡ first) → SameOutlet started.outlet outlet
+  same_outlet ran answered same =
+      let is : closing.opening ≡ Some opened = still ran answered same ∙ started.first.opened in
+      subst (λ (o : OfficeOpening D W). SameOutlet o.outlet outlet) (same_opened closed.opening opened (sym closed.opened ∙ is)) closed.same
+    where
+      still : (ran : Result (Ran D) Lack) → IfOk ran (λ (done : Ran D). HasAnsweredLanes basis lanes first closing done.transcript)
+          → OnErr ran (closing ≡ first) → closing.opening ≡ first.opening
+      still (Ok done) answered same = answered.pass.opening
+      still (Err lack) answered same = ap (λ (p : Holding (OfficeOpening D W)). p.opening) same
+
+  pub ends_ran : (ran : Result (Ran D) Lack) (output : Stream) (ending : Ending) (mid : List TakenPiece) (moments rest : List ℕ)
+      → IfOk ran (λ (done : Ran D). HasAnsweredLanes basis lanes first closing done.transcript)
+      → IfOk ran (λ (done : Ran D). HasShown told_text output.pieces_before mid done.transcript.lines moments done.latest done.written)
+      → IfOk ran (λ (done : Ran D). AddsBy mid output.pieces_after done.latest)
       → moments ++ rest ≡ told outlet → (inlet : Consumer ℕ Global AnyItems) → ArePaired outlet inlet
       → OnErr ran (closing ≡ first) → EndsRan ran reports output ending → EndsScript g old disk lanes basis auditors output ending
   ends_ran (Ok ran) output ending mid moments rest answered shown more split inlet paired same ends =
@@ -189,6 +201,11 @@ module _ {D W : Type 0} (g : Ghosts D) (w : WatcherGhosts W) (old disk : D) (lan
   ends_ran (Err lack) output NoMemory mid moments rest answered shown more split inlet paired same ends =
       let left = untouched same in inl (ends, left.0, left.1)
   ends_ran (Err lack) output _ mid moments rest answered shown more split inlet paired same ends = absurd ends
+
+-- a run for which there was no memory ends as one that read no script
+pub no_room : (input : Input) (output : Stream) (ending : Ending) → ending ≡ NoMemory → WroteLine output (codes "nomemory")
+    → EndsUnread input output ending
+no_room input output ending is says = subst (EndsUnread input output) (sym is) says
 
 -- what is known of an input that gave no script
 pub record StopsReading (input : Input) (unread : Unread) : Type 0 where

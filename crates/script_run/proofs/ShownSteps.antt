@@ -104,7 +104,8 @@ paired_on (Some p) (Some q) inlet inlet' paired same consumer =
       into.2 ∙ paired.2 ∙ sym out.2,
       into.3 ∙ paired.3 ∙ sym out.3,
     )
-paired_on _ _ inlet inlet' paired same consumer = absurd paired
+paired_on (Some p) None inlet inlet' paired same consumer = absurd same
+paired_on None other inlet inlet' paired same consumer = absurd paired
 
 -- as many moments as commands
 many_moments : {D : Type 0} (g : Ghosts D) (disk : D) (held commands : List Command) (moments : List ℕ)
@@ -175,24 +176,24 @@ all_texts text (line ∷ lines) = ap (λ (rest : List ℕ). text line ++ rest) (
 -- what is told of an accepted posting says so
 told_accepted : (line : Line) (reply : Reply) (outcome : Outcome) (commands : List Command) (basis : List Dated)
     → IsOutcome commands basis line reply outcome → IsAcceptedReply reply → tells_accepted outcome ≡ true
-told_accepted (Post command) reply (Posted (AcceptedAt position)) commands basis told is = refl
-told_accepted (Post command) reply (Posted (Refused refusal)) commands basis told is = absurd (subst IsAcceptedReply told is)
-told_accepted (Post command) reply (Posted (DiskFault count)) commands basis told is = absurd (subst IsAcceptedReply told is)
-told_accepted (Post command) reply (Posted NoMemory) commands basis told is = absurd (subst IsAcceptedReply told is)
-told_accepted Trim reply (Trimmed floor) commands basis told is = absurd (subst IsAcceptedReply told is)
-told_accepted (Value on at workers) reply (ValueRefused refusal) commands basis told is = absurd (subst IsAcceptedReply told is)
-told_accepted (Value on at workers) reply (Valued valuation) commands basis told is = absurd (subst IsAcceptedReply told.1.1.0 is)
-told_accepted (Value on at workers) reply ValueNoMemory commands basis told is = absurd (subst IsAcceptedReply told.1.1 is)
-told_accepted (Post command) reply (Trimmed floor) commands basis told is = absurd told
-told_accepted (Post command) reply (Valued valuation) commands basis told is = absurd told
-told_accepted (Post command) reply (ValueRefused refusal) commands basis told is = absurd told
-told_accepted (Post command) reply ValueNoMemory commands basis told is = absurd told
-told_accepted Trim reply (Posted answer) commands basis told is = absurd told
-told_accepted Trim reply (Valued valuation) commands basis told is = absurd told
-told_accepted Trim reply (ValueRefused refusal) commands basis told is = absurd told
-told_accepted Trim reply ValueNoMemory commands basis told is = absurd told
-told_accepted (Value on at workers) reply (Posted answer) commands basis told is = absurd told
-told_accepted (Value on at workers) reply (Trimmed floor) commands basis told is = absurd told
+told_accepted (Post command) reply (Posted (AcceptedAt position)) commands basis said is = refl
+told_accepted (Post command) reply (Posted (Refused refusal)) commands basis said is = absurd (subst IsAcceptedReply said is)
+told_accepted (Post command) reply (Posted (DiskFault count)) commands basis said is = absurd (subst IsAcceptedReply said is)
+told_accepted (Post command) reply (Posted NoMemory) commands basis said is = absurd (subst IsAcceptedReply said is)
+told_accepted Trim reply (Trimmed floor) commands basis said is = absurd (subst IsAcceptedReply said is)
+told_accepted (Value on at workers) reply (ValueRefused refusal) commands basis said is = absurd (subst IsAcceptedReply said is)
+told_accepted (Value on at workers) reply (Valued valuation) commands basis said is = absurd (subst IsAcceptedReply said.1.1 is)
+told_accepted (Value on at workers) reply ValueNoMemory commands basis said is = absurd (subst IsAcceptedReply said.1.1 is)
+told_accepted (Post command) reply (Trimmed floor) commands basis said is = absurd said
+told_accepted (Post command) reply (Valued valuation) commands basis said is = absurd said
+told_accepted (Post command) reply (ValueRefused refusal) commands basis said is = absurd said
+told_accepted (Post command) reply ValueNoMemory commands basis said is = absurd said
+told_accepted Trim reply (Posted answer) commands basis said is = absurd said
+told_accepted Trim reply (Valued valuation) commands basis said is = absurd said
+told_accepted Trim reply (ValueRefused refusal) commands basis said is = absurd said
+told_accepted Trim reply ValueNoMemory commands basis said is = absurd said
+told_accepted (Value on at workers) reply (Posted answer) commands basis said is = absurd said
+told_accepted (Value on at workers) reply (Trimmed floor) commands basis said is = absurd said
 
 -- A disk on which time goes one way, the moments since which the accepted commands of a history are safe, and the lines of which
 -- each that is accepted has one of them.
@@ -226,7 +227,7 @@ module _ {D : Type 0} (g : Ghosts D) (new : D) (opening : Opening) (history : Li
       let commands : take (accepted_lines front + 1) (accepted_of history) ≡ accepted_of (take (line.first.0 + 1) history) =
       sym (in_order front back told_line there is) ∙ ap (λ (n : ℕ). accepted_of (take (n + 1) history)) is_told.turn in
       let opens = subst (λ (cs : List Command). HoldsAtLeast (opening.commands ++ cs) image) commands holds in
-      (opens.0, subst (Opens image) (append_assoc opening.commands (accepted_of (take (line.first.0 + 1) history)) opens.0) opens.1)
+      opens
 
 -- all moments that were told were heard, where one is heard for each accepted line and told for each accepted command
 pub all_heard : {D A P : Type 0} (g : Ghosts D) (disk : D) (held commands : List Command) (outlet : Option (Producer ℕ A P))

@@ -21,21 +21,21 @@ use Rattle.transcript_text.specs.Told.{run_text, told_texts}
 use Rattle.script_run.specs.inside.Ran.{EndsTold, IsWritten, output_until}
 
 -- what was written of the lines' text, or nothing where they weren't run
-pub written_of : {K P Other : Type 0} (faults : K → ℕ) (written : K → Option (List ℕ)) (old new : K) (first closing : P) (ran : Result Ran Lack) (output : Stream)
+pub written_of : {K P D : Type 0} (Other : Type 0) (faults : K → ℕ) (written : K → Option (List ℕ)) (old new : K) (first closing : P) (ran : Result (Ran D) Lack) (output : Stream)
     → output.faults_before ≡ faults old → output.before ≡ written old → faults old ≤ faults new
-    → IfOk ran (λ (done : Ran). HasEnded (faults old) (faults new) (written old) (written new) (told_texts done.transcript.lines) done.written)
+    → IfOk ran (λ (done : Ran D). HasEnded (faults old) (faults new) (written old) (written new) (told_texts done.transcript.lines) done.written)
     → OnErr ran ((closing ≡ first) × (new ≡ old) × Other) → IsWritten output (faults new) (written new) ran
-written_of faults written old new first closing (Ok done) output count bytes passed wrote same = (
+written_of Other faults written old new first closing (Ok done) output count bytes passed wrote same = (
   subst (λ (n : ℕ). n ≤ faults new) (sym count) passed,
   subst (λ (n : ℕ). HasEnded n (faults new) output.before (written new) (told_texts done.transcript.lines) done.written) (sym count)
       (subst (λ (b : Option (List ℕ)). HasEnded (faults old) (faults new) b (written new) (told_texts done.transcript.lines) done.written) (sym bytes) wrote),
 )
-written_of faults written old new first closing (Err lack) output count bytes passed wrote same =
+written_of Other faults written old new first closing (Err lack) output count bytes passed wrote same =
     (ap faults same.1 ∙ sym count, ap written same.1 ∙ sym bytes)
 
-pub stays : (P Q : Type 0) (ran : Result Ran Lack) → OnErr ran (P × Q) → OnErr ran P
-stays P Q (Ok done) same = tt
-stays P Q (Err lack) same = same.0
+pub stays : {D : Type 0} (P Q S : Type 0) (ran : Result (Ran D) Lack) → OnErr ran (P × Q × S) → OnErr ran P
+stays P Q S (Ok done) same = tt
+stays P Q S (Err lack) same = same.0
 
 module _ (lines : List TranscriptLine) (reports : List Report) (first : Stream) (faults later : ℕ) (mid last : Option (List ℕ))
     (pieces : List TakenPiece) where

@@ -15,7 +15,7 @@ ghost use Rattle.program_endings.specs.Writing.{Stream, between, input_between, 
 ghost use Rattle.program_endings.specs.declared.ending.Ending.TheVariants.{ReadFault};
 ghost use Rattle.transcript_text.specs.Lanes.{AreScriptLanes};
 ghost use Rattle.script_run.specs.inside.Ran.{AddsBy, EndsRan, EndsTold, IsWritten, output_until};
-ghost use Rattle.script_run.specs.inside.Hearing.{StartsHeard};
+ghost use Rattle.script_run.specs.inside.Hearing.{EndsHeard, StartsHeard};
 ghost use Rattle.transcript_text.specs.Told.{told_texts};
 
 use crate::intake::read_lanes;
@@ -66,16 +66,44 @@ pub fn run<
     ensures counted { H.faults shelf.old < H.faults shelf.new → result.ending ≡ ReadFault }
     ensures files { H.files shelf.new ≡ H.files shelf.old }
 {
-    let script = match read_lanes(alloc, input) {
-        Ok(script) => script,
-        Err(unread) => {
-            return Finished {
-                ending: refuse(alloc, unread, output),
-                disk,
-            };
+    match read_lanes(alloc, input) {
+        Ok(script) => {
+            let lanes = script.as_slice();
+            run_heard(rt, alloc, name, lanes, output, shelf, disk, watchers, gate)
         }
-    };
-    let lanes = script.as_slice();
+        Err(unread) => Finished {
+            ending: refuse(alloc, unread, output),
+            disk,
+        },
+    }
+}
+
+// Makes the ring by which the writer hears since which moment each accepted line is safe, and runs the lanes.
+fn run_heard<
+    R: Threads + Wait + Sync,
+    D: Disk + Send,
+    K: Sink<Beside = D> + Send,
+    H: Shelf,
+    W: Watching + Send,
+    G: Gate + Sync,
+>(
+    rt: &R,
+    alloc: Global,
+    name: &Name,
+    lanes: &[Lane],
+    output: &mut K,
+    shelf: &mut H,
+    disk: D,
+    watchers: W,
+    gate: &G,
+) -> Finished<D>
+    requires lanes { AreScriptLanes lanes.now }
+    requires told { (before : ℕ) → W.told watchers before [] }
+    ensures ends { EndsHeard D.Disk disk result.disk lanes.now name.now (W.handed watchers) (shelf_between H.faults H.agrees shelf.old shelf.new)
+        (between K.faults K.written K.pieces output.old output.new) (shelf.new ≡ shelf.old) result.ending }
+    ensures counted { H.faults shelf.old < H.faults shelf.new → result.ending ≡ ReadFault }
+    ensures files { H.files shelf.new ≡ H.files shelf.old }
+{
     match moment_ring(alloc, count_postings(lanes)) {
         Ok(ends) => run_script(
             rt, alloc, name, lanes, ends, output, shelf, disk, watchers, gate,

@@ -113,22 +113,22 @@ without line lines is = cond-false (tells_accepted line.outcome) (line.turn ∷ 
 
 -- whether a line is told to be accepted, and then what follows of the lines with it
 by_telling : {P : Type 0} (line : TranscriptLine) → (tells_accepted line.outcome ≡ true → P) → (tells_accepted line.outcome ≡ false → P) → P
-by_telling {P} line yes no = by (tells_accepted line.outcome) refl
+by_telling {P} line told untold = by (tells_accepted line.outcome) refl
   where
     by : (b : Bool) → tells_accepted line.outcome ≡ b → P
-    by true is = yes is
-    by false is = no is
+    by true is = told is
+    by false is = untold is
 
-split_turns : (before after : List TranscriptLine) (line : TranscriptLine) → tells_accepted line.outcome ≡ true
+pub split_turns : (before after : List TranscriptLine) (line : TranscriptLine) → tells_accepted line.outcome ≡ true
     → accepted_turns (before ++ line ∷ after) ≡ accepted_turns before ++ line.turn ∷ accepted_turns after
 split_turns [] after line is = with_one line after is
 split_turns (one ∷ before) after line is =
     let rest = split_turns before after line is in
     by_telling one
-    (λ yes. with_one one (before ++ line ∷ after) yes ∙ ap (λ (ns : List ℕ). one.turn ∷ ns) rest
-    ∙ ap (λ (ns : List ℕ). ns ++ line.turn ∷ accepted_turns after) (sym (with_one one before yes)))
-    (λ no. without one (before ++ line ∷ after) no ∙ rest
-    ∙ ap (λ (ns : List ℕ). ns ++ line.turn ∷ accepted_turns after) (sym (without one before no)))
+    (λ has_told. with_one one (before ++ line ∷ after) has_told ∙ ap (λ (ns : List ℕ). one.turn ∷ ns) rest
+    ∙ ap (λ (ns : List ℕ). ns ++ line.turn ∷ accepted_turns after) (sym (with_one one before has_told)))
+    (λ untold. without one (before ++ line ∷ after) untold ∙ rest
+    ∙ ap (λ (ns : List ℕ). ns ++ line.turn ∷ accepted_turns after) (sym (without one before untold)))
 
 pub many_turns : (lines : List TranscriptLine) → length (accepted_turns lines) ≡ accepted_lines lines
 many_turns [] = refl
@@ -136,15 +136,15 @@ many_turns (line ∷ lines) =
     let rest = many_turns lines in
     let whole = sum_by-cons (λ (one : TranscriptLine). cond (tells_accepted one.outcome) 1 0) line lines in
     by_telling line
-    (λ yes. let worth = ap {B = ℕ} (λ (b : Bool). cond b 1 0) yes in let long = ap length (with_one line lines yes) in omega (arith, rest, whole, worth, long))
-    (λ no. let worth = ap {B = ℕ} (λ (b : Bool). cond b 1 0) no in let long = ap length (without line lines no) in omega (arith, rest, whole, worth, long))
+    (λ has_told. let worth = ap {B = ℕ} (λ (b : Bool). cond b 1 0) has_told in let long = ap length (with_one line lines has_told) in omega (arith, rest, whole, worth, long))
+    (λ untold. let worth = ap {B = ℕ} (λ (b : Bool). cond b 1 0) untold in let long = ap length (without line lines untold) in omega (arith, rest, whole, worth, long))
 
 pub of_turns : (lines : List TranscriptLine) (n : ℕ) → Has (accepted_turns lines) n
     → (line : TranscriptLine) × Has lines line × (line.turn ≡ n) × (tells_accepted line.outcome ≡ true)
 of_turns [] n has = absurd has
 of_turns (line ∷ lines) n has = by_telling line
-    (λ yes. first yes (subst (λ (ns : List ℕ). Has ns n) (with_one line lines yes) has) (λ there. of_turns lines n there))
-    (λ no. later (of_turns lines n (subst (λ (ns : List ℕ). Has ns n) (without line lines no) has)))
+    (λ has_told. first has_told (subst (λ (ns : List ℕ). Has ns n) (with_one line lines has_told) has) (λ there. of_turns lines n there))
+    (λ untold. later (of_turns lines n (subst (λ (ns : List ℕ). Has ns n) (without line lines untold) has)))
   where
     later : ((one : TranscriptLine) × Has lines one × (one.turn ≡ n) × (tells_accepted one.outcome ≡ true))
         → (one : TranscriptLine) × Has (line ∷ lines) one × (one.turn ≡ n) × (tells_accepted one.outcome ≡ true)
@@ -153,8 +153,8 @@ of_turns (line ∷ lines) n has = by_telling line
     first : tells_accepted line.outcome ≡ true → Has (line.turn ∷ accepted_turns lines) n
         → (Has (accepted_turns lines) n → (one : TranscriptLine) × Has lines one × (one.turn ≡ n) × (tells_accepted one.outcome ≡ true))
         → (one : TranscriptLine) × Has (line ∷ lines) one × (one.turn ≡ n) × (tells_accepted one.outcome ≡ true)
-    first yes (inl same) rest = (line, inl refl, same, yes)
-    first yes (inr there) rest = later (rest there)
+    first has_told (inl same) rest = (line, inl refl, same, has_told)
+    first has_told (inr there) rest = later (rest there)
 
 pub has_turns : (lines : List TranscriptLine) (line : TranscriptLine) → Has lines line → tells_accepted line.outcome ≡ true
     → Has (accepted_turns lines) line.turn
@@ -165,14 +165,14 @@ has_turns (one ∷ lines) line (inl same) is =
 has_turns (one ∷ lines) line (inr later) is =
     let rest = has_turns lines line later is in
     by_telling one
-    (λ yes. subst (λ (ns : List ℕ). Has ns line.turn) (sym (with_one one lines yes)) (inr rest))
-    (λ no. subst (λ (ns : List ℕ). Has ns line.turn) (sym (without one lines no)) rest)
+    (λ has_told. subst (λ (ns : List ℕ). Has ns line.turn) (sym (with_one one lines has_told)) (inr rest))
+    (λ untold. subst (λ (ns : List ℕ). Has ns line.turn) (sym (without one lines untold)) rest)
 
 among : (lines : List TranscriptLine) (n : ℕ) → Has (accepted_turns lines) n → Has (map (λ (line : TranscriptLine). line.turn) lines) n
 among [] n has = absurd has
 among (line ∷ lines) n has = by_telling line
-    (λ yes. first (subst (λ (ns : List ℕ). Has ns n) (with_one line lines yes) has) (λ there. among lines n there))
-    (λ no. inr (among lines n (subst (λ (ns : List ℕ). Has ns n) (without line lines no) has)))
+    (λ has_told. first (subst (λ (ns : List ℕ). Has ns n) (with_one line lines has_told) has) (λ there. among lines n there))
+    (λ untold. inr (among lines n (subst (λ (ns : List ℕ). Has ns n) (without line lines untold) has)))
   where
     first : Has (line.turn ∷ accepted_turns lines) n
         → (Has (accepted_turns lines) n → Has (map (λ (one : TranscriptLine). one.turn) lines) n)
@@ -186,9 +186,9 @@ turns_rise (line ∷ lines) rising =
     let behind = map (λ (one : TranscriptLine). one.turn) lines in
     let rest = turns_rise lines (rest_rises line.turn behind rising) in
     by_telling line
-    (λ yes. subst AreRising (sym (with_one line lines yes))
+    (λ has_told. subst AreRising (sym (with_one line lines has_told))
     (rises line.turn (accepted_turns lines) rest (λ m has. above line.turn behind rising m (among lines m has))))
-    (λ no. subst AreRising (sym (without line lines no)) rest)
+    (λ untold. subst AreRising (sym (without line lines untold)) rest)
 
 -- a front of the turns has a front of the accepted commands
 front_of : (history : List Entry) (m : ℕ) → accepted_of (take m history) ≡ take (length (accepted_of (take m history))) (accepted_of history)
@@ -197,7 +197,7 @@ front_of history m =
     let front = accepted_of (take m history) in
     let split : accepted_of history ≡ front ++ accepted_of parts.0 =
     ap accepted_of parts.1 ∙ filter_map-append (λ (entry : Entry). accepted_by entry.call entry.reply) (take m history) parts.0 in
-    sym (ap (take (length front)) split ∙ take_at front (accepted_of parts.0) refl)
+    sym (ap (take (length front)) split ∙ take_at front (accepted_of parts.0) (length front) refl)
 
 -- Where the lines are told by rising turns, and tell of just the turns that were accepted postings.
 module _ (history : List Entry) (lines : List TranscriptLine) (rising : AreRising (map (λ (line : TranscriptLine). line.turn) lines))
@@ -217,7 +217,9 @@ module _ (history : List Entry) (lines : List TranscriptLine) (rising : AreRisin
       let front = accepted_turns before in
       let there : places accepts 0 history ≡ front ++ line.turn ∷ accepted_turns after =
       sym same_places ∙ ap accepted_turns split ∙ split_turns before after line is in
-      let many = counted_to accepts 0 history front (accepted_turns after) line.turn there in
+      let place : line.turn ≡ 0 + line.turn = omega arith in
+      let there_from_0 = subst (λ (n : ℕ). places accepts 0 history ≡ front ++ n ∷ accepted_turns after) place there in
+      let many = counted_to accepts 0 history front (accepted_turns after) line.turn there_from_0 in
       let commands = accepted_counted (take (line.turn + 1) history) in
       let lines_before = many_turns before in
       let long : length (accepted_of (take (line.turn + 1) history)) ≡ accepted_lines before + 1 = omega (arith, many, commands, lines_before) in

@@ -39,13 +39,13 @@ pub record AddsBy (before now : List TakenPiece) (since : ℕ) : Type 0 where
   pub all : AllByRecursion (λ (piece : TakenPiece). piece.since ≡ since) run
 
 -- since a first moment of the output the text of the answered lines was written, or a front of it
-abbrev pub IsWritten : Stream → ℕ → Option (List ℕ) → Result Ran Lack → Type 0
+abbrev pub IsWritten : {D : Type 0} → Stream → ℕ → Option (List ℕ) → Result (Ran D) Lack → Type 0
 IsWritten first faults after (Ok ran) =
     (first.faults_before ≤ faults) × HasEnded first.faults_before faults first.before after (told_texts ran.transcript.lines) ran.written
 IsWritten first faults after (Err lack) = (faults ≡ first.faults_before) × (after ≡ first.before)
 
 -- the lanes were run, or there was no memory to run them
-abbrev pub EndsRan : Result Ran Lack → List Report → Stream → Ending → Type 0
+abbrev pub EndsRan : {D : Type 0} → Result (Ran D) Lack → List Report → Stream → Ending → Type 0
 EndsRan (Ok ran) reports output ending = EndsTold ran.transcript.lines reports output ending
 EndsRan (Err lack) reports output NoRoom = WroteLine output (codes "nomemory")
 EndsRan (Err lack) reports output _ = ⊥

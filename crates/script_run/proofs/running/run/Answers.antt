@@ -1,24 +1,28 @@
-use Rattle.std.proofs.Common.{ℕ, ◌≡◌, ◌∙◌, ap, inl, refl, sym, Err}
+use Rattle.std.proofs.Common.{ℕ, ◌≡◌, ◌∙◌, ap, inl, inr, refl, sym, Err}
 use Rattle.script_run.specs.declared.intake.Unread.TheVariants.{TooLong, BadRow, ReadFault}
-use Rattle.script_run.proofs.RunSteps.{ends_unread, failed_told}
+use Rattle.script_run.proofs.RunSteps.{ends_unread, failed_told, no_room}
 use Rattle.script_run.proofs.ScriptSteps.{script_lanes}
+use Rattle.program_endings.specs.Writing.{between, input_between}
 use Rattle.script_run.proofs.running.run.Goals as goal
 
-pub run_script-requires-clause-lanes : goal.run_script-requires-clause-lanes
-run_script-requires-clause-lanes g c κs within =
+pub run_heard-requires-clause-lanes : goal.run_heard-requires-clause-lanes
+run_heard-requires-clause-lanes g c κs within =
     let read = c.in-Ok.ensures.ok in
     rw c.as_slice-lanes.ensures (script_lanes read.0 _ read.1.1 read.1.0)
 
 pub returns-in-Ok-clause-ends : goal.returns-in-Ok-clause-ends
 returns-in-Ok-clause-ends g c =
     let read = c.in-Ok.ensures.ok in
-    inl (record {
-      bytes = read.0;
-      gave = read.2;
-      lanes = c.in-Ok.script;
-      read = read.1;
-      ends = rw c.as_slice-lanes.ensures at c.run_script.ensures.ends;
-    })
+    elim c.run_heard.ensures.ends [
+      | inl ends ↦ inl (record {
+        bytes = read.0;
+        gave = read.2;
+        lanes = c.in-Ok.script;
+        read = read.1;
+        ends = rw c.as_slice-lanes.ensures at ends;
+      })
+      | inr none ↦ inr (none.0, none.1, no_room (input_between g.S.Source.faults g.S.Source.left g.S.Source.given g.S.Source.ended c.args.input.now c.read_lanes.new.input) (between g.K.Sink.faults g.K.Sink.written g.K.Sink.pieces c.args.output.now c.run_heard.new.output) _ none.2 none.3)
+    ]
 
 pub returns-in-Err-clause-ends : goal.returns-in-Err-clause-ends
 returns-in-Err-clause-ends g c =
