@@ -48,7 +48,8 @@ def amiss(read: list[float], began: list[float]) -> list[str]:
             told.append(f"line {k + 1} was read {(safe - moment) * 1000:.0f} ms before its record was safe")
         # the sync of the next record's gate begins once that of its body has returned
         if k + 1 < POSTINGS and moment > began[SYNCS * (k + 1) + 1]:
-            told.append(f"line {k + 1} was read {(moment - began[SYNCS * (k + 1) + 1]) * 1000:.0f} ms after the next body was safe")
+            late = (moment - began[SYNCS * (k + 1) + 1]) * 1000
+            told.append(f"line {k + 1} was read {late:.0f} ms after the next body was safe")
     return told
 
 
