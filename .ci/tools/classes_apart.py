@@ -13,11 +13,10 @@ import shutil
 import sys
 from typing import Any
 
-import numpy
-
 ROOT, PROGRAM = sys.argv[1:3]
 sys.path.insert(0, os.path.join(ROOT, "tools"))
 
+from life_tools.arrays import np  # noqa: E402
 from life_tools.class_bases import bases_in, one_basis  # noqa: E402
 from life_tools.columns import columns_at  # noqa: E402
 from life_tools.entry import main  # noqa: E402
@@ -108,7 +107,7 @@ def judge_statements(commands: Any, of: Any, measure: Any) -> None:
 def run() -> None:
     draw = random.Random(int(sys.argv[3]))
     columns = columns_at("journal.life")
-    commands = list(columns.records.commands(numpy.arange(columns.count)))
+    commands = list(columns.records.commands(np.arange(columns.count)))
     of, name = {}, "north"
     for number in sorted({it.number for it in commands if it.number}):
         name = draw.choice(list(BASES)) if draw.random() < 0.5 else name

@@ -18,11 +18,10 @@ from collections import Counter
 from fractions import Fraction
 from typing import Any
 
-import numpy
-
 ROOT, PROGRAM = sys.argv[1:3]
 sys.path.insert(0, os.path.join(ROOT, "tools"))
 
+from life_tools.arrays import np  # noqa: E402
 from life_tools.class_bases import one_basis  # noqa: E402
 from life_tools.columns import columns_at  # noqa: E402
 from life_tools.entry import main  # noqa: E402
@@ -250,7 +249,7 @@ def run() -> None:
     exactly = int(sys.argv[5]) if len(sys.argv) > 5 else 0
     base = sqlite3.connect("book.db")
     columns = columns_at("journal.life")
-    commands = list(columns.records.commands(numpy.arange(columns.count)))
+    commands = list(columns.records.commands(np.arange(columns.count)))
     past, basis, kinds = histories(commands), read_basis("./basis.csv"), kinds_read()
     known: dict[Any, Any] = {}
     need(set(FIELDS) >= set(LINES.values()), "kinds")
