@@ -50,7 +50,9 @@ needs_proved() {
     }
 }
 
-export PYTHONDONTWRITEBYTECODE=1
+# Python's compiled modules, which else were made anew for each tool that is run, and none in the repository
+unset PYTHONDONTWRITEBYTECODE
+export PYTHONPYCACHEPREFIX="$work/bytecode"
 failed=0
 name=
 examples=$root/examples
