@@ -1,6 +1,6 @@
 #!/bin/sh
 # Reports, movements and single rows worked out: over the small office by amounts worked out by hand (docs/VALUATION.md),
-# over a drawn book by sums of another program, and on wrong input.
+# over a drawn book by sums of another program, movements of 40 drawn pairs (more take minutes), and on wrong input.
 . "$(dirname "$0")/../common.sh"
 export LIFE_PROGRAM="$program"
 
@@ -155,7 +155,7 @@ echo 'printed: nobasis: the same' | has
 
 begin "a drawn book of all plans, statuses and words"
 python3 "$root/.ci/tools/drawn_book.py" "$root" 7 300 6 >policies || failed=1
-python3 "$root/.ci/tools/movements.py" "$root" "$program" 100 7 >said || complain "$(cat said)"
+python3 "$root/.ci/tools/movements.py" "$root" "$program" 40 7 >said || complain "$(cat said)"
 says report 2017-06-30 --by plan,status --by basis-row --by age-band --deficiency --csv report.csv
 "$life" value 2017-06-30 --deficiency </dev/null >valuation
 # the sums of the groups by another program
@@ -176,4 +176,4 @@ refuses 2 'record 1: it is cut short' report 2022-12-31 --csv written
 refuses 2 'record 1: it is cut short' movement 2022-12-31 1 2024-06-30 1 --policies written
 head -c 64 /dev/zero >journal.life
 refuses 2 'notajournal' why 14 2022-12-31
-end "reports add up, movements of 100 drawn pairs too, rows are worked out, wrong input is refused"
+end "reports add up, movements of 40 drawn pairs too, rows are worked out, wrong input is refused"
