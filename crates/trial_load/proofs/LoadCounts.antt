@@ -1,20 +1,19 @@
 -- How many postings of a history were accepted and refused is what is told of the lines that they answer
 use Rattle.std.proofs.Common.{◌≡◌, ℕ, ◌+◌, ◌<◌, ◌==◌, Bool, true, false, cond, List, [], ◌∷◌, ◌++◌, length, map, take, refl, ap, sym, ◌∙◌, subst, inl, inr, arith}
 use Rattle.std.specs.Prelude.{nat_eq}
-use Rattle.std.specs.List.{AllByRecursion, AllZip, Contains, IsDistinct, cons_option, count_by, enumerate_from, filter, flat_map, sum_by}
+use Rattle.std.specs.List.{AllByRecursion, AllZip, Contains, IsDistinct, count_by, enumerate_from, filter, flat_map, sum_by}
 use Rattle.std.proofs.lemmas.Bool.{cond-false, cond-true, eq-eqb, eqb-false, ne_eqb}
 use Rattle.std.proofs.lemmas.List.Sums.{sum_by-cons}
 use Rattle.basis_book.specs.Dated.{Dated}
 use Rattle.policy_types.specs.declared.command.Command.{Command}
 use Rattle.policy_types.specs.declared.entry.Call.{Call}
-use Rattle.policy_types.specs.declared.entry.Call.TheVariants.{Post as PostCall, Pin, PinAt, Read, Unpin, Trim as TrimCall}
+use Rattle.policy_types.specs.declared.entry.Call.TheVariants.{Post as PostCall}
 use Rattle.policy_types.specs.declared.entry.Entry.{Entry}
 use Rattle.policy_types.specs.declared.entry.Reply.{Reply}
-use Rattle.policy_types.specs.declared.entry.Reply.TheVariants.{Accepted, Refused, Faulted, Pinned, PinRefused, Slice, Unpinned, Floor, Blank}
 use Rattle.policy_types.specs.declared.script.Line.{Line}
 use Rattle.policy_types.specs.declared.script.Line.TheVariants.{Post, Value, Trim}
 use Rattle.policy_types.specs.declared.script.Lane.{Lane}
-use Rattle.policy_machine.specs.History.{Opening, accepted_by, accepted_of, commands_after}
+use Rattle.policy_machine.specs.History.{Opening, accepted_of, commands_after}
 use Rattle.policy_machine.specs.Merge.{AnswersLine, Placed}
 use Rattle.office_state.specs.declared.answer.Answer.TheVariants.{Accepted as AnAccepted, Refused as ARefused, DiskFault, NoMemory}
 use Rattle.lane_runner.specs.AnsweredLines.{AnsweredLine, AreLinesOf, AreOfLanes, lines_by, turns_in}
@@ -25,6 +24,7 @@ use Rattle.lane_runner.specs.declared.transcript.Outcome.{Outcome}
 use Rattle.lane_runner.specs.declared.transcript.Outcome.TheVariants.{Posted, Trimmed, Valued, ValueRefused, ValueNoMemory}
 use Rattle.load_maker.specs.GeneratedLanes.{IsValidPosting}
 use Rattle.program_endings.proofs.ListSteps.{Has, has_of_contains, of_all, of_filter}
+use Rattle.transcript_text.proofs.AcceptedSteps.{accepted_counted, accepted_told, is_acceptance}
 use Rattle.trial_load.specs.Loading.{is_refusal, refused_in}
 use Rattle.lane_runner.specs.Tallies.{accepted_lines, refused_lines, tells_accepted, tells_refused}
 
@@ -170,47 +170,7 @@ alike R f g (x ∷ xs) (y ∷ ys) each all =
     let right = sum_by-cons g y ys in
     omega (arith, first, rest, left, right)
 
--- a turn that was an accepted posting
-abbrev is_acceptance : Call → Reply → Bool
-is_acceptance (PostCall command) (Accepted position) = true
-is_acceptance _ _ = false
-
-one_more : (call : Call) (reply : Reply) (commands : List Command) → length (cons_option (accepted_by call reply) commands) ≡ cond (is_acceptance call reply) 1 0 + length commands
-one_more (PostCall command) (Accepted position) commands = omega arith
-one_more (PostCall command) (Refused refusal) commands = omega arith
-one_more (PostCall command) (Faulted count) commands = omega arith
-one_more (PostCall command) (Pinned position policies) commands = omega arith
-one_more (PostCall command) (PinRefused refusal) commands = omega arith
-one_more (PostCall command) (Slice policies) commands = omega arith
-one_more (PostCall command) Unpinned commands = omega arith
-one_more (PostCall command) (Floor floor) commands = omega arith
-one_more (PostCall command) Blank commands = omega arith
-one_more Pin reply commands = omega arith
-one_more (PinAt p) reply commands = omega arith
-one_more (Read pin first) reply commands = omega arith
-one_more (Unpin pin) reply commands = omega arith
-one_more TrimCall reply commands = omega arith
-
-accepted_counted : (history : List Entry) → length (accepted_of history) ≡ count_by (λ (entry : Entry). is_acceptance entry.call entry.reply) history
-accepted_counted [] = refl
-accepted_counted (entry ∷ history) =
-    let first = one_more entry.call entry.reply (accepted_of history) in
-    let rest = accepted_counted history in
-    let whole = sum_by-cons (worth (λ (entry : Entry). is_acceptance entry.call entry.reply)) entry history in
-    omega (arith, first, rest, whole)
-
 -- what is told of a posting tells its reply
-accepted_told : (command : Command) (reply : Reply) (outcome : Outcome) (commands : List Command) (basis : List Dated)
-    → IsOutcome commands basis (Post command) reply outcome → is_acceptance (PostCall command) reply ≡ tells_accepted outcome
-accepted_told command reply (Posted (AnAccepted position)) commands basis told = ap (is_acceptance (PostCall command)) told
-accepted_told command reply (Posted (ARefused refusal)) commands basis told = ap (is_acceptance (PostCall command)) told
-accepted_told command reply (Posted (DiskFault count)) commands basis told = ap (is_acceptance (PostCall command)) told
-accepted_told command reply (Posted NoMemory) commands basis told = ap (is_acceptance (PostCall command)) told
-accepted_told command reply (Trimmed floor) commands basis told = absurd told
-accepted_told command reply (Valued valuation) commands basis told = absurd told
-accepted_told command reply (ValueRefused refusal) commands basis told = absurd told
-accepted_told command reply ValueNoMemory commands basis told = absurd told
-
 refused_told : (command : Command) (reply : Reply) (outcome : Outcome) (commands : List Command) (basis : List Dated)
     → IsOutcome commands basis (Post command) reply outcome → is_refusal (PostCall command) reply ≡ tells_refused outcome
 refused_told command reply (Posted (AnAccepted position)) commands basis told = ap (is_refusal (PostCall command)) told

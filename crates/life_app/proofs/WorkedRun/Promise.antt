@@ -107,6 +107,7 @@ only_piece = record { bytes = premium_text; since = called.clock last_disk }
 
 -- since the disk's last moment a crash leaves both commands
 shown : AreSafeWhenShown called Opens last_disk (hand_issue ∷ []) second_turns (premium_line ∷ []) (told ∷ []) (only_piece ∷ [])
+unfolding only_piece
 shown later earlier piece split before after line there accepted reached image left =
     let this : only_piece ≡ piece = one_alone only_piece piece later earlier split in
     let one : premium_line ≡ line = one_alone premium_line line before after there in
