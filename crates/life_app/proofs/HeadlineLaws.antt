@@ -1,10 +1,8 @@
 -- What is promised of a script's run follows from what the program does
-use Rattle.std.proofs.Common.{◌≡◌, ℕ, ℤ, ◌⊎◌, List, [], ◌∷◌, ◌++◌, length, map, string_bytes, refl, ap, sym, ◌∙◌, subst, inl, inr, append-nil, le_refl, Result, Ok, Err, String, Global}
+use Rattle.std.proofs.Common.{◌≡◌, ℕ, ℤ, ◌⊎◌, List, [], ◌∷◌, ◌++◌, map, string_bytes, refl, ap, sym, ◌∙◌, subst, inl, inr, append-nil, Result, Ok, Err, String, Global}
 use Rattle.std.specs.Prelude.{take}
-use Rattle.std.specs.Io.KnownBytes.{Appends}
-use Rattle.std.specs.List.{AllZip, flat_map}
+use Rattle.std.specs.List.{AllZip}
 use Rattle.std.proofs.lemmas.Bool.{false≢true}
-use Rattle.std.proofs.lemmas.List.{take_all}
 use Rattle.std.proofs.lemmas.List.Elements.{filter_map-append}
 use Rattle.basis_book.specs.Dated.{Dated}
 use Rattle.basis_shelf.specs.Bases.{IsBasis}
@@ -36,15 +34,12 @@ use Rattle.office_state.specs.Images.{HoldsNow, IsLeftAlone, IsOneMore, IsPendin
 use Rattle.office_state.specs.Journals.{Opens}
 use Rattle.office_state.proofs.HistorySteps.{posting}
 use Rattle.transcript_text.specs.Transcript.{IsLineText, IsReplyText}
-use Rattle.watcher_set.specs.Noted.{Auditor, reports_of}
+use Rattle.watcher_set.specs.Noted.{Auditor}
 use Rattle.program_endings.specs.declared.ending.Ending.{Ending}
 use Rattle.program_endings.specs.declared.ending.Ending.TheVariants.{Done, Usage, BadScript, BadBasis, BadJournal, ReadFault, WriteFault, DiskFault, NoMemory}
 use Rattle.program_endings.specs.Status.{status_of}
-use Rattle.program_endings.specs.Refusals.{SaysWhy}
 use Rattle.program_endings.specs.WithoutBasis.{EndsNoBasis}
-use Rattle.program_endings.specs.Writing.{Input, IsWholeInput, Shelving, Stream, WroteOrFailed}
-use Rattle.office_state.specs.declared.faults.StartCause.{StartCause}
-use Rattle.office_state.specs.declared.faults.StartCause.TheVariants.{NotAJournal, BadRecord}
+use Rattle.program_endings.specs.Writing.{Input, IsWholeInput, Shelving, Stream}
 use Rattle.script_run.specs.Outcome.{EndsScript, IsRunOf}
 use Rattle.script_run.specs.Running.{EndsLanes, EndsRun}
 use Rattle.script_run.specs.Script.{EndsUnread, IsReadAs}

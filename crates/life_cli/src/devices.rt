@@ -2,7 +2,7 @@
 ghost use Rattle.std.specs.Prelude.{◌≡◌, []};
 
 use crate::named_files::{CheckpointOf, JournalOf};
-use outside_io::{FileDisk, FolderShelf, FoundFile, StdSink, StdSource};
+use outside_io::{Disk, FileDisk, FolderShelf, FoundFile, StdSink, StdSource};
 use std::io::{Stdin, Stdout};
 
 /// The file in which the policies are kept, in the folder in which the program runs.
@@ -26,13 +26,13 @@ pub type CheckpointDisk<C> = FileDisk<HostRuntime, CheckpointOf<C>>;
 /// The folder in which the program runs.
 pub type Folder = FolderShelf<HostRuntime>;
 
-/// All devices of a run.
-pub struct Devices<F: FoundFile, C: FoundFile> {
+/// All devices of a run: the journal on a disk of one kind, the checkpoint on one of another.
+pub struct Devices<D: Disk, S: Disk> {
     pub input: Input,
-    pub output: OutputOf<F>,
+    pub output: StdSink<Stdout, D>,
     pub shelf: Folder,
-    pub disk: JournalDisk<F>,
-    pub second: CheckpointDisk<C>,
+    pub disk: D,
+    pub second: S,
 }
 
 /// The devices of the system, through which nothing has passed. The two files are found so.
@@ -40,7 +40,7 @@ pub fn devices_of<F: FoundFile, C: FoundFile>(
     system: HostRuntime,
     found: F,
     kept: C,
-) -> Devices<F, C>
+) -> Devices<JournalDisk<F>, CheckpointDisk<C>>
     ensures input { (result.input.faults ≡ 0) × (result.input.given ≡ []) }
     ensures output { (result.output.faults ≡ 0) × (result.output.taken ≡ []) }
     ensures shelf { (result.shelf.faults ≡ 0) × (result.shelf.answers ≡ []) }

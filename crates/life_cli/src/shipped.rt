@@ -21,10 +21,11 @@ ghost use Rattle.life_cli.specs.Shipped.{ObeysFromStart, filing_from_start, ship
 
 use crate::devices::{CheckpointDisk, Devices, Folder, Input, JournalDisk, OutputOf};
 use life_app::{EndedKept, life_kept};
-use outside_io::{Disk, FoundFile, OpenGate, Shelf, Sink, Source};
+use outside_io::{Disk, FoundFile, OpenGate, Shelf, Sink, Source, StdSink};
 use policy_types::Watcher;
 use program_endings::lack_memory;
 use std::alloc::Global;
+use std::io::Stdout;
 use std::process::ExitCode;
 use std::sync::Wait;
 use std::thread::Threads;
@@ -34,13 +35,13 @@ use watcher_set::{CountWatcher, PremiumWatcher};
 const MOST_COUNTED: u32 = 4_000_000;
 
 /// What the program leaves: its exit status, and its devices with what they noted.
-pub struct Left<F: FoundFile, C: FoundFile> {
+pub struct Left<D: Disk, S: Disk> {
     pub status: u8,
     pub input: Input,
-    pub output: OutputOf<F>,
+    pub output: StdSink<Stdout, D>,
     pub shelf: Folder,
-    pub disk: JournalDisk<F>,
-    pub second: CheckpointDisk<C>,
+    pub disk: D,
+    pub second: S,
 }
 
 /// Does what the words ask for, over standard input and output, the folder and its `journal.life` and `checkpoint.life`.
@@ -53,8 +54,8 @@ pub fn run_shipped<R: Threads + Wait + Sync, F: FoundFile, C: FoundFile>(
     rt: &R,
     alloc: Global,
     words: &[String],
-    devices: Devices<F, C>,
-) -> Left<F, C>
+    devices: Devices<JournalDisk<F>, CheckpointDisk<C>>,
+) -> Left<JournalDisk<F>, CheckpointDisk<C>>
     requires input { (devices.input.faults ≡ 0) × (devices.input.given ≡ []) }
     requires output { (devices.output.faults ≡ 0) × (devices.output.taken ≡ []) }
     requires shelf { (devices.shelf.faults ≡ 0) × (devices.shelf.answers ≡ []) }
@@ -127,7 +128,9 @@ pub fn run_shipped<R: Threads + Wait + Sync, F: FoundFile, C: FoundFile>(
 }
 
 /// Gives the devices back, and ends with the status that the run left.
-pub fn leave<F: FoundFile + Drop, C: FoundFile + Drop>(left: Left<F, C>) -> ExitCode
+pub fn leave<F: FoundFile + Drop, C: FoundFile + Drop>(
+    left: Left<JournalDisk<F>, CheckpointDisk<C>>,
+) -> ExitCode
     ensures { exit_status result ≡ left.status }
 {
     let Left {

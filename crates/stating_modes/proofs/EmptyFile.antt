@@ -6,7 +6,7 @@ use Rattle.policy_types.specs.declared.command.Command.{Command}
 use Rattle.statements.specs.Statements.{account_line, count_text}
 use Rattle.office_state.specs.Journals.{Opens}
 use Rattle.office_state.proofs.JournalLaws.{opens_to_one}
-use Rattle.program_endings.specs.Writing.{Stream, WroteAll}
+use Rattle.program_endings.specs.Writing.{WroteAll}
 use Rattle.stating_modes.specs.Books.{books_text, policy_account}
 use Rattle.stating_modes.specs.Worked.{KnowsNobody, StatesAnEmptyFile}
 

@@ -1,5 +1,5 @@
 -- What is told of an empty file over two disks
-use Rattle.std.proofs.Common.{◌≡◌, ◌⊎◌, ℕ, List, [], ◌∷◌, ◌++◌, length, codes, decimal, arith, inr, inl, refl, sym, ap, ap₂, ◌∙◌, subst, lit≤}
+use Rattle.std.proofs.Common.{◌≡◌, ℕ, List, [], ◌∷◌, ◌++◌, length, codes, decimal, arith, inr, inl, refl, ap, ap₂, ◌∙◌, subst, lit≤}
 use Rattle.std.specs.Fmt.{digits}
 use Rattle.outside_io.specs.Faults.{Rose}
 use Rattle.outside_io.specs.Streams.{AppendsPart}
@@ -24,10 +24,9 @@ use Rattle.program_endings.specs.declared.ending.Ending.{Ending}
 use Rattle.program_endings.specs.declared.ending.Ending.TheVariants.{Done, BadJournal, WriteFault, DiskFault, NoMemory}
 use Rattle.program_endings.specs.Writing.{Stream, WroteAll, WroteLine}
 use Rattle.stating_modes.specs.Books.{books_text}
-use Rattle.stating_modes.specs.Saved.{IsSaved, checkpoint_text}
 use Rattle.stating_modes.specs.Stated.{EndsStateKept, snapshot_text}
 use Rattle.stating_modes.specs.Telling.{EndsTelling, IsRefusedByTwo, TellsSnapshot}
-use Rattle.stating_modes.specs.TwoDisks.{AreTrue, IsHeldWhereTrue, IsSnapshotHeld, TellsTruth, TwoDisks}
+use Rattle.stating_modes.specs.TwoDisks.{AreTrue, IsHeldWhereTrue, TwoDisks}
 use Rattle.stating_modes.specs.Worked.{KeepsAnEmptyFile, RefusesHelloByTwo, SavesNothing, TellsNoLie}
 
 no_commands : (bytes : List ℕ) (commands : List Command) → bytes ≡ [] → Opens bytes commands → commands ≡ []

@@ -1,12 +1,11 @@
 -- How the two modes end, by what their parts did
-use Rattle.std.proofs.Common.{◌≡◌, ◌⊎◌, inl, inr, ℕ, List, subst, sym, refl, ap, ap₂, ◌∙◌, Result, Ok, Err, Vec, Global}
+use Rattle.std.proofs.Common.{◌≡◌, inl, inr, ℕ, List, subst, sym, refl, ap, ap₂, ◌∙◌, Result, Ok, Err, Vec, Global}
 use Rattle.std.specs.Prelude.{IfOk}
 use Rattle.outside_io.specs.Faults.{Rose}
 use Rattle.outside_io.specs.Streams.{AppendsPart}
 use Rattle.outside_io.specs.declared.disks.Disk.{Ghosts}
 use Rattle.policy_types.specs.declared.watcher.NoMemory.{NoMemory as Lack}
 use Rattle.posting_journal.specs.States.{disk_of}
-use Rattle.checkpoint_store.specs.Starts.{HasLookedAt}
 use Rattle.checkpoint_store.specs.Stores.{store_disk}
 use Rattle.checkpoint_store.specs.declared.snapshot.Snapshot.{Snapshot}
 use Rattle.checkpoint_store.specs.declared.store.Store.{Store}
@@ -18,10 +17,10 @@ use Rattle.program_endings.specs.declared.ending.Ending.TheVariants.{Done, BadJo
 use Rattle.program_endings.specs.Refusals.{SaysUnopened}
 use Rattle.program_endings.specs.Texts.{EndsText}
 use Rattle.program_endings.specs.Writing.{Stream, WroteAll}
-use Rattle.stating_modes.specs.Saved.{EndsCheckpoint, IsNoneOrEarlierOrHeld, IsSaved, checkpoint_text}
+use Rattle.stating_modes.specs.Saved.{EndsCheckpoint, IsSaved, checkpoint_text}
 use Rattle.stating_modes.specs.Stated.{EndsStateKept, IsStateTold, ReadsFew, snapshot_text}
 use Rattle.stating_modes.specs.Telling.{EndsTelling, TellsSnapshot}
-use Rattle.stating_modes.specs.TwoDisks.{AreBothQuiet, IsHeldWhereTrue, IsOnlyRead, TwoDisks, disks_of}
+use Rattle.stating_modes.specs.TwoDisks.{AreBothQuiet, IsHeldWhereTrue, TwoDisks, disks_of}
 use Rattle.stating_modes.specs.declared.finished.FinishedKept.{FinishedKept}
 use Rattle.stating_modes.specs.declared.reopened.Reopened.{Reopened}
 use Rattle.stating_modes.specs.inside.Reopened.{HasNoSnapshot, HasReopened, disks_under}

@@ -23,10 +23,9 @@ use Rattle.checkpoint_store.specs.declared.snapshot.Snapshot.{Snapshot}
 use Rattle.checkpoint_store.specs.declared.store.Store.{Store}
 use Rattle.std.specs.Prelude.{Result, Ok, Err}
 use Rattle.office_state.specs.declared.faults.StartCause.{StartCause}
-use Rattle.office_state.specs.declared.faults.StartCause.TheVariants.{DiskFault, NotAJournal, BadRecord, NoMemory}
+use Rattle.office_state.specs.declared.faults.StartCause.TheVariants.{DiskFault}
 use Rattle.office_state.specs.Images.{HoldsNow, HoldsOnce, IsLeftAlone, IsLeftBy}
 use Rattle.office_state.specs.Journals.{IsShown, Opens}
-use Rattle.office_state.specs.Opening.{TellsFault}
 use Rattle.office_state.specs.inside.Holding.{JournalHolds}
 use Rattle.office_state.specs.inside.Replays.{MakeJournal, as_cause}
 use Rattle.office_state.proofs.ImageSteps.{holds_now}
@@ -34,9 +33,9 @@ use Rattle.office_state.proofs.KeptSteps.{keeps_first, kept_now}
 use Rattle.office_state.proofs.OpeningSteps.{CountsNow, IsStarted, OnlyNow, ReadsImage, holds_once, looked_alone, looked_ever, not_started, opening_keeps, opens_commands, started_later, synced_images}
 use Rattle.office_state.proofs.OpenedSteps.{unfollowed}
 use Rattle.stating_modes.specs.Stated.{ReadsFew}
-use Rattle.stating_modes.specs.TwoDisks.{AreBothQuiet, AreTrue, HasOneFailed, IsHeldWhereTrue, IsMadeSafe, IsOnlyRead, IsSnapshotHeld, TwoDisks}
+use Rattle.stating_modes.specs.TwoDisks.{AreBothQuiet, AreTrue, IsHeldWhereTrue, IsMadeSafe, IsOnlyRead, IsSnapshotHeld, TwoDisks}
 use Rattle.stating_modes.specs.declared.reopened.Reopened.{Reopened}
-use Rattle.stating_modes.specs.inside.Reopened.{HasJournalOn, HasNoSnapshot, HasReopened, HasStoreOn, TellsFaultOfOne, as_start_cause, disks_under}
+use Rattle.stating_modes.specs.inside.Reopened.{HasJournalOn, HasNoSnapshot, HasReopened, HasStoreOn, TellsFaultOfOne, as_start_cause}
 
 started : {D : Type 0} {g : Ghosts D} {disk : D} {journal : Journal D g} → HasJournalOn disk journal → IsStarted disk journal
 started on = record { quiet = on.quiet; clean = on.clean; honesty = on.honesty; opened = on.opened; opens = on.opens }

@@ -1,12 +1,9 @@
 -- What one more record adds to an account, and what is known once all records were read, or one couldn't be
-use Rattle.std.proofs.Common.{◌≡◌, if◌then◌else◌, add-one, length-append, ℕ, ◌+◌, ◌<◌, ◌≤◌, ◌==◌, ◌⊎◌, Bool, true, false, List, [], ◌∷◌, ◌++◌, length, take, slice_index_or, refl, ap, ap₂, sym, ◌∙◌, subst, inl, inr, Some, None, Option, Ok, Err, Result, IsOk, append-nil, append_assoc, arith}
+use Rattle.std.proofs.Common.{◌≡◌, if◌then◌else◌, ℕ, ◌+◌, ◌<◌, ◌≤◌, ◌==◌, ◌⊎◌, Bool, true, false, List, [], ◌∷◌, ◌++◌, length, take, slice_index_or, refl, ap, ap₂, sym, ◌∙◌, subst, inl, inr, Some, None, Option, Ok, Err, Result, IsOk, append-nil, append_assoc, arith}
 use Rattle.std.specs.Prelude.{IfSome}
 use Rattle.std.specs.List.{All, AllByRecursion, enumerate_from, filter}
-use Rattle.std.proofs.Math.Seq.{take-length, take-suc}
-use Rattle.std.proofs.lemmas.List.{map-append}
 use Rattle.std.proofs.lemmas.List.Elements.{All-from_recursion, filter-append}
 use Rattle.outside_io.specs.declared.disks.Disk.{Ghosts}
-use Rattle.outside_io.specs.Faults.{Rose}
 use Rattle.policy_types.specs.declared.command.Command.{Command}
 use Rattle.policy_types.specs.declared.command.Command.TheVariants.{Upgrade}
 use Rattle.policy_types.specs.declared.policy.Policy.{Policy}

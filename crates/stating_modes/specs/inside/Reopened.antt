@@ -1,5 +1,5 @@
 -- A journal and a store on the two disks, once the snapshot is read from them, or why there is none
-use Rattle.std.specs.Prelude.{◌≡◌, ℕ, List, [], IsTrue, Result, Ok, Err}
+use Rattle.std.specs.Prelude.{◌≡◌, IsTrue}
 use Rattle.outside_io.specs.declared.disks.Disk.{Ghosts}
 use Rattle.posting_journal.specs.Opening.{OpensOn}
 use Rattle.posting_journal.specs.Starting.{HasStarted}
@@ -10,12 +10,11 @@ use Rattle.checkpoint_store.specs.Starts.{HasLookedAt}
 use Rattle.checkpoint_store.specs.Stores.{store_disk}
 use Rattle.checkpoint_store.specs.declared.faults.ReopenFault.{ReopenFault}
 use Rattle.checkpoint_store.specs.declared.faults.ReopenFault.TheVariants as fault
-use Rattle.checkpoint_store.specs.declared.snapshot.Snapshot.{Snapshot}
 use Rattle.checkpoint_store.specs.declared.store.Store.{Store}
 use Rattle.office_state.specs.Images.{IsLeftAlone}
 use Rattle.office_state.specs.Journals.{IsShown}
 use Rattle.office_state.specs.declared.faults.StartCause.{StartCause}
-use Rattle.office_state.specs.declared.faults.StartCause.TheVariants.{DiskFault, BadRecord, NoMemory, NotAJournal}
+use Rattle.office_state.specs.declared.faults.StartCause.TheVariants.{DiskFault, BadRecord, NoMemory}
 use Rattle.stating_modes.specs.declared.reopened.Reopened.{Reopened}
 use Rattle.stating_modes.specs.TwoDisks.{AreBothQuiet, AreTrue, HasOneFailed, IsHeldWhereTrue, IsMadeSafe, IsOnlyRead, TwoDisks}
 
