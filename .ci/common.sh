@@ -50,9 +50,7 @@ needs_proved() {
     }
 }
 
-# Python's compiled modules, which else were made anew for each tool that is run, and none in the repository
-unset PYTHONDONTWRITEBYTECODE
-export PYTHONPYCACHEPREFIX="$work/bytecode"
+export PYTHONDONTWRITEBYTECODE=1
 failed=0
 name=
 examples=$root/examples
