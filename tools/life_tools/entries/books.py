@@ -6,11 +6,15 @@
   books LIST checkpoint                                      a checkpoint of each
   books LIST position-on DAY [--last]                        the position of a day in each, for --at
   books headroom LIST                                        how many commands are left in each, as `headroom` tells it
+  books split JOURNAL RULE.. FOLDER..                        a book divided, for each rule a new one in a new folder
 
 Each line has the book's name before it; `all` stands before the totals, which end with the number of books that they
 are of, and with how many there are. A book that fails is tried once more, and is then a line
 `NAME,failed,STATUS,LINE`; the status is then that of the first such book. A policy's number in two books gives 1, and so
 does a book that may not be whole, as `verify` tells it; one of which commands are gone has failed.
+
+`split` has the program run each part's lines into a new journal in memory, and compares states, valuations and balances
+before a folder is made. It prints the list of the new books, and how the old one is put away, which stays as it was.
 
 On a cluster of Dask (--scheduler) each task works on a copy of the book at its position. The lines of policies stay
 where they are made, with --parts, or go.
@@ -32,6 +36,7 @@ from life_tools.book_runs import Outcome, Parts, failure, named
 from life_tools.book_totals import total_of
 from life_tools.book_work import Asked, processors, work
 from life_tools.day_columns import number_at, text_at
+from life_tools.entries import books_split
 from life_tools.entries.headroom import Wanted, add_arguments, room_at, told_of, wanted_of
 from life_tools.formats import MOST_WORKERS, MOST_YEARS, Wrong, day_in, demand, number_of, remark
 from life_tools.headroom import HEAD
@@ -214,10 +219,13 @@ def arguments(parser: argparse.ArgumentParser) -> None:
     parser.add_argument("--parts", metavar="FOLDER", help="the lines of each book go to a file there, where they are made")
     parser.add_argument("--sqlite", action="store_true", help="parts are SQLite files, and not CSV")
     add_arguments(parser)
+    books_split.add_arguments(parser)
     parser.add_argument("--totals", action="store_true", help="the lines of policies aren't printed")
 
 
 def run(options: argparse.Namespace) -> int:
+    if options.list == "split":
+        return books_split.run(options)
     if options.list == "headroom":
         options.list, options.words = options.words[0], ["headroom", *options.words[1:]]
     word = options.words[0]
