@@ -27,7 +27,9 @@ def add_arguments(parser: argparse.ArgumentParser) -> None:
     split = parser.add_argument_group("split", "JOURNAL RULE.. FOLDER.., a folder for each rule, which are numbers=1-4999,8001 "
                                       "(5000- is up to the last), years=1990-1999 (of issue), class=NAME, others")
     split.add_argument("--classes", metavar="FILE", help="a CSV of classes: number or range of policies, class")
-    split.add_argument("--on", metavar="DAY", help="the day of the valuations that are compared (that of the newest posting)")
+    split.add_argument("--on", metavar="DAY",
+                       help="the day of the valuations that are compared (of the newest posting); also a "
+                       "sample's day")
     split.add_argument("--basis", metavar="NAME", default="basis.csv", help="the basis file beside the journal (basis.csv)")
 
 
