@@ -154,7 +154,7 @@ tool books books.csv sample 3 --seed 1 --on 2019-12-31 --at p2.csv
 [ $? != 0 ] && ! grep -q sample out && grep -q "^high,failed," out || complain "a sample without a book: $(cat out)"
 cp aside.life high/journal.life
 # one that is printed otherwise than it adds up, as by a program that is wrong
-printf '#!/bin/sh\ncase $1 in value) "%s" "$@" | sed "/^total/s/[0-9]\\$/7/;3s/[0-9],/3,/" ;; *) exec "%s" "$@" ;; esac\n' "$program" "$program" >liar && chmod +x liar
+printf '#!/bin/sh\ncase $1 in value) "%s" "$@" | sed "/^row/s/[0-9]\\$/7/" ;; *) exec "%s" "$@" ;; esac\n' "$program" "$program" >liar && chmod +x liar
 LIFE_PROGRAM=$PWD/liar ends 2 "status 2: the rows add up to" books books.csv report 2019-12-31 --at p2.csv
 cp main/journal.life low/other.life
 printf 'low,low,basis.csv\nmain,main,basis.csv\n' >twice.csv
