@@ -47,11 +47,12 @@ def pack_tools(path: str) -> None:
 
 
 def modules_below(module: ModuleType) -> Iterator[str]:
-    """The files of a package's modules; the entries aren't a worker's."""
-    yield "__init__.py"
-    for found in pkgutil.iter_modules(module.__path__):
-        if not found.ispkg:
-            yield f"{found.name}.py"
+    """The files of a package's modules, and of the entries, of which some make what is made of a list, too."""
+    for folder in ("", "entries"):
+        yield os.path.join(folder, "__init__.py")
+        for found in pkgutil.iter_modules([os.path.join(path, folder) for path in module.__path__]):
+            if not found.ispkg:
+                yield os.path.join(folder, f"{found.name}.py")
 
 
 def tools_here() -> str:

@@ -10,7 +10,7 @@ import tempfile
 import zlib
 from concurrent.futures import ThreadPoolExecutor, wait
 from dataclasses import dataclass, field
-from typing import IO, Iterator
+from typing import IO, Any, Iterator
 
 from life_tools.book_totals import Text, text_in
 from life_tools.copied_folder import copy_basis
@@ -21,6 +21,8 @@ from life_tools.valuation_rows import VALUATION, valuation_rows
 from life_tools.wholeness import doubt_of
 
 JOURNAL = "journal.life"
+# the words of which these tools make something of their own, by what the program prints
+OWN = ("report", "movement", "statement", "due", "sample")
 # the status of what the program can't be asked, and the program's own of a file that is no journal
 NOT_DONE, BAD_JOURNAL = 2, 5
 
@@ -51,6 +53,9 @@ class Task:
     parts: Parts | None = None
     are_rows_kept: bool = False
     doubt: str = ""
+    # the opening position, and of rows that were printed already the file and its sum
+    first: int | None = None
+    rows_in: tuple[str, str] | None = None
 
 
 @dataclass
@@ -71,6 +76,14 @@ class Outcome:
     part: tuple[str, str, str] | None = None
     doubt: str = ""
     tried: int = field(default=1)
+    # of a word that the program doesn't have: what these tools made of it
+    made: Any = None
+
+    @property
+    def position(self) -> int | None:
+        """The position that it is of, where it is well."""
+        found = self.text or self.made
+        return found.position if found else None
 
 
 def sum_of(data: bytes) -> str:
@@ -220,7 +233,20 @@ def sums_of(folder: str, count: int) -> Iterator[tuple[str, str]]:
 LOOKING = ThreadPoolExecutor(1)
 
 
+def own_in(task: Task, folder: str) -> Outcome:
+    """What these tools make of a book: it is imported here, since it wants numpy."""
+    from life_tools.book_sheets import Wanted, made_of
+    program = program_of(task)
+    life = program[0] if len(program) == 1 else None
+    made = made_of(Wanted(task.name, folder, task.basis, life, task.first, task.at, task.words, task.rows_in))
+    look = look_at(task, folder)
+    begun = beginnings_at(os.path.join(folder, JOURNAL), made.position)
+    return Outcome(task.name, 0, beginnings=begun, sums=look.sums, doubt=look.doubt, made=made)
+
+
 def run_in(task: Task, folder: str, file: IO[bytes]) -> Outcome:
+    if task.words[0] in OWN:
+        return own_in(task, folder)
     program = program_of(task)
     looking = LOOKING.submit(look_at, task, folder)
     try:

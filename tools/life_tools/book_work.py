@@ -4,13 +4,13 @@ from __future__ import annotations
 import os
 import time
 import zlib
-from concurrent.futures import ThreadPoolExecutor, as_completed
-from dataclasses import dataclass, replace
+from concurrent.futures import BrokenExecutor, Future, ProcessPoolExecutor, ThreadPoolExecutor, as_completed
+from dataclasses import dataclass, field, replace
 from typing import Callable
 
 from life_tools.book_cluster import Cluster, Make
 from life_tools.book_lists import ListedBook
-from life_tools.book_runs import JOURNAL, Outcome, Parts, Task, demand_journal, failure, run_once, sum_of
+from life_tools.book_runs import JOURNAL, OWN, Outcome, Parts, Task, demand_journal, failure, run_once, sum_of
 from life_tools.copied_folder import basis_files
 from life_tools.formats import Wrong, bytes_of, demand, remark
 from life_tools.holders import holder_of
@@ -37,6 +37,13 @@ class Asked:
     are_rows_kept: bool = False
     # how many seconds a book may be held by somebody else
     wait: int = 0
+    # of a word of these tools: the opening positions, and by name the files of rows that were printed already, with their sums
+    firsts: dict[str, int] = field(default_factory=dict)
+    rows_in: dict[str, tuple[str, str]] = field(default_factory=dict)
+
+    @property
+    def is_own(self) -> bool:
+        return self.words[0] in OWN
 
 
 def size_of(book: ListedBook) -> int:
@@ -53,14 +60,16 @@ def largest_first(books: list[ListedBook]) -> list[ListedBook]:
 def task_here(asked: Asked, book: ListedBook) -> Task:
     """A task of this machine, in the book's folder; where the word takes no position, on a copy."""
     at = asked.positions.get(book.name)
-    return Task(book.name, book.folder, book.basis, asked.words, tuple(life_command()), at,
-                is_copied=at is not None and asked.words[0] != "value", parts=asked.parts, are_rows_kept=asked.are_rows_kept)
+    is_copied = at is not None and asked.words[0] != "value" and not asked.is_own
+    return Task(book.name, book.folder, book.basis, asked.words, tuple(life_command()), at, is_copied=is_copied,
+                parts=asked.parts, are_rows_kept=asked.are_rows_kept, first=asked.firsts.get(book.name),
+                rows_in=asked.rows_in.get(book.name))
 
 
 def task_elsewhere(asked: Asked, book: ListedBook, program: str, program_sum: str) -> Task:
     """A task of any machine, on a copy at a position."""
     task = Task(book.name, book.folder, book.basis, asked.words, (program,), asked.positions.get(book.name), True, program_sum,
-                parts=asked.parts)
+                parts=asked.parts, first=asked.firsts.get(book.name), rows_in=asked.rows_in.get(book.name))
     if not asked.are_sent:
         return task
     files = {JOURNAL: columns_at(book.journal, task.at).front()}
@@ -71,7 +80,7 @@ def task_elsewhere(asked: Asked, book: ListedBook, program: str, program_sum: st
 
 def names_of_basis(asked: Asked, book: ListedBook) -> list[str]:
     """The basis file and its tables, where the words need them."""
-    return basis_files(book.folder, book.basis) if asked.words[0] in ("value", "project") else []
+    return basis_files(book.folder, book.basis) if asked.words[0] in ("value", "project", *OWN) else []
 
 
 def held(asked: Asked, book: ListedBook) -> Outcome | None:
@@ -103,11 +112,12 @@ def made_elsewhere(asked: Asked, book: ListedBook, program: str, program_sum: st
 
 def seen_alike(asked: Asked, book: ListedBook, outcome: Outcome) -> Outcome:
     """An outcome of a copy, where it was a copy of what this machine sees; else that it wasn't."""
-    if outcome.status or not outcome.text or not outcome.sums:
+    position = outcome.position
+    if outcome.status or position is None or not outcome.sums:
         return outcome
     told = dict(outcome.sums)
     try:
-        seen = {JOURNAL: front_sum(book.journal, outcome.text.position)}
+        seen = {JOURNAL: front_sum(book.journal, position)}
         seen.update((name, sum_of(bytes_of(os.path.join(book.folder, name)))) for name in names_of_basis(asked, book))
         for name, wanted in seen.items():
             demand(told.get(name) == wanted, f"its worker sees another {name} than the one asked for")
@@ -132,12 +142,20 @@ class Told:
         self.progress.at(self.done)
 
 
+def result_of(future: Future[Outcome], book: ListedBook) -> Outcome:
+    try:
+        return future.result()
+    except BrokenExecutor as broken:
+        return failure(book.name, Wrong(f"its process ended: {broken}"))
+
+
 def run_here(asked: Asked, books: list[ListedBook]) -> list[Outcome]:
+    """A run of the program is a process already; what these tools make themselves has one of its own."""
     told, outcomes = Told(len(books)), []
-    with ThreadPoolExecutor(asked.processes) as pool:
-        begun = [pool.submit(made_here, asked, book) for book in largest_first(books)]
+    with (ProcessPoolExecutor if asked.is_own else ThreadPoolExecutor)(asked.processes) as pool:
+        begun = {pool.submit(made_here, asked, book): book for book in largest_first(books)}
         for future in as_completed(begun):
-            outcomes.append(future.result())
+            outcomes.append(result_of(future, begun[future]))
             told.tell(outcomes[-1])
     told.progress.end()
     return outcomes

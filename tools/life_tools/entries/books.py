@@ -4,13 +4,21 @@
   books LIST project ON YEARS [--workers N]                  a projection of each, and its total
   books LIST state                                           the policies and balances of each, and their total
   books LIST checkpoint                                      a checkpoint of each
+  books LIST report ON [--by KEYS].. [--rows FOLDER]         `report` of all together, with a table of the books
+  books LIST movement|statement ON1 ON2 --from LIST1 --at LIST2   `movement` and `statement` of all together
+  books LIST due DAY                                         what is due in each
+  books LIST sample N --seed S --on DAY [--by amount]        `audit sample` of the rows of all books as one
   books LIST position-on DAY [--last]                        the position of a day in each, for --at
   books headroom LIST                                        how many commands are left in each, as `headroom` tells it
+  books split JOURNAL RULE.. FOLDER..                        a book divided, for each rule a new one in a new folder
 
 Each line has the book's name before it; `all` stands before the totals, which end with the number of books that they
 are of, and with how many there are. A book that fails is tried once more, and is then a line
 `NAME,failed,STATUS,LINE`; the status is then that of the first such book. A policy's number in two books gives 1, and so
 does a book that may not be whole, as `verify` tells it; one of which commands are gone has failed.
+
+`split` has the program run each part's lines into a new journal in memory, and compares states, valuations and balances
+before a folder is made. It prints the list of the new books, and how the old one is put away, which stays as it was.
 
 On a cluster of Dask (--scheduler) each task works on a copy of the book at its position. The lines of policies stay
 where they are made, with --parts, or go.
@@ -28,10 +36,11 @@ from operator import itemgetter
 from typing import Iterator, Sequence
 
 from life_tools.book_lists import ALL, ListedBook, books_at, positions_at
-from life_tools.book_runs import Outcome, Parts, failure, named
+from life_tools.book_runs import OWN, Outcome, Parts, failure, named
 from life_tools.book_totals import total_of
 from life_tools.book_work import Asked, processors, work
 from life_tools.day_columns import number_at, text_at
+from life_tools.entries import books_own, books_split
 from life_tools.entries.headroom import Wanted, add_arguments, room_at, told_of, wanted_of
 from life_tools.formats import MOST_WORKERS, MOST_YEARS, Wrong, day_in, demand, number_of, remark
 from life_tools.headroom import HEAD
@@ -39,7 +48,7 @@ from life_tools.positions import on_day
 from life_tools.record_columns import columns_at
 from life_tools.wholeness import demand_undamaged, tell
 
-WORDS = ("value", "project", "state", "checkpoint", "position-on", "headroom")
+WORDS = ("value", "project", "state", "checkpoint", "position-on", "headroom", *OWN)
 MOST_TOLD = 10
 MOST_WAIT = 999_999
 
@@ -64,7 +73,10 @@ def program_words(options: argparse.Namespace) -> tuple[str, ...]:
 
 
 def asked_of(options: argparse.Namespace, books: list[ListedBook]) -> Asked:
-    words = program_words(options)
+    is_own = options.words[0] in OWN
+    words = books_own.words_of(options) if is_own else program_words(options)
+    firsts = positions_at(options.opening, books) if options.opening else {}
+    rows = books_own.rows_left(options.rows, books) if options.rows else {}
     positions = positions_at(options.at, books) if options.at else {}
     demand(not positions or words[0] != "checkpoint", "a checkpoint is of the whole journal")
     demand(not options.scheduler or words[0] != "checkpoint", "a checkpoint is made where the book is, and not on a cluster")
@@ -77,7 +89,7 @@ def asked_of(options: argparse.Namespace, books: list[ListedBook]) -> Asked:
     are_kept, wait = not (parts or options.totals or options.scheduler), number_of(options.wait, 0, MOST_WAIT)
     if wait is None:
         raise Wrong(f"--wait {options.wait}: seconds from 0 to {MOST_WAIT} are wanted")
-    return Asked(words, positions, processes, options.scheduler, options.send, parts, are_kept, wait)
+    return Asked(words, positions, processes, options.scheduler, options.send, parts, are_kept, wait, firsts, rows)
 
 
 # --- what is printed ---
@@ -115,6 +127,21 @@ def print_total(outcomes: list[Outcome]) -> None:
     print_lines(ALL, [*lines, [*last, *count]])
 
 
+def print_all(outcomes: list[Outcome]) -> int:
+    for outcome in outcomes:
+        print_book(outcome)
+    print_total(outcomes)
+    return 0
+
+
+def print_own(options: argparse.Namespace, outcomes: list[Outcome]) -> int:
+    """The books that failed, and what these tools made of all others together."""
+    for outcome in outcomes:
+        if outcome.status:
+            print_book(outcome)
+    return books_own.show(options, outcomes)
+
+
 def write_list_of_parts(asked: Asked, outcomes: list[Outcome]) -> None:
     if not asked.parts:
         return
@@ -131,8 +158,7 @@ def overlapping(outcomes: list[Outcome]) -> list[int]:
 
 def numbered(book: ListedBook, outcome: Outcome, place: int) -> Iterator[tuple[int, int]]:
     """The numbers of the policies of a book at its position, each with the book's place."""
-    assert outcome.text
-    return zip(columns_at(book.journal, outcome.text.position).policies(), itertools.repeat(place))
+    return zip(columns_at(book.journal, outcome.position).policies(), itertools.repeat(place))
 
 
 def tell_twice(books: list[ListedBook], outcomes: list[Outcome]) -> int:
@@ -154,16 +180,14 @@ def run_program(options: argparse.Namespace, books: list[ListedBook]) -> int:
     asked = asked_of(options, books)
     outcomes = work(asked, books)
     try:
-        for outcome in outcomes:
-            print_book(outcome)
-        print_total(outcomes)
+        status = print_own(options, outcomes) if asked.is_own else print_all(outcomes)
         sys.stdout.flush()
     finally:
         forget_rows(outcomes)
     write_list_of_parts(asked, outcomes)
     failed = [outcome.status for outcome in outcomes if outcome.status]
     twice = tell_twice(books, outcomes)
-    return failed[0] if failed else 1 if twice or any(outcome.doubt for outcome in outcomes) else 0
+    return failed[0] if failed else 1 if twice or any(outcome.doubt for outcome in outcomes) else status
 
 
 # --- positions and headroom ---
@@ -214,14 +238,21 @@ def arguments(parser: argparse.ArgumentParser) -> None:
     parser.add_argument("--parts", metavar="FOLDER", help="the lines of each book go to a file there, where they are made")
     parser.add_argument("--sqlite", action="store_true", help="parts are SQLite files, and not CSV")
     add_arguments(parser)
+    books_split.add_arguments(parser)
+    books_own.add_arguments(parser)
     parser.add_argument("--totals", action="store_true", help="the lines of policies aren't printed")
 
 
 def run(options: argparse.Namespace) -> int:
+    if options.list == "split":
+        return books_split.run(options)
     if options.list == "headroom":
         options.list, options.words = options.words[0], ["headroom", *options.words[1:]]
     word = options.words[0]
     demand(word in WORDS, f"{word} is none of {', '.join(WORDS)}")
+    books_own.demand_options(options)
+    if word in OWN:
+        books_own.demand_files(options)
     books = books_at(options.list)
     if word in ("position-on", "headroom"):
         words = program_words(options)

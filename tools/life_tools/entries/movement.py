@@ -13,6 +13,7 @@ from __future__ import annotations
 import argparse
 import csv
 import os
+from typing import NamedTuple
 
 from life_tools.changes import LINES, Cash, Change, Moved, analysis, cash_of, changes_of, demand_booked, lines_by_policy
 from life_tools.class_bases import Bases, bases_in, valued
@@ -65,23 +66,28 @@ def commands_between(copy: Front, first: int) -> list[Command]:
     return [command_in(data[at + 1:at + 65]) for at in range(0, len(data) - 1, 65)]
 
 
+class Moment(NamedTuple):
+    """A day as it is told to the program, and a position."""
+
+    on: str
+    position: int
+
+
 class Books:
     """The valuations and states of both positions, and what was posted between them."""
 
-    def __init__(self, options: argparse.Namespace) -> None:
-        first, last = position_in(options.p1), position_in(options.p2)
-        assert first is not None and last is not None
+    def __init__(self, asked: Moment, later: Moment, bases: list[Bases], measure: str, folder: str, life: str | None) -> None:
+        on1, first, on2, last = *asked, *later
         demand(first <= last, f"the closing position {last} is before the opening one, {first}")
-        bases = bases_of(options)
-        basis, changed, measure = bases[0], bases[-1], options.measure
+        basis, changed = bases[0], bases[-1]
         names = list(dict.fromkeys(name for each in bases for name in each.names))
-        with front(options.folder, first, names, options.life) as copy:
-            self.opening = valued(copy, options.on1, basis, measure)
+        with front(folder, first, names, life) as copy:
+            self.opening = valued(copy, on1, basis, measure)
             self.before: PrintedState = state_in(copy.asks("state"))
-        with front(options.folder, last, names, options.life) as copy:
-            self.later_book = valued(copy, options.on1, basis, measure)
-            self.later_day = valued(copy, options.on2, basis, measure)
-            self.closing = valued(copy, options.on2, changed, measure) if changed != basis else self.later_day
+        with front(folder, last, names, life) as copy:
+            self.later_book = valued(copy, on1, basis, measure)
+            self.later_day = valued(copy, on2, basis, measure)
+            self.closing = valued(copy, on2, changed, measure) if changed != basis else self.later_day
             self.after: PrintedState = state_in(copy.asks("state"))
             self.commands = commands_between(copy, first)
 
@@ -115,14 +121,28 @@ def write_files(options: argparse.Namespace, lines: list[Moved], cash: Cash, not
         written_whole(options.html, lambda path: write_text(path, page(whole, told, sheets)))
 
 
+def moved_in(books: Books) -> tuple[list[Change], list[Moved], Cash]:
+    """The changes of the policies, the lines, and the cash, which add up to what was printed."""
+    changes = changes_of(books.opening, books.later_book, books.later_day, books.closing, lines_by_policy(books.commands))
+    lines, cash = analysis(changes, books.opening, books.closing), cash_of(books.commands)
+    demand_booked(cash, books.before.balances, books.after.balances)
+    return changes, lines, cash
+
+
+def notes_of(books: Books) -> list[str]:
+    notes = [f"{valuation.words} policies of the {name} have a word in place of bounds, and are in no sum"
+             for name, valuation in ((LINES[0], books.opening), (LINES[-1], books.closing)) if valuation.words]
+    return [*notes, "a policy counts on one line, that of its last posting; `statement` counts each posting"]
+
+
 def run(options: argparse.Namespace) -> int:
     day_in(options.on1), day_in(options.on2)
-    books = Books(options)
+    first, last = position_in(options.p1), position_in(options.p2)
+    assert first is not None and last is not None
+    books = Books(Moment(options.on1, first), Moment(options.on2, last), bases_of(options), options.measure, options.folder,
+                  options.life)
     try:
-        changes = changes_of(books.opening, books.later_book, books.later_day, books.closing, lines_by_policy(books.commands))
-        lines = analysis(changes, books.opening, books.closing)
-        cash = cash_of(books.commands)
-        demand_booked(cash, books.before.balances, books.after.balances)
+        changes, lines, cash = moved_in(books)
     except Wrong as wrong:
         remark(f"wrong: {wrong}")
         return 1
@@ -130,9 +150,7 @@ def run(options: argparse.Namespace) -> int:
         written_whole(options.policies, lambda path: write_policies(path, changes))
     measure = "" if options.measure == "terminal" else f", {SHOWN[options.measure][0]}"
     title = f"from {options.on1} at position {options.p1} to {options.on2} at position {options.p2}{measure}"
-    notes = [f"{valuation.words} policies of the {name} have a word in place of bounds, and are in no sum"
-             for name, valuation in ((LINES[0], books.opening), (LINES[-1], books.closing)) if valuation.words]
-    notes.append("a policy counts on one line, that of its last posting; `statement` counts each posting")
+    notes = notes_of(books)
     write_files(options, lines, cash, notes, title)
     print("\n".join([title, shown(lines), *notes]))
     print(f"premiums received {money(cash.premiums)}, settlements paid {money(cash.settlements)}")

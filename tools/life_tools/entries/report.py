@@ -15,7 +15,7 @@ import os
 import sys
 from typing import Callable
 
-from life_tools.class_bases import basis_arguments, bases_in
+from life_tools.class_bases import Bases, basis_arguments, bases_in
 from life_tools.class_columns import basis_rows, valued_columns
 from life_tools.entries.why import measure_arguments, position_in
 from life_tools.formats import Wrong, day_in, demand, remark
@@ -75,11 +75,11 @@ def written_whole(path: str, write: Callable[[str], None]) -> None:
             os.remove(part)
 
 
-def read_both(options: argparse.Namespace) -> tuple[ColumnValuation, Joined]:
-    """The valuation, and its rows with their policies, of one copy."""
-    bases = bases_in(options.basis, options.classes, options.bases)
-    with front(options.folder, position_in(options.at), bases.names, options.life) as copy:
-        valuation = valued_columns(copy, options.on, bases, options.measure)
+def read_both(folder: str, position: int | None, life: str | None, on: str, bases: Bases, measure: str,
+              made: ColumnValuation | None = None) -> tuple[ColumnValuation, Joined]:
+    """The valuation, and its rows with their policies, of one copy; unless it was made already, it is made."""
+    with front(folder, position, bases.names, life) as copy:
+        valuation = made or valued_columns(copy, on, bases, measure)
         state = state_of(copy.streams("state"))
         basis = basis_rows(copy.folder, bases, state.policies.number, state.policies.issued)
     return valuation, joined(valuation, state, basis)
@@ -93,7 +93,8 @@ def facts_of(options: argparse.Namespace, position: int) -> dict[str, str]:
 def run(options: argparse.Namespace) -> int:
     day_in(options.on)
     wanted = keys_in(options.by)
-    valuation, rows = read_both(options)
+    bases = bases_in(options.basis, options.classes, options.bases)
+    valuation, rows = read_both(options.folder, position_in(options.at), options.life, options.on, bases, options.measure)
     total = whole(rows)
     tables: list[tuple[list[str], Groups]] = [(keys, grouped(rows, keys)) for keys in wanted]
     try:

@@ -1,0 +1,193 @@
+#!/bin/sh
+# Reports, movements, statements, what is due and samples over a list of books: a book is divided, and its parts together
+# have to say what it says alone; here and on a cluster, by new rows and by those that were left; and one bad book is told.
+. "$(dirname "$0")/../common.sh"
+
+LIFE_PROGRAM=$program
+export LIFE_PROGRAM
+
+tool() {
+    timeout 100 python3 "$tools/life-tools" "$@" >out 2>remarks
+}
+
+# a status, and words on standard error
+ends() {
+    wanted_status=$1 words=$2
+    shift 2
+    tool "$@"
+    status=$?
+    [ "$status" = "$wanted_status" ] && grep -q -e "$words" remarks || complain "$*: status $status: $(cat out remarks)"
+    grep -q Traceback remarks && complain "$*: $(cat remarks)"
+}
+
+# the rows of all tables, without what only one of the two prints
+rows() {
+    sed -n 's/  */ /g;/ -\{0,1\}[0-9][0-9]*\.[0-9][0-9] [0-9-]/p' "$1"
+}
+
+alike() {
+    rows "$1" >one
+    rows "$2" | grep -v -e '^low ' -e '^high ' | sed "$3" >other
+    [ -s one ] && cmp -s one other || complain "$2: $(diff one other | head -n 5)"
+}
+
+begin_with_examples "a divided book"
+mkdir main && mv basis.csv q.xml g.xml main
+(cd main && python3 "$root/.ci/tools/lived_book.py" 3 60)
+tool books split main/journal.life numbers=1-1000 numbers=1001- low high || complain "$(cat remarks)"
+mv out books.csv
+tool books books.csv position-on 2015-12-31 && mv out p1.csv || complain "$(cat remarks)"
+tool books books.csv position-on 2019-12-31 && mv out p2.csv || complain "$(cat remarks)"
+(cd main && python3 "$tools/life-tools" position-on 2015-12-31 journal.life >../p1 2>../remarks && python3 "$tools/life-tools" position-on 2019-12-31 journal.life >../p2 2>../remarks)
+p1=$(cat p1) p2=$(cat p2)
+
+go_on "reports"
+for words in "2019-12-31 --by plan,status --by issue-year" "2019-12-31 --deficiency --by age-band"; do
+    # shellcheck disable=SC2086
+    tool report $words --folder main --at "$p2" || complain "$(cat remarks)"
+    mv out single
+    # shellcheck disable=SC2086
+    tool books books.csv report $words --at p2.csv || complain "status $?: $(cat remarks)"
+    mv out listed
+    # the table of the books has a total, too
+    alike single listed '1{/^total /d}'
+done
+grep -q '^low ' listed && grep -q '^high ' listed || complain "the books aren't told: $(cat listed)"
+tool books books.csv value 2019-12-31 --at p2.csv --parts rows || complain "$(cat remarks)"
+tool books books.csv report 2019-12-31 --at p2.csv --csv new-rows || complain "$(cat remarks)"
+# by rows that were left nothing is valued anew
+printf '#!/bin/sh\n[ "$1" != value ] || exit 9\nexec "%s" "$@"\n' "$program" >lazy && chmod +x lazy
+LIFE_PROGRAM=$PWD/lazy
+tool books books.csv report 2019-12-31 --at p2.csv --rows rows --csv left-rows || complain "by rows that were left: $(cat remarks)"
+LIFE_PROGRAM=$program
+diff -r -x facts.csv new-rows left-rows >found || complain "by the rows left: $(cat found)"
+[ "$(wc -l <new-rows/book.csv)" = 4 ] || complain "$(ls new-rows)"
+ends 2 "rows/low.csv is of 2019-12-31 at position" books books.csv report 2018-12-31 --at p2.csv --rows rows
+sed -i 's/,row,/,row,1/' rows/high.csv
+ends 2 "rows/high.csv isn't what parts.csv says" books books.csv report 2019-12-31 --at p2.csv --rows rows
+
+go_on "movements"
+tool movement 2015-12-31 "$p1" 2019-12-31 "$p2" --folder main --mean && mv out single || complain "$(cat remarks)"
+tool books books.csv movement 2015-12-31 2019-12-31 --from p1.csv --at p2.csv --mean && mv out listed || complain "$(cat remarks)"
+alike single listed ''
+[ "$(wc -l <one)" = 12 ] || complain "there are other lines: $(cat one)"
+wanted=$(grep '^premiums received' single)
+grep -qx "$wanted" listed || complain "other cash: $(cat listed)"
+
+go_on "statements"
+tool statement 2015-12-31 "$p1" 2019-12-31 "$p2" --folder main --csv single-sheets || complain "$(cat remarks)"
+tool books books.csv statement 2015-12-31 2019-12-31 --from p1.csv --at p2.csv --csv listed-sheets || complain "$(cat remarks)"
+for sheet in claims exhibit premiums reserves; do
+    sort single-sheets/$sheet.csv >one
+    sort listed-sheets/$sheet.csv | cmp -s one - || complain "$sheet: $(sort listed-sheets/$sheet.csv | diff one - | head -n 6)"
+done
+# interest, cost and net premium are exact of a book, and rounded to cents of each before they are added
+python3 - single-sheets/increase.csv listed-sheets/increase.csv <<'PY' >found 2>&1 || complain "increase: $(tail -n 2 found)"
+import csv
+import sys
+one, other = ([row for row in csv.reader(open(path))] for path in sys.argv[1:])
+assert one[0] == other[0] and len(one) == len(other) > 10, (one, other)
+near = 0
+for row, same in zip(one, other):
+    for cell, found in zip(row, same):
+        if cell != found:
+            cents, others = (int(each.replace(".", "")) for each in (cell, found))
+            assert abs(cents - others) <= 1 and row[0] in ("net premiums", "interest", "cost of insurance", "rounding"), (row, same)
+PY
+grep -q '^books,2: low at position [0-9]*; high at position' listed-sheets/facts.csv || grep -q 'low at position' listed-sheets/facts.csv ||
+    complain "$(cat listed-sheets/facts.csv)"
+
+go_on "what is due"
+tool due 2024-12-31 main/journal.life --within 40 && tail -n +2 out | sort >single || complain "$(cat remarks)"
+grep -v '^life' remarks >sums
+tool books books.csv due 2024-12-31 40 && head -n 1 out | grep -qx book,what,policy,day,until,amount || complain "$(cat remarks)"
+tail -n +2 out | cut -d , -f 2- | sort | cmp -s single - || complain "other items are due"
+grep -v '^life' remarks | cmp -s sums - || complain "other sums are due: $(cat remarks)"
+
+go_on "samples"
+tool audit sample 12 --seed 5 --on 2019-12-31 --folder main --at "$p2"
+total=$(sed -n '2s/^sample,reserve,12,5,\([0-9]*\),\([0-9]*\),.*/\1,\2/p' out)
+tool books books.csv sample 12 --seed 5 --on 2019-12-31 --at p2.csv
+grep -q "^all,sample,reserve,12,5,$total,2019-12-31,terminal$" out || complain "wanted $total: $(cat out remarks)"
+# the walk along the rows of both books, by another program, over the units of all rows
+timeout 60 python3 "$tools/life-tools" books books.csv value 2019-12-31 --at p2.csv 2>remarks | grep ',row,' >all-rows
+python3 - "$total" all-rows <<'PY' >wanted
+import sys
+total, start = map(int, sys.argv[1].split(","))
+ahead, point = 0, start
+for line in open(sys.argv[2]):
+    fields = line.strip().split(",")
+    size = int(fields[6].replace(".", "")) * 12 if len(fields) == 7 else 0
+    ahead += size
+    if point < ahead:
+        print(line.strip())
+        while point < ahead:
+            point += total
+PY
+grep ',row,' out | cmp -s wanted - || complain "other rows were drawn: $(cat out) and $(cat wanted)"
+[ "$(grep -c ^low, wanted)" -ge 1 ] && [ "$(grep -c ^high, wanted)" -ge 1 ] || complain "of one book alone were drawn: $(cat wanted)"
+tool books books.csv sample 12 --seed 5 --on 2019-12-31 --at p2.csv --by amount
+grep -q "^all,sample,amount,12,5,$(python3 "$tools/life-tools" audit sample 12 --seed 5 --on 2019-12-31 --folder main --at "$p2" --by amount 2>remarks | sed -n '2s/^sample,amount,12,5,\([0-9]*,[0-9]*\),.*/\1/p'),2019" out || complain "$(cat out)"
+
+go_on "files"
+tool books books.csv report 2019-12-31 --at p2.csv --html page.html --title "All of us" || complain "$(cat remarks)"
+grep -q "low at position" page.html && grep -q "All of us" page.html || complain "the page doesn't tell its books"
+if python3 -c 'import openpyxl' 2>found; then
+    tool books books.csv statement 2015-12-31 2019-12-31 --from p1.csv --at p2.csv --xlsx sheets.xlsx || complain "$(cat remarks)"
+    [ -s sheets.xlsx ] || complain "no workbook"
+fi
+
+go_on "a bad book"
+cp high/journal.life aside.life
+for words in "report 2019-12-31" "movement 2015-12-31 2019-12-31 --from p1.csv" "statement 2015-12-31 2019-12-31 --from p1.csv" "due 2019-12-31"; do
+    printf '\0' | dd of=high/journal.life bs=1 seek=$((17 + 65 * 9)) conv=notrunc 2>/dev/null
+    # shellcheck disable=SC2086
+    tool books books.csv $words --at p2.csv
+    status=$?
+    [ $status != 0 ] && grep -q "^high,failed,$status," out && grep -q "tried once more: high" remarks && [ "$(wc -l <out)" -gt 3 ] || complain "$words: status $status: $(cat out remarks)"
+    cp aside.life high/journal.life
+done
+printf '\0' | dd of=high/journal.life bs=1 seek=$((17 + 65 * 9)) conv=notrunc 2>/dev/null
+tool books books.csv report 2019-12-31 --at p2.csv --html bad.html
+[ $? != 0 ] && [ ! -e bad.html ] && grep -q "nothing is written, since a book is left out" remarks || complain "$(cat remarks)"
+tool books books.csv sample 3 --seed 1 --on 2019-12-31 --at p2.csv
+[ $? != 0 ] && ! grep -q sample out && grep -q "^high,failed," out || complain "a sample without a book: $(cat out)"
+cp aside.life high/journal.life
+# one that is printed otherwise than it adds up, as by a program that is wrong
+printf '#!/bin/sh\ncase $1 in value) "%s" "$@" | sed "/^row/s/[0-9]\\$/7/" ;; *) exec "%s" "$@" ;; esac\n' "$program" "$program" >liar && chmod +x liar
+LIFE_PROGRAM=$PWD/liar ends 2 "status 2: the rows add up to" books books.csv report 2019-12-31 --at p2.csv
+cp main/journal.life low/other.life
+printf 'low,low,basis.csv\nmain,main,basis.csv\n' >twice.csv
+ends 1 "^policy [0-9]* stands in low, main$" books twice.csv report 2019-12-31
+
+go_on "wrong words"
+ends 2 "wants --from and --at" books books.csv statement 2015-12-31 2019-12-31
+ends 2 "statement takes 2 words" books books.csv statement 2015-12-31
+ends 2 "color is none of" books books.csv report 2019-12-31 --by color
+ends 2 "by plan: sample takes\|--by plan" books books.csv sample 3 --seed 1 --on 2019-12-31 --by plan
+ends 2 "sample wants --on and --seed" books books.csv sample 3
+ends 2 "--seed belongs to sample" books books.csv report 2019-12-31 --seed 4
+ends 2 "--from belongs to" books books.csv report 2019-12-31 --from p1.csv
+ends 2 "doesn't belong to statement" books books.csv statement 2015-12-31 2019-12-31 --from p1.csv --at p2.csv --deficiency
+ends 2 "there is already\|is there already" books books.csv report 2019-12-31 --csv new-rows
+
+. "$root/.ci/books/loopback.sh"
+if ! has_dask; then
+    skip_cluster
+else
+    go_on "a cluster on the loopback"
+    begin_cluster
+    for words in "report 2019-12-31" "statement 2015-12-31 2019-12-31 --from p1.csv --mean" "movement 2015-12-31 2019-12-31 --from p1.csv" "due 2019-12-31 30" "sample 9 --seed 2 --on 2019-12-31"; do
+        # shellcheck disable=SC2086
+        tool books books.csv $words --at p2.csv
+        grep -v ^made: out >wanted
+        for how in "" --send; do
+            # shellcheck disable=SC2086
+            tool books books.csv $words --at p2.csv --scheduler "$address" $how
+            grep -v ^made: out | cmp -s wanted - || complain "$words $how on the cluster: $(cat out remarks)"
+        done
+    done
+    end_cluster "$scheduler" "$worker1" "$worker2"
+fi
+
+end "the parts of a divided book say together what it says alone, here and on a cluster, and a bad book is told"

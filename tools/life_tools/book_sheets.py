@@ -1,0 +1,203 @@
+"""What a worker makes of one book of a list beside the program's texts: a report, a movement, a statement, what is due, rows
+to draw from. Each adds up to what the program printed of that book, before it is sent.
+
+The words of a task: report ON MEASURE KEYS.., movement ON1 ON2 MEASURE, statement ON1 ON2 MEASURE, due DAY WITHIN, sample ON
+MEASURE BY.
+"""
+from __future__ import annotations
+
+from dataclasses import dataclass
+from typing import Any, Callable, Iterator, Sequence
+
+from life_tools.arrays import Cents, np
+from life_tools.changes import Cash, Moved
+from life_tools.class_bases import one_basis
+from life_tools.columns import columns_at
+from life_tools.copied_folder import JOURNAL
+from life_tools.day_columns import number_at
+from life_tools.entries.due import Items
+from life_tools.entries.movement import Books, Moment, moved_in
+from life_tools.entries.report import read_both
+from life_tools.formats import Wrong, day_in, demand
+from life_tools.groups import Groups, Joined, Sums, demand_whole, grouped, whole
+from life_tools.periods import Asked, NotWhole
+from life_tools.policy_columns import CODE_OF_STATUS
+from life_tools.printed_columns import ColumnValuation, Rows, valuation_of
+from life_tools.provenance import sum_of_file
+from life_tools.statement import Statement, statement_of
+
+AT_ONCE = 1 << 20
+
+
+class NotAdded(Wrong):
+    """What was added up of a book isn't what the program printed."""
+
+    status = 1
+
+
+@dataclass(frozen=True)
+class Wanted:
+    """One book's work: its folder, basis and program; its positions; the words; and a part with its sum, where rows are taken
+    from it."""
+
+    name: str
+    folder: str
+    basis: str
+    life: str | None
+    first: int | None
+    last: int | None
+    words: tuple[str, ...]
+    part: tuple[str, str] | None = None
+
+    @property
+    def position(self) -> int:
+        demand(self.last is not None, f"{self.words[0]} wants --at")
+        assert self.last is not None
+        return self.last
+
+    @property
+    def opening(self) -> int:
+        demand(self.first is not None, f"{self.words[0]} wants --from")
+        assert self.first is not None
+        return self.first
+
+
+@dataclass(frozen=True)
+class Made:
+    """What was made of a book at a position."""
+
+    position: int
+    what: Any
+
+
+@dataclass(frozen=True)
+class Reported:
+    """The groups of each table, and the sums of all."""
+
+    tables: list[tuple[list[str], Groups]]
+    total: Sums
+
+
+@dataclass(frozen=True)
+class MovedBook:
+    """The lines of an analysis of change, and the cash beside them; and the rows with a word at both ends."""
+
+    lines: list[Moved]
+    cash: Cash
+    words: tuple[int, int]
+
+
+@dataclass(frozen=True)
+class Drawable:
+    """The rows of a valuation, and what each counts for in cents."""
+
+    rows: Rows
+    sizes: Cents
+    words: int
+
+
+# --- rows that `books value --parts` left ---
+
+def without_name(path: str, name: str) -> Iterator[bytes]:
+    """The text of a part without the book's name before each line."""
+    front = name.encode() + b","
+    with open(path, "rb") as file:
+        while lines := file.readlines(AT_ONCE):
+            demand(all(line.startswith(front) for line in lines), f"{path} has a line that isn't of {name}")
+            yield b"".join(line[len(front):] for line in lines)
+
+
+def valuation_in_part(wanted: Wanted, on: str, measure: str) -> ColumnValuation | None:
+    """The valuation of a part, where one was told; it has to be the one that is asked for."""
+    if not wanted.part:
+        return None
+    path, told = wanted.part
+    demand(sum_of_file(path) == told, f"{path} isn't what parts.csv says")
+    found = valuation_of(without_name(path, wanted.name))
+    right = str(found.on) == on and found.measure == measure and wanted.last in (None, found.position)
+    demand(right, f"{path} is of {found.on} at position {found.position}, {found.measure}")
+    return found
+
+
+def both(wanted: Wanted, on: str, measure: str) -> tuple[ColumnValuation, Joined]:
+    made = valuation_in_part(wanted, on, measure)
+    position = made.position if made else wanted.last
+    return read_both(wanted.folder, position, wanted.life, on, one_basis(wanted.basis), measure, made)
+
+
+# --- what is made ---
+
+def report_of(wanted: Wanted, on: str, measure: str, *tables: str) -> Made:
+    valuation, rows = both(wanted, on, measure)
+    found = [(keys, grouped(rows, keys)) for keys in (table.split(",") for table in tables)]
+    for keys, groups in found:
+        demand_whole(groups, keys, valuation)
+    return Made(valuation.position, Reported(found, whole(rows)))
+
+
+def movement_of(wanted: Wanted, on1: str, on2: str, measure: str) -> Made:
+    books = Books(Moment(on1, wanted.opening), Moment(on2, wanted.position), [one_basis(wanted.basis)], measure, wanted.folder,
+                  wanted.life)
+    try:
+        _, lines, cash = moved_in(books)
+    except Wrong as wrong:
+        raise NotAdded(str(wrong)) from wrong
+    return Made(wanted.position, MovedBook(lines, cash, (books.opening.words, books.closing.words)))
+
+
+def statement_made(wanted: Wanted, on1: str, on2: str, measure: str) -> Made:
+    asked = Asked(wanted.folder, day_in(on1), wanted.opening, day_in(on2), wanted.position, one_basis(wanted.basis), measure,
+                  wanted.life)
+    try:
+        statement: Statement = statement_of(asked)
+    except NotWhole as wrong:
+        raise NotAdded(str(wrong)) from wrong
+    return Made(wanted.position, statement)
+
+
+def due_of(wanted: Wanted, day: str, within: str) -> Made:
+    book = columns_at(f"{wanted.folder}/{JOURNAL}", wanted.last)
+    return Made(book.count, Items(book.policies, number_at(day_in(day)), int(within)).find_all())
+
+
+def drawable_of(wanted: Wanted, on: str, measure: str, by: str) -> Made:
+    valuation, joined = both(wanted, on, measure)
+    sizes = joined.rows.bounds[:, -1]
+    if by == "amount":
+        of = joined.policies
+        insured = np.isin(joined.rows.status, [CODE_OF_STATUS["inforce"], CODE_OF_STATUS["paidup"]])
+        sizes = np.where(insured & (of.issued <= number_at(day_in(on))), of.amount, 0)
+    return Made(valuation.position, Drawable(joined.rows, sizes, valuation.words))
+
+
+MAKES: dict[str, Callable[..., Made]] = {"report": report_of, "movement": movement_of, "statement": statement_made, "due": due_of,
+                                         "sample": drawable_of}
+
+
+def made_of(wanted: Wanted) -> Made:
+    word, *more = wanted.words
+    return MAKES[word](wanted, *more)
+
+
+# --- books added up ---
+
+def plus(one: Sums, other: Sums) -> Sums:
+    return Sums(one.policies + other.policies, one.insured + other.insured, one.amount + other.amount,
+                [low + high for low, high in zip(one.bounds, other.bounds)], one.words + other.words)
+
+
+def groups_added(groups: Sequence[Groups]) -> Groups:
+    found: Groups = {}
+    for each in groups:
+        for name, sums in each.items():
+            found[name] = plus(found[name], sums) if name in found else sums
+    return dict(sorted(found.items()))
+
+
+def moved_added(books: Sequence[MovedBook]) -> MovedBook:
+    lines = []
+    for same in zip(*(book.lines for book in books)):
+        cents = sum(it.cents[0] for it in same), sum(it.cents[1] for it in same)
+        lines.append(Moved(same[0].name, sum(it.policies for it in same), cents))
+    cash = Cash(sum(book.cash.premiums for book in books), sum(book.cash.settlements for book in books))
+    return MovedBook(lines, cash, (sum(book.words[0] for book in books), sum(book.words[1] for book in books)))
