@@ -82,18 +82,8 @@ for sheet in claims exhibit premiums reserves; do
     sort listed-sheets/$sheet.csv | cmp -s one - || complain "$sheet: $(sort listed-sheets/$sheet.csv | diff one - | head -n 6)"
 done
 # interest, cost and net premium are exact of a book, and rounded to cents of each before they are added
-python3 - single-sheets/increase.csv listed-sheets/increase.csv <<'PY' >found 2>&1 || complain "increase: $(tail -n 2 found)"
-import csv
-import sys
-one, other = ([row for row in csv.reader(open(path))] for path in sys.argv[1:])
-assert one[0] == other[0] and len(one) == len(other) > 10, (one, other)
-near = 0
-for row, same in zip(one, other):
-    for cell, found in zip(row, same):
-        if cell != found:
-            cents, others = (int(each.replace(".", "")) for each in (cell, found))
-            assert abs(cents - others) <= 1 and row[0] in ("net premiums", "interest", "cost of insurance", "rounding"), (row, same)
-PY
+python3 "$root/.ci/tools/near_sheets.py" single-sheets/increase.csv listed-sheets/increase.csv >found 2>&1 ||
+    complain "increase: $(tail -n 2 found)"
 grep -q '^books,2: low at position [0-9]*; high at position' listed-sheets/facts.csv || grep -q 'low at position' listed-sheets/facts.csv ||
     complain "$(cat listed-sheets/facts.csv)"
 
@@ -111,19 +101,7 @@ tool books books.csv sample 12 --seed 5 --on 2019-12-31 --at p2.csv
 grep -q "^all,sample,reserve,12,5,$total,2019-12-31,terminal$" out || complain "wanted $total: $(cat out remarks)"
 # the walk along the rows of both books, by another program, over the units of all rows
 timeout 60 python3 "$tools/life-tools" books books.csv value 2019-12-31 --at p2.csv 2>remarks | grep ',row,' >all-rows
-python3 - "$total" all-rows <<'PY' >wanted
-import sys
-total, start = map(int, sys.argv[1].split(","))
-ahead, point = 0, start
-for line in open(sys.argv[2]):
-    fields = line.strip().split(",")
-    size = int(fields[6].replace(".", "")) * 12 if len(fields) == 7 else 0
-    ahead += size
-    if point < ahead:
-        print(line.strip())
-        while point < ahead:
-            point += total
-PY
+python3 "$root/.ci/tools/drawn_rows.py" "$total" all-rows >wanted
 grep ',row,' out | cmp -s wanted - || complain "other rows were drawn: $(cat out) and $(cat wanted)"
 [ "$(grep -c ^low, wanted)" -ge 1 ] && [ "$(grep -c ^high, wanted)" -ge 1 ] || complain "of one book alone were drawn: $(cat wanted)"
 tool books books.csv sample 12 --seed 5 --on 2019-12-31 --at p2.csv --by amount

@@ -8,12 +8,13 @@ import os
 import shutil
 import signal
 import sys
+from typing import Any
 
 ROOT = sys.argv[1]
 sys.path.insert(0, os.path.join(ROOT, "tools"))
 
-from life_tools import new_books
-from life_tools.formats import Wrong
+from life_tools import new_books  # noqa: E402
+from life_tools.formats import Wrong  # noqa: E402
 
 STEPS = ("mkdir", "fsync", "rename", "posix_fadvise", "open")
 SHARED = {"old.seal": b"a seal\n", "basis.csv": b"1900-01-01,q.xml,0\n", "q.xml": b"a table\n"}
@@ -21,12 +22,12 @@ FILES = ["journal.life", *SHARED]
 FOLDERS = ["low", "middle", "high"]
 
 
-def put():
+def put() -> None:
     new_books.demand_new_folders(FOLDERS, FILES)
     new_books.put_in_place(FOLDERS, [f"made-{folder}" for folder in FOLDERS], SHARED)
 
 
-def killed_at(most):
+def killed_at(most: int) -> bool:
     """Whether a child was killed at its step of this number."""
     child = os.fork()
     if child == 0:
@@ -34,7 +35,7 @@ def killed_at(most):
         for name in STEPS:
             real = getattr(os, name)
 
-            def counted(*words, real=real):
+            def counted(*words: Any, real: Any = real) -> Any:
                 nonlocal done
                 done += 1
                 if done == most:
@@ -46,18 +47,19 @@ def killed_at(most):
     return os.waitstatus_to_exitcode(os.waitpid(child, 0)[1]) == -signal.SIGKILL
 
 
-def demand_whole(folder, step):
+def demand_whole(folder: str, step: int) -> None:
     assert sorted(os.listdir(folder)) == sorted(FILES), (step, folder)
     for name, data in {"journal.life": f"the journal of {folder}".encode() * 1000, **SHARED}.items():
         assert open(os.path.join(folder, name), "rb").read() == data, (step, folder, name)
 
 
-def main():
+def main() -> None:
     for folder in FOLDERS:
         os.mkdir(f"made-{folder}")
         with open(f"made-{folder}/journal.life", "w") as file:
             file.write(f"the journal of {folder}" * 1000)
-    step, seen = 1, set()
+    step = 1
+    seen: set[int] = set()
     while killed_at(step):
         there = [folder for folder in FOLDERS if os.path.exists(folder)]
         seen.add(len(there))
