@@ -27,6 +27,7 @@ module _ {D W : Type 0} (g : Ghosts D) (w : WatcherGhosts W) (old new : D) (watc
   has_posted = record {
     opening = started.opening;
     held = started.held;
+    outlet = started.outlet;
     history = last.seen;
     legal = subst (λ (o : OfficeOpening D W). IsOfficeHistory o last.seen) (one_opening facts.lawful.0 facts.lawful.1) facts.lawful.2;
     disk = subst (λ (o : OfficeOpening D W). IsLeftBy g o.begun new o.opening last.seen) (one_opening closed.opening closed.opened) closed.disk;
