@@ -24,7 +24,7 @@ LIMITS = {
     "docs/CLERK.md": 3300,
     "docs/VALUATION.md": 4800,
     "docs/AUDIT.md": 2700,
-    "docs/OPERATIONS.md": 2600,
+    "docs/OPERATIONS.md": 2650,
     "docs/FORMATS.md": 6150,
     "docs/ARCHITECTURE.md": 4700,
     "docs/PROOF.md": 8200,
