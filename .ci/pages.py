@@ -29,7 +29,7 @@ LIMITS = {
     "docs/ARCHITECTURE.md": 4700,
     "docs/PROOF.md": 8200,
     "docs/DECISIONS.md": 4100,
-    "docs/FIGURES.md": 1640,
+    "docs/FIGURES.md": 1700,
 }
 MOST_IN_A_SENTENCE = 35
 MOST_IN_A_CELL = 30
