@@ -6,7 +6,6 @@ ghost use Rattle.present_value.specs.inside.Earlier.{earlier, most, end_payment}
 
 use crate::pair::{Pair, UNITS_IN_ONE};
 use crate::reciprocal::Reciprocal;
-use crate::valuation::column_with;
 use crate::year::{benefits_before, premiums_before, year_reciprocal};
 use rate_table::RateTable;
 
@@ -53,12 +52,14 @@ impl Column {
         requires { end ≤ 131 }
         ensures { IsStarted stream end result }
     {
-        Column {
+        let mut column = Column {
             stream,
             end,
             from: end,
-            pairs: column_with(end, paid_at_end(stream)),
-        }
+            pairs: [Pair { lo: 0, hi: 0 }; 132],
+        };
+        column.restart(stream, end);
+        column
     }
 
     /// Becomes the column of another stream, which knows no value but the last.
