@@ -1,4 +1,4 @@
-ghost use Rattle.std.specs.Prelude.{◌≡◌, ◌+◌, ◌*◌, ◌≤◌, ◌<◌, ◌↔◌, IsTrue};
+ghost use Rattle.std.specs.Prelude.{◌≡◌, ◌+◌, ◌*◌, ◌≤◌, ◌<◌};
 ghost use Rattle.rate_table.specs.Rates.{ONE};
 ghost use Rattle.present_value.specs.Rounding.{UNIT};
 ghost use Rattle.present_value.specs.Ends.{benefit_stream, CanEnd, IsColumn, IsOf, IsStarted, value_to};
@@ -72,13 +72,6 @@ impl Column {
         self.from = end;
         let paid = paid_at_end(stream);
         self.pairs[end as usize] = Pair { lo: paid, hi: paid };
-    }
-
-    /// Whether this is the column of a stream until an age.
-    pub fn is_of(&self, stream: Stream, end: u8) -> bool
-        ensures { IsTrue result ↔ IsOf self.now stream end }
-    {
-        self.end == end && self.stream == stream
     }
 
     /// The value at an attained age, by the table and at the interest of the column.
