@@ -37,7 +37,6 @@ ALLOWED = {
     "statements::print_entry": "one line of the many that the program writes together",
     "xtbml_subset::read_table": "a table by age alone, over what `read_any` runs",
     "checkpoint_store::reopen": "the snapshot of the books that `reopen_books` reads",
-    "cash_projection::project_policies": "tests and a timing ask it, until they ask `tally_policies`",
 }
 
 USE = re.compile(r"^(?:pub )?use ([^;]+);", re.M)
