@@ -1,8 +1,8 @@
-"""Who waits for the lock is woken: all interleavings of three callers of one turn each, over both lines.
+"""Who waits for the lock is woken: all interleavings of three callers of one turn each, over both queues.
 
 usage: python3 .ci/interleavings.py     the status is 1 where a caller sleeps for ever, or two are inside
 
-The steps are the atomic accesses of turn_lock: src/entering.rt, src/lines.rt, and take and give of src/steps.rt.
+The steps are the atomic accesses of turn_lock: src/entering.rt, src/queues.rt, and take and give of src/steps.rt.
 No contract says that a wake arrives; this search does, of a model. Where a ring is left out, or two accesses change
 places (FAULTS), it has to find a caller that sleeps for ever.
 """
@@ -13,12 +13,12 @@ from typing import NamedTuple
 
 FREE, TAKEN, NOBODY = -1, -2, -3
 BRIEF, OTHERS = 0, 1
-LINES = {
+QUEUES = {
     "others alone": (OTHERS, OTHERS, OTHERS),
     "one brief": (BRIEF, OTHERS, OTHERS),
     "two brief": (BRIEF, BRIEF, OTHERS),
 }
-# So many turns on end may pass the first of each line. Three turns don't reach those of the lock, which are the last
+# So many turns on end may pass the first of each queue. Three turns don't reach those of the lock, which are the last
 LIMITS = {"kept": (1, 1), "free, then kept": (2, 2), "free": (5, 8)}
 NO_FREE_RING = "no ring after a free give"
 NO_KEPT_RING = "no ring after a give to one that waits"
@@ -33,8 +33,8 @@ RINGS = ("read_other_bell", "ring")
 SLEEPS = ("sleep",)
 
 
-class Line(NamedTuple):
-    """A line: how many came and were let in, their bells, and the count of turns that passed its first."""
+class Queue(NamedTuple):
+    """A queue: how many came and were let in, their bells, and the count of turns that passed its first."""
 
     came: int = 0
     let_in: int = 0
@@ -44,10 +44,10 @@ class Line(NamedTuple):
 
 
 class Caller(NamedTuple):
-    """A caller: its next steps, its line and number there, what it read last, and whose bell it rings."""
+    """A caller: its next steps, its queue and number there, what it read last, and whose bell it rings."""
 
     steps: tuple[str, ...]
-    line: int
+    queue: int
     number: int = 0
     read: int = 0
     is_inside: bool = False
@@ -56,28 +56,28 @@ class Caller(NamedTuple):
 
 
 class State(NamedTuple):
-    """The lock's word, the two lines and the callers, of whom it doesn't matter which is which.
+    """The lock's word, the two queues and the callers, of whom it doesn't matter which is which.
 
     A kept word is twice the number, and one more for others.
     """
 
     lock: int
-    lines: tuple[Line, ...]
+    queues: tuple[Queue, ...]
     callers: tuple[Caller, ...]
 
 
-def kept_for(line: int, number: int) -> int:
-    return number * 2 + line
+def kept_for(queue: int, number: int) -> int:
+    return number * 2 + queue
 
 
 class Turn:
     """The next step of one caller, as the lock does it, or with a fault."""
 
     def __init__(self, state: State, at: int, limits: tuple[int, int], fault: str) -> None:
-        self.lock, self.lines, self.callers = state.lock, list(state.lines), list(state.callers)
+        self.lock, self.queues, self.callers = state.lock, list(state.queues), list(state.callers)
         self.me = state.callers[at]
         self.at, self.limits, self.fault = at, limits, fault
-        self.line = state.lines[self.me.line]
+        self.queue = state.queues[self.me.queue]
 
     def after(self) -> State:
         """The state after it."""
@@ -85,18 +85,18 @@ class Turn:
         self.me = self.me._replace(steps=tuple(rest))
         getattr(self, step)()
         self.callers[self.at] = self.me
-        return State(self.lock, tuple(self.lines), tuple(sorted(self.callers)))
+        return State(self.lock, tuple(self.queues), tuple(sorted(self.callers)))
 
     def to(self, *steps: str, **changes: int) -> None:
         self.me = self.me._replace(steps=steps, **changes)  # type: ignore[arg-type]
 
-    def put(self, line: int, **changes: int) -> None:
-        self.lines[line] = self.lines[line]._replace(**changes)  # type: ignore[arg-type]
+    def put(self, queue: int, **changes: int) -> None:
+        self.queues[queue] = self.queues[queue]._replace(**changes)  # type: ignore[arg-type]
 
-    def put_bell(self, line: int, number: int, value: int) -> None:
-        bells = list(self.lines[line].bells)
+    def put_bell(self, queue: int, number: int, value: int) -> None:
+        bells = list(self.queues[queue].bells)
         bells[number] = value
-        self.lines[line] = self.lines[line]._replace(bells=tuple(bells))
+        self.queues[queue] = self.queues[queue]._replace(bells=tuple(bells))
 
     def takes(self, word: int) -> bool:
         """Takes the lock where it has this word."""
@@ -111,8 +111,8 @@ class Turn:
             self.to("come")
 
     def come(self) -> None:
-        self.put(self.me.line, came=self.line.came + 1)
-        self.to(*self.ways_to_wait(), number=self.line.came)
+        self.put(self.me.queue, came=self.queue.came + 1)
+        self.to(*self.ways_to_wait(), number=self.queue.came)
 
     def ways_to_wait(self) -> tuple[str, ...]:
         looks = ("take_kept", "see_if_first")
@@ -120,18 +120,18 @@ class Turn:
         return (*looks, *bell, "park") if self.fault == LATE_BELL else (*bell, *looks, "park")
 
     def read_bell(self) -> None:
-        self.me = self.me._replace(read=self.line.bells[self.me.number])
+        self.me = self.me._replace(read=self.queue.bells[self.me.number])
 
     def lie_down(self) -> None:
-        if self.line.bells[self.me.number] == self.me.read:
-            self.put_bell(self.me.line, self.me.number, self.me.read | 1)
+        if self.queue.bells[self.me.number] == self.me.read:
+            self.put_bell(self.me.queue, self.me.number, self.me.read | 1)
         self.me = self.me._replace(read=self.me.read | 1)
 
     def take_kept(self) -> None:
-        self.takes(kept_for(self.me.line, self.me.number))
+        self.takes(kept_for(self.me.queue, self.me.number))
 
     def see_if_first(self) -> None:
-        if self.line.let_in == self.me.number:
+        if self.queue.let_in == self.me.number:
             self.to("take_free", *self.me.steps)
 
     def take_free(self) -> None:
@@ -139,11 +139,11 @@ class Turn:
             self.to("let_me_in", *self.me.steps)
 
     def let_me_in(self) -> None:
-        self.put(self.me.line, let_in=self.line.let_in + 1)
+        self.put(self.me.queue, let_in=self.queue.let_in + 1)
 
     def park(self) -> None:
         """Sleeps where nobody has rung since."""
-        if self.line.bells[self.me.number] == self.me.read:
+        if self.queue.bells[self.me.number] == self.me.read:
             self.to(*SLEEPS)
         else:
             self.to(*self.ways_to_wait(), read=0)
@@ -156,14 +156,14 @@ class Turn:
 
     def count(self, which: int) -> None:
         """Counts the turn. Of what it reads only `came` is changed by others meanwhile, so this is one access."""
-        line = self.lines[which]
-        before = line.passed if line.first == line.let_in else 0
-        self.put(which, first=line.let_in, passed=before + 1 if line.came != line.let_in else 0)
+        queue = self.queues[which]
+        before = queue.passed if queue.first == queue.let_in else 0
+        self.put(which, first=queue.let_in, passed=before + 1 if queue.came != queue.let_in else 0)
 
     def choose(self) -> None:
         for which in (OTHERS, BRIEF):
-            number = self.lines[which].let_in
-            if self.lines[which].passed >= self.limits[which]:
+            number = self.queues[which].let_in
+            if self.queues[which].passed >= self.limits[which]:
                 self.put(which, let_in=number + 1)
                 word = kept_for(which, number)
                 self.to(*self.ways_to_keep(), gives=word, rings=word)
@@ -185,23 +185,23 @@ class Turn:
         self.me = self.me._replace(gives=FREE, is_inside=False)
 
     def see_let_in(self) -> None:
-        self.me = self.me._replace(read=self.lines[OTHERS].let_in)
+        self.me = self.me._replace(read=self.queues[OTHERS].let_in)
 
     def see_came(self) -> None:
         """Somebody waits among the others, or else it looks at the brief ones."""
-        self.me = self.me._replace(read=OTHERS if self.lines[OTHERS].came != self.me.read else BRIEF)
+        self.me = self.me._replace(read=OTHERS if self.queues[OTHERS].came != self.me.read else BRIEF)
 
     def first_let_in(self) -> None:
-        self.me = self.me._replace(read=0, rings=kept_for(self.me.read, self.lines[self.me.read].let_in))
+        self.me = self.me._replace(read=0, rings=kept_for(self.me.read, self.queues[self.me.read].let_in))
 
     def first_came(self) -> None:
         number, which = divmod(self.me.rings, 2)
-        if self.lines[which].came == number:
+        if self.queues[which].came == number:
             self.to(*(it for it in self.me.steps if it not in RINGS), rings=NOBODY)
 
     def read_other_bell(self) -> None:
         number, which = divmod(self.me.rings, 2)
-        read = self.lines[which].bells[number]
+        read = self.queues[which].bells[number]
         if read % 2:
             self.me = self.me._replace(read=read)
         else:
@@ -210,20 +210,20 @@ class Turn:
     def ring(self) -> None:
         """Makes an odd bell even, and wakes who sleeps at it."""
         number, which = divmod(self.me.rings, 2)
-        if self.lines[which].bells[number] == self.me.read:
+        if self.queues[which].bells[number] == self.me.read:
             self.put_bell(which, number, self.me.read + 1)
             self.callers = [self.woken(it, which, number) for it in self.callers]
         self.me = self.me._replace(read=0, rings=NOBODY)
 
     def woken(self, caller: Caller, which: int, number: int) -> Caller:
-        if caller.steps != SLEEPS or (caller.line, caller.number) != (which, number):
+        if caller.steps != SLEEPS or (caller.queue, caller.number) != (which, number):
             return caller
         return caller._replace(steps=self.ways_to_wait(), read=0)
 
 
-def search(lines: tuple[int, ...], limits: tuple[int, int], fault: str = "") -> tuple[int, str]:
+def search(queues: tuple[int, ...], limits: tuple[int, int], fault: str = "") -> tuple[int, str]:
     """How many states can be reached, and what is wrong with one of them, where something is."""
-    start = State(FREE, (Line(), Line()), tuple(Caller(("arrive",), line) for line in lines))
+    start = State(FREE, (Queue(), Queue()), tuple(Caller(("arrive",), queue) for queue in queues))
     seen, left = {start}, [start]
     while left:
         state = left.pop()
@@ -242,12 +242,12 @@ def search(lines: tuple[int, ...], limits: tuple[int, int], fault: str = "") -> 
 
 def main() -> int:
     failed = 0
-    for (callers, lines), (how, limits) in zip(LINES.items(), LIMITS.items()):
-        states, wrong = search(lines, limits)
+    for (callers, queues), (how, limits) in zip(QUEUES.items(), LIMITS.items()):
+        states, wrong = search(queues, limits)
         print(f"lock: {callers}, {how}: {states} states, {wrong or 'all take their turns'}")
         failed += wrong != ""
     for fault, how in FAULTS.items():
-        _, wrong = search(LINES["one brief"], LIMITS[how], fault)
+        _, wrong = search(QUEUES["one brief"], LIMITS[how], fault)
         print(f"lock: {fault}: {wrong + ', as is wanted' if wrong else 'nothing is found'}")
         failed += wrong == ""
     return min(failed, 1)

@@ -191,7 +191,7 @@ module _ {T O : Type 0} (opens : T → O) (legal : O → List Entry → Type 0) 
       -- where the lock's word becomes this one
       abbrev Tried : ℕ → Type 0
       Tried after = (w : View O) × (a : Act (Option (Kept T))) × table.Valid s.homes me.1 a × Rule (stepped s 0 after id me.1 w a)
-          × steps.Takes opens legal stands (step slots 0 word 1 none) me n (w, table.carried_after me.1 a)
+          × steps.TakesLock opens legal stands (step slots 0 word 1 none) me n (w, table.carried_after me.1 a)
 
       abbrev is_named : IsNamed v.stage
       is_named = subst IsNamed (sym is) tt
@@ -263,7 +263,7 @@ module _ {T O : Type 0} (opens : T → O) (legal : O → List Entry → Type 0) 
       tried = exchanged n word 1 Tried (λ e. takes_out e r.slot r.slot_is r.lies) misses
 
     pub tries : ((y : T) (h : List Entry) → stands y h → legal (opens y) h) → (word : ℕ) → word ≢ 1 → v.stage ≡ Idle → 1 ≤ v.left
-        → Allows Rule slots id me 0 (λ n. either (eqb n word) 1 n) (steps.Takes opens legal stands (step slots 0 word 1 none) me)
+        → Allows Rule slots id me 0 (λ n. either (eqb n word) 1 n) (steps.TakesLock opens legal stands (step slots 0 word 1 none) me)
     tries law word untaken is more s r deep at fits = tried law word untaken is more s r at
 
   -- a give, right after the changed value went into the slot in hand

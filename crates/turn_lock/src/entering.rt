@@ -3,7 +3,7 @@ ghost use Rattle.std.specs.Prelude.{◌≡◌, ◌≢◌, ◌≤◌, [], IfSome,
 ghost use Rattle.turn_lock.specs.declared.seats.Stage.TheVariants.{Idle};
 ghost use Rattle.turn_lock.specs.inside.Places.{IsBoard, IsNow, TookOut};
 
-use crate::lines::{Line, Lines, Next};
+use crate::queues::{Next, Queue, Queues};
 use crate::seats::{CallerSeat, FREE, Kept, SharedBoard};
 use crate::stands::Stands;
 use crate::steps::take;
@@ -12,7 +12,7 @@ use std::sync::Wait;
 /// Takes the lock where it is free; else comes behind those that wait, and sleeps until it is let in.
 pub(crate) fn enter<T: Stands, R: Wait>(
     rt: &R,
-    lines: &Lines,
+    queues: &Queues,
     board: &SharedBoard<T>,
     place: &mut CallerSeat<T>,
     is_brief: bool,
@@ -25,18 +25,18 @@ pub(crate) fn enter<T: Stands, R: Wait>(
     if let Some(kept) = free {
         return kept;
     }
-    let line = lines.line(is_brief);
-    let number = line.come();
+    let queue = queues.queue(is_brief);
+    let number = queue.come();
     let me = if is_brief {
         Next::Brief(number)
     } else {
         Next::Other(number)
     };
     let word = me.word();
-    let bell = line.bell(number);
+    let bell = queue.bell(number);
     for _ in rt.forever() {
         let asleep = bell.lie_down();
-        let found = let_in(board, place, line, number, word);
+        let found = let_in(board, place, queue, number, word);
         if let Some(kept) = found {
             return kept;
         }
@@ -45,11 +45,11 @@ pub(crate) fn enter<T: Stands, R: Wait>(
     unreachable!()
 }
 
-/// Takes the lock where it is kept for this caller, or where it is free and the caller is the first of its line.
+/// Takes the lock where it is kept for this caller, or where it is free and the caller is the first of its queue.
 fn let_in<T: Stands>(
     board: &SharedBoard<T>,
     place: &mut CallerSeat<T>,
-    line: &Line,
+    queue: &Queue,
     number: u64,
     word: u64,
 ) -> Option<Kept<T>>
@@ -63,12 +63,12 @@ fn let_in<T: Stands>(
     if let Some(kept) = mine {
         return Some(kept);
     }
-    if !line.is_first(number) {
+    if !queue.is_first(number) {
         return None;
     }
     let free = take(board, place, FREE);
     if free.is_some() {
-        line.let_first_in();
+        queue.let_first_in();
     }
     free
 }

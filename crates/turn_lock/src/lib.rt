@@ -3,9 +3,9 @@
 #![tactic(auto)]
 
 mod entering;
-mod lines;
 mod pass;
 mod plays;
+mod queues;
 mod seats;
 mod stands;
 mod steps;

@@ -40,14 +40,14 @@ impl<T: Stands> Play<Option<Kept<T>>, View<T::Opening>> for Names<T> {
 }
 
 /// A seat takes the lock, and with it the value, where it finds the word that it looks for.
-pub(crate) struct Takes<T> {
+pub(crate) struct TakesLock<T> {
     value: PhantomData<T>,
 }
 
-impl<T: Stands> Play<Option<Kept<T>>, View<T::Opening>> for Takes<T> {
+impl<T: Stands> Play<Option<Kept<T>>, View<T::Opening>> for TakesLock<T> {
     ghost use Rattle.turn_lock.specs.inside.Steps as steps;
 
-    ghost then = { steps.Takes T.opening T.legal T.stands };
+    ghost then = { steps.TakesLock T.opening T.legal T.stands };
 }
 
 /// A seat sees that the lists of the last join are beginnings of one history.

@@ -41,7 +41,7 @@ pub struct Kept<T> {
     pub value: T,
     /// So many turns were taken.
     pub turns: u64,
-    pub passed: Passed,
+    pub passed: Streaks,
 }
 
 impl<T> Kept<T> {
@@ -55,7 +55,7 @@ impl<T> Kept<T> {
         Kept {
             value,
             turns: 0,
-            passed: Passed {
+            passed: Streaks {
                 brief: none,
                 others: none,
             },
@@ -76,7 +76,7 @@ impl<T> Kept<T> {
 
 /// Turns on end that passed who waits, of each line. No contract rests on it.
 #[derive(Clone, Copy, Drop)]
-pub struct Passed {
+pub struct Streaks {
     pub brief: Streak,
     pub others: Streak,
 }

@@ -5,7 +5,7 @@ ghost use Rattle.turn_lock.specs.declared.seats.Stage.TheVariants.{Unnamed, Idle
 ghost use Rattle.turn_lock.specs.inside.Seats.{SeatFacts, shorter, kept_half, given_half, joined, compared, named, handed_on};
 ghost use Rattle.turn_lock.specs.inside.Places.{IsBoard, IsNow, TookOut};
 
-use crate::plays::{Appended, Compares, Halves, HandsOn, Joins, Names, Takes};
+use crate::plays::{Appended, Compares, Halves, HandsOn, Joins, Names, TakesLock};
 use crate::seats::{CallerSeat, Kept, LOCK, NAMES, SharedBoard, TAKEN, VALUE};
 use crate::stands::Stands;
 use crate::turn::Turn;
@@ -44,7 +44,7 @@ pub(crate) fn take<T: Stands>(
     ensures taken { IfSome result (λ kept. TookOut T.opening T.legal T.stands place.old place.new kept) }
     ensures missed { IfNone result (IsNow place.old place.new place.old.me) }
 {
-    if board.compare_exchange::<Takes<T>>(place, LOCK, word, TAKEN) == word {
+    if board.compare_exchange::<TakesLock<T>>(place, LOCK, word, TAKEN) == word {
         board.exchange(place, VALUE, None)
     } else {
         None

@@ -6,8 +6,8 @@ ghost use Rattle.turn_lock.specs.inside.Seats.{SeatFacts, handed_on};
 ghost use Rattle.turn_lock.specs.inside.Places.{IsBoard, IsNow};
 
 use crate::entering::enter;
-use crate::lines::{Lines, Next};
 use crate::pass::Pass;
+use crate::queues::{Next, Queues};
 use crate::seats::{Board, CallerSeat, FREE, Kept, SharedBoard, VALUE};
 use crate::stands::Stands;
 use crate::steps::{give, join, name, split};
@@ -22,7 +22,7 @@ use std::sync::Wait;
 pub struct Turnstile<T: Stands> {
     board: Board<T>,
     /// Those that wait.
-    lines: Lines,
+    queues: Queues,
 }
 
 impl<T: Stands> Model for Turnstile<T> {
@@ -52,7 +52,7 @@ impl<T: Stands> Turnstile<T> {
         ensures facts { IfOk result (λ made. PassFacts T.legal made.1) }
         ensures err { IfErr result (λ refused. refused.value ≡ value) }
     {
-        let lines = Lines::new();
+        let queues = Queues::new();
         let first = Snapshot::of(&value);
         let mut slots = Vec::new(alloc);
         if let Err(failed) = slots.push(Some(Kept::first(value))) {
@@ -69,7 +69,7 @@ impl<T: Stands> Turnstile<T> {
                     left: 1 << 62,
                     shares: 1 << 32,
                 };
-                Ok((Turnstile { board, lines }, pass))
+                Ok((Turnstile { board, queues }, pass))
             }
             Err(Refused { mut slots }) => {
                 let value = slots.pop().unwrap().unwrap().into_value();
@@ -130,16 +130,16 @@ impl<T: Stands> Turnstile<T> {
         ensures facts { PassFacts T.legal pass.new }
     {
         let shared = &self.board.shared;
-        let kept = enter(rt, &self.lines, shared, &mut pass.place, call.is_brief());
+        let kept = enter(rt, &self.queues, shared, &mut pass.place, call.is_brief());
         let (turned, next) = serve(
             shared,
-            &self.lines,
+            &self.queues,
             &mut pass.place,
             kept,
             call,
             pass.caller,
         );
-        self.lines.ring(next);
+        self.queues.ring(next);
         pass.left -= 1;
         turned
     }
@@ -154,7 +154,7 @@ impl<T: Stands> Turnstile<T> {
         ensures whole { OwnsAll pass }
         ensures facts { PassFacts T.legal pass }
     {
-        let Turnstile { board, lines: _ } = self;
+        let Turnstile { board, queues: _ } = self;
         let mut closed = board.close_with(pass.into_place());
         let value = closed.take(VALUE).unwrap().into_value();
         closed.free();
@@ -165,7 +165,7 @@ impl<T: Stands> Turnstile<T> {
 /// Runs the call on the value that is out with the seat, and hands on. Tells to whom.
 fn serve<T: Stands, C: Turn<T>>(
     board: &SharedBoard<T>,
-    lines: &Lines,
+    queues: &Queues,
     place: &mut CallerSeat<T>,
     kept: Kept<T>,
     call: C,
@@ -189,7 +189,7 @@ fn serve<T: Stands, C: Turn<T>>(
     } = kept;
     let asked = Snapshot::of(&call);
     let answer = call.run(&mut value, caller);
-    let next = lines.next(&mut passed);
+    let next = queues.next(&mut passed);
     let kept = Kept {
         value,
         turns: turn + 1,

@@ -30,7 +30,7 @@ module _ {T O : Type 0} where
     pub facts : SeatFacts legal next.0
 
   -- the word found is the one looked for, and the lock is the seat's; or nothing changes
-  pub record Takes (opens : T → O) (legal : O → List Entry → Type 0) (stands : T → List Entry → Type 0) (step : Step (Option (Kept T))) (me : Sat T O) (n : ℕ) (next : Sat T O) : Type 0 where
+  pub record TakesLock (opens : T → O) (legal : O → List Entry → Type 0) (stands : T → List Entry → Type 0) (step : Step (Option (Kept T))) (me : Sat T O) (n : ℕ) (next : Sat T O) : Type 0 where
     pub taken : n ≡ step.first → IsTaken opens legal stands me next
     pub missed : n ≢ step.first → next ≡ me
 

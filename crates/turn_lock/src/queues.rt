@@ -1,7 +1,7 @@
 //! Callers that wait for the lock: in which order they come, and where they sleep. No contract rests on it.
 ghost use Rattle.std.specs.Prelude.{◌≢◌};
 
-use crate::seats::{FREE, Passed, Streak};
+use crate::seats::{FREE, Streak, Streaks};
 use std::sync::Wait;
 use std::sync::atomic::AtomicU64;
 use std::sync::atomic::Ordering::SeqCst;
@@ -38,14 +38,14 @@ impl Next {
 /// Those that wait. A free lock is anybody's; but it is kept for who waits longest once as many turns on end as may be
 /// have passed.
 #[derive(Drop)]
-pub(crate) struct Lines {
-    brief: Line,
-    others: Line,
+pub(crate) struct Queues {
+    brief: Queue,
+    others: Queue,
 }
 
 /// Callers that wait, in the order in which they came.
 #[derive(Drop)]
-pub(crate) struct Line {
+pub(crate) struct Queue {
     /// So many turns on end may pass the first.
     most: u64,
     came: AtomicU64,
@@ -61,20 +61,20 @@ pub(crate) struct Bell {
     rung: AtomicU64,
 }
 
-impl Lines {
-    pub(crate) fn new() -> Lines {
-        Lines {
-            brief: Line::new(MOST_BEFORE_BRIEF),
-            others: Line::new(MOST_BEFORE_OTHERS),
+impl Queues {
+    pub(crate) fn new() -> Queues {
+        Queues {
+            brief: Queue::new(MOST_BEFORE_BRIEF),
+            others: Queue::new(MOST_BEFORE_OTHERS),
         }
     }
 
-    pub(crate) fn line(&self, is_brief: bool) -> &Line {
+    pub(crate) fn queue(&self, is_brief: bool) -> &Queue {
         if is_brief { &self.brief } else { &self.others }
     }
 
     /// Counts the turn that ends, and says for whom the lock is next.
-    pub(crate) fn next(&self, passed: &mut Passed) -> Next {
+    pub(crate) fn next(&self, passed: &mut Streaks) -> Next {
         let other_is_due = self.others.is_due(&mut passed.others);
         let brief_is_due = self.brief.is_due(&mut passed.brief);
         if other_is_due {
@@ -102,9 +102,9 @@ impl Lines {
     }
 }
 
-impl Line {
-    fn new(most: u64) -> Line {
-        Line {
+impl Queue {
+    fn new(most: u64) -> Queue {
+        Queue {
             most,
             came: AtomicU64::new(0),
             let_in: AtomicU64::new(0),
@@ -143,7 +143,7 @@ impl Line {
         self.let_in.load(SeqCst) != self.came.load(SeqCst)
     }
 
-    /// Counts a turn that passed the first of the line, and tells whether these are as many as may be.
+    /// Counts a turn that passed the first of the queue, and tells whether these are as many as may be.
     fn is_due(&self, passed: &mut Streak) -> bool {
         let first = self.let_in.load(SeqCst);
         let before = if passed.first == first {
