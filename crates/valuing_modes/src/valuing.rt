@@ -10,7 +10,7 @@ ghost use Rattle.program_endings.specs.declared.ending.Ending.TheVariants.{ReadF
 ghost use Rattle.program_endings.specs.Blocks.{IsWritableBlock};
 ghost use Rattle.valuing_modes.specs.inside.Valued.{EndsAnswer, IsLoneAnswer, SaysAhead};
 
-use basis_book::{Basis, Name};
+use basis_book::Name;
 use lone_office::{Begun, begin};
 use moment_ring::MomentOutlet;
 use outside_io::{Disk, Gate, Shelf, Sink};
@@ -18,12 +18,12 @@ use policy_types::{At, PinRefusal};
 use policy_value::Measure;
 use program_endings::{Ending, Finished, end, lack_memory, write_parts};
 use report_text::print_parts;
-use shared_office::{Office, OfficePass, close};
+use shared_office::close;
 use snapshot_value::{Query, Valuation, ValueFault};
 use std::alloc::Global;
 use std::sync::Wait;
 use std::thread::Threads;
-use watcher_set::Watching;
+use watcher_set::{NoWatchers, Watching};
 
 /// A valuation that no lane of a script asks for.
 const NO_LANE: u8 = 0;
@@ -52,17 +52,9 @@ pub fn value<R: Threads + Wait + Sync, K: Sink, H: Shelf, D: Disk, G: Gate>(
     ensures counted { H.faults shelf.old < H.faults shelf.new → result.ending ≡ ReadFault }
     ensures files { H.files shelf.new ≡ H.files shelf.old }
 {
-    match begin(alloc, basis, shelf, output, disk, MomentOutlet::nowhere()) {
-        Ok(begun) => {
-            let Begun {
-                basis,
-                office,
-                pass,
-            } = begun;
-            value_office(
-                rt, alloc, on, at, measure, workers, &basis, office, pass, output, gate,
-            )
-        }
+    let nowhere = MomentOutlet::nowhere();
+    match begin(alloc, Some(basis), shelf, output, disk, NoWatchers, nowhere) {
+        Ok(begun) => value_office(rt, alloc, on, at, measure, workers, begun, output, gate),
         Err(finished) => finished,
     }
 }
@@ -75,24 +67,26 @@ fn value_office<R: Threads + Wait + Sync, K: Sink, D: Disk, W: Watching, G: Gate
     at: At,
     measure: Measure,
     workers: u8,
-    basis: &Basis,
-    office: Office<D, W>,
-    pass: OfficePass<D, W>,
+    begun: Begun<D, W>,
     output: &mut K,
     gate: &G,
 ) -> Finished<D>
     requires day { IsDay on }
     requires workers { (1 ≤ workers) × (workers ≤ 64) }
-    requires ours { pass.turnstile ≡ office }
-    requires started { (old : D) × ((watchers : W) × HasStartedOffice D.Disk old watchers pass) }
-    requires facts { PassFacts IsOfficeHistory pass }
-    ensures ends { (old : D) (watchers : W) → HasStartedOffice D.Disk old watchers pass
-        → EndsValuing D.Disk old result.disk on at measure basis.now
+    requires ours { begun.pass.turnstile ≡ begun.office }
+    requires started { (old : D) × ((watchers : W) × HasStartedOffice D.Disk old watchers begun.pass) }
+    requires facts { PassFacts IsOfficeHistory begun.pass }
+    ensures ends { (old : D) (watchers : W) → HasStartedOffice D.Disk old watchers begun.pass
+        → EndsValuing D.Disk old result.disk on at measure begun.basis
         (between K.faults K.written K.pieces output.old output.new) result.ending }
 {
-    let mut pass = pass;
-    let query = Query {
+    let Begun {
         basis,
+        office,
+        mut pass,
+    } = begun;
+    let query = Query {
+        basis: &basis,
         on,
         measure,
         workers,

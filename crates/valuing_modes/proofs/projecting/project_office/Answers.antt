@@ -9,7 +9,7 @@ write_answer-ending-requires g c =
     let started = c.requires.started.1 in
     record {
       lone = is_lone_projection g.D.Disk g.W.Watching c.requires.started.0 c.close-disk.result.0 started.0 c.args.on c.args.years c.project-projected.result.turn
-          c.args.basis.now c.args.pass c.project-projected.new.pass _ _ c.project-projected.result.answer started.1 c.close-disk.ensures.facts
+          c.args.begun.basis c.args.begun.pass c.project-projected.new.pass _ _ c.project-projected.result.answer started.1 c.close-disk.ensures.facts
           c.close-disk.ensures.closed (rw on at c.project-projected.ensures.projected) c.requires.day c.requires.years.1;
     }
 
@@ -19,7 +19,7 @@ returns g c =
     record {
       ends = λ old watchers started.
           ends_alone g.D.Disk g.W.Watching old c.close-disk.result.0 watchers c.args.on c.args.years c.project-projected.result.turn
-          c.args.basis.now c.args.pass c.project-projected.new.pass _ _ c.project-projected.result.answer started c.close-disk.ensures.facts
+          c.args.begun.basis c.args.begun.pass c.project-projected.new.pass _ _ c.project-projected.result.answer started c.close-disk.ensures.facts
           c.close-disk.ensures.closed (rw on at c.project-projected.ensures.projected) _ c.write_answer-ending.result
           c.write_answer-ending.ensures.ends;
     }

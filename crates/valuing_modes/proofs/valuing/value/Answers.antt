@@ -8,11 +8,10 @@ use Rattle.valuing_modes.proofs.valuing.value.Goals as goal
 pub returns-in-Ok-clause-ends : goal.returns-in-Ok-clause-ends
 returns-in-Ok-clause-ends g c =
     let on : to_z w32 (of_z w32 c.args.on) ≡ c.args.on = to_z-of_z w32 c.args.on c.ranges.on in
-    let begun = c.in-Ok.ensures.begun in
     inl (record {
       basis = c.in-Ok.begun.basis;
-      is = begun.is;
-      ends = rw (on, c.in-Ok.ensures.silent) at (c.value_office.ensures.ends c.args.disk begun.watchers begun.started);
+      is = c.in-Ok.ensures.basis;
+      ends = rw (on, c.in-Ok.ensures.silent) at (c.value_office.ensures.ends c.args.disk _ c.in-Ok.ensures.opened.started);
     })
 
 pub returns-in-Err-clause-ends : goal.returns-in-Err-clause-ends

@@ -8,7 +8,7 @@ write_answer-ending-requires-clause-lone g c κs within =
     let on : to_z w32 (of_z w32 c.args.on) ≡ c.args.on = to_z-of_z w32 c.args.on c.ranges.on in
     let started = c.requires.started.1 in
     is_lone g.D.Disk g.W.Watching c.requires.started.0 c.close-disk.result.0 started.0 c.args.on c.args.measure c.args.at c.args.workers c.value-valued.result.turn
-    c.args.basis.now c.args.pass c.value-valued.new.pass _ _ c.value-valued.result.answer started.1 c.close-disk.ensures.facts
+    c.args.begun.basis c.args.begun.pass c.value-valued.new.pass _ _ c.value-valued.result.answer started.1 c.close-disk.ensures.facts
     c.close-disk.ensures.closed (rw on at c.value-valued.ensures.valued)
 
 pub returns : goal.returns
@@ -17,7 +17,7 @@ returns g c =
     record {
       ends = λ old watchers started.
           ends_lone g.D.Disk g.W.Watching old c.close-disk.result.0 watchers c.args.on c.args.measure c.args.at c.args.workers c.value-valued.result.turn
-          c.args.basis.now c.args.pass c.value-valued.new.pass _ _ c.value-valued.result.answer started c.close-disk.ensures.facts
+          c.args.begun.basis c.args.begun.pass c.value-valued.new.pass _ _ c.value-valued.result.answer started c.close-disk.ensures.facts
           c.close-disk.ensures.closed (rw on at c.value-valued.ensures.valued) _ c.write_answer-ending.result
           (rw on at c.write_answer-ending.ensures.ends);
     }
