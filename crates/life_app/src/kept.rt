@@ -16,6 +16,7 @@ ghost use Rattle.life_app.specs.inside.Over.{ended_disks};
 use crate::modes::obey;
 use outside_io::{Disk, Gate, Shelf, Sink, Source};
 use policy_types::Watcher;
+use stating_modes::FinishedKept;
 use std::alloc::Global;
 use std::sync::Wait;
 use std::thread::Threads;
@@ -82,13 +83,18 @@ pub fn life_kept<
     ensures unopened { D.honest result.disk → OpensToNone (D.reads disk) → D.reads result.disk ≡ D.reads disk }
 {
     let watchers = Watchers::new(watchers);
-    let finished = obey(
+    let left = obey(
         rt, alloc, words, input, output, shelf, disk, Some(second), watchers, gate,
     );
-    match finished.second {
+    let FinishedKept {
+        ending,
+        disk,
+        second,
+    } = left;
+    match second {
         Some(second) => EndedKept {
-            status: finished.ending.status(),
-            disk: finished.disk,
+            status: ending.status(),
+            disk,
             second,
         },
         None => unreachable!(),

@@ -14,6 +14,7 @@ ghost use Rattle.life_app.specs.Reasons.{IsReasoned};
 use crate::modes::obey;
 use outside_io::{Disk, Gate, Shelf, Sink, Source};
 use policy_types::Watcher;
+use stating_modes::FinishedKept;
 use std::alloc::Global;
 use std::sync::Wait;
 use std::thread::Threads;
@@ -74,14 +75,19 @@ pub fn life<
 {
     let watchers = Watchers::new(watchers);
     let none: Option<D> = None;
-    let finished = obey(
+    let left = obey(
         rt, alloc, words, input, output, shelf, disk, none, watchers, gate,
     );
-    match finished.second {
+    let FinishedKept {
+        ending,
+        disk,
+        second,
+    } = left;
+    match second {
         None => Ended {
-            status: finished.ending.status(),
-            disk: finished.disk,
+            status: ending.status(),
+            disk,
         },
-        Some(_) => unreachable!(),
+        Some(_second) => unreachable!(),
     }
 }
