@@ -81,7 +81,7 @@ a_replay_begun_late             journal_replay/replay_begun_one_late
 a_body_read_uncounted           journal_replay/body_read_uncounted
 a_checkpoint's_ledger_unchecked checkpoint_store/ledger_not_checked
 an_upgrade_forgotten            checkpoint_store/upgrade_forgotten
-a_second_disk_touched_by_run    life_app/second_disk_touched_by_run
+a_second_disk_touched_by_others life_app/second_disk_touched_by_account
 an_exit_status_always_0         life_cli/exit_status_always_0
 words_of_no_text_as_no_memory   life_cli/no_text_told_as_no_memory
 files_exchanged                 life_cli/files_exchanged
