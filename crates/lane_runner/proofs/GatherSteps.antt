@@ -183,10 +183,10 @@ module _ (text : TranscriptLine → List ℕ) where
   -- how it ends
   pub put_ended : (faults now : ℕ) (first last : Option (List ℕ)) (lines : List TranscriptLine) (gathered : List ℕ) (stopped : Option Unwritten)
       → (stopped ≡ None → gathered ≡ []) → stopped ≡ None → HasPutOut faults now first last text lines gathered stopped
-      → Appends first last (line_texts text lines)
+      → (now ≡ faults) × Appends first last (line_texts text lines)
   put_ended faults now first last lines gathered (Some why) empty going put = absurd (cc)
   put_ended faults now first last lines gathered None empty going put =
-      subst (Appends first last) (sym (append-nil put.out) ∙ ap (λ back. put.out ++ back) (sym (empty refl)) ∙ put.is) put.wrote
+      (put.held, subst (Appends first last) (sym (append-nil put.out) ∙ ap (λ back. put.out ++ back) (sym (empty refl)) ∙ put.is) put.wrote)
 
   pub put_unwritten : (faults now : ℕ) (first last : Option (List ℕ)) (lines : List TranscriptLine) (gathered : List ℕ) (why : Unwritten)
       → HasPutOut faults now first last text lines gathered (Some why) → HasEnded faults now first last text lines (Err why)

@@ -21,11 +21,11 @@ pub record StopsShort (faults faults_now : ℕ) (before now : Option (List ℕ))
   pub wrote : Appends before now (line_texts text (take many lines))
   pub part : AppendsPart before now (line_texts text lines)
 
--- Of an output whose count of faults and bytes are these before and now: the text of all lines was written; or a front and not
--- all of it, since the output failed; or that of the lines before one for which memory was wanting.
+-- Of an output whose count of faults and bytes are these before and now: the text of all lines was written, without a fault; or
+-- a front and not all of it, since the output failed; or that of the lines before one for which memory was wanting.
 abbrev pub HasEnded : (faults faults_now : ℕ) (before now : Option (List ℕ)) → (TranscriptLine → List ℕ) → List TranscriptLine
     → Result (Unit {0}) Unwritten → Type 0
-HasEnded faults faults_now before now text lines (Ok done) = Appends before now (line_texts text lines)
+HasEnded faults faults_now before now text lines (Ok done) = (faults_now ≡ faults) × Appends before now (line_texts text lines)
 HasEnded faults faults_now before now text lines (Err WriteFault) =
     Rose faults faults_now × AppendsPart before now (line_texts text lines)
 HasEnded faults faults_now before now text lines (Err NoMemory) = StopsShort faults faults_now before now text lines
