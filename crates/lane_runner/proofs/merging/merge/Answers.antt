@@ -60,7 +60,7 @@ returns g c =
       later = omega (arith, c.flush.ensures.later, c.loop.invariant.later);
       put = subst (λ (lines : List TranscriptLine). HasPutOut (g.K.Sink.faults c.args.output.now) (g.K.Sink.faults c.flush.new.output)
           (g.K.Sink.written c.args.output.now) (g.K.Sink.written c.flush.new.output) g.X.Wording.text lines c.flush.new.self.bytes.items
-          c.flush.new.self.stopped) (sym same) (c.flush.ensures.put _ _ _ _ c.loop.invariant.put);
+          c.flush.new.self.stopped) (sym same) (c.flush.ensures.put _ _ g.X.Wording.text c.loop.page.lines c.loop.invariant.put);
       flushed = c.flush.ensures.empty;
       ring = c.loop.invariant.ring;
       counted = c.loop.invariant.counted ∙ ap accepted_lines (sym same);
