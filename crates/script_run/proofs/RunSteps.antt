@@ -49,7 +49,7 @@ use Rattle.transcript_text.specs.Lanes.{AreScriptLanes}
 use Rattle.lane_runner.specs.Shown.{HasShown}
 use Rattle.lane_runner.specs.Tallies.{accepted_lines, any_faulted, any_lacked}
 use Rattle.lane_runner.specs.declared.wording.Unwritten.{Unwritten}
-use Rattle.transcript_text.specs.Told.{run_text, told_text, told_texts}
+use Rattle.transcript_text.specs.Told.{run_text, told_text}
 use Rattle.transcript_text.proofs.Telling.{Telling, telling}
 use Rattle.script_run.specs.declared.intake.Unread.{Unread}
 use Rattle.script_run.specs.declared.intake.Unread.TheVariants.{TooLong, BadRow, ReadFault, NoMemory as OutOfMemory}
@@ -58,7 +58,11 @@ use Rattle.script_run.specs.Outcome.{EndsScript, IsRunOf}
 use Rattle.script_run.specs.Script.{EndsUnread, GaveBadRow, GaveTooMany, asks_for_values}
 use Rattle.script_run.specs.inside.Unread.{SaysUnread}
 use Rattle.script_run.specs.Shown.{AreSafeWhenShown}
+<<<<<<< HEAD
 use Rattle.script_run.specs.inside.Hearing.{StartsHeard}
+=======
+use Rattle.script_run.specs.Texts.{WroteFront, WroteUpTo, WroteWhole, joined}
+>>>>>>> faafc4884ae546b9d603cd1ca5e7a0c700e2384e
 use Rattle.script_run.specs.inside.Ran.{AddsBy, EndsRan, EndsTold}
 use Rattle.script_run.proofs.ShownSteps.{all_heard, all_texts, safe_when_shown, shown_whole}
 
@@ -109,8 +113,8 @@ module _ {D W : Type 0} (g : Ghosts D) (w : WatcherGhosts W) (old disk : D) (lan
     Shown output = g.honest disk → (run : List TakenPiece) × (output.pieces_after ≡ run ++ output.pieces_before)
         × AreSafeWhenShown g Opens disk started.opening.commands closing.seen ran.answered (map told_text transcript.lines) run
 
-    run_of : (output : Stream) → Shown output → (Wrote : List ℕ → Type 0) (Replies : List Entry → List ℕ → Type 0)
-        → Wrote (run_text transcript.lines reports) → Replies closing.seen (dry_of transcript.lines)
+    run_of : (output : Stream) → Shown output → (Wrote : List (List ℕ) → List ℕ → Type 0) (Replies : List Entry → List ℕ → Type 0)
+        → Wrote (map told_text transcript.lines) (reports_text reports) → Replies closing.seen (dry_of transcript.lines)
         → IsRunOf g old disk lanes basis auditors output Wrote Replies
     run_of output shown Wrote Replies wrote replies = record {
       commands = started.opening.commands;
@@ -126,28 +130,34 @@ module _ {D W : Type 0} (g : Ghosts D) (w : WatcherGhosts W) (old disk : D) (lan
       lines = ran.lines;
       tells = subst (λ (n : ℕ). AllZip (IsLineText (opened_on started.opening.commands n) closing.seen basis (dry_of transcript.lines)) ran.answered (map told_text transcript.lines))
           started.faults all_told.tells;
-      wrote = subst (λ (front : List ℕ). Wrote (front ++ reports_text (reports_of auditors (accepted_of closing.seen)))) (sym (all_texts told_text transcript.lines))
-          (subst (λ (rs : List Report). Wrote (told_texts transcript.lines ++ reports_text rs)) (reports_from all_told.opening) wrote);
+      wrote = subst (λ (rs : List Report). Wrote (map told_text transcript.lines) (reports_text rs)) (reports_from all_told.opening) wrote;
       shown = shown;
       replies = replies;
       disk = left_from all_told.opening;
     }
 
+    -- the text of the lines is their texts, one after the other
+    joined_texts : (P : List ℕ → Type 0) → P (run_text transcript.lines reports) → P (joined (map told_text transcript.lines) ++ reports_text reports)
+    joined_texts P is = subst (λ (front : List ℕ). P (front ++ reports_text reports)) (sym (all_texts told_text transcript.lines)) is
+
     ends_told : (output : Stream) (ending : Ending) → Shown output → EndsTold transcript.lines reports output ending
         → EndsScript g old disk lanes basis auditors output ending
     ends_told output Done shown ends =
-        run_of output shown (WroteAll output) AreAnswered ends.2 (all_told.answered ends.0 ends.1, all_told.none_dry ends.1)
-    ends_told output WriteFault shown ends = (ends.0, run_of output shown (AppendsPart output.before output.after) AreAny ends.1 tt)
+        run_of output shown (WroteWhole output) AreAnswered (joined_texts (WroteAll output) ends.2) (all_told.answered ends.0 ends.1, all_told.none_dry ends.1)
+    ends_told output WriteFault shown ends = (
+      ends.0,
+      run_of output shown (WroteFront output) AreAny (joined_texts (AppendsPart output.before output.after) ends.1) tt,
+    )
     ends_told output DiskFault shown ends =
         let fault = all_told.fault ends.0 in
         let left = left_from all_told.opening in
         let legal = subst (λ (n : ℕ). IsLegal (opened_on started.opening.commands n) closing.seen) started.faults all_told.history.legal in
         let rose = rose_in (opened_on started.opening.commands (g.faults old)) closing.seen fault.0 legal.due fault.1 in
-        (subst (Rose (g.faults old)) (sym left.faults) rose, inr (run_of output shown (WroteAll output) HaveAFault ends.1 fault))
+        (subst (Rose (g.faults old)) (sym left.faults) rose, inr (run_of output shown (WroteWhole output) HaveAFault (joined_texts (WroteAll output) ends.1) fault))
     ends_told output NoMemory shown (inl unwritten) =
-        inr (inl (run_of output shown (AppendsPart output.before output.after) AreAny unwritten tt))
+        inr (inl (run_of output shown (WroteUpTo output) AreAny unwritten tt))
     ends_told output NoMemory shown (inr short) =
-        inr (inr (run_of output shown (WroteAll output) LackMemory short.2 (all_told.unfaulted short.0, all_told.some_lacked short.1)))
+        inr (inr (run_of output shown (WroteWhole output) LackMemory (joined_texts (WroteAll output) short.2) (all_told.unfaulted short.0, all_told.some_lacked short.1)))
     ends_told output _ shown ends = absurd ends
 
     -- each moment that was heard is that of an accepted command, since which it is safe

@@ -14,8 +14,13 @@ ghost use Rattle.program_endings.specs.Writing.{Stream, between, input_between, 
 ghost use Rattle.program_endings.specs.declared.ending.Ending.TheVariants.{ReadFault};
 ghost use Rattle.transcript_text.specs.Lanes.{AreScriptLanes};
 ghost use Rattle.script_run.specs.inside.Ran.{AddsBy, EndsRan, EndsTold, IsWritten, output_until};
+<<<<<<< HEAD
 ghost use Rattle.script_run.specs.inside.Hearing.{StartsHeard};
 ghost use Rattle.transcript_text.specs.Told.{told_texts};
+=======
+ghost use Rattle.script_run.specs.inside.Hearing.{EndsHeard, StartsHeard};
+ghost use Rattle.transcript_text.specs.Told.{told_text, told_texts};
+>>>>>>> faafc4884ae546b9d603cd1ca5e7a0c700e2384e
 
 use crate::intake::read_lanes;
 use crate::refusing::refuse;
@@ -164,7 +169,7 @@ fn end_told<D: Disk, K: Sink<Beside = D>>(
     ensures later { K.faults output.old ≤ K.faults output.new }
     ensures ends { (first : Stream) → first.faults_before ≤ K.faults output.old
         → HasEnded first.faults_before (K.faults output.old) first.before (K.written output.old)
-        (told_texts ran.now.transcript.lines) ran.now.written
+        told_text ran.now.transcript.lines ran.now.written
         → EndsTold ran.now.transcript.lines reports.now
         (output_until first (K.faults output.new) (K.written output.new) (K.pieces output.new)) result }
     ensures pieces { AddsBy (K.pieces output.old) (K.pieces output.new) ran.now.latest }
@@ -186,7 +191,7 @@ fn write_reports<D: Disk, K: Sink<Beside = D>>(
 ) -> Ending
     requires few { length reports.now ≤ 16 }
     ensures later { K.faults output.old ≤ K.faults output.new }
-    ensures ends { (first : Stream) → first.faults_before ≤ K.faults output.old → Appends first.before (K.written output.old) (told_texts lines.now)
+    ensures ends { (first : Stream) → K.faults output.old ≡ first.faults_before → Appends first.before (K.written output.old) (told_texts lines.now)
         → EndsTold lines.now reports.now
         (output_until first (K.faults output.new) (K.written output.new) (K.pieces output.new)) result }
     ensures pieces { AddsBy (K.pieces output.old) (K.pieces output.new) latest.now }
