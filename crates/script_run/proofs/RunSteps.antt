@@ -58,11 +58,8 @@ use Rattle.script_run.specs.Outcome.{EndsScript, IsRunOf}
 use Rattle.script_run.specs.Script.{EndsUnread, GaveBadRow, GaveTooMany, asks_for_values}
 use Rattle.script_run.specs.inside.Unread.{SaysUnread}
 use Rattle.script_run.specs.Shown.{AreSafeWhenShown}
-<<<<<<< HEAD
 use Rattle.script_run.specs.inside.Hearing.{StartsHeard}
-=======
 use Rattle.script_run.specs.Texts.{WroteFront, WroteUpTo, WroteWhole, joined}
->>>>>>> faafc4884ae546b9d603cd1ca5e7a0c700e2384e
 use Rattle.script_run.specs.inside.Ran.{AddsBy, EndsRan, EndsTold}
 use Rattle.script_run.proofs.ShownSteps.{all_heard, all_texts, safe_when_shown, shown_whole}
 

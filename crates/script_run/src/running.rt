@@ -14,13 +14,8 @@ ghost use Rattle.program_endings.specs.Writing.{Stream, between, input_between, 
 ghost use Rattle.program_endings.specs.declared.ending.Ending.TheVariants.{ReadFault};
 ghost use Rattle.transcript_text.specs.Lanes.{AreScriptLanes};
 ghost use Rattle.script_run.specs.inside.Ran.{AddsBy, EndsRan, EndsTold, IsWritten, output_until};
-<<<<<<< HEAD
 ghost use Rattle.script_run.specs.inside.Hearing.{StartsHeard};
-ghost use Rattle.transcript_text.specs.Told.{told_texts};
-=======
-ghost use Rattle.script_run.specs.inside.Hearing.{EndsHeard, StartsHeard};
 ghost use Rattle.transcript_text.specs.Told.{told_text, told_texts};
->>>>>>> faafc4884ae546b9d603cd1ca5e7a0c700e2384e
 
 use crate::intake::read_lanes;
 use crate::refusing::refuse;
