@@ -22,9 +22,9 @@ module _ {A P : Type 0} where
   CanTell None = Unit {0}
 
   -- there is none: as many moments were told and not heard as it holds
-  abbrev pub IsFull : Option (Producer ℕ A P) → Type 0
-  IsFull (Some ring) = known_free ring ≡ 0
-  IsFull None = ⊥
+  abbrev pub CannotTell : Option (Producer ℕ A P) → Type 0
+  CannotTell (Some ring) = known_free ring ≡ 0
+  CannotTell None = ⊥
 
   -- one moment more was told, or nobody heard it
   abbrev pub TellsOne : Option (Producer ℕ A P) → Option (Producer ℕ A P) → ℕ → Type 0

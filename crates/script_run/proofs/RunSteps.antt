@@ -59,7 +59,7 @@ use Rattle.script_run.specs.Script.{EndsUnread, GaveBadRow, GaveTooMany, asks_fo
 use Rattle.script_run.specs.inside.Unread.{SaysUnread}
 use Rattle.script_run.specs.Shown.{AreSafeWhenShown}
 use Rattle.script_run.specs.inside.Hearing.{StartsHeard}
-use Rattle.script_run.specs.Texts.{WroteFront, WroteUpTo, WroteWhole, joined}
+use Rattle.script_run.specs.Texts.{WroteFront, WroteUpTo, WroteWhole, texts_joined}
 use Rattle.script_run.specs.inside.Ran.{AddsBy, EndsRan, EndsTold}
 use Rattle.script_run.proofs.ShownSteps.{all_heard, all_texts, safe_when_shown, shown_whole}
 
@@ -134,7 +134,7 @@ module _ {D W : Type 0} (g : Ghosts D) (w : WatcherGhosts W) (old disk : D) (lan
     }
 
     -- the text of the lines is their texts, one after the other
-    joined_texts : (P : List ℕ → Type 0) → P (run_text transcript.lines reports) → P (joined (map told_text transcript.lines) ++ reports_text reports)
+    joined_texts : (P : List ℕ → Type 0) → P (run_text transcript.lines reports) → P (texts_joined (map told_text transcript.lines) ++ reports_text reports)
     joined_texts P is = subst (λ (front : List ℕ). P (front ++ reports_text reports)) (sym (all_texts told_text transcript.lines)) is
 
     ends_told : (output : Stream) (ending : Ending) → Shown output → EndsTold transcript.lines reports output ending

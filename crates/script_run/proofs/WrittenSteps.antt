@@ -19,7 +19,7 @@ use Rattle.program_endings.specs.Writing.{Stream}
 use Rattle.program_endings.specs.declared.ending.Ending.TheVariants.{WriteFault as Failed, NoMemory as NoRoom}
 use Rattle.transcript_text.specs.Transcript.{reports_text}
 use Rattle.transcript_text.specs.Told.{run_text, told_text, told_texts}
-use Rattle.script_run.specs.Texts.{WroteFront, joined}
+use Rattle.script_run.specs.Texts.{WroteFront, texts_joined}
 use Rattle.script_run.specs.inside.Ran.{EndsTold, IsWritten, output_until}
 use Rattle.script_run.proofs.ShownSteps.{all_texts}
 
@@ -43,8 +43,8 @@ stays P Q S (Err lack) same = same.0
 module _ (lines : List TranscriptLine) (reports : List Report) (first : Stream) (faults later : ℕ) (mid last : Option (List ℕ))
     (pieces : List TakenPiece) where
   -- the texts of the first lines
-  texts_of : (many : ℕ) → joined (take many (map told_text lines)) ≡ told_texts (take many lines)
-  texts_of many = ap joined (take-map told_text many lines) ∙ all_texts told_text (take many lines)
+  texts_of : (many : ℕ) → texts_joined (take many (map told_text lines)) ≡ told_texts (take many lines)
+  texts_of many = ap texts_joined (take-map told_text many lines) ∙ all_texts told_text (take many lines)
 
   front : AppendsPart first.before mid (run_text lines reports) → WroteFront (output_until first faults mid pieces) (map told_text lines) (reports_text reports)
   front part = subst (λ (all : List ℕ). AppendsPart first.before mid (all ++ reports_text reports)) (sym (all_texts told_text lines)) part

@@ -5,16 +5,16 @@ use Rattle.outside_io.specs.Streams.{AppendsPart}
 use Rattle.program_endings.specs.Writing.{Stream, WroteAll}
 
 -- the texts, one after the other
-abbrev pub joined : List (List ℕ) → List ℕ
-joined texts = flat_map (λ (text : List ℕ). text) texts
+abbrev pub texts_joined : List (List ℕ) → List ℕ
+texts_joined texts = flat_map (λ (text : List ℕ). text) texts
 
 -- all was written
 abbrev pub WroteWhole : Stream → List (List ℕ) → List ℕ → Type 0
-WroteWhole output texts reports = WroteAll output (joined texts ++ reports)
+WroteWhole output texts reports = WroteAll output (texts_joined texts ++ reports)
 
 -- a front was written, and not all
 abbrev pub WroteFront : Stream → List (List ℕ) → List ℕ → Type 0
-WroteFront output texts reports = AppendsPart output.before output.after (joined texts ++ reports)
+WroteFront output texts reports = AppendsPart output.before output.after (texts_joined texts ++ reports)
 
 -- The texts of the first so many lines were written, and no more: memory was wanting for the next one, or for the reports. The
 -- output had no fault.
@@ -22,5 +22,5 @@ pub record WroteUpTo (output : Stream) (texts : List (List ℕ)) (reports : List
   pub held : output.faults_after ≡ output.faults_before
   pub many : ℕ
   pub upto : many ≤ length texts
-  pub wrote : WroteAll output (joined (take many texts))
+  pub wrote : WroteAll output (texts_joined (take many texts))
   pub part : WroteFront output texts reports
