@@ -52,6 +52,9 @@ the_first_lane_with_a_line      lane_runner/first_lane_with_a_line
 the_last_line_never_printed     lane_runner/last_line_dropped
 a_text_begun_anew               lane_runner/written_again_after_a_fault
 lanes_stopped_by_the_output     lane_runner/lane_stopped_by_the_output
+a_failed_output_told_as_9       lane_runner/failed_output_told_as_want_of_memory
+answered_lines_dropped_at_9     lane_runner/gathered_lines_dropped_for_want_of_memory
+a_lane_at_its_end_awaited       lane_runner/end_of_a_lane_awaited
 a_block_at_its_end's_turn       lane_runner/block_at_its_ends_turn
 an_invented_reply               shared_office/invented_reply
 a_reinstatement_unpaid          policy_machine/reinstated_unpaid
