@@ -32,7 +32,7 @@ pub(crate) fn name<T: Stands>(board: &SharedBoard<T>, place: &mut CallerSeat<T>)
     board.fetch_add::<Names<T>>(place, NAMES, 1)
 }
 
-/// Take: where the lock's word is this one, and isn't that of a taken lock, the seat takes the value out; else nothing changes.
+/// Take: where the lock's word is this one, the seat takes the value out; else nothing changes.
 pub(crate) fn take<T: Stands>(
     board: &SharedBoard<T>,
     place: &mut CallerSeat<T>,
@@ -51,7 +51,7 @@ pub(crate) fn take<T: Stands>(
     }
 }
 
-/// Give: the value goes back into the slot, the lock gets its next word, and the turn's entry is one more of the history.
+/// Give: the value goes back into the slot, the lock gets its next word, and the history has the turn's entry.
 pub(crate) fn give<T: Stands, E: Appended, C: Turn<T>>(
     board: &SharedBoard<T>,
     place: &mut CallerSeat<T>,
