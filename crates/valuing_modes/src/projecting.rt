@@ -1,12 +1,9 @@
 // The projection of the policies from a day on, by the basis on the shelf.
 ghost use Rattle.std.specs.Prelude.{◌≡◌, ◌<◌, ◌≤◌, Ok};
 ghost use Rattle.life_dates.specs.Calendar.{IsDay};
-ghost use Rattle.shared_office.specs.Offices.{IsOfficeHistory};
-ghost use Rattle.shared_office.specs.Starting.{HasStartedOffice};
-ghost use Rattle.turn_lock.specs.Passes.{PassFacts};
 ghost use Rattle.program_endings.specs.Writing.{between, shelf_between};
 ghost use Rattle.program_endings.specs.declared.ending.Ending.TheVariants.{ReadFault};
-ghost use Rattle.valuing_modes.specs.Projecting.{EndsProject, EndsProjecting};
+ghost use Rattle.valuing_modes.specs.Projecting.{EndsProject};
 ghost use Rattle.valuing_modes.specs.inside.Projected.{EndsPrinted, IsLoneProjection, CanBePrinted};
 
 use basis_book::Name;
@@ -20,7 +17,7 @@ use snapshot_value::ValueFault;
 use std::alloc::Global;
 use std::sync::Wait;
 use std::thread::Threads;
-use watcher_set::{NoWatchers, Watching};
+use watcher_set::NoWatchers;
 
 /// Writes what the policies of the book are expected to pay and to be paid on a day, in days since 1970-01-01, in each of
 /// so many policy years from the current one. The basis is fetched before the disk is touched.
@@ -47,33 +44,10 @@ pub fn project<R: Threads + Wait + Sync, K: Sink, H: Shelf, D: Disk, G: Gate>(
     ensures files { H.files shelf.new ≡ H.files shelf.old }
 {
     let nowhere = MomentOutlet::nowhere();
-    match begin(alloc, Some(basis), shelf, output, disk, NoWatchers, nowhere) {
-        Ok(begun) => project_office(rt, alloc, on, years, workers, begun, output, gate),
-        Err(finished) => finished,
-    }
-}
-
-// Projects an office's policies, closes it, and writes the projection.
-fn project_office<R: Threads + Wait + Sync, K: Sink, D: Disk, W: Watching, G: Gate>(
-    rt: &R,
-    alloc: Global,
-    on: i32,
-    years: u8,
-    workers: u8,
-    begun: Begun<D, W>,
-    output: &mut K,
-    gate: &G,
-) -> Finished<D>
-    requires day { IsDay on }
-    requires years { (1 ≤ years) × (years ≤ 131) }
-    requires workers { (1 ≤ workers) × (workers ≤ 64) }
-    requires ours { begun.pass.turnstile ≡ begun.office }
-    requires started { (old : D) × ((watchers : W) × HasStartedOffice D.Disk old watchers begun.pass) }
-    requires facts { PassFacts IsOfficeHistory begun.pass }
-    ensures ends { (old : D) (watchers : W) → HasStartedOffice D.Disk old watchers begun.pass
-        → EndsProjecting D.Disk old result.disk on years begun.basis
-        (between K.faults K.written K.pieces output.old output.new) result.ending }
-{
+    let begun = match begin(alloc, Some(basis), shelf, output, disk, NoWatchers, nowhere) {
+        Ok(begun) => begun,
+        Err(finished) => return finished,
+    };
     let Begun {
         basis,
         office,

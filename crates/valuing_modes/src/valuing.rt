@@ -1,10 +1,7 @@
 // The values of the policies on a day, by the basis on the shelf.
 ghost use Rattle.std.specs.Prelude.{◌≡◌, ◌<◌, ◌≤◌};
 ghost use Rattle.life_dates.specs.Calendar.{IsDay};
-ghost use Rattle.shared_office.specs.Offices.{IsOfficeHistory};
-ghost use Rattle.shared_office.specs.Starting.{HasStartedOffice};
-ghost use Rattle.turn_lock.specs.Passes.{PassFacts};
-ghost use Rattle.valuing_modes.specs.Valuing.{EndsValue, EndsValuing};
+ghost use Rattle.valuing_modes.specs.Valuing.{EndsValue};
 ghost use Rattle.program_endings.specs.Writing.{between, shelf_between};
 ghost use Rattle.program_endings.specs.declared.ending.Ending.TheVariants.{ReadFault};
 ghost use Rattle.program_endings.specs.Blocks.{IsWritableBlock};
@@ -23,7 +20,7 @@ use snapshot_value::{Query, Valuation, ValueFault};
 use std::alloc::Global;
 use std::sync::Wait;
 use std::thread::Threads;
-use watcher_set::{NoWatchers, Watching};
+use watcher_set::NoWatchers;
 
 /// A valuation that no lane of a script asks for.
 const NO_LANE: u8 = 0;
@@ -53,33 +50,10 @@ pub fn value<R: Threads + Wait + Sync, K: Sink, H: Shelf, D: Disk, G: Gate>(
     ensures files { H.files shelf.new ≡ H.files shelf.old }
 {
     let nowhere = MomentOutlet::nowhere();
-    match begin(alloc, Some(basis), shelf, output, disk, NoWatchers, nowhere) {
-        Ok(begun) => value_office(rt, alloc, on, at, measure, workers, begun, output, gate),
-        Err(finished) => finished,
-    }
-}
-
-// Values an office's policies, closes it, and writes the values.
-fn value_office<R: Threads + Wait + Sync, K: Sink, D: Disk, W: Watching, G: Gate>(
-    rt: &R,
-    alloc: Global,
-    on: i32,
-    at: At,
-    measure: Measure,
-    workers: u8,
-    begun: Begun<D, W>,
-    output: &mut K,
-    gate: &G,
-) -> Finished<D>
-    requires day { IsDay on }
-    requires workers { (1 ≤ workers) × (workers ≤ 64) }
-    requires ours { begun.pass.turnstile ≡ begun.office }
-    requires started { (old : D) × ((watchers : W) × HasStartedOffice D.Disk old watchers begun.pass) }
-    requires facts { PassFacts IsOfficeHistory begun.pass }
-    ensures ends { (old : D) (watchers : W) → HasStartedOffice D.Disk old watchers begun.pass
-        → EndsValuing D.Disk old result.disk on at measure begun.basis
-        (between K.faults K.written K.pieces output.old output.new) result.ending }
-{
+    let begun = match begin(alloc, Some(basis), shelf, output, disk, NoWatchers, nowhere) {
+        Ok(begun) => begun,
+        Err(finished) => return finished,
+    };
     let Begun {
         basis,
         office,
