@@ -84,7 +84,16 @@ pub fn life_kept<
 {
     let watchers = Watchers::new(watchers);
     let left = obey(
-        rt, alloc, words, input, output, shelf, disk, Some(second), watchers, gate,
+        rt,
+        alloc,
+        words,
+        input,
+        output,
+        shelf,
+        disk,
+        Some(second),
+        watchers,
+        gate,
     );
     let FinishedKept {
         ending,

@@ -31,10 +31,7 @@ pub fn read_alone<D: Disk>(alloc: Global, disk: D) -> Result<BooksRead<D>, Start
 }
 
 // Reads the books of a journal that was opened.
-fn read_journal<D: Disk>(
-    alloc: Global,
-    journal: Journal<D>,
-) -> Result<BooksRead<D>, StartFault<D>>
+fn read_journal<D: Disk>(alloc: Global, journal: Journal<D>) -> Result<BooksRead<D>, StartFault<D>>
     ensures read { (disk : D) → HasJournalOn disk journal
         → IfOk result (λ read. AreBooksOn D.Disk disk read.disk read.books) }
     ensures none { (disk : D) → HasJournalOn disk journal
