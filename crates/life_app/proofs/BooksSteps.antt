@@ -93,7 +93,7 @@ module _ {D E : Type 0} (g : Ghosts D) (e : Ghosts E) (disks : TwoDisks D E) (ou
     telling_due DiskFault _ ends due = absurd due
     telling_due _ _ ends due = absurd ends
 
-  both_due : (words : List (String Global)) (ending wanted : Ending) → EndsByBoth g e disks words output ending → IsDueOfBoth g e disks output wanted
+  pub both_due : (words : List (String Global)) (ending wanted : Ending) → EndsByBoth g e disks words output ending → IsDueOfBoth g e disks output wanted
       → (status_of ending ≡ status_of wanted) ⊎ (status_of ending ≡ 9)
   both_due words ending wanted (inl stated) due =
       telling_due (TellsSnapshot g e disks snapshot_text) (λ Wrote told. told.quiet)
@@ -159,7 +159,7 @@ module _ {D E : Type 0} (g : Ghosts D) (e : Ghosts E) (old new : D) (words : Lis
         → (kept ≡ None) × EndsMode g old new mode auditors input output shelf InputStays ShelfStays ending
     mode_alone (State None) None ends = (refl, ends)
     mode_alone (State None) (Some back) ends = absurd ends.2
-    mode_alone ACheckpoint None ends = (refl, ends)
+    mode_alone ACheckpoint None ends = (refl, (ends.0, ends.1, ends.2.0, ends.2.1, ends.2.2))
     mode_alone ACheckpoint (Some back) ends = absurd ends.2
     mode_alone (State (Some id)) kept ends = ends
     mode_alone (Run basis) kept ends = ends
