@@ -38,7 +38,7 @@ EXCEPTIONS = {
         "trial_load.specs.Loading.IsLoadOf",
     "The devices of a contract, as one value.": """
         program_endings.specs.Writing.between program_endings.specs.Writing.input_between
-        program_endings.specs.Writing.shelf_between life_app.specs.inside.Books.ended_disks""",
+        program_endings.specs.Writing.shelf_between life_app.specs.inside.Over.ended_disks""",
     "Says nothing.": "program_endings.specs.Replies.AreAny",
 }
 
