@@ -1,5 +1,5 @@
 -- How a run ends by what was written of the text of its lines
-use Rattle.std.proofs.Common.{◌≡◌, ℕ, ◌+◌, ◌≤◌, ◌<◌, List, [], ◌++◌, length, map, take, Option, Result, Ok, Err, refl, sym, ap, ◌∙◌, subst, inl, inr, append-nil, length-map, arith}
+use Rattle.std.proofs.Common.{◌≡◌, ℕ, ◌+◌, ◌≤◌, ◌<◌, List, [], ◌++◌, length, map, take, Option, Result, Ok, Err, refl, sym, ap, ◌∙◌, subst, inl, inr, append-nil, arith}
 use Rattle.std.specs.Prelude.{IfOk, OnErr}
 use Rattle.std.specs.Io.KnownBytes.{Appends}
 use Rattle.std.proofs.KnownBytes.{Appends-trans}
@@ -14,6 +14,7 @@ use Rattle.lane_runner.specs.declared.wording.Unwritten.{Unwritten}
 use Rattle.lane_runner.specs.declared.wording.Unwritten.TheVariants.{WriteFault, NoMemory}
 use Rattle.lane_runner.specs.Written.{HasEnded}
 use Rattle.std.specs.List.{take-map}
+use Rattle.std.proofs.lemmas.List.{length-map}
 use Rattle.lane_runner.proofs.GatherSteps.{part_behind, part_more, part_whole, take_past}
 use Rattle.program_endings.specs.Writing.{Stream}
 use Rattle.program_endings.specs.declared.ending.Ending.TheVariants.{WriteFault as Failed, NoMemory as NoRoom}
@@ -60,7 +61,7 @@ module _ (lines : List TranscriptLine) (reports : List Report) (first : Stream) 
   told_short ended = inl (record {
     held = ended.held;
     many = ended.many;
-    upto = omega (arith, ended.fewer, length-map told_text lines);
+    upto = omega (arith, ended.fewer, length-map lines told_text);
     wrote = subst (Appends first.before mid) (sym (texts_of ended.many)) ended.wrote;
     part = front (part_more first.before mid (told_texts lines) (reports_text reports) ended.part);
   })
@@ -71,7 +72,7 @@ module _ (lines : List TranscriptLine) (reports : List Report) (first : Stream) 
   reports_short held whole some = inl (record {
     held = held;
     many = length lines + 0;
-    upto = omega (arith, length-map told_text lines);
+    upto = omega (arith, length-map lines told_text);
     wrote = subst (Appends first.before mid)
         (sym (texts_of (length lines + 0)
         ∙ ap told_texts (ap (λ (l : List TranscriptLine). take (length lines + 0) l) (sym (append-nil lines)) ∙ take_past lines [] 0 ∙ append-nil lines))) whole;
