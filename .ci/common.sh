@@ -51,6 +51,8 @@ needs_proved() {
 }
 
 export PYTHONDONTWRITEBYTECODE=1
+# Debian's Python sees the packages that .ci/setup.sh installs; by another one each tool would begin anew
+[ ! -x /usr/bin/python3 ] || PATH=/usr/bin:$PATH
 failed=0
 name=
 examples=$root/examples

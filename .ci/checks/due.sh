@@ -6,9 +6,10 @@ due() {
     python3 "$tools/life-tools" due "$@" >out 2>remarks
 }
 
+# what was wanted stands behind -, what came behind +
 prints() {
     status=$?
-    [ "$status" = 0 ] && cmp -s wanted out || complain "status $status: $(cat out remarks)"
+    [ "$status" = 0 ] && cmp -s wanted out || complain "status $status: $(diff -u wanted out; cat remarks)"
 }
 
 # status 2, a line that has these words, and nothing on standard output
