@@ -148,6 +148,12 @@ ends_before_the_journal() {
     leaves_none
 }
 
+# Lines `PATTERN | WORDS` of standard input: words of life-tools that are refused with 2, or with this status, all of them by
+# one run of Python. Each that isn't refused, or tells otherwise, is told.
+refused() {
+    python3 "$root/.ci/tools/refused.py" "$check: $name" "$@" || failed=1
+}
+
 # the last line of a check: what was tried, where all was well
 end() {
     [ "$failed" = 0 ] && echo "$check: $1"
