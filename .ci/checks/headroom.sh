@@ -16,12 +16,6 @@ gives() {
         [ "$(wc -l <remarks)" = "$lines" ] || complain "headroom $*: status $status: $(cat out remarks)"
 }
 
-refuses() {
-    timeout 100 python3 "$tools/life-tools" "$@" >out 2>remarks
-    status=$?
-    [ "$status" = 2 ] && [ ! -s out ] || complain "$*: status $status: $(cat out remarks)"
-}
-
 name="drawn books"
 python3 "$root/.ci/tools/needed_days.py" "$root" || failed=1
 
@@ -64,12 +58,14 @@ gives 0 9,3999991,9,"after 2199-12-31",10,6,never 0 --today 2024-06-01
 # a count that the book hasn't is of another one
 echo 10 >log/2024-05-31T180000-b/before
 gives 0 "$row" 0 --today 2024-06-01
-refuses headroom --today 2024-02-30
-refuses headroom --least -1
-refuses headroom --within x
 cp month-end-2023-06-02.csv month-end.csv
-refuses headroom --recorded month-end.csv
-refuses headroom nowhere.life
+refused <<'ROWS'
+2024-02-30 is no day | headroom --today 2024-02-30
+numbers up to 4000000 and 36525 are wanted | headroom --least -1
+numbers up to 4000000 and 36525 are wanted | headroom --within x
+month-end.csv has no day YYYY-MM-DD in its name | headroom --recorded month-end.csv
+there is no nowhere.life | headroom nowhere.life
+ROWS
 
 begin "19 commands left"
 # 401,000 were used in the year, and one issue is dated 2081
@@ -122,7 +118,8 @@ for each in "0 good" "1 held" "1 full" "1 damaged" "2 missing" "5 cut" "5 foreig
 done
 let_go
 # positions are of all books or of none
-refuses books books.csv position-on 2024-06-01
+timeout 100 python3 "$tools/life-tools" books books.csv position-on 2024-06-01 >out 2>remarks
+[ $? = 2 ] && [ ! -s out ] || complain "positions of some books: $(cat out remarks)"
 # noted positions of a list, and what is wanted of each book
 printf 'good,2\nheld,9\n' >month-end-2024-05-31.csv
 grep -e ^good -e ^held books.csv >two.csv
