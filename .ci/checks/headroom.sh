@@ -73,11 +73,12 @@ python3 "$root/.ci/tools/nearly_full.py" journal.life 19 2026-11-29 || complain 
 gives 1 3999981,19,401000,2026-11-29,4159810,479981,2026-11-29 1 --today 2026-11-29
 grep -q "19 commands are left, 401000 were used in the last year, and it is full on 2026-11-29: life-tools books split divides it$" remarks ||
     complain "it told $(cat remarks)"
+mkdir full && cp journal.life full
 # without the last 9,981: 9 days at this pace; the old policies need 64,000 at once
 truncate -s $((17 + 65 * 3990000)) journal.life && printf '\0' >>journal.life
 gives 1 3990000,10000,391019,2026-12-08,4060000,470000,2026-11-29 1 --today 2026-11-29 --within 0
 rm journal.life
-mkdir -p full && python3 "$root/.ci/tools/nearly_full.py" full/journal.life 0 2026-11-29 || complain "no full book"
+python3 "$root/.ci/tools/nearly_full.py" full/journal.life --fill 2026-11-29 || complain "no full book"
 
 go_on "a list with a missing, cut, held, foreign and full book"
 mkdir good missing cut held foreign damaged
@@ -96,7 +97,7 @@ missing,failed,2,there is no $here/missing/journal.life
 cut,failed,5,badjournal,badrecord,1
 held,9,3999991,0,never,10,6,never
 foreign,failed,5,badjournal,notajournal
-full,4000000,0,401000,2026-11-29,4160000,480000,2026-11-29
+full,4000000,0,401019,2026-11-29,4160000,480000,2026-11-29
 damaged,failed,1,$here/damaged/journal.life: 325 bytes lie behind byte 277, the gate of record 4, which is closed
 good,9,3999991,0,never,10,6,never
 LINES
@@ -106,7 +107,7 @@ missing: status 2: there is no $here/missing/journal.life
 cut: status 5: badjournal,badrecord,1
 $here/held/journal.life is held by process $holder, and may have more commands by now
 foreign: status 5: badjournal,notajournal
-full: 0 commands are left, 401000 were used in the last year, and it is full on 2026-11-29: life-tools books split divides it
+full: 0 commands are left, 401019 were used in the last year, and it is full on 2026-11-29: life-tools books split divides it
 damaged: status 1: $here/damaged/journal.life: 325 bytes lie behind byte 277, the gate of record 4, which is closed
 LINES
 cmp -s wanted remarks || complain "it told $(diff wanted remarks)"
