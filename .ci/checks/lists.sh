@@ -139,15 +139,17 @@ printf 'low,low,basis.csv\nmain,main,basis.csv\n' >twice.csv
 ends 1 "^policy [0-9]* stands in low, main$" books twice.csv report 2019-12-31
 
 go_on "wrong words"
-ends 2 "wants --from and --at" books books.csv statement 2015-12-31 2019-12-31
-ends 2 "statement takes 2 words" books books.csv statement 2015-12-31
-ends 2 "color is none of" books books.csv report 2019-12-31 --by color
-ends 2 "by plan: sample takes\|--by plan" books books.csv sample 3 --seed 1 --on 2019-12-31 --by plan
-ends 2 "sample wants --on and --seed" books books.csv sample 3
-ends 2 "--seed belongs to sample" books books.csv report 2019-12-31 --seed 4
-ends 2 "--from belongs to" books books.csv report 2019-12-31 --from p1.csv
-ends 2 "doesn't belong to statement" books books.csv statement 2015-12-31 2019-12-31 --from p1.csv --at p2.csv --deficiency
-ends 2 "there is already\|is there already" books books.csv report 2019-12-31 --csv new-rows
+refused <<'ROWS'
+wants --from and --at | books books.csv statement 2015-12-31 2019-12-31
+statement takes 2 words | books books.csv statement 2015-12-31
+color is none of | books books.csv report 2019-12-31 --by color
+by plan: sample takes|--by plan | books books.csv sample 3 --seed 1 --on 2019-12-31 --by plan
+sample wants --on and --seed | books books.csv sample 3
+--seed belongs to sample | books books.csv report 2019-12-31 --seed 4
+--from belongs to | books books.csv report 2019-12-31 --from p1.csv
+doesn't belong to statement | books books.csv statement 2015-12-31 2019-12-31 --from p1.csv --at p2.csv --deficiency
+is there already | books books.csv report 2019-12-31 --csv new-rows
+ROWS
 
 . "$root/.ci/books/loopback.sh"
 if ! has_dask; then
@@ -155,16 +157,22 @@ if ! has_dask; then
 else
     go_on "a cluster on the loopback"
     begin_cluster
-    for words in "report 2019-12-31" "statement 2015-12-31 2019-12-31 --from p1.csv --mean" "movement 2015-12-31 2019-12-31 --from p1.csv" "due 2019-12-31 30" "sample 9 --seed 2 --on 2019-12-31"; do
+    # each word once, and each way of a book to its worker by several words
+    while read -r how words; do
         # shellcheck disable=SC2086
-        tool books books.csv $words --at p2.csv
+        tool books books.csv $words --at p2.csv </dev/null
         grep -v ^made: out >wanted
-        for how in "" --send; do
-            # shellcheck disable=SC2086
-            tool books books.csv $words --at p2.csv --scheduler "$address" $how
-            grep -v ^made: out | cmp -s wanted - || complain "$words $how on the cluster: $(cat out remarks)"
-        done
-    done
+        # shellcheck disable=SC2086
+        tool books books.csv $words --at p2.csv --scheduler "$address" ${how#seen} </dev/null
+        grep -v ^made: out | cmp -s wanted - || complain "$words $how on the cluster: $(cat out remarks)"
+    done <<'WORDS'
+seen report 2019-12-31
+--send report 2019-12-31
+--send statement 2015-12-31 2019-12-31 --from p1.csv --mean
+seen movement 2015-12-31 2019-12-31 --from p1.csv
+--send due 2019-12-31 30
+seen sample 9 --seed 2 --on 2019-12-31
+WORDS
     end_cluster "$scheduler" "$worker1" "$worker2"
 fi
 
