@@ -7,7 +7,10 @@
   books LIST report ON [--by KEYS].. [--rows FOLDER]         `report` of all together, with a table of the books
   books LIST movement|statement ON1 ON2 --from LIST1 --at LIST2   `movement` and `statement` of all together
   books LIST due DAY                                         what is due in each
+  books LIST flags [--from LIST1] [--at LIST2]               `audit flags` of each
   books LIST sample N --seed S --on DAY [--by amount]        `audit sample` of the rows of all books as one
+  books LIST papers SAMPLE --html FILE | --pdf FILE          `audit papers` of such a sample
+  books LIST letters SAMPLE                                  `audit letters` of such a sample
   books LIST position-on DAY [--last]                        the position of a day in each, for --at
   books headroom LIST                                        how many commands are left in each, as `headroom` tells it
   books split JOURNAL RULE.. FOLDER..                        a book divided, for each rule a new one in a new folder
@@ -40,7 +43,7 @@ from life_tools.book_runs import OWN, Outcome, Parts, failure, named
 from life_tools.book_totals import total_of
 from life_tools.book_work import Asked, processors, work
 from life_tools.day_columns import number_at, text_at
-from life_tools.entries import books_own, books_split
+from life_tools.entries import books_audit, books_own, books_split
 from life_tools.entries.headroom import Wanted, add_arguments, room_at, told_of, wanted_of
 from life_tools.formats import MOST_WORKERS, MOST_YEARS, Wrong, day_in, demand, number_of, remark
 from life_tools.headroom import HEAD
@@ -78,6 +81,8 @@ def asked_of(options: argparse.Namespace, books: list[ListedBook]) -> Asked:
     firsts = positions_at(options.opening, books) if options.opening else {}
     rows = books_own.rows_left(options.rows, books) if options.rows else {}
     positions = positions_at(options.at, books) if options.at else {}
+    drawn = books_audit.drawn_at(options, books) if is_own else {}
+    positions.update((name, part.position) for name, part in drawn.items())
     demand(not positions or words[0] != "checkpoint", "a checkpoint is of the whole journal")
     demand(not options.scheduler or words[0] != "checkpoint", "a checkpoint is made where the book is, and not on a cluster")
     demand(not options.send or options.scheduler, "--send belongs to --scheduler")
@@ -89,7 +94,9 @@ def asked_of(options: argparse.Namespace, books: list[ListedBook]) -> Asked:
     are_kept, wait = not (parts or options.totals or options.scheduler), number_of(options.wait, 0, MOST_WAIT)
     if wait is None:
         raise Wrong(f"--wait {options.wait}: seconds from 0 to {MOST_WAIT} are wanted")
-    return Asked(words, positions, processes, options.scheduler, options.send, parts, are_kept, wait, firsts, rows)
+    bases = books_own.bases_of(options) if is_own else ()
+    return Asked(words, positions, processes, options.scheduler, options.send, parts, are_kept, wait, firsts, rows, bases,
+                 drawn)
 
 
 # --- what is printed ---
