@@ -116,8 +116,8 @@ for word in sample papers; do
     tool books books.csv $word $of $more $classes || complain "$word by class: $(cat remarks)"
 done
 for basis in basis three; do grep -q "Basis $basis.csv, row 1" by-class.html || complain "no paper is by $basis.csv"; done
-ends 2 "is of basis.csv, three.csv\|by classes" audit papers drawn --html no.html
-ends 2 "high has other rows" books books.csv papers drawn --html no.html
+ends 2 "is a sample of a list: books LIST papers and" audit papers drawn --folder main --html no.html
+ends 1 "low has other rows" books books.csv papers drawn --html no.html
 [ ! -e no.html ] || complain "papers of other rows were written"
 ends 2 "go together" books books.csv report 2019-12-31 --classes classes.csv
 ends 2 "belongs to report and movement" books books.csv due 2019-12-31 --classes classes.csv
@@ -126,9 +126,9 @@ printf '1-700,smoker\n' >few.csv
 ends 2 "is in no class" books books.csv report 2019-12-31 --at p2.csv --classes few.csv --bases bases.csv
 
 go_on "flags"
-tool audit flags --folder main --after "$p1" --at "$p2" --late 3
+tool audit flags --folder main --after "$p1" --late 3
 cut -d , -f 1,3- out | sort >single
-tool books books.csv flags --from p1.csv --at p2.csv --late 3
+tool books books.csv flags --from p1.csv --late 3
 [ $? = 1 ] && head -n 1 out | grep -qx book,flag,position,policy,kind,day,amount,since,why || complain "flags: $(cat out remarks)"
 sed 's/^book,flag/flag/;s/^low,//;s/^high,//' out | cut -d , -f 1,3- | sort | cmp -s single - || complain "other flags: $(cat out)"
 [ "$(wc -l <single)" -gt 2 ] || complain "nothing is flagged: $(cat single)"
@@ -160,7 +160,7 @@ for book in low high; do
     tool check-values $book/journal.life $book/basis.csv part --sample && grep -q "^$(grep -c ^row, part) of" out || complain "$book: $(cat out remarks)"
 done
 tool books books.csv papers drawn --html papers.html --title "All of us" || complain "papers: $(cat remarks)"
-[ "$(grep -c ': the same$' papers.html)" = "$(grep -c ,row, drawn)" ] || complain "papers of other policies"
+[ "$(grep -c ': the same</pre>' papers.html)" = "$(grep -c ,row, drawn)" ] || complain "papers of other policies"
 for book in low high; do
     tool seal --folder $book --at "$(sed -n "s/^$book,//p" p2.csv)"
     grep -q "$(sed -n 's/^front,//p' out)" papers.html || complain "the papers lack the seal of $book"
@@ -169,12 +169,14 @@ tool books books.csv letters drawn && tail -n +2 out | cut -d , -f 1,2 >letters 
 sed -n 's/^\(.*\),row,\([0-9]*\),.*/\2,\1/p' drawn | cmp -s letters - || complain "letters of other policies: $(cat letters)"
 sed 's/^all,sample,reserve,12,5/all,sample,reserve,12,6/' drawn >forged
 ends 1 "seed 6 draws other rows" books books.csv papers forged --html no.html
-sed '/^low,row/{h;s/^low,row,[0-9]*/low,row,1/;}' drawn >forged
+sed '0,/^low,row/s/^low,row,[0-9]*/low,row,1/' drawn >forged
 ends 1 "low has other rows" books books.csv papers forged --html no.html
 sed 's/^low,0,/all,0,/' drawn >forged
 ends 2 "forged: " books books.csv papers forged --html no.html
 head -n 1 drawn >forged
 ends 2 "the sample is of no book" books books.csv letters forged
+tool audit sample 3 --seed 5 --on 2019-12-31 --folder main --at "$p2" && mv out forged
+ends 2 "is a sample of one book: audit papers and" books books.csv letters forged
 head -n 1 books.csv >one.csv
 ends 2 "is of the books low, high, and the list of low" books one.csv letters drawn
 ends 2 "and not of --at" books books.csv letters drawn --at p2.csv

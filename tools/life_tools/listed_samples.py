@@ -11,8 +11,8 @@ from typing import Iterator
 
 from life_tools.book_lists import ALL
 from life_tools.formats import MEASURES, demand, read_whole
-from life_tools.samples import (HEAD, MOST_SAMPLE_BYTES, Numbers, Sample, head_in, head_of, numbers_in, numbers_told, rows_in,
-                                sample_from, text_of_row)
+from life_tools.samples import (HEAD, MOST_SAMPLE_BYTES, Numbers, Sample, head_in, head_of, is_listed, is_sample, numbers_in,
+                                numbers_told, rows_in, sample_from, text_of_row)
 
 # each book's part by its name
 Parts = dict[str, Sample]
@@ -30,8 +30,10 @@ def lines_of(parts: Parts) -> Iterator[str]:
 def parts_in(text: str) -> Parts:
     """The parts of a text that `books LIST sample` printed; of which bases isn't told there."""
     first, *lines = text.splitlines() or [""]
-    name, *fields = first.split(",")
-    is_one = name == ALL and len(fields) == HEAD + 2 and fields[-1] in MEASURES
+    fields = first.split(",")[1:]
+    demand(not is_sample([line.split(",") for line in (first, *lines[:1])]), "it is a sample of one book: audit papers and "
+           "audit letters take it")
+    is_one = is_listed(first) and len(fields) == HEAD + 2 and fields[-1] in MEASURES
     demand(is_one, "that is no sample that books LIST sample prints")
     numbers, blocks = numbers_in(fields[:HEAD]), blocks_in(lines)
     parts = {book: part_of(block, numbers) for book, block in blocks.items()}

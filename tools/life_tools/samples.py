@@ -11,6 +11,7 @@ import datetime
 from dataclasses import dataclass
 from typing import NamedTuple, Sequence
 
+from life_tools.book_lists import ALL
 from life_tools.formats import MOST_NUMBER, Wrong, day_in, demand, measure_of, money, number_of, read_whole
 from life_tools.printed_books import ValuedRow, row_of
 from life_tools.tables import NAME
@@ -67,6 +68,11 @@ def text_of(sample: Sample) -> str:
 def is_sample(rows: Sequence[Sequence[str]]) -> bool:
     """Whether printed lines, as fields, are those of a sample."""
     return len(rows) > 1 and rows[1][0] == "sample"
+
+
+def is_listed(line: str) -> bool:
+    """Whether a first line is that of a sample of many books."""
+    return line.split(",")[:2] == [ALL, "sample"]
 
 
 class Head(NamedTuple):
@@ -137,6 +143,7 @@ def sample_in(text: str) -> Sample:
     """The sample of a text that `audit sample` wrote."""
     lines = text.splitlines()
     first, told = [*lines[:2], "", ""][:2]
+    demand(not is_listed(first), "it is a sample of a list: books LIST papers and books LIST letters take it")
     head, fields = head_in(first), told.split(",")
     bases, rows = tuple(fields[HEAD:]), rows_in(lines[2:], head.policies)
     demand(bases and all(map(NAME.fullmatch, bases)), f"{told} is no line of a sample")
