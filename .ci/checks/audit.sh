@@ -116,7 +116,7 @@ fi
 sed 's/^sample,reserve,3,3,/sample,reserve,3,4,/' sample >other
 refuses 1 'seed 4 draws other rows' audit papers other --html written
 sed 's/1418.86$/1418.87/' sample >other
-refuses 1 'draws other rows' audit papers other --html written
+refuses 1 'sample has other rows at position 11' audit papers other --html written
 refuses 2 'is no sample' audit papers transcript --html written
 refuses 2 'No such file' audit papers nowhere --html written
 refused <<'ROWS'

@@ -8,6 +8,7 @@ from __future__ import annotations
 
 import datetime
 from dataclasses import dataclass
+from typing import NamedTuple, Sequence
 
 from life_tools.formats import money
 from life_tools.periods import Moment, Period, Step, demand_whole, is_insured
@@ -192,34 +193,73 @@ class Increase:
         demand_whole(self.exact[0] + moved == self.exact[1], "increase: the lines don't lead from the opening to the closing")
 
 
+class Led(NamedTuple):
+    """What leads from the opening of one book, or of several, to the closing: the printed totals, the exact sums and the
+    counts of the lines, and how wide the rows' bounds are at both ends."""
+
+    measure: str
+    opening: tuple[int, ...]
+    closing: tuple[int, ...]
+    sums: dict[str, int]
+    counts: dict[str, int]
+    widths: tuple[int, int]
+
+
 def widths(moment: Moment) -> int:
     return sum(row.bounds[1] - row.bounds[0] for row in moment.valuation.rows)
 
 
-def increase_sheet(period: Period, increase: Increase) -> Sheet:
+def led_by(period: Period, increase: Increase) -> Led:
     increase.close()
-    sheet = Sheet("increase", f"Increase in reserves, {period.asked.measure}",
-                  [Column("line", TEXT), Column("policies", COUNT), Column("lower bounds"), Column("upper bounds")])
-    opening, closing = period.opening.valuation.total, period.closing.valuation.total
-    lines = {line: cents(scaled) for line, scaled in increase.sums.items()}
-    rounding = [closing[bound] - opening[bound] - sum(lines.values()) for bound in (0, 1)]
-    most = [widths(period.opening), widths(period.closing)]
+    opening, closing = period.opening, period.closing
+    return Led(period.asked.measure, opening.valuation.total[:2], closing.valuation.total[:2], increase.sums,
+               increase.counts, (widths(opening), widths(closing)))
+
+
+def led_together(books: Sequence[Led]) -> Led:
+    """What leads all books from their openings to their closings."""
+    def sums(pairs: Sequence[tuple[int, ...]]) -> tuple[int, ...]:
+        return tuple(map(sum, zip(*pairs)))
+
+    most = sums([it.widths for it in books])
+    return Led(books[0].measure, sums([it.opening for it in books]), sums([it.closing for it in books]),
+               {line: sum(it.sums[line] for it in books) for line in WORKED},
+               {line: sum(it.counts[line] for it in books) for line in LINES}, (most[0], most[1]))
+
+
+def lines_sheet(led: Led) -> Sheet:
+    """The sheet of what leads from the opening to the closing, each exact sum rounded once."""
+    columns = [Column("line", TEXT), Column("policies", COUNT), Column("lower bounds"), Column("upper bounds")]
+    sheet = Sheet("increase", f"Increase in reserves, {led.measure}", columns, exact=led)
+    lines = {line: cents(scaled) for line, scaled in led.sums.items()}
+    rounding = [led.closing[bound] - led.opening[bound] - sum(lines.values()) for bound in (0, 1)]
+    most = led.widths
     demand_whole(-most[1] - len(lines) <= rounding[0] <= most[0] + len(lines)
                  and -most[0] - len(lines) <= rounding[1] <= most[1] + len(lines),
                  f"increase: {rounding} cents are left, and the rows are {most} cents wide")
-    counts = increase.counts
-    sheet.add(OPENING, counts[OPENING], *opening[:2], is_total=True)
+    sheet.add(OPENING, led.counts[OPENING], *led.opening, is_total=True)
     for line, amount in lines.items():
-        sheet.add(line, counts[line] if line not in (NET, INTEREST, COST, HELD) else None, amount, amount, section=1)
+        count = led.counts[line] if line not in (NET, INTEREST, COST, HELD) else None
+        sheet.add(line, count, amount, amount, section=1)
     sheet.add(ROUNDING, None, *rounding, section=2)
-    sheet.add(CLOSING, counts[CLOSING], *closing[:2], section=3, is_total=True)
+    sheet.add(CLOSING, led.counts[CLOSING], *led.closing, section=3, is_total=True)
     sheet.notes = [f"Rounding: what the printed bounds of the rows leave open, which are {money(most[0])} wide at the beginning "
                    f"and {money(most[1])} at the end, and less than a cent of each line."]
     sheet.checks = ["Each policy's exact opening and closing reserve lies in its printed row.",
                     "The lines lead from the printed opening total to the printed closing one."]
+    return sheet
+
+
+def increase_sheet(period: Period, increase: Increase) -> Sheet:
+    sheet = lines_sheet(led_by(period, increase))
     if period.asked.are_parts_kept:
         fill_policies(sheet, period, increase)
     return sheet
+
+
+def increases_added(sheets: Sequence[Sheet]) -> Sheet:
+    """Such sheets of several books as one."""
+    return lines_sheet(led_together([sheet.exact for sheet in sheets]))
 
 
 def fill_policies(sheet: Sheet, period: Period, increase: Increase) -> None:

@@ -66,6 +66,9 @@ def commands_between(copy: Front, first: int) -> list[Command]:
     return [command_in(data[at + 1:at + 65]) for at in range(0, len(data) - 1, 65)]
 
 
+ONE_LINE = "a policy counts on one line, that of its last posting; `statement` counts each posting"
+
+
 class Moment(NamedTuple):
     """A day as it is told to the program, and a position."""
 
@@ -132,7 +135,7 @@ def moved_in(books: Books) -> tuple[list[Change], list[Moved], Cash]:
 def notes_of(books: Books) -> list[str]:
     notes = [f"{valuation.words} policies of the {name} have a word in place of bounds, and are in no sum"
              for name, valuation in ((LINES[0], books.opening), (LINES[-1], books.closing)) if valuation.words]
-    return [*notes, "a policy counts on one line, that of its last posting; `statement` counts each posting"]
+    return [*notes, ONE_LINE]
 
 
 def run(options: argparse.Namespace) -> int:
