@@ -6,14 +6,13 @@ from __future__ import annotations
 
 import contextlib
 import os
-import subprocess
 from typing import Iterator, Sequence
 
-from life_tools.copied_folder import JOURNAL, copy_basis, desk_of, reading, run_in, written
-from life_tools.formats import Wrong, bytes_of, demand
-from life_tools.journals import EMPTY, count_of
+from life_tools.copied_folder import JOURNAL, begun, copy_basis, desk_of, reading, run_in
+from life_tools.formats import MOST_COMMANDS, Wrong, demand
+from life_tools.journals import EMPTY, FIRST_GATE, RECORD_SIZE
 from life_tools.program import life_command
-from life_tools.record_columns import copy_front, front_count
+from life_tools.record_blocks import Blocks, demanded
 from life_tools.wholeness import tell_doubt
 
 # so many threads value, which change no byte of what is printed
@@ -41,11 +40,7 @@ class Front:
 
     def streams(self, *words: str) -> Iterator[bytes]:
         """The same in parts, while the program goes on."""
-        try:
-            ran = subprocess.Popen([*self.life, *words], cwd=self.folder, stdin=subprocess.DEVNULL, stdout=subprocess.PIPE)
-        except OSError as error:
-            raise Wrong(f"{self.life[0]}: {error.strerror}") from error
-        with ran:
+        with begun(self.folder, self.life, words) as ran:
             assert ran.stdout
             part = ran.stdout.read(AT_ONCE)
             if len(part) < AT_ONCE:
@@ -56,32 +51,32 @@ class Front:
             self.demand_well(ran.wait(), words, "")
 
 
-def copied(path: str, position: int | None, to: str) -> int:
-    """The position to which a journal was copied: the one told, or the newest; nobody posts meanwhile."""
-    with reading(path):
-        count = front_count(path)
-        if count is None:
-            # which tells what is wrong with it, where it is no unfinished creation
-            count = count_of(bytes_of(path), path)
-        demand(position is None or position <= count, f"{position} is no position of {path}, which has {count} commands")
-        wanted = count if position is None else position
+def copied(path: str, position: int | None, to: str) -> Blocks:
+    """Copies a journal's first records, or all of them, while nobody posts; what was seen of it."""
+    left = MOST_COMMANDS if position is None else position
+    with reading(path) as file:
+        blocks = Blocks(file)
         try:
-            if wanted:
-                copy_front(path, wanted, to)
-            else:
-                written(to, EMPTY)
+            with open(to, "wb") as copy:
+                copy.write(EMPTY[:FIRST_GATE])
+                for block in blocks:
+                    copy.write(block[:RECORD_SIZE * left])
+                    left = max(left - len(block) // RECORD_SIZE, 0)
+                copy.write(bytes(1))
         except OSError as error:
             raise Wrong(f"{to}: {error.strerror}") from error
-    return wanted
+    return blocks
 
 
 @contextlib.contextmanager
 def front(folder: str, position: int | None, bases: Sequence[str], life: str | None) -> Iterator[Front]:
     """A copy of the book at a position (the newest where none is told), with these basis files and their tables."""
     path, command = os.path.join(folder, JOURNAL), life_command(life)
-    tell_doubt(path)
-    with desk_of(None, folder, bases[0]) as desk:
-        position = copied(path, position, os.path.join(desk, JOURNAL))
+    with desk_of(folder, bases[0]) as desk:
+        blocks = copied(path, position, os.path.join(desk, JOURNAL))
+        tell_doubt(path, blocks.seen)
+        count = demanded(blocks, path)
+        demand(position is None or position <= count, f"{position} is no position of {path}, which has {count} commands")
         for basis in bases[1:]:
             copy_basis(folder, basis, desk)
-        yield Front(desk, position, command)
+        yield Front(desk, count if position is None else position, command)
