@@ -3,17 +3,14 @@ from __future__ import annotations
 
 import fcntl
 import io
-import mmap
 import os
 import shutil
 import subprocess
 from contextlib import contextmanager
-from typing import IO, Iterator, Sequence, Union
+from typing import IO, Iterator, Sequence
 
 from life_tools.desks import desk_for
-from life_tools.formats import Wrong, bytes_of, remark, rows_in
-from life_tools.journals import FIRST_GATE
-from life_tools.record_blocks import Blocks
+from life_tools.formats import Wrong, bytes_of, rows_in
 from life_tools.tables import NAME
 
 JOURNAL = "journal.life"
@@ -82,61 +79,3 @@ def run_in(desk: str, life: Sequence[str], words: Sequence[str]) -> tuple[int, s
 def ended(ran: subprocess.Popen[bytes]) -> tuple[int, str]:
     printed, _ = ran.communicate()
     return ran.returncode, printed.decode("ascii", "replace")
-
-
-# --- a dry run ---
-
-def copy_whole(path: str, to: str) -> Blocks:
-    """Copies a journal's file as it is, while no run has it; what was seen of it."""
-    with reading(path) as file:
-        blocks = Blocks(file)
-        try:
-            with open(to, "wb") as copy:
-                copy.write(blocks.front[:FIRST_GATE])
-                for block in blocks:
-                    copy.write(block)
-                file.seek(copy.tell())
-                shutil.copyfileobj(file, copy)
-        except OSError as error:
-            raise Wrong(f"{to}: {error.strerror}") from error
-    return blocks
-
-
-class Trial:
-    """Copies of a folder's journal, where it has one, and of its basis, on which the program runs a script."""
-
-    def __init__(self, folder: str, basis: str, desk: str) -> None:
-        self.path, self.basis, self.desk = os.path.join(folder, JOURNAL), basis, desk
-        self.copy = os.path.join(desk, JOURNAL)
-        self.blocks = copy_whole(self.path, self.copy) if os.path.exists(self.path) else None
-
-    @property
-    def seen(self) -> tuple[int, int] | None:
-        """The count and the length of the journal, where there is one."""
-        return self.blocks.seen if self.blocks else None
-
-    def begins(self, script: str, life: Sequence[str]) -> subprocess.Popen[bytes]:
-        if not self.blocks:
-            remark(f"there is no {self.path}: the script is run on an empty journal")
-        try:
-            rows = open(script, "rb")
-        except OSError as error:
-            raise Wrong(f"{script}: {error.strerror}") from error
-        with rows:
-            return begun(self.desk, life, ["run", "--basis", self.basis], rows)
-
-    @contextmanager
-    def records(self) -> Iterator[tuple[Union[bytes, mmap.mmap], int]]:
-        """The copy's bytes, and how many records it had before the script; these stay as they are while the program posts."""
-        count = self.seen[0] if self.seen else 0
-        if not count:
-            yield b"", 0
-            return
-        with open(self.copy, "rb") as file, mmap.mmap(file.fileno(), 0, access=mmap.ACCESS_READ) as data:
-            yield data, count
-
-
-@contextmanager
-def trial_of(folder: str, basis: str) -> Iterator[Trial]:
-    with desk_of(folder, basis) as desk:
-        yield Trial(folder, basis, desk)

@@ -6,13 +6,16 @@ from __future__ import annotations
 
 import contextlib
 import os
+import subprocess
+from concurrent.futures import ThreadPoolExecutor
 from typing import Iterator, Sequence
 
-from life_tools.copied_folder import JOURNAL, begun, copy_basis, desk_of, reading, run_in
-from life_tools.formats import MOST_COMMANDS, Wrong, demand
-from life_tools.journals import EMPTY, FIRST_GATE, RECORD_SIZE
+from life_tools.copied_folder import JOURNAL, begun, copy_basis, desk_of, reading, run_in, written
+from life_tools.formats import Wrong, demand
+from life_tools.journals import EMPTY, FIRST_GATE, RECORD_SIZE, gate_of
 from life_tools.program import life_command
 from life_tools.record_blocks import Blocks, demanded
+from life_tools.record_columns import close_gate, send
 from life_tools.wholeness import tell_doubt
 
 # so many threads value, which change no byte of what is printed
@@ -38,31 +41,47 @@ class Front:
         self.demand_well(status, words, printed)
         return printed
 
-    def streams(self, *words: str) -> Iterator[bytes]:
-        """The same in parts, while the program goes on."""
-        with begun(self.folder, self.life, words) as ran:
-            assert ran.stdout
+    def begins(self, *words: str) -> subprocess.Popen[bytes]:
+        """The program at work on these words, while something else is done."""
+        return begun(self.folder, self.life, words)
+
+    def parts(self, ran: subprocess.Popen[bytes], *words: str) -> Iterator[bytes]:
+        """What it prints, which must end with status 0, in parts."""
+        assert ran.stdout
+        part = ran.stdout.read(AT_ONCE)
+        if len(part) < AT_ONCE:
+            self.demand_well(ran.wait(), words, part.decode("ascii", "replace"))
+        while part:
+            yield part
             part = ran.stdout.read(AT_ONCE)
-            if len(part) < AT_ONCE:
-                self.demand_well(ran.wait(), words, part.decode("ascii", "replace"))
-            while part:
-                yield part
-                part = ran.stdout.read(AT_ONCE)
-            self.demand_well(ran.wait(), words, "")
+        self.demand_well(ran.wait(), words, "")
+
+    def streams(self, *words: str) -> Iterator[bytes]:
+        """The same from the beginning on."""
+        with self.begins(*words) as ran:
+            yield from self.parts(ran, *words)
+
+    def alone(self, places: Sequence[int]) -> Front:
+        """A copy of the commands of these places alone."""
+        folder = os.path.join(self.folder, "alone")
+        os.mkdir(folder)
+        with open(os.path.join(self.folder, JOURNAL), "rb") as file, open(os.path.join(folder, JOURNAL), "wb") as copy:
+            copy.write(EMPTY[:FIRST_GATE])
+            for place in places:
+                file.seek(gate_of(place))
+                copy.write(file.read(RECORD_SIZE))
+            copy.write(bytes(1))
+        return Front(folder, len(places), self.life)
 
 
 def copied(path: str, position: int | None, to: str) -> Blocks:
-    """Copies a journal's first records, or all of them, while nobody posts; what was seen of it."""
-    left = MOST_COMMANDS if position is None else position
-    with reading(path) as file:
-        blocks = Blocks(file)
+    """Copies a journal up to a position, or all of it, and looks at it meanwhile, while nobody posts."""
+    with reading(path) as file, ThreadPoolExecutor(1) as beside:
+        size = os.fstat(file.fileno()).st_size if position is None else gate_of(position)
+        sending = beside.submit(send, path, size, to)
+        blocks = Blocks(file).through()
         try:
-            with open(to, "wb") as copy:
-                copy.write(EMPTY[:FIRST_GATE])
-                for block in blocks:
-                    copy.write(block[:RECORD_SIZE * left])
-                    left = max(left - len(block) // RECORD_SIZE, 0)
-                copy.write(bytes(1))
+            sending.result()
         except OSError as error:
             raise Wrong(f"{to}: {error.strerror}") from error
     return blocks
@@ -73,10 +92,16 @@ def front(folder: str, position: int | None, bases: Sequence[str], life: str | N
     """A copy of the book at a position (the newest where none is told), with these basis files and their tables."""
     path, command = os.path.join(folder, JOURNAL), life_command(life)
     with desk_of(folder, bases[0]) as desk:
-        blocks = copied(path, position, os.path.join(desk, JOURNAL))
+        copy = os.path.join(desk, JOURNAL)
+        blocks = copied(path, position, copy)
         tell_doubt(path, blocks.seen)
         count = demanded(blocks, path)
         demand(position is None or position <= count, f"{position} is no position of {path}, which has {count} commands")
+        position = count if position is None else position
+        if position:
+            close_gate(copy, gate_of(position))
+        else:
+            written(copy, EMPTY)
         for basis in bases[1:]:
             copy_basis(folder, basis, desk)
-        yield Front(desk, count if position is None else position, command)
+        yield Front(desk, position, command)

@@ -5,16 +5,15 @@ n + 1. `commands.command_in` says the same of one record.
 """
 from __future__ import annotations
 
-import mmap
 from dataclasses import dataclass, fields
-from typing import Iterable, Iterator, Union
+from typing import Iterable, Iterator
 
 from life_tools.commands import BODY_SIZE, LAST_AGE, OLDEST_AT_ISSUE, PLAN_CODES, Command
 from life_tools.day_columns import FIRST, LAST, day_at
 from life_tools.formats import FIELDS, KINDS, MOST_CENTS, MOST_REINSTATEMENT_CENTS, PLANS
 from life_tools.journals import FIRST_GATE, RECORD_SIZE
 from life_tools.arrays import Array, Cents, np
-from life_tools.record_blocks import AT_ONCE, Blocks
+from life_tools.record_blocks import AT_ONCE, Blocks, Data, mapped
 
 # a record as it stands in the file; the bytes behind its premium are 0 of every kind, and an amount of 2^63 or more is below 0
 # here, so outside its limits as well
@@ -24,7 +23,6 @@ assert RECORD.itemsize == RECORD_SIZE == BODY_SIZE + 1
 # so many records are whole words of 64 bits; and the bits of these in which a record holds nothing
 ROW = 64
 IDLE = np.frombuffer(ROW * (bytes(RECORD_SIZE - RECORD["idle"].itemsize) + b"\xff" * RECORD["idle"].itemsize), np.uint64)
-Data = Union[bytes, mmap.mmap]
 ISSUE, PREMIUM, ALTER, LAPSE, REINSTATE, CLAIM, SETTLE, MATURE, UPGRADE, PAIDUP = KINDS
 WHOLE = PLAN_CODES["whole"]
 
@@ -165,6 +163,13 @@ def places_in(data: Data, count: int, numbers: Iterable[int]) -> Array:
     found = [start + np.flatnonzero(np.isin(raw["number"][start:start + AT_ONCE].astype(np.uint32), wanted))
              for start in range(0, count, AT_ONCE)]
     return np.concatenate([np.empty(0, np.int64), *found])
+
+
+def places_at(path: str, count: int, numbers: Iterable[int]) -> list[int]:
+    """The same of a file that has so many records, or more."""
+    with mapped(path, count) as data:
+        places: list[int] = places_in(data, count, numbers).tolist()
+        return places
 
 
 def upgrade_in(data: Data, count: int) -> int:

@@ -11,7 +11,7 @@ from typing import NoReturn
 
 from life_tools.formats import Wrong
 
-DEBIANS = "/usr/bin/python3"
+DEBIANS, DEBIANS_PACKAGES = "/usr/bin/python3", "/usr/lib/python3/dist-packages"
 # set for a run that was begun anew, so that it isn't once more
 ANEW = "LIFE_TOOLS_ANEW"
 
@@ -19,6 +19,8 @@ ANEW = "LIFE_TOOLS_ANEW"
 def is_seen_by_debians(module: str) -> bool:
     if not os.access(DEBIANS, os.X_OK):
         return False
+    if os.path.isfile(os.path.join(DEBIANS_PACKAGES, module, "__init__.py")):
+        return True
     words = f"import importlib.util, sys; sys.exit(importlib.util.find_spec({module!r}) is None)"
     asked = subprocess.run([DEBIANS, "-c", words], stdout=subprocess.DEVNULL, stderr=subprocess.DEVNULL, check=False)
     return asked.returncode == 0
@@ -47,7 +49,11 @@ def package(module: str, debian: str) -> ModuleType:
 
 
 def see(module: str, debian: str) -> None:
-    """Looks for a module that is loaded later, when the tool can't begin anew any more."""
+    """Begins anew at once where this Python doesn't have the module, before anything is loaded in vain."""
     if importlib.util.find_spec(module) is None:
         begin_anew(module, debian)
+
+
+def stay() -> None:
+    """From here on the tool can't begin anew: what it loads later has to be there."""
     os.environ[ANEW] = "1"

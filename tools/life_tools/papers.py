@@ -10,7 +10,7 @@ from life_tools.columns import Columns, columns_at
 from life_tools.commands import words_of
 from life_tools.copied_folder import JOURNAL
 from life_tools.day_columns import day_at
-from life_tools.entries.why import compared
+from life_tools.explained_rows import compared
 from life_tools.formats import Wrong, demand
 from life_tools.fronts import front
 from life_tools.printed_books import ValuedRow, state_in, valuation_in

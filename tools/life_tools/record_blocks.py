@@ -2,9 +2,10 @@
 from __future__ import annotations
 
 import io
+import mmap
 import os
 from contextlib import contextmanager
-from typing import Iterator
+from typing import Iterator, Union
 
 from life_tools.formats import MOST_COMMANDS, Wrong
 from life_tools.journals import (EMPTY, FIRST_GATE, RECORD_SIZE, Journal, counted, is_unfinished_creation, open_gates,
@@ -12,6 +13,7 @@ from life_tools.journals import (EMPTY, FIRST_GATE, RECORD_SIZE, Journal, counte
 
 # so many records that they lie in a processor's cache while they are looked at
 AT_ONCE = 1 << 13
+Data = Union[bytes, mmap.mmap]
 
 
 class Blocks:
@@ -38,6 +40,12 @@ class Blocks:
             self.open, self.is_ended, self.read = self.open + found, found < len(gates), self.read + size
             is_last = self.is_ended or size < len(buffer) or self.open > MOST_COMMANDS
             yield memoryview(buffer)[:RECORD_SIZE * min(found, size // RECORD_SIZE)]
+
+    def through(self) -> Blocks:
+        """The same, gone through for the gates alone."""
+        for _ in self:
+            pass
+        return self
 
     @property
     def room(self) -> int:
@@ -73,3 +81,13 @@ def blocks_at(path: str) -> Iterator[Blocks]:
             yield Blocks(file) if file.seekable() else Blocks(io.BytesIO(file.read()))
     except OSError as error:
         raise Wrong(f"{path}: {error.strerror}") from error
+
+
+@contextmanager
+def mapped(path: str, count: int) -> Iterator[Data]:
+    """The bytes of a copy that nobody shortens; of one without records none."""
+    if not count:
+        yield b""
+        return
+    with open(path, "rb") as file, mmap.mmap(file.fileno(), 0, access=mmap.ACCESS_READ) as data:
+        yield data

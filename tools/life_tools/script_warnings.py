@@ -2,13 +2,13 @@
 from __future__ import annotations
 
 import datetime
-import mmap
-from typing import Callable, Iterable, Iterator, Union
+from typing import Callable, Iterable, Iterator
 
 from life_tools.commands import Command, command_in
 from life_tools.deaths import standing
 from life_tools.formats import money
 from life_tools.journals import gate_of
+from life_tools.record_blocks import Data
 from life_tools.remedies import remedy_of
 from life_tools.rules import Book, Policy, Refusal, anniversary, due_of, end_of
 from life_tools.script_lines import Line
@@ -28,7 +28,7 @@ class Desk:
         # of each policy what was accepted, in order
         self.taken: dict[int, list[Command]] = {}
 
-    def read(self, data: Union[bytes, mmap.mmap], upgrade: int, places: Iterable[int]) -> None:
+    def read(self, data: Data, upgrade: int, places: Iterable[int]) -> None:
         """Takes the commands of these places of a file's records, which the program has judged, and the upgrade's position."""
         self.book.upgrade = upgrade
         for place in places:

@@ -16,17 +16,16 @@ from __future__ import annotations
 
 import argparse
 import datetime
-import subprocess
 import sys
 
-from life_tools.copied_folder import Trial, ended, trial_of
 from life_tools.formats import MOST_COMMANDS, Wrong, day_in, demand, number_of, remark
 from life_tools.held_rows import Holding, divide, policies_in
-from life_tools.packages import see
+from life_tools.packages import stay
 from life_tools.program import life_command
 from life_tools.script_lines import Line, lanes_of, script_at
 from life_tools.script_warnings import Desk
 from life_tools.transcript_check import answers_in
+from life_tools.trials import Trial, trial_of
 from life_tools.wholeness import tell_doubt
 
 
@@ -60,9 +59,9 @@ def look_over(lines: list[Line], transcript: str, desk: Desk, holding: Holding) 
     return told
 
 
-def answered(trial: Trial, ran: subprocess.Popen[bytes]) -> str:
+def answered(trial: Trial) -> str:
     """The transcript of the dry run, in which the program judges the journal."""
-    status, transcript = ended(ran)
+    status, transcript = trial.answer()
     if transcript.startswith("badjournal,"):
         from life_tools.columns import looked_at, taken
 
@@ -73,21 +72,21 @@ def answered(trial: Trial, ran: subprocess.Popen[bytes]) -> str:
 
 def tried(options: argparse.Namespace, lines: list[Line], desk: Desk) -> str:
     """The transcript of the dry run; the desk gets what the policies of the lines have in the journal."""
-    with trial_of(options.folder, options.basis) as trial:
+    with trial_of(options.script, options.folder, options.basis, life_command(options.life)) as trial:
         tell_doubt(trial.path, trial.seen)
-        with trial.begins(options.script, life_command(options.life)) as ran, trial.records() as (data, count):
+        with trial.records() as (data, count):
             # numpy takes a tenth of a second, in which the program is at work
             from life_tools.journal_columns import places_in, upgrade_in
 
             upgrade = upgrade_in(data, count)
             places = places_in(data, count, {line.command.number for line in lines if line.command})
-            transcript = answered(trial, ran)
+            transcript = answered(trial)
             desk.read(data, upgrade, places.tolist())
     return transcript
 
 
 def run(options: argparse.Namespace) -> int:
-    see("numpy", "python3-numpy")
+    stay()
     today = day_in(options.today) if options.today else datetime.date.today()
     lines, desk = script_at(options.script), Desk(today)
     transcript = tried(options, lines, desk)

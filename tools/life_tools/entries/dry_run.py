@@ -12,9 +12,9 @@ from __future__ import annotations
 import argparse
 import sys
 
-from life_tools.copied_folder import ended, trial_of
 from life_tools.formats import remark
 from life_tools.program import life_command
+from life_tools.trials import trial_of
 from life_tools.wholeness import tell_doubt
 
 
@@ -26,10 +26,9 @@ def arguments(parser: argparse.ArgumentParser) -> None:
 
 
 def run(options: argparse.Namespace) -> int:
-    with trial_of(options.folder, options.basis) as trial:
+    with trial_of(options.script, options.folder, options.basis, life_command(options.life)) as trial:
         tell_doubt(trial.path, trial.seen)
-        with trial.begins(options.script, life_command(options.life)) as ran:
-            status, transcript = ended(ran)
+        status, transcript = trial.answer()
     sys.stdout.write(transcript)
     sys.stdout.flush()
     accepted, refused = transcript.count(",accepted,"), transcript.count(",refused,")
