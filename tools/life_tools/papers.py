@@ -14,7 +14,7 @@ from life_tools.commands import words_of
 from life_tools.copied_folder import JOURNAL
 from life_tools.day_columns import day_at
 from life_tools.drawn_samples import Drawable, drawable_of
-from life_tools.entries.why import compared
+from life_tools.explained_rows import compared
 from life_tools.formats import Wrong, demand
 from life_tools.fronts import Front, front
 from life_tools.groups import demand_same

@@ -18,7 +18,7 @@ import sys
 from typing import Iterator, NamedTuple
 
 from life_tools.arrays import Array, Cents, np
-from life_tools.columns import columns_at
+from life_tools.columns import looked_at, taken
 from life_tools.day_columns import LAST, NEVER, anniversaries, number_at, texts_at
 from life_tools.entries.why import position_in
 from life_tools.formats import Wrong, day_in, demand, money, number_of, remark
@@ -136,8 +136,9 @@ def run(options: argparse.Namespace) -> int:
         raise Wrong(f"--within {options.within}: a number of days from 0 to {MOST_DAYS} is wanted")
     position = position_in(options.at)
     demand(position is None or not kinds, "--at is of a list: lines are sent to the book as it is now")
-    tell_doubt(options.journal)
-    items = Items(columns_at(options.journal, position).policies, number_at(day), within).find_all()
+    judged, blocks = looked_at(options.journal)
+    tell_doubt(options.journal, blocks.seen)
+    items = Items(taken(judged, options.journal, position).policies, number_at(day), within).find_all()
     if kinds:
         chosen = np.isin(items.what, [WHATS.index(kind) for kind in kinds])
         items = Due(*(column[chosen] for column in items))
