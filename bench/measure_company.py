@@ -158,8 +158,8 @@ def measure(folder: str, asked: argparse.Namespace) -> None:
     size, commands = os.path.getsize(os.path.join(folder, "book1", "journal.life")), asked.policies * asked.commands
     print(f"{books} books of {asked.policies:,} policies, {asked.commands} commands each: {books * size / 1e9:.1f} GB; "
           f"{processors} processors")
-    print(f"positions in {taken.positions:.1f} s, valued in {taken.total:.1f} s, with rows kept in {taken.rows:.1f} s; reported by "
-          f"these rows in {taken.report:.1f} s")
+    print(f"positions in {taken.positions:.1f} s, valued in {taken.total:.1f} s, with rows kept in {taken.rows:.1f} s; reported "
+          f"by these rows in {taken.report:.1f} s")
     print(f"one book of {commands:,} commands divided in four in {split:.1f} s, {split / commands * 1e6:.1f} s for 1,000,000")
     tell_company(asked, books, size, taken, split)
 

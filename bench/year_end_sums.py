@@ -240,8 +240,8 @@ class Sums:
 
     def movement(self) -> Rows:
         """Of each line the policies and both sums, by the worths that were taken."""
-        found: Rows = {line: [0, 0, 0] for line in ("opening reserve", "new issues", *MOVED.values(), "time gone by",
-                                                     "change of basis", "closing reserve")}
+        lines = ("opening reserve", "new issues", *MOVED.values(), "time gone by", "change of basis", "closing reserve")
+        found: Rows = {line: [0, 0, 0] for line in lines}
 
         def add(line: str, count: int, low: Any, high: Any) -> None:
             found[line] = [one + (other or 0) for one, other in zip(found[line], (count, low, high))]

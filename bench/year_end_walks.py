@@ -259,7 +259,8 @@ class Walk:
 
     def flags(self, rows: list[list[str]]) -> None:
         on_day = self.sums.rows("""select position from command c where c.kind = 'claim' and position > :p1 and c.day = (
-            select b.day from command b where b.policy = c.policy and b.position < c.position order by b.position desc limit 1)""")
+            select b.day from command b where b.policy = c.policy and b.position < c.position
+            order by b.position desc limit 1)""")
         late = self.sums.rows("""
             select m.position from command m join main.policy p on p.policy = m.policy
             where m.kind = 'mature' and m.position > :p1 and julianday(m.day) - julianday(p.ends) > 10""")

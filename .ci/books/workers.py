@@ -16,7 +16,7 @@ def main() -> None:
     if sys.argv[1:]:
         from distributed import Client
 
-        with Client(sys.argv[1], timeout=MOST_SECONDS) as client:
+        with Client(sys.argv[1], timeout=MOST_SECONDS) as client:  # type: ignore[no-untyped-call]
             client.wait_for_workers(int(sys.argv[2]), timeout=MOST_SECONDS)
 
 

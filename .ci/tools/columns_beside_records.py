@@ -128,7 +128,8 @@ def compare_books(columns: Columns, book: Book, booked: list[Booked], seed: obje
     sums = {account: sum(each.get(account, 0) for _, each in booked) for account in ACCOUNTS}
     need(columns.balances == sums, f"{seed}: the balances are {columns.balances}, and not {sums}")
     need(list(columns.records.commands(np.arange(columns.count))) == book.commands, f"{seed}: the commands differ")
-    for place, ((command, each), cents, at) in enumerate(zip(booked, columns.booked.tolist(), columns.place.tolist(), strict=True)):
+    together = zip(booked, columns.booked.tolist(), columns.place.tolist(), strict=True)
+    for place, ((command, each), cents, at) in enumerate(together):
         wanted = max([abs(value) for value in each.values()], default=0)
         is_of = at == -1 if command.kind == "upgrade" else policies[at].number == command.number
         if cents != wanted or not is_of:

@@ -30,7 +30,7 @@ class Times(NamedTuple):
     go_on: int = 88
 
 
-def drawn_issue(draw: random.Random, number: int, times: Times) -> Command:
+def drawn_issue(draw: random.Random, number: int, times: Times = Times()) -> Command:
     plan = draw.choice(("term", "whole", "endowment", "limited"))
     age = draw.randint(18, 70)
     years = 0 if plan == "whole" else draw.choice((2, 3, 5, 8, 12, 20))
@@ -65,7 +65,7 @@ def following(draw: random.Random, policy: Policy, times: Times) -> Command | No
     }.get(draw.choice(BEFALLS))
 
 
-def life_of(draw: random.Random, issue: Command, times: Times) -> list[Command]:
+def life_of(draw: random.Random, issue: Command, times: Times = Times()) -> list[Command]:
     policy = decide(None, issue)
     assert isinstance(policy, Policy)
     commands = [issue]

@@ -14,7 +14,8 @@ import shlex
 import sys
 from collections.abc import Iterator
 
-from forked import ENTRIES, Ended, ended, files_here, read_modules
+from forked import Ended, ended, files_here, read_modules
+from life_tools.entry import ENTRIES
 
 # Where @ stands, a strange file is handed; the others are those of the folder.
 WORDS = """
