@@ -20,6 +20,7 @@ OF_ONE = "one policy's reserve by columns of its own, a few lines over what the 
 # What `main` doesn't reach, and why it stays: a function, or a type or a crate with all its functions.
 ALLOWED = {
     "memory_disk": IN_MEMORY,
+    "life_app::life": "the program over one disk, for who has no second one; it and `life_kept` are one function",
     "outside_io::BytesSource": IN_MEMORY,
     "outside_io::MapShelf": IN_MEMORY,
     "watcher_set::TightWatcher": "a watcher that refuses, as memory does where it ends",
