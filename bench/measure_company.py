@@ -53,9 +53,9 @@ def journal(place: int, policies: int, commands: int) -> bytes:
     records = np.zeros(policies * commands, RECORD)
     records["gate"], records["number"] = 1, np.tile(numbers, commands)
     first, later = records[:policies], records[policies:]
-    first["head"] = (ISSUE << 24) + (PLAN_CODES["whole"] << 16) + (ages << 8)
+    first["kind"], first["plan"], first["age"] = ISSUE, PLAN_CODES["whole"], ages
     first["day"], first["amount"], first["premium"] = issued, AMOUNT_CENTS, PREMIUM_CENTS
-    later["head"], later["amount"] = PREMIUM << 24, PREMIUM_CENTS
+    later["kind"], later["amount"] = PREMIUM, PREMIUM_CENTS
     for year in range(commands - 1):
         later["day"][year * policies:(year + 1) * policies] = anniversaries(issued, year)
     return EMPTY[:FIRST_GATE] + records.tobytes() + bytes(1)
