@@ -77,7 +77,9 @@ class Replay:
         issues, others = np.flatnonzero(is_issue), np.flatnonzero(~(is_issue | is_upgrade))
         self.finds_bad(at[issues[issued_at[place[issues]] != at[issues]]])
         self.finds_bad(at[others[issued_at[place[others]] > at[others]]])
-        self.judge_rounds(at[others], place[others].astype(np.intp))
+        # behind the first one that can't follow nothing is judged; so each of these names a policy that is there
+        sound = others if self.bad is None else others[at[others] < self.bad]
+        self.judge_rounds(at[sound], place[sound].astype(np.intp))
 
     def are_apart(self, places: Array) -> bool:
         """Whether no policy is there twice."""
