@@ -26,7 +26,7 @@ LIMITS = {
     "docs/AUDIT.md": 2700,
     "docs/OPERATIONS.md": 2650,
     "docs/FORMATS.md": 6150,
-    "docs/ARCHITECTURE.md": 4700,
+    "docs/ARCHITECTURE.md": 5100,
     "docs/PROOF.md": 8200,
     "docs/DECISIONS.md": 4100,
     "docs/FIGURES.md": 1700,
