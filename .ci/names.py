@@ -1,4 +1,5 @@
-"""One meaning a word: no two crates define the same name in specs/, or the same type in src/, but for the names below."""
+"""One meaning a word: no two crates define the same name in specs/, or the same type or constant in src/, but for the names
+below."""
 
 import collections
 import pathlib
@@ -20,11 +21,18 @@ ALLOWED_TYPES = {
     "Passed": "what went by, private to its crate: of a disk's time in outside_io, of a search in xtbml_subset",
 }
 
+ALLOWED_CONSTANTS = {
+    "CLOSED": "the gate's byte in a journal and in a checkpoint, two formats",
+    "OPEN": "the gate's byte in a journal and in a checkpoint, two formats",
+}
+
 DEFINITION = re.compile(
     r"(?:pub\s+(?!mod\s|use\s|record\s|data\s)|\s*(?:(?:abbrev|unfoldable)\s+pub|pub\s+(?:record|data))\s+)([^\s:{(]+)"
 )
 
 TYPE = re.compile(r"(?:pub(?:\([a-z]+\))? )?(?:struct|enum|trait|type) ([A-Z]\w*)")
+
+CONSTANT = re.compile(r"(?:pub(?:\([a-z]+\))? )?(?:const|static) ([A-Z][A-Z0-9_]*)\b")
 
 
 def definitions(top: pathlib.Path) -> dict[str, set[str]]:
@@ -41,15 +49,15 @@ def definitions(top: pathlib.Path) -> dict[str, set[str]]:
     return crates
 
 
-def types(top: pathlib.Path) -> dict[str, set[str]]:
-    """The crates of the program that have a type of each name."""
+def named(top: pathlib.Path, pattern: re.Pattern[str]) -> dict[str, set[str]]:
+    """The crates of the program that have a type, or a constant, of each name."""
     crates = collections.defaultdict(set)
     for file in top.glob("crates/*/src/**/*.rt"):
         crate = file.relative_to(top).parts[1]
         if crate.endswith("_tests") or crate == "measure":
             continue
         for line in file.read_text(encoding="utf-8").splitlines():
-            found = TYPE.match(line)
+            found = pattern.match(line)
             if found:
                 crates[found.group(1)].add(crate)
     return crates
@@ -64,7 +72,8 @@ def amiss(crates: dict[str, set[str]], allowed: dict[str, str]) -> list[str]:
 
 def main() -> int:
     top = pathlib.Path(__file__).resolve().parent.parent
-    told = amiss(definitions(top), ALLOWED) + amiss(types(top), ALLOWED_TYPES)
+    told = amiss(definitions(top), ALLOWED) + amiss(named(top, TYPE), ALLOWED_TYPES)
+    told += amiss(named(top, CONSTANT), ALLOWED_CONSTANTS)
     for line in told:
         print(f"names: {line}", file=sys.stderr)
     status = 1 if told else 0

@@ -16,15 +16,12 @@ use basis_book::Basis;
 use outside_io::{Disk, Gate};
 use policy_types::{At, NoMemory};
 use shared_office::{Office, OfficePass};
-use snapshot_value::{Policies, ValueFault, policies};
+use snapshot_value::{NO_LANE, Policies, ValueFault, policies};
 use std::alloc::Global;
 use std::sync::Wait;
 use std::thread::Threads;
 use turn_lock::Turned;
 use watcher_set::Watching;
-
-/// A projection that no lane of a script asks for.
-const NO_LANE: u8 = 0;
 
 /// What the policies of the book, at the newest position, are expected to pay and to be paid on a day, in days since
 /// 1970-01-01, in each of so many years from the current one; and the turn of the pin.

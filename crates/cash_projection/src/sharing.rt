@@ -16,12 +16,10 @@ use crate::tally::Tally;
 use basis_book::Basis;
 use parallel_value::map_into;
 use policy_types::{NoMemory, Policy};
+use snapshot_value::POLICIES_TO_A_WORKER;
 use std::alloc::Global;
 use std::mem::size_of;
 use std::thread::Threads;
-
-/// The policies that are worth a worker's thread.
-const POLICIES_TO_A_WORKER: usize = 8_192;
 
 /// What all workers keep together, counted in paths.
 const PATHS_TOGETHER: usize = 240;
@@ -30,7 +28,7 @@ const PATHS_TOGETHER: usize = 240;
 const PATHS_FOR_A_TALLY: usize = 3;
 
 /// With more workers there would be no path left for each.
-const MOST_WORKERS: u8 = 60;
+const MOST_PROJECTORS: u8 = 60;
 
 // So it stays below 1 MiB, with 32 KiB for all else.
 const _: () = prove!(PATHS_TOGETHER * size_of::<SurvivalPath>() <= 1_015_808);
@@ -54,7 +52,7 @@ pub fn tally_in<R: Threads + Sync>(
     requires workers { (1 ≤ workers) × (workers ≤ 64) }
     ensures { IfOk result (λ tally. IsTallyOf basis.now on years policies.now tally) }
 {
-    let most = usize::from(workers.min(MOST_WORKERS));
+    let most = usize::from(workers.min(MOST_PROJECTORS));
     let many = (policies.len() / POLICIES_TO_A_WORKER).clamp(1, most);
     let mut projectors = projectors_for(alloc, basis, on, years, many)?;
     let portions = portions_of(alloc, policies, many)?;

@@ -1,9 +1,8 @@
 // What a list of policies adds up to.
-ghost use Rattle.std.specs.Prelude.{◌≡◌, ◌≤◌, ◌<◌, ◌≤ℤ◌, ◌↔◌, ◌+◌, ◌-◌, ◌++◌, if◌then◌else◌, ℕ, ℤ, [], List, IsTrue, IfOk};
+ghost use Rattle.std.specs.Prelude.{◌≡◌, ◌≤◌, ◌<◌, ◌≤ℤ◌, ◌+◌, ◌-◌, ◌++◌, if◌then◌else◌, ℕ, ℤ, [], List, IfOk};
 ghost use Rattle.basis_book.specs.Dated.{Dated};
 ghost use Rattle.policy_types.specs.Limits.{most_commands};
 ghost use Rattle.policy_types.specs.declared.policy.Policy.{Policy as APolicy};
-ghost use Rattle.policy_value.specs.Rows.{IsInsured};
 ghost use Rattle.select_rates.specs.Along.{IsBelow, table_along};
 ghost use Rattle.plan_benefits.specs.Shapes.{shape_of};
 ghost use Rattle.cash_projection.specs.Prospects.{IsSmall, Prospect as AProspect, due};
@@ -19,6 +18,7 @@ use basis_book::Basis;
 use life_dates::completed;
 use plan_benefits::shape_along;
 use policy_types::{NoMemory, Policy, Status};
+use policy_value::is_insured;
 use rate_table::{RateTable, Shape};
 use select_rates::AnyTable;
 use std::alloc::Global;
@@ -235,13 +235,6 @@ fn issue_of(table: &AnyTable, age: u8) -> u8
         AnyTable::Aggregate(_) => 0,
         AnyTable::Select(_) => age,
     }
-}
-
-/// Whether a policy is in force or paid up, and issued by the day.
-fn is_insured(policy: &Policy, on: i32) -> bool
-    ensures { IsTrue result ↔ IsInsured policy.now on }
-{
-    (policy.status == Status::InForce || policy.status == Status::PaidUp) && policy.issued <= on
 }
 
 /// The premium that is charged: none of a paid-up policy.

@@ -22,7 +22,7 @@ ghost use Rattle.life_cli.specs.Shipped.{ObeysFromStart, filing_from_start, ship
 use crate::devices::{CheckpointDisk, Devices, Folder, Input, JournalDisk, OutputOf};
 use life_app::{EndedKept, life_kept};
 use outside_io::{Disk, FoundFile, OpenGate, Shelf, Sink, Source, StdSink};
-use policy_types::Watcher;
+use policy_types::{MOST_COMMANDS, Watcher};
 use program_endings::lack_memory;
 use std::alloc::Global;
 use std::io::Stdout;
@@ -30,9 +30,6 @@ use std::process::ExitCode;
 use std::sync::Wait;
 use std::thread::Threads;
 use watcher_set::{CountWatcher, PremiumWatcher};
-
-/// The count of commands at which the first auditor is done.
-const MOST_COUNTED: u32 = 4_000_000;
 
 /// What the program leaves: its exit status, and its devices with what they noted.
 pub struct Left<D: Disk, S: Disk> {
@@ -179,7 +176,7 @@ fn obey<R: Threads + Wait + Sync, F: FoundFile, C: FoundFile>(
         (between (⟦<OutputOf<F> as Sink>⟧.faults) (⟦<OutputOf<F> as Sink>⟧.written) (⟦<OutputOf<F> as Sink>⟧.pieces) output.old output.new) ending
         → (result.status ≡ status_of ending) ⊎ (result.status ≡ 9) }
 {
-    let counting = Box::new(alloc, CountWatcher::new(MOST_COUNTED));
+    let counting = Box::new(alloc, CountWatcher::new(MOST_COMMANDS));
     let adding = Box::new(alloc, PremiumWatcher::new());
     let mut auditors: Vec<Box<dyn Watcher + Send>> = Vec::new(alloc);
     let room = auditors.reserve(2);

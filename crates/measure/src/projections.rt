@@ -9,7 +9,7 @@ use basis_book::{Basis, read_basis};
 use cash_projection::{Paths, Years, tally_policies};
 use indexmap::IndexMap;
 use load_maker::{Drawn, Generator};
-use policy_types::{Command, NoMemory, Policy, Status};
+use policy_types::{Command, MOST_COMMANDS, NoMemory, Policy, Status};
 use select_rates::AnyTable;
 use std::alloc::{AllocError, Global};
 use std::env::Args;
@@ -17,8 +17,6 @@ use std::io;
 
 /// 2020-12-31, in days since 1970-01-01.
 const ON: i32 = 18_627;
-
-const MOST_POLICIES: u32 = 4_000_000;
 
 const MOST_YEARS: u32 = 131;
 
@@ -38,7 +36,7 @@ pub fn measure_projections<R: Print + AllocGlobal>(
     ) else {
         return Ok(Outcome::OtherWords);
     };
-    if count > MOST_POLICIES || years > MOST_YEARS {
+    if count > MOST_COMMANDS || years > MOST_YEARS {
         return Ok(Outcome::OtherWords);
     }
     let alloc = rt.alloc();

@@ -48,6 +48,14 @@ impl Books {
         }
     }
 
+    /// Takes the memory for the policies of so many further commands at once, or none.
+    pub(crate) fn expect(&mut self, commands: u32)
+        ensures commands { commands_in self.new ≡ commands_in self.old }
+        ensures floor { floor_in self.new ≡ floor_in self.old }
+    {
+        self.versions.expect(commands);
+    }
+
     /// Where the versions of a command's policy stand, or that there are none. It is looked up once for what follows.
     pub(crate) fn place_of(&self, command: &Command) -> KeyPlace
         ensures { IsPlaceOf self.now result command.now }

@@ -57,6 +57,7 @@ fn office_of<D: Disk, W: Watching>(
 {
     let mut journal = journal;
     let mut books = Books::new(alloc);
+    books.expect(journal.count());
     match replay_all(&mut journal, &mut books) {
         Ok(()) => {
             let recovered = Snapshot::of(&books);

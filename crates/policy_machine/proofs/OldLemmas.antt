@@ -15,7 +15,7 @@ use Rattle.policy_types.specs.Valid.{id_of}
 use Rattle.policy_machine.specs.Rules.{refuse, first_refusal, decided, changed, matured, checks_of, day_before_last, not_in_force, not_insured, term_over, nothing_due, grace_over, payments_of, grace_end_of, due_of, end_of, is_paid_up, is_insured, is_in_force, next}
 use Rattle.policy_machine.specs.Book.{own, kept, policy_of, issue_id, book, left_by, judge, refusal_in, IsAccepted, IsAcceptedAfter}
 use Rattle.policy_machine.specs.Accounts.{booked_on, bookings_after, ledger_of}
-use Rattle.policy_machine.specs.Before.{IsOldCommand, old_grace_over, old_checks, old_next, old_policy_of, old_book, old_refusal, WereAccepted, WereAcceptedAfter, old_bookings_after, old_ledger}
+use Rattle.policy_machine.specs.Before.{IsOldCommand, old_grace_over, old_checks, old_changed, old_booked, old_next, old_policy_of, old_book, old_refusal, WereAccepted, WereAcceptedAfter, old_bookings_after, old_ledger}
 use Rattle.policy_machine.proofs.BookLemmas.{filter_map-same}
 
 -- a policy as there were: none was paid up
@@ -60,6 +60,38 @@ checks_then p (Mature id day) old e =
 checks_then p (MakePaidUp id day amount) old e = absurd old
 checks_then p Upgrade old e = absurd old
 
+same_change : (p : Policy) (command : Command) → IsOldCommand command → changed p command ≡ old_changed p command
+same_change p (Issue id day plan age years amount premium) old = refl
+same_change p (Premium id day amount) old = refl
+same_change p (Alter id day amount premium) old = refl
+same_change p (Lapse id day) old = refl
+same_change p (Reinstate id day amount) old = refl
+same_change p (Claim id day) old = refl
+same_change p (Settle id day amount) old = refl
+same_change p (Mature id day) old = refl
+same_change p (MakePaidUp id day amount) old = absurd old
+same_change p Upgrade old = absurd old
+
+same_booking : (policy : Option Policy) (command : Command) → IsOldCommand command → booked_on policy command ≡ old_booked policy command
+same_booking None (Issue id day plan age years amount premium) old = refl
+same_booking None (Premium id day amount) old = refl
+same_booking None (Alter id day amount premium) old = refl
+same_booking None (Lapse id day) old = refl
+same_booking None (Reinstate id day amount) old = refl
+same_booking None (Claim id day) old = refl
+same_booking None (Settle id day amount) old = refl
+same_booking None (Mature id day) old = refl
+same_booking (Some p) (Issue id day plan age years amount premium) old = refl
+same_booking (Some p) (Premium id day amount) old = refl
+same_booking (Some p) (Alter id day amount premium) old = refl
+same_booking (Some p) (Lapse id day) old = refl
+same_booking (Some p) (Reinstate id day amount) old = refl
+same_booking (Some p) (Claim id day) old = refl
+same_booking (Some p) (Settle id day amount) old = refl
+same_booking (Some p) (Mature id day) old = refl
+same_booking policy (MakePaidUp id day amount) old = absurd old
+same_booking policy Upgrade old = absurd old
+
 -- the rules of an old command on an old policy stand as they stood
 next_then : (policy : Option Policy) (command : Command) → IsOldCommand command → IsOldPolicy policy → next policy command ≡ old_next policy command
 next_then None (Issue id day plan age years amount premium) old e = refl
@@ -72,7 +104,9 @@ next_then None (Settle id day amount) old e = refl
 next_then None (Mature id day) old e = refl
 next_then None (MakePaidUp id day amount) old e = absurd old
 next_then None Upgrade old e = absurd old
-next_then (Some p) command old e = ap (λ checks. decided (first_refusal checks) (changed p command)) (checks_then p command old e)
+next_then (Some p) command old e =
+    ap (λ checks. decided (first_refusal checks) (changed p command)) (checks_then p command old e)
+    ∙ ap (λ after. decided (first_refusal (old_checks p command)) after) (same_change p command old)
 
 matured_then : (plan : Plan) (p : Policy) → is_paid_up (matured plan p).status ≡ false
 matured_then Term p = refl
@@ -188,7 +222,9 @@ bookings_then before [] old onward = refl
 bookings_then before (command ∷ rest) old onward =
     let more = all_push before command old onward.0 in
     ap (λ policy. booked_on policy command ∷ bookings_after (before ++ command ∷ []) rest) (policy_of-old (before ++ command ∷ []) (id_of command) more)
-    ∙ ap (λ bookings. booked_on (old_policy_of (before ++ command ∷ []) (id_of command)) command ∷ bookings)
+    ∙ ap (λ booking. booking ∷ bookings_after (before ++ command ∷ []) rest)
+    (same_booking (old_policy_of (before ++ command ∷ []) (id_of command)) command onward.0)
+    ∙ ap (λ bookings. old_booked (old_policy_of (before ++ command ∷ []) (id_of command)) command ∷ bookings)
     (bookings_then (before ++ command ∷ []) rest more onward.1)
 
 pub ledger_of-old : (commands : List Command) → AllByRecursion IsOldCommand commands → ledger_of commands ≡ old_ledger commands

@@ -1,16 +1,20 @@
--- The rules as they were before a policy could be made paid up, kept for one law: old journals mean what they meant
-use Rattle.std.specs.Prelude.{◌≡◌, ◌&&◌, ◌==◌, true, not, nat_lt, nat_le, int_lt, int_le, List, [], ◌∷◌, ◌++◌, ℕ, ℤ, pos, ◌-ℤ◌, Some, None, Option, Ok, Err, Result}
-use Rattle.std.specs.List.{filter_map, fold}
+-- The rules as they were before a policy could be made paid up, kept for one law: old journals mean what they meant. Their
+-- numbers, days and bookings are their own: a rule that changes doesn't change them.
+use Rattle.std.specs.Prelude.{◌≡◌, ◌+◌, ◌-◌, ◌*◌, ◌&&◌, ◌==◌, true, not, nat_lt, nat_le, int_lt, int_le, if◌then◌else◌, List, [], ◌∷◌, ◌++◌, ℕ, ℤ, pos, ◌+ℤ◌, ◌-ℤ◌, Some, None, Option, Ok, Err, Result}
+use Rattle.std.specs.List.{count_by, filter_map, fold, range_with_len}
 use Rattle.policy_types.specs.declared.command.Command.{Command}
 use Rattle.policy_types.specs.declared.command.Command.TheVariants.{Issue, Premium, Alter, Lapse, Reinstate, Claim, Settle, Mature, PaidUp, Upgrade}
+use Rattle.policy_types.specs.declared.command.Plan.{Plan}
+use Rattle.policy_types.specs.declared.command.Plan.TheVariants.{Term, Whole, Endowment, Limited}
 use Rattle.policy_types.specs.declared.policy.Policy.{Policy}
+use Rattle.policy_types.specs.declared.policy.Status.TheVariants.{InForce, Lapsed, Claimed, Matured, Expired, Settled}
 use Rattle.policy_types.specs.declared.refusal.Refusal.{Refusal}
-use Rattle.policy_types.specs.declared.refusal.Refusal.TheVariants.{Taken, Unknown, WrongStatus, TooEarly, GraceOver, NotInArrears, TooLate, WrongAmount, NotAReduction, NotMatured, OverSettled}
-use Rattle.policy_types.specs.Accounts.{Booking, nothing_booked, added}
+use Rattle.policy_types.specs.declared.refusal.Refusal.TheVariants.{Taken, Unknown, BeforeLast, WrongStatus, TermOver, NothingDue, TooEarly, GraceOver, NotInArrears, TooLate, WrongAmount, NotAReduction, NotMatured, OverSettled}
+use Rattle.policy_types.specs.Accounts.{Booking, nothing_booked, premium_received, benefit_incurred, benefit_paid, booked_at_term, added}
 use Rattle.policy_types.specs.Valid.{id_of}
-use Rattle.policy_machine.specs.Rules.{Check, refuse, first_refusal, decided, changed, issued, day_before_last, not_in_force, term_over, nothing_due, payments_of, grace_end_of, due_of, end_of, reinstatement_end_of, reinstatement_sum, is_lapsed, awaits_settlement}
+use Rattle.life_dates.specs.Anniversary.{anniversary_of}
+use Rattle.policy_machine.specs.Rules.{Check, refuse, first_refusal, decided, is_in_force, is_lapsed, awaits_settlement}
 use Rattle.policy_machine.specs.Book.{own, kept, issue_id, left_by, refusal_in}
-use Rattle.policy_machine.specs.Accounts.{booked_on}
 
 -- the commands that there were
 abbrev pub IsOldCommand : Command → Type 0
@@ -18,45 +22,114 @@ IsOldCommand (PaidUp id day amount) = ⊥
 IsOldCommand Upgrade = ⊥
 IsOldCommand _ = Unit {0}
 
+-- years of insurance, and annual premiums
+abbrev pub old_years_of : Plan → ℕ → ℕ → ℕ
+old_years_of Term age years = years
+old_years_of Whole age years = 131 - age
+old_years_of Endowment age years = years
+old_years_of Limited age years = 131 - age
+
+abbrev pub old_payments_of : Plan → ℕ → ℕ → ℕ
+old_payments_of Term age years = years
+old_payments_of Whole age years = 131 - age
+old_payments_of Endowment age years = years
+old_payments_of Limited age years = years
+
+abbrev pub old_end_of : Policy → ℤ
+old_end_of p = anniversary_of p.issued (old_years_of p.plan p.age p.years)
+
+abbrev pub old_due_of : Policy → ℤ
+old_due_of p = anniversary_of p.issued p.paid
+
+abbrev pub old_grace_end_of : Policy → ℤ
+old_grace_end_of p = old_due_of p +ℤ pos 31
+
+abbrev pub old_reinstatement_end_of : Policy → ℤ
+old_reinstatement_end_of p = anniversary_of p.issued (p.paid + 3)
+
+abbrev pub old_missed : Policy → ℤ → ℕ
+old_missed p day =
+    count_by (λ j. int_le (anniversary_of p.issued j) day) (range_with_len p.paid (old_payments_of p.plan p.age p.years - p.paid))
+
+abbrev pub old_day_before_last : Policy → ℤ → Check
+old_day_before_last p day = refuse (int_lt day p.last) (BeforeLast p.last)
+
+abbrev pub old_not_in_force : Policy → Check
+old_not_in_force p = refuse (not (is_in_force p.status)) (WrongStatus p.status)
+
+abbrev pub old_term_over : Policy → ℤ → Check
+old_term_over p day = refuse (int_le (old_end_of p) day) (TermOver (old_end_of p))
+
+abbrev pub old_nothing_due : Policy → Check
+old_nothing_due p = refuse (p.paid == old_payments_of p.plan p.age p.years) NothingDue
+
 abbrev pub old_grace_over : Policy → ℤ → Check
-old_grace_over p day = refuse (nat_lt p.paid (payments_of p) && int_lt (grace_end_of p) day) (GraceOver (due_of p))
+old_grace_over p day =
+    refuse (nat_lt p.paid (old_payments_of p.plan p.age p.years) && int_lt (old_grace_end_of p) day) (GraceOver (old_due_of p))
 
 -- the checks of a command by the rules of before, in their order
 abbrev pub old_checks : Policy → Command → List Check
 old_checks p (Issue id day plan age years amount premium) = refuse true Taken ∷ []
 old_checks p (Premium id day amount) =
-    day_before_last p day ∷ not_in_force p ∷ term_over p day ∷ nothing_due p
-    ∷ refuse (int_lt day (due_of p -ℤ pos 90)) (TooEarly (due_of p))
+    old_day_before_last p day ∷ old_not_in_force p ∷ old_term_over p day ∷ old_nothing_due p
+    ∷ refuse (int_lt day (old_due_of p -ℤ pos 90)) (TooEarly (old_due_of p))
     ∷ old_grace_over p day
     ∷ refuse (not (amount == p.premium)) (WrongAmount p.premium) ∷ []
 old_checks p (Alter id day amount premium) =
-    day_before_last p day ∷ not_in_force p ∷ term_over p day ∷ old_grace_over p day
+    old_day_before_last p day ∷ old_not_in_force p ∷ old_term_over p day ∷ old_grace_over p day
     ∷ refuse (nat_le p.amount amount) (NotAReduction p.amount) ∷ []
 old_checks p (Lapse id day) =
-    day_before_last p day ∷ not_in_force p ∷ nothing_due p
-    ∷ refuse (int_le day (grace_end_of p)) (NotInArrears (due_of p)) ∷ []
+    old_day_before_last p day ∷ old_not_in_force p ∷ old_nothing_due p
+    ∷ refuse (int_le day (old_grace_end_of p)) (NotInArrears (old_due_of p)) ∷ []
 old_checks p (Reinstate id day amount) =
-    day_before_last p day
+    old_day_before_last p day
     ∷ refuse (not (is_lapsed p.status)) (WrongStatus p.status)
-    ∷ term_over p day
-    ∷ refuse (int_lt (reinstatement_end_of p) day) (TooLate (reinstatement_end_of p))
-    ∷ refuse (not (amount == reinstatement_sum p day)) (WrongAmount (reinstatement_sum p day)) ∷ []
+    ∷ old_term_over p day
+    ∷ refuse (int_lt (old_reinstatement_end_of p) day) (TooLate (old_reinstatement_end_of p))
+    ∷ refuse (not (amount == old_missed p day * p.premium)) (WrongAmount (old_missed p day * p.premium)) ∷ []
 old_checks p (Claim id day) =
-    day_before_last p day ∷ not_in_force p ∷ term_over p day ∷ old_grace_over p day ∷ []
+    old_day_before_last p day ∷ old_not_in_force p ∷ old_term_over p day ∷ old_grace_over p day ∷ []
 old_checks p (Settle id day amount) =
-    day_before_last p day
+    old_day_before_last p day
     ∷ refuse (not (awaits_settlement p.status)) (WrongStatus p.status)
     ∷ refuse (nat_lt p.outstanding amount) (OverSettled p.outstanding) ∷ []
 old_checks p (Mature id day) =
-    day_before_last p day ∷ not_in_force p ∷ old_grace_over p day
-    ∷ refuse (int_lt day (end_of p)) (NotMatured (end_of p)) ∷ []
+    old_day_before_last p day ∷ old_not_in_force p ∷ old_grace_over p day
+    ∷ refuse (int_lt day (old_end_of p)) (NotMatured (old_end_of p)) ∷ []
 old_checks p _ = []
 
--- what a command changes stands as it stood
+abbrev pub old_matured : Plan → Policy → Policy
+old_matured Term p = record p { status = Expired; outstanding = 0 }
+old_matured _ p = record p { status = Matured; outstanding = p.amount }
+
+-- what an accepted command made of the policy
+abbrev pub old_changed : Policy → Command → Policy
+old_changed p (Premium id day amount) = record p { last = day; paid = p.paid + 1 }
+old_changed p (Alter id day amount premium) = record p { last = day; amount = amount; premium = premium }
+old_changed p (Lapse id day) = record p { last = day; status = Lapsed }
+old_changed p (Reinstate id day amount) = record p { last = day; status = InForce; paid = p.paid + old_missed p day }
+old_changed p (Claim id day) = record p { last = day; status = Claimed; outstanding = p.amount }
+old_changed p (Settle id day amount) =
+    record p { last = day; outstanding = p.outstanding - amount; status = if amount == p.outstanding then Settled else p.status }
+old_changed p (Mature id day) = old_matured p.plan (record p { last = day })
+old_changed p _ = p
+
 abbrev pub old_next : Option Policy → Command → Result Policy Refusal
-old_next None (Issue id day plan age years amount premium) = Ok (issued id day plan age years amount premium)
+old_next None (Issue number day by_plan at_age for_years sum price) = Ok (record {
+  id = number;
+  plan = by_plan;
+  age = at_age;
+  years = for_years;
+  amount = sum;
+  premium = price;
+  issued = day;
+  last = day;
+  paid = 0;
+  status = InForce;
+  outstanding = 0;
+})
 old_next None _ = Err Unknown
-old_next (Some p) command = decided (first_refusal (old_checks p command)) (changed p command)
+old_next (Some p) command = decided (first_refusal (old_checks p command)) (old_changed p command)
 
 abbrev pub old_policy_of : List Command → ℕ → Option Policy
 old_policy_of commands id = fold (λ policy command. kept policy (old_next policy command)) None (own commands id)
@@ -74,10 +147,19 @@ WereAcceptedAfter before (command ∷ rest) = (old_refusal before command ≡ No
 abbrev pub WereAccepted : List Command → Type 0
 WereAccepted commands = WereAcceptedAfter [] commands
 
+-- what a command booked that left this policy, or none
+abbrev pub old_booked : Option Policy → Command → Booking
+old_booked (Some after) (Premium id day amount) = premium_received amount
+old_booked (Some after) (Reinstate id day amount) = premium_received amount
+old_booked (Some after) (Claim id day) = benefit_incurred after.amount
+old_booked (Some after) (Settle id day amount) = benefit_paid amount
+old_booked (Some after) (Mature id day) = booked_at_term after.status after.amount
+old_booked _ _ = nothing_booked
+
 abbrev pub old_bookings_after : List Command → List Command → List Booking
 old_bookings_after before [] = []
 old_bookings_after before (command ∷ rest) =
-    booked_on (old_policy_of (before ++ command ∷ []) (id_of command)) command ∷ old_bookings_after (before ++ command ∷ []) rest
+    old_booked (old_policy_of (before ++ command ∷ []) (id_of command)) command ∷ old_bookings_after (before ++ command ∷ []) rest
 
 abbrev pub old_ledger : List Command → Booking
 old_ledger commands = fold added nothing_booked (old_bookings_after [] commands)

@@ -15,5 +15,5 @@ pub use deficiency_reserve::Adequacy;
 pub use key::CacheKey;
 pub use laws::covers_by_age_alone;
 pub use plan_benefits::NotValued;
-pub use valuing::row;
+pub use valuing::{is_insured, row};
 pub use worth::{Measure, Row, Rows, Worth};

@@ -53,7 +53,7 @@ pub fn row(
 }
 
 /// Whether a policy is in force or paid up, and issued by the day.
-fn is_insured(policy: &Policy, on: i32) -> bool
+pub fn is_insured(policy: &Policy, on: i32) -> bool
     ensures { IsTrue result ↔ IsInsured policy.now on }
 {
     (policy.status == Status::InForce || policy.status == Status::PaidUp) && policy.issued <= on

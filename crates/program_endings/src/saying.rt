@@ -39,14 +39,6 @@ pub fn lack_memory<K: Sink>(output: &mut K) -> Ending
     end(output, b"nomemory\n", Ending::NoMemory)
 }
 
-/// Adds more to a text.
-pub fn add(text: &mut Vec<u8>, more: &[u8]) -> Result<(), NoMemory>
-    ensures { OnOk result (text.new.items ≡ text.old.items ++ more.now) }
-{
-    text.extend_from_slice(more)?;
-    Ok(())
-}
-
 /// Writes a text, or says that there was no memory for it.
 pub fn write_text<K: Sink>(text: Result<Vec<u8>, NoMemory>, output: &mut K) -> Ending
     ensures { EndsText text (between K.faults K.written K.pieces output.old output.new) result }

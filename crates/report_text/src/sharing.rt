@@ -21,7 +21,7 @@ use text_lines::Text;
 const ROWS_TO_A_WORKER: usize = 8_192;
 
 /// More workers have ever smaller parts.
-const MOST_WORKERS: u8 = 16;
+const MOST_PRINTERS: u8 = 16;
 
 /// The whole of a valuation, as `print_block` prints it, in parts: the rows are written by as many workers as are asked
 /// for, at most sixteen, or fewer where each would have too few. One worker alone makes one part.
@@ -41,7 +41,7 @@ pub fn print_parts<R: Threads + Sync>(
     requires workers { (1 ≤ workers) × (workers ≤ 64) }
     ensures { IfOk result (λ text. text ≡ block_text lane on position measure rows.now) }
 {
-    let most = usize::from(workers.min(MOST_WORKERS));
+    let most = usize::from(workers.min(MOST_PRINTERS));
     let policies = rows.as_slice().len();
     let many = (policies / ROWS_TO_A_WORKER).clamp(1, most);
     let mut parts = TextParts::new(alloc);

@@ -4,11 +4,13 @@
 mod listing;
 mod reader;
 mod reading;
+mod shares;
 mod valuation;
 mod valuing;
 mod worker;
 mod worksheet;
 
 pub use listing::policies;
+pub use shares::{NO_LANE, POLICIES_TO_A_WORKER};
 pub use valuation::{Policies, Query, Valuation, ValueFault};
 pub use valuing::value;

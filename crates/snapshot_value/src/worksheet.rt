@@ -9,6 +9,7 @@ ghost use Rattle.policy_value.specs.declared.worth.Measure.{Measure as AMeasure}
 ghost use Rattle.snapshot_value.specs.inside.Sheets.{AreSmallRows, IsSheetReady, HasMade, valued_together};
 ghost use Rattle.snapshot_value.specs.inside.Workers.{GivesRow, IsReadyWorker, TakesPolicy, ValuesBy};
 
+use crate::shares::POLICIES_TO_A_WORKER;
 use crate::worker::Worker;
 use basis_book::Basis;
 use parallel_value::map_onto;
@@ -18,10 +19,7 @@ use std::alloc::Global;
 use std::thread::Threads;
 
 /// The most workers: more have ever smaller parts, and caches that know ever less.
-const MOST_WORKERS: u8 = 16;
-
-/// The policies that are worth a worker's thread.
-const POLICIES_TO_A_WORKER: usize = 8_192;
+const MOST_VALUERS: u8 = 16;
 
 /// The policies that are read for each worker before they are valued: new threads are spread over the processors only
 /// while they work for some milliseconds.
@@ -61,7 +59,7 @@ impl<'a> Worksheet<'a> {
     {
         let many = (policies / POLICIES_TO_A_WORKER).clamp(
             1,
-            usize::from(workers.min(MOST_WORKERS)),
+            usize::from(workers.min(MOST_VALUERS)),
         );
         let workers = workers_for(alloc, basis, on, measure, many)?;
         let read = Vec::with_capacity(alloc, together(many).min(policies))?;

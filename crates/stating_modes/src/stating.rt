@@ -16,11 +16,11 @@ use crate::reopened::reopen_both;
 use checkpoint_store::Books;
 use outside_io::{Disk, Sink, Steps};
 use policy_types::{NoMemory, Policy};
-use program_endings::{Finished, add, refuse_journal, write_text};
+use program_endings::{Finished, refuse_journal, write_text};
 use statements::{PolicyLines, balance};
 use std::alloc::Global;
 use std::sync::ledger::Ledger;
-use text_lines::Text;
+use text_lines::{Text, add};
 
 /// Writes all policies in order of issue, and the balances.
 pub fn state<K: Sink, D: Disk>(alloc: Global, output: &mut K, disk: D) -> Finished<D>

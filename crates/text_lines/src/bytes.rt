@@ -1,5 +1,6 @@
-ghost use Rattle.std.specs.Prelude.{◌≡◌, ℕ, List};
+ghost use Rattle.std.specs.Prelude.{◌≡◌, ◌++◌, ℕ, List, OnOk};
 
+use policy_types::NoMemory;
 use std::marker::Model;
 
 /// Bytes of output, which contracts see as their list.
@@ -34,4 +35,12 @@ impl Text {
         let Text { bytes } = self;
         bytes
     }
+}
+
+/// Adds more to a text. Where memory is wanting nothing is said of it.
+pub fn add(text: &mut Vec<u8>, more: &[u8]) -> Result<(), NoMemory>
+    ensures { OnOk result (text.new.items ≡ text.old.items ++ more.now) }
+{
+    text.extend_from_slice(more)?;
+    Ok(())
 }

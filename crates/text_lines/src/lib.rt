@@ -6,7 +6,7 @@ mod line_end;
 mod words;
 mod writer;
 
-pub use bytes::Text;
+pub use bytes::{Text, add};
 pub use line_end::LineEnd;
 pub use words::{kind_word, plan_word, status_word};
 pub use writer::LineWriter;

@@ -4,9 +4,8 @@ ghost use Rattle.transcript_text.specs.Transcript.{reports_text, watcher_text};
 
 use itoa::Buffer;
 use policy_types::{NoMemory, Report};
-use program_endings::add;
 use std::alloc::Global;
-use text_lines::{LineWriter, Text};
+use text_lines::{LineWriter, Text, add};
 
 /// The lines of the reports, numbered from 1. Memory can be wanting only for some.
 pub fn report_lines(alloc: Global, reports: &[Report]) -> Result<Vec<u8>, NoMemory>

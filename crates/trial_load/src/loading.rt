@@ -24,7 +24,7 @@ use policy_value::{Measure, Rows};
 use program_endings::{Ending, Finished, lack_memory};
 use report_text::Totals;
 use shared_office::close;
-use snapshot_value::{Query, Valuation, ValueFault};
+use snapshot_value::{NO_LANE, Query, Valuation, ValueFault};
 use std::alloc::Global;
 use std::sync::Wait;
 use std::thread::Threads;
@@ -34,9 +34,6 @@ use watcher_set::{NoWatchers, Watching};
 
 /// 2020-12-31, in days since 1970-01-01.
 const LOAD_DAY: i32 = 18_627;
-
-/// A valuation that no lane of a script asks for.
-const NO_LANE: u8 = 0;
 
 /// Runs the script of so many policies drawn from a seed, values all policies then by the basis `basis.csv`, and writes
 /// how many postings were accepted and refused, and what the values add up to. The basis is fetched before the disk is

@@ -16,14 +16,11 @@ use policy_value::Measure;
 use program_endings::{Ending, Finished, end, lack_memory, write_parts};
 use report_text::print_parts;
 use shared_office::close;
-use snapshot_value::{Query, Valuation, ValueFault};
+use snapshot_value::{NO_LANE, Query, Valuation, ValueFault};
 use std::alloc::Global;
 use std::sync::Wait;
 use std::thread::Threads;
 use watcher_set::NoWatchers;
-
-/// A valuation that no lane of a script asks for.
-const NO_LANE: u8 = 0;
 
 /// Writes what each policy is worth on a day, in days since 1970-01-01, by a measure, after as many commands as are asked
 /// for. The basis is fetched before the disk is touched.

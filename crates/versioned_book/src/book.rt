@@ -86,6 +86,16 @@ impl<V: Copy> VersionedBook<V> {
         }
     }
 
+    /// Takes the memory for so many further keys at once, or none. What the book holds stays.
+    pub fn expect(&mut self, keys: u32)
+        ensures book { (sets : List (Setting V)) → IsBookOf self.old sets → IsBookOf self.new sets }
+        ensures floor { (self.new.floor ≡ self.old.floor) × (self.new.last ≡ self.old.last) }
+    {
+        if self.firsts.reserve(keys as usize).is_ok() {
+            let _ = self.chains.reserve(keys as usize);
+        }
+    }
+
     /// Sets the value of a key, for which room was made, at a position above all before.
     pub fn set(&mut self, key: u32, position: u32, value: V)
         requires room { CanSet self.old key }
