@@ -4,7 +4,7 @@
 # which what is compared runs in turn. What is timed has real-time priority where the machine lets it, and whoever watches
 # it stands above it; begun as `chrt -f 40 sh bench/figures.sh` it stands above other work at such a priority, too.
 # usage: sh bench/figures.sh [NAME..]   (needs python3, rustc, cc, GNU time and, for `calls`, strace)
-#   postings beside calls load workers small measures project select opening checkpoint script trims tables lines many
+#   postings beside calls load workers small measures project select opening openings checkpoint script trims tables lines many
 #   due rest export full
 # FOLDER lies on the disk that postings are made on, else the current folder; ROUNDS are 5; LIFE_PROGRAM and
 # MEASURE_PROGRAM name other programs than the proved ones.

@@ -35,6 +35,23 @@ def opening(setting: timing.Setting) -> Iterator[timing.Row]:
         yield f"`state ID` among {count:,} policies", told(found["one"]), alone
 
 
+def openings(setting: timing.Setting) -> Iterator[timing.Row]:
+    """Numbers in no order, and policies with the premiums of three years."""
+    count = 4 * MILLION
+    with Folder(setting.memory) as folder:
+        plain = timing.build_plain("plain_opening", folder.path)
+        workload.write_journal(folder.journal, workload.like_policies(count, workload.numbers_at_random(count)))
+        found = timing.in_turn(setting.rounds, {
+            "run": lambda: timing.timed([setting.program, "run"], folder.path),
+            "plain": lambda: timing.timed([plain, "journal.life"], folder.path),
+        })
+    yield f"opening {count:,} issues, numbers in no order", told(found["run"]), f"`plain_opening.rs` {told(found['plain'])}"
+    with Folder(setting.memory) as folder:
+        workload.write_journal(folder.journal, paid_policies(MILLION))
+        paid = timing.in_turn(setting.rounds, {"run": lambda: timing.timed([setting.program, "run"], folder.path)})
+    yield f"opening {MILLION:,} issues and three years' premiums", told(paid["run"]), ""
+
+
 def paid_policies(policies: int) -> Iterator[bytes]:
     """Issues, and then the premiums of three years."""
     for number in range(1, policies + 1):
@@ -85,4 +102,4 @@ def checkpoint(setting: timing.Setting) -> Iterator[timing.Row]:
         yield f"`state` of them by a checkpoint {what}", told(found[age]), f"without one {told(found[None])}"
 
 
-FIGURES = {"opening": opening, "checkpoint": checkpoint}
+FIGURES = {"opening": opening, "openings": openings, "checkpoint": checkpoint}

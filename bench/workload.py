@@ -46,10 +46,15 @@ def drawn_policies(count: int, seed: int = 1) -> Iterator[bytes]:
         yield record(ISSUE, number, day, (plan, age, 0 if plan == WHOLE else years), units * 100000, units * 2000)
 
 
-def like_policies(count: int) -> Iterator[bytes]:
-    """Issues that differ in their numbers alone, which are in a row."""
+def numbers_at_random(count: int) -> Iterator[int]:
+    """Numbers in no order, 249 apart: the factor has no divisor in common with a count of millions, so each comes once."""
+    return (1 + 249 * (place * 2654435761 % count) for place in range(count))
+
+
+def like_policies(count: int, numbers: Iterable[int] | None = None) -> Iterator[bytes]:
+    """Issues that differ in their numbers alone, which are in a row where none are given."""
     body = record(ISSUE, 0, 18262, (3, 0, 3), 100000, 40000)
-    for number in range(1, count + 1):
+    for number in numbers or range(1, count + 1):
         yield body[:5] + number.to_bytes(4, "big") + body[9:]
 
 
