@@ -1,5 +1,5 @@
 -- The books' commands are those of all records, or of those before the one that stops the replay.
-use Rattle.std.proofs.Common.{refl, rules}
+use Rattle.std.proofs.Common.{refl, rules, ◌∙◌}
 use Rattle.posting_journal.specs.States.{disk_of}
 use Rattle.office_state.specs.inside.Replays.{HasNoOffice, as_replay_cause}
 use Rattle.office_state.proofs.ReplaySteps.{bodies_replayed, books_stopped}
@@ -7,7 +7,7 @@ use Rattle.office_state.proofs.opening.office_of.Goals as goal
 
 pub returns-in-Ok-clause-opened : goal.returns-in-Ok-clause-opened
 returns-in-Ok-clause-opened g c =
-    let bodies = bodies_replayed g.D.Disk c.args.journal _ c.replay_all.new.keeper (c.in-Ok.ensures.replayed c.new-books.ensures.empty) in
+    let bodies = bodies_replayed g.D.Disk c.args.journal _ c.replay_all.new.keeper (c.in-Ok.ensures.replayed (c.expect.ensures.commands ∙ c.new-books.ensures.empty)) in
     search (rules, bodies)
 
 pub returns-in-Err-clause-none : goal.returns-in-Err-clause-none
@@ -19,6 +19,6 @@ returns-in-Err-clause-none g c =
       fault = fault;
       same = refl;
       told = c.in-Err.ensures.cause;
-      stops = books_stopped g.D.Disk c.args.journal disk fault (c.in-Err.ensures.replayed c.new-books.ensures.empty);
+      stops = books_stopped g.D.Disk c.args.journal disk fault (c.in-Err.ensures.replayed (c.expect.ensures.commands ∙ c.new-books.ensures.empty));
     } in
     rw (c.cause_of_replay.ensures, c.release.ensures) none
