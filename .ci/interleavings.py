@@ -1,6 +1,7 @@
 """Who waits for the lock is woken: all interleavings of three callers of one turn each, over both queues.
 
-usage: python3 .ci/interleavings.py     the status is 1 where a caller sleeps for ever, or two are inside
+usage: python3 .ci/interleavings.py     the status is 1 where a caller sleeps for ever, or two are inside, or too many
+turns pass one that waits
 
 The steps are the atomic accesses of turn_lock: src/entering.rt, src/queues.rt, and take and give of src/steps.rt.
 No contract says that a wake arrives; this search does, of a model. Where a ring is left out, or two accesses change
@@ -20,12 +21,22 @@ QUEUES = {
 }
 # So many turns on end may pass the first of each queue. Three turns don't reach those of the lock, which are the last
 LIMITS = {"kept": (1, 1), "free, then kept": (2, 2), "free": (5, 8)}
+# So many more may pass the first brief one: where both queues are due, the other one is let in before it
+MORE = (1, 0)
 NO_FREE_RING = "no ring after a free give"
 NO_KEPT_RING = "no ring after a give to one that waits"
 EARLY_RING = "the ring before the give"
 EARLY_LOOK = "a look at who waits before the give"
 LATE_BELL = "a look at the lock before the bell is odd"
-FAULTS = {NO_FREE_RING: "free", NO_KEPT_RING: "kept", EARLY_RING: "kept", EARLY_LOOK: "free", LATE_BELL: "free"}
+KEPT_WHEN_DUE = "a free give where a queue is due"
+FAULTS = {
+    NO_FREE_RING: "free",
+    NO_KEPT_RING: "kept",
+    EARLY_RING: "kept",
+    EARLY_LOOK: "free",
+    LATE_BELL: "free",
+    KEPT_WHEN_DUE: "kept",
+}
 
 # what is done with the lock's word at the end of a turn, and with the bells
 SEES = ("see_let_in", "see_came", "first_let_in", "first_came")
@@ -163,7 +174,7 @@ class Turn:
     def choose(self) -> None:
         for which in (OTHERS, BRIEF):
             number = self.queues[which].let_in
-            if self.queues[which].passed >= self.limits[which]:
+            if self.queues[which].passed >= self.limits[which] and self.fault != KEPT_WHEN_DUE:
                 self.put(which, let_in=number + 1)
                 word = kept_for(which, number)
                 self.to(*self.ways_to_keep(), gives=word, rings=word)
@@ -229,6 +240,8 @@ def search(queues: tuple[int, ...], limits: tuple[int, int], fault: str = "") ->
         state = left.pop()
         if sum(it.is_inside for it in state.callers) > 1:
             return len(seen), "two callers are inside"
+        if any(queue.passed > limit + most for queue, limit, most in zip(state.queues, limits, MORE)):
+            return len(seen), "too many turns pass one that waits"
         awake = [at for at, caller in enumerate(state.callers) if caller.steps not in ((), SLEEPS)]
         if not awake and any(caller.steps for caller in state.callers):
             return len(seen), "a caller sleeps for ever"

@@ -11,6 +11,7 @@ ghost use Rattle.lane_runner.specs.Lanes.{IsRightLane, IsRightLine};
 ghost use Rattle.lane_runner.specs.Telling.{MayTellNext};
 ghost use Rattle.lane_runner.specs.inside.Parts.{HasAnswered, IsBoxed, IsRoomFor, outcome_of, turns_for, turns_needed};
 
+use crate::bell::LaneBell;
 use crate::telling::Outlet;
 use crate::transcript::{Outcome, TranscriptLine};
 use basis_book::Basis;
@@ -21,7 +22,7 @@ use shared_office::{Office, OfficeCalls, OfficePass};
 use snapshot_value::{Query, Valuation, ValueFault, value};
 use std::alloc::Global;
 use std::sync::Wait;
-use std::thread::{Parker, Threads};
+use std::thread::Threads;
 use turn_lock::Turned;
 use watcher_set::Watching;
 
@@ -34,7 +35,7 @@ pub fn answer_lane<D: Disk, W: Watching, G: Gate, R: Threads + Wait + Sync>(
     lane: &Lane,
     basis: &Basis,
     gate: &G,
-    bell: &Parker,
+    bell: &LaneBell<'_>,
     outlet: &mut Outlet,
 )
     requires right { IsRightLane lane.now }
@@ -70,7 +71,7 @@ fn answer_lines<D: Disk, W: Watching, G: Gate, R: Threads + Wait + Sync>(
     asked: &[Line],
     basis: &Basis,
     gate: &G,
-    bell: &Parker,
+    bell: &LaneBell<'_>,
     outlet: &mut Outlet,
 )
     requires right { All IsRightLine asked.now }
@@ -90,8 +91,8 @@ fn answer_lines<D: Disk, W: Watching, G: Gate, R: Threads + Wait + Sync>(
     }
 }
 
-// Tells an answered line, and wakes the writer.
-fn hand_over(outlet: &mut Outlet, bell: &Parker, told: TranscriptLine)
+// Tells an answered line, and wakes the writer where it sleeps for it.
+fn hand_over(outlet: &mut Outlet, bell: &LaneBell<'_>, told: TranscriptLine)
     requires room { 0 < known_free outlet.old.ring }
     requires follows { MayTellNext (sent outlet.old.ring) told }
     ensures ring { SameProducer outlet.old.ring outlet.new.ring }
@@ -99,7 +100,7 @@ fn hand_over(outlet: &mut Outlet, bell: &Parker, told: TranscriptLine)
     ensures room { known_free outlet.old.ring ≡ known_free outlet.new.ring + 1 }
 {
     outlet.ring.push_reserved(told);
-    bell.unpark();
+    bell.ring();
 }
 
 // Answers a line.

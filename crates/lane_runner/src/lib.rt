@@ -3,6 +3,7 @@
 #![tactic(auto)]
 
 mod answering;
+mod bell;
 mod merging;
 mod page;
 mod postings;

@@ -9,6 +9,7 @@ ghost use Rattle.lane_runner.specs.inside.Gathering.{HasPutOut};
 ghost use Rattle.lane_runner.specs.inside.Merging.{HasLooked, HasNext, HasTakenLines, IsMerged, IsNearerOf, IsNearest, IsWaitedFor, all_to_come};
 ghost use Rattle.lane_runner.specs.inside.Showing.{IsShowing};
 
+use crate::bell::{Sleeper, WriterBell};
 use crate::page::Page;
 use crate::telling::Inlet;
 use crate::wording::Wording;
@@ -16,7 +17,6 @@ use moment_ring::MomentInlet;
 use outside_io::{Disk, Sink};
 use std::alloc::Global;
 use std::sync::Wait;
-use std::thread::Parker;
 
 /// The place of a lane, and the turn of its next line.
 #[derive(Clone, Copy, Drop)]
@@ -30,7 +30,7 @@ pub struct Near {
 pub fn merge<R: Wait, X: Wording, D: Disk, K: Sink<Beside = D>>(
     rt: &R,
     alloc: Global,
-    bell: &Parker,
+    bell: &WriterBell,
     count: usize,
     inlets: &mut [Inlet],
     moments: &mut MomentInlet<D>,
@@ -54,8 +54,9 @@ pub fn merge<R: Wait, X: Wording, D: Disk, K: Sink<Beside = D>>(
     ensures shown { IsShowing X.text (K.pieces output.old) (K.pieces output.new) page.new.lines (received moments.new.ring)
         page.new.latest page.new.bytes.items page.new.stopped }
 {
+    let mut sleeper = Sleeper::at(bell);
     for _ in 0..count {
-        merge_next::<R, X, D, K>(rt, alloc, bell, inlets, moments, page, output);
+        merge_next::<R, X, D, K>(rt, alloc, &mut sleeper, inlets, moments, page, output);
     }
     page.flush(output);
 }
@@ -76,7 +77,7 @@ pub fn count_to_come(inlets: &[Inlet]) -> usize
 fn merge_next<R: Wait, X: Wording, D: Disk, K: Sink<Beside = D>>(
     rt: &R,
     alloc: Global,
-    bell: &Parker,
+    sleeper: &mut Sleeper<'_>,
     inlets: &mut [Inlet],
     moments: &mut MomentInlet<D>,
     page: &mut Page<D>,
@@ -100,7 +101,7 @@ fn merge_next<R: Wait, X: Wording, D: Disk, K: Sink<Beside = D>>(
         → IsShowing X.text first (K.pieces output.old) page.old.lines (received moments.old.ring) page.old.latest page.old.bytes.items page.old.stopped
         → IsShowing X.text first (K.pieces output.new) page.new.lines (received moments.new.ring) page.new.latest page.new.bytes.items page.new.stopped }
 {
-    let near = wait_for_next(rt, bell, inlets, page, output);
+    let near = wait_for_next(rt, sleeper, inlets, page, output);
     let told = inlets[near.place].take();
     page.put::<R, X, K>(rt, alloc, told, moments, output);
 }
@@ -109,7 +110,7 @@ fn merge_next<R: Wait, X: Wording, D: Disk, K: Sink<Beside = D>>(
 // written before the writer sleeps.
 fn wait_for_next<R: Wait, D: Disk, K: Sink<Beside = D>>(
     rt: &R,
-    bell: &Parker,
+    sleeper: &mut Sleeper<'_>,
     inlets: &mut [Inlet],
     page: &mut Page<D>,
     output: &mut K,
@@ -128,30 +129,31 @@ fn wait_for_next<R: Wait, D: Disk, K: Sink<Beside = D>>(
         → IsShowing text first (K.pieces output.new) lines moments page.new.latest page.new.bytes.items page.new.stopped }
 {
     for _ in rt.forever() {
-        if let Some(near) = look(inlets) {
+        if let Some(near) = look(inlets, sleeper) {
+            sleeper.has_one();
             return near;
         }
         page.flush(output);
-        bell.park(rt);
+        sleeper.rest(rt);
     }
     unreachable!()
 }
 
 // The first of all lanes' next lines, if each is told.
-fn look(inlets: &mut [Inlet]) -> Option<Near>
+fn look(inlets: &mut [Inlet], sleeper: &mut Sleeper<'_>) -> Option<Near>
     ensures looked { AllZip HasLooked inlets.old inlets.new }
     ensures place { IfSome result (λ near. near.place < length inlets.new) }
     ensures next { IfSome result (λ near. IsNearest inlets.new (Some near)) }
     ensures waits { 0 < all_to_come inlets.old → result ≡ None → IsWaitedFor inlets.new }
 {
-    if !have_next(inlets) {
+    if !have_next(inlets, sleeper, 0) {
         return None;
     }
     nearest(inlets)
 }
 
-// Whether each lane that has lines left has told its next one.
-fn have_next(inlets: &mut [Inlet]) -> bool
+// Whether each lane that has lines left has told its next one. The first is at this place.
+fn have_next(inlets: &mut [Inlet], sleeper: &mut Sleeper<'_>, place: usize) -> bool
     ensures looked { AllZip HasLooked inlets.old inlets.new }
     ensures next { IsTrue result → AllByRecursion HasNext inlets.new }
     ensures waits { IsFalse result → IsWaitedFor inlets.new }
@@ -160,7 +162,8 @@ fn have_next(inlets: &mut [Inlet]) -> bool
         return true;
     };
     let here = first.has_next();
-    let behind = have_next(rest);
+    sleeper.sees(place, here);
+    let behind = have_next(rest, sleeper, place.saturating_add(1));
     here && behind
 }
 

@@ -18,6 +18,7 @@ ghost use Rattle.lane_runner.specs.inside.Showing.{IsShowing};
 ghost use Rattle.lane_runner.specs.inside.Parts.{HasEntered, HasLeft, HasLaneRoom, HasRunAt, HaveRun, IsEndOf, IsInletFor, IsReadySeat, IsReadyAt, IsSameSeat, IsSpent, IsWhole, shares_to_enter, told_in, turns_to_enter};
 
 use crate::answering::answer_lane;
+use crate::bell::WriterBell;
 use crate::merging::{count_to_come, merge};
 use crate::page::Page;
 use crate::rooms::{Room, Seat, room_for};
@@ -31,7 +32,7 @@ use policy_types::{Lane, NoMemory};
 use shared_office::{Office, OfficePass};
 use std::alloc::Global;
 use std::sync::Wait;
-use std::thread::{Parker, Threads, for_each_mut, join_mut};
+use std::thread::{Threads, for_each_mut, join_mut};
 use watcher_set::Watching;
 
 /// What lanes were answered, what became of the text, and by which moment what comes behind it may be handed on.
@@ -219,7 +220,7 @@ fn run_beside<
         page.new.latest page.new.bytes.items page.new.stopped }
 {
     let Run { rt, alloc, .. } = *run;
-    let bell = Parker::new();
+    let bell = WriterBell::new();
     let seats = seats.as_mut_slice();
     let inlets = inlets.as_mut_slice();
     let count = count_to_come(inlets);
@@ -259,7 +260,7 @@ fn settle<D: Disk, W: Watching>(seats: &mut [Seat<D, W>], inlets: &mut [Inlet])
 // Runs each lane in its seat, all at the same time.
 fn run_all<R: Threads + Wait + Sync, D: Disk + Send, W: Watching + Send, G: Gate + Sync>(
     run: &Run<R, D, W, G>,
-    bell: &Parker,
+    bell: &WriterBell,
     seats: &mut [Seat<D, W>],
 )
     requires ready { AllZip (IsReadySeat run.now.office.now) run.now.lanes.now seats.old }
@@ -283,6 +284,7 @@ fn run_all<R: Threads + Wait + Sync, D: Disk + Send, W: Watching + Send, G: Gate
             ensures { HasRunAt basis.entry.now lanes.entry.now index seat.entry.now seat.exit.now }
         {
             let lane = &lanes[index];
+            let bell = bell.of_lane(index);
             answer_lane(
                 rt,
                 alloc,
@@ -291,7 +293,7 @@ fn run_all<R: Threads + Wait + Sync, D: Disk + Send, W: Watching + Send, G: Gate
                 lane,
                 basis,
                 gate,
-                bell,
+                &bell,
                 &mut seat.1,
             );
         },

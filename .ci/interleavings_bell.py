@@ -1,0 +1,169 @@
+"""The writer is woken for each line that it can write: all interleavings of a writer and two or three lanes.
+
+usage: python3 .ci/interleavings_bell.py     the status is 1 where a line that can be written waits for another one
+
+The steps are the atomic accesses of lane_runner: src/bell.rt, `wait_for_next` of src/merging.rt, `hand_over` of
+src/answering.rt. A lane may wait before each line for as long as it likes, as one does whose record is synced, or who is
+held up at a gate. No contract says that a ring arrives; this search does, of a model. Where a ring is left out or held
+back, or two accesses change places (FAULTS), it has to find a line that waits.
+"""
+from __future__ import annotations
+
+import sys
+from collections.abc import Iterator
+from typing import NamedTuple
+
+NOBODY, SEVERAL = 0, 2
+# the lines of each lane
+RUNS = {"one lane": (4,), "two lanes": (3, 3), "three lanes": (2, 1, 1)}
+NO_RING = "no ring behind a line"
+EARLY_RING = "the ring before its line"
+HELD_BACK = "a ring held back for the next line, which doesn't come"
+NO_LOOK = "no look behind the naming"
+OTHER_LANE = "the first lane is named in place of the missing one"
+FAULTS = {NO_RING: "one lane", EARLY_RING: "one lane", HELD_BACK: "one lane", NO_LOOK: "one lane", OTHER_LANE: "two lanes"}
+ASLEEP = "asleep"
+
+
+class Lane(NamedTuple):
+    """A lane: its next steps, how many lines it has yet to tell, and how many that it told weren't taken."""
+
+    steps: tuple[str, ...]
+    left: int
+    told: int = 0
+
+
+class State(NamedTuple):
+    """The named lane's place from 1, the lanes, and the writer's next step, with the lane whose line is missing and how many
+    lines came since it slept."""
+
+    named: int
+    lanes: tuple[Lane, ...]
+    writer: str = "look 1"
+    missing: int = NOBODY
+    came: int = 0
+
+
+def lines_of(lane: Lane) -> int:
+    """The lines that the writer has yet to take of it."""
+    return lane.left + lane.told
+
+
+def put_lane(state: State, at: int, lane: Lane) -> State:
+    return state._replace(lanes=(*state.lanes[:at], lane, *state.lanes[at + 1:]))
+
+
+def ways_to_tell(left: int, fault: str) -> tuple[str, ...]:
+    """The steps of the next line, where one is left."""
+    if left == 0:
+        return ()
+    if fault == NO_RING or (fault == HELD_BACK and left % 2):
+        return ("tell",)
+    return ("see", "ring", "tell") if fault == EARLY_RING else ("tell", "see", "ring")
+
+
+def lane_moves(state: State, at: int, fault: str) -> State:
+    """A lane's next step."""
+    lane, place = state.lanes[at], at + 1
+    step, *rest = lane.steps
+    if step == "see" and state.named != place:
+        rest = [it for it in rest if it != "ring"]
+    if step == "ring" and state.named == place:
+        awake = "look 1" if state.writer == ASLEEP else state.writer
+        state = state._replace(named=NOBODY, writer=awake)
+    if step == "tell":
+        lane = lane._replace(left=lane.left - 1, told=lane.told + 1)
+    steps = tuple(rest) or ways_to_tell(lane.left, fault)
+    return put_lane(state, at, lane._replace(steps=steps))
+
+
+def look(state: State, at: int) -> State:
+    """Looks at one lane, and then at the next one."""
+    lane, is_last = state.lanes[at], at + 1 == len(state.lanes)
+    missing = at + 1 if lane.left and not lane.told else state.missing
+    then = ("rest" if missing else "take") if is_last else f"look {at + 2}"
+    return state._replace(missing=missing, writer=then)
+
+
+def takes(state: State) -> Iterator[State]:
+    """A line is taken: that of any lane, since any may have the earliest turn."""
+    for at, lane in enumerate(state.lanes):
+        if lane.told:
+            after = put_lane(state, at, lane._replace(told=lane.told - 1))
+            yield after._replace(writer="look 1" if any(map(lines_of, after.lanes)) else "", came=min(state.came + 1, SEVERAL))
+
+
+def to_name(state: State, fault: str) -> int:
+    """The lane that the writer names where a line is missing."""
+    return 1 if fault == OTHER_LANE else state.missing
+
+
+def rest(state: State, fault: str) -> State:
+    """Naps, or sleeps for the named lane, or names it and looks again."""
+    if state.came >= SEVERAL:
+        return state._replace(writer="nap", came=0)
+    return state._replace(writer="park" if state.named == to_name(state, fault) else "name")
+
+
+def writer_moves(state: State, fault: str) -> Iterator[State]:
+    """What the writer's next step may lead to."""
+    step, again = state.writer, state._replace(writer="look 1", missing=NOBODY)
+    if step.startswith("look"):
+        yield look(state, int(step.split()[1]) - 1)
+    elif step == "take":
+        yield from takes(state)
+    elif step == "rest":
+        yield rest(state, fault)
+    elif step == "nap":
+        yield again._replace(named=NOBODY)
+    elif step == "name":
+        named = to_name(state, fault)
+        yield state._replace(named=named, writer="park") if fault == NO_LOOK else again._replace(named=named)
+    elif step == "park":
+        sleeps = state.named == to_name(state, fault)
+        yield again._replace(came=0, writer=ASLEEP if sleeps else "look 1")
+
+
+def waits(state: State) -> bool:
+    """Whether the writer sleeps over a line that it could write, while each lane may be long about its next one."""
+    return (state.writer == ASLEEP and all(lane.steps[:1] in ((), ("tell",)) for lane in state.lanes)
+            and all(lane.told or not lane.left for lane in state.lanes))
+
+
+def after(state: State, fault: str) -> Iterator[State]:
+    yield from writer_moves(state, fault)
+    for at, lane in enumerate(state.lanes):
+        if lane.steps:
+            yield lane_moves(state, at, fault)
+
+
+def search(lines: tuple[int, ...], fault: str = "") -> tuple[int, str]:
+    """How many states can be reached, and what is wrong with one of them, where something is."""
+    start = State(NOBODY, tuple(Lane(ways_to_tell(many, fault), many) for many in lines))
+    seen, left = {start}, [start]
+    while left:
+        state = left.pop()
+        if waits(state):
+            return len(seen), "a line that can be written waits"
+        for then in after(state, fault):
+            if then not in seen:
+                seen.add(then)
+                left.append(then)
+    return len(seen), ""
+
+
+def main() -> int:
+    failed = 0
+    for name, lines in RUNS.items():
+        states, wrong = search(lines)
+        print(f"bell: {name}: {states} states, {wrong or 'no line that can be written waits'}")
+        failed += wrong != ""
+    for fault, name in FAULTS.items():
+        _, wrong = search(RUNS[name], fault)
+        print(f"bell: {fault}: {wrong + ', as is wanted' if wrong else 'nothing is found'}")
+        failed += wrong == ""
+    return min(failed, 1)
+
+
+if __name__ == "__main__":
+    sys.exit(main())
