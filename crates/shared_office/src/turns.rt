@@ -170,5 +170,9 @@ impl<D: Disk, W: Watching> Turn<SharedState<D, W>> for Trim {
         value.state.trim(caller)
     }
 
+    fn is_light(&self) -> bool {
+        true
+    }
+
     ghost by_caller = { λ _ _ _. refl };
 }

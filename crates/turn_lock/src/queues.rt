@@ -6,11 +6,16 @@ use std::sync::Wait;
 use std::sync::atomic::AtomicU64;
 use std::sync::atomic::Ordering::SeqCst;
 
-/// So many turns on end may pass the brief turn that waits longest.
-const MOST_BEFORE_BRIEF: u64 = 5;
+/// A light turn takes about as long as the eighth part of another one, and much less than a wake-up.
+const LIGHT: u64 = 1;
 
-/// So many turns on end may pass the other turn that waits longest.
-const MOST_BEFORE_OTHERS: u64 = 8;
+const HEAVY: u64 = 8;
+
+/// Turns of this weight on end may pass the brief turn that waits longest.
+const MOST_BEFORE_BRIEF: u64 = 5 * HEAVY;
+
+/// Turns of this weight on end may pass the other turn that waits longest.
+const MOST_BEFORE_OTHERS: u64 = 8 * HEAVY;
 
 /// For whom the lock is, once it is given.
 #[derive(Clone, Copy, Drop)]
@@ -36,7 +41,7 @@ impl Next {
 }
 
 /// Those that wait. A free lock is anybody's; but it is kept for who waits longest once as many turns on end as may be
-/// have passed.
+/// have passed, by their weight.
 #[derive(Drop)]
 pub(crate) struct Queues {
     brief: Queue,
@@ -46,7 +51,7 @@ pub(crate) struct Queues {
 /// Callers that wait, in the order in which they came.
 #[derive(Drop)]
 pub(crate) struct Queue {
-    /// So many turns on end may pass the first.
+    /// Turns of this weight on end may pass the first.
     most: u64,
     came: AtomicU64,
     /// How many of these were let in. Who has the lock writes it.
@@ -74,9 +79,10 @@ impl Queues {
     }
 
     /// Counts the turn that ends, and says for whom the lock is next.
-    pub(crate) fn next(&self, passed: &mut Streaks) -> Next {
-        let other_is_due = self.others.is_due(&mut passed.others);
-        let brief_is_due = self.brief.is_due(&mut passed.brief);
+    pub(crate) fn next(&self, passed: &mut Streaks, is_light: bool) -> Next {
+        let weight = if is_light { LIGHT } else { HEAVY };
+        let other_is_due = self.others.is_due(&mut passed.others, weight);
+        let brief_is_due = self.brief.is_due(&mut passed.brief, weight);
         if other_is_due {
             Next::Other(self.others.let_first_in())
         } else if brief_is_due {
@@ -143,22 +149,22 @@ impl Queue {
         self.let_in.load(SeqCst) != self.came.load(SeqCst)
     }
 
-    /// Counts a turn that passed the first of the queue, and tells whether these are as many as may be.
-    fn is_due(&self, passed: &mut Streak) -> bool {
+    /// Counts a turn of this weight that passed the first of the queue, and tells whether these are as many as may be.
+    fn is_due(&self, passed: &mut Streak, turn: u64) -> bool {
         let first = self.let_in.load(SeqCst);
         let before = if passed.first == first {
-            passed.turns
+            passed.weight
         } else {
             0
         };
         let is_waited_in = self.came.load(SeqCst) != first;
-        let turns = if is_waited_in {
-            before.saturating_add(1)
+        let weight = if is_waited_in {
+            before.saturating_add(turn)
         } else {
             0
         };
-        *passed = Streak { first, turns };
-        turns >= self.most
+        *passed = Streak { first, weight };
+        weight >= self.most
     }
 
     fn wake_first(&self) {

@@ -51,7 +51,10 @@ impl<T> Kept<T> {
     pub(crate) fn first(value: T) -> Kept<T>
         ensures { (result.value ≡ value) × (result.turns ≡ 0) }
     {
-        let none = Streak { first: 0, turns: 0 };
+        let none = Streak {
+            first: 0,
+            weight: 0,
+        };
         Kept {
             value,
             turns: 0,
@@ -81,11 +84,11 @@ pub struct Streaks {
     pub others: Streak,
 }
 
-/// So many turns on end passed this number while it was the first of its line.
+/// Turns of this weight on end passed this number while it was the first of its line.
 #[derive(Clone, Copy, Drop)]
 pub struct Streak {
     pub first: u64,
-    pub turns: u64,
+    pub weight: u64,
 }
 
 /// The lock's rule, at the opening of the value that the table was made with.

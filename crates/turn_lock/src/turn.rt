@@ -29,6 +29,12 @@ pub trait Turn<T: Stands> {
         false
     }
 
+    /// Whether the call takes much less time than a wake-up, so that more of its like may pass who waits. No contract
+    /// rests on the answer.
+    fn is_light(&self) -> bool {
+        false
+    }
+
     // The entry is the caller's.
     ghost by_caller: { (call : Self) (caller : ℕ) (answer : Self.Answer) → (entry call caller answer).caller ≡ caller };
 }

@@ -188,8 +188,9 @@ fn serve<T: Stands, C: Turn<T>>(
         mut passed,
     } = kept;
     let asked = Snapshot::of(&call);
+    let is_light = call.is_light();
     let answer = call.run(&mut value, caller);
-    let next = queues.next(&mut passed);
+    let next = queues.next(&mut passed, is_light);
     let kept = Kept {
         value,
         turns: turn + 1,
