@@ -5,3 +5,4 @@ pub mod Tables
 pub mod PaidUp
 pub mod MeanEnclosed
 pub mod MeanValues
+pub mod Sharing

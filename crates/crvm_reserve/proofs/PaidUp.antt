@@ -11,7 +11,7 @@ use Rattle.present_value.specs.declared.pair.Pair.{Pair}
 use Rattle.present_value.specs.declared.pair.Values.{Values}
 use Rattle.present_value.proofs.Fractions.{scaled-between}
 use Rattle.present_value.proofs.Quotients.{apart, up-le}
-use Rattle.present_value.proofs.Steps.{ben-between, ben-narrow, ben_hi-most}
+use Rattle.present_value.proofs.Steps.{ben-between, ben-narrow, ben_lo-most, ben_hi-most}
 use Rattle.crvm_reserve.specs.Rounded.{paid_up_lo, paid_up_hi}
 use Rattle.crvm_reserve.specs.Made.{ArePaidUpFor, IsPaidUpFor}
 
@@ -50,3 +50,10 @@ paid_up_at c columns t values made within are = record {
   rates = made.rates;
   values_are = are;
 }
+
+-- per unit of amount they are worth 1 at most
+pub small_lo : (c : Cover) (t : ℕ) (values : Values) → IsPaidUpFor c t values → values.ben.lo ≤ UNIT
+small_lo c t values made = rw made.values_are.benefits (ben_lo-most c t made.within made.rates)
+
+pub small_hi : (c : Cover) (t : ℕ) (values : Values) → IsPaidUpFor c t values → values.ben.hi ≤ UNIT
+small_hi c t values made = rw made.values_are.benefits (ben_hi-most c t made.rates)

@@ -174,6 +174,10 @@ pub reserve_hi-most : (c cap : Cover) (t : ℕ) → IsReserved c cap → reserve
 unfolding reserve_hi
 reserve_hi-most c cap t is = omega (arith, ben_hi-most c t is.rates)
 
+pub reserve_lo-most : (c cap : Cover) (t : ℕ) → IsReserved c cap → t ≤ c.n → reserve_lo c cap t ≤ UNIT
+unfolding reserve_lo
+reserve_lo-most c cap t is within = omega (arith, ben_lo-most c t within is.rates)
+
 pub amount_lo_is : (c cap : Cover) (amount t unit : ℕ) → unit ≡ reserve_lo c cap t → down (amount * unit) UNIT ≡ amount_lo c cap amount t
 unfolding amount_lo
 amount_lo_is c cap amount t unit p = rw p refl

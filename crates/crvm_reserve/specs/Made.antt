@@ -7,8 +7,9 @@ use Rattle.present_value.specs.Rounding.{UNIT}
 use Rattle.present_value.specs.Values.{CanValue, AreColumns}
 use Rattle.present_value.specs.Ends.{AreValuesAt}
 use Rattle.present_value.specs.declared.pair.Columns.{Columns}
+use Rattle.present_value.specs.declared.pair.Pair.{Pair}
 use Rattle.present_value.specs.declared.pair.Values.{Values}
-use Rattle.crvm_reserve.specs.Rounded.{excess_lo, excess_hi, beta_lo, beta_hi}
+use Rattle.crvm_reserve.specs.Rounded.{excess_lo, excess_hi, beta_lo, beta_hi, reserve_lo, reserve_hi}
 use Rattle.crvm_reserve.specs.declared.premium.Premium.{Premium}
 use Rattle.crvm_reserve.specs.declared.premium.PremiumParts.{PremiumParts}
 
@@ -67,6 +68,19 @@ pub record IsMadeAt (values : Values) (premium : Premium) : Type 0 where
   pub cap : Cover
   pub year : ℕ
   pub made : IsMadeFor cover cap year values premium
+
+-- a pair is the reserve per unit of amount of a cover and its cap at year t, rounded
+pub record IsUnitFor (c cap : Cover) (t : ℕ) (unit : Pair) : Type 0 where
+  pub reserved : IsReserved c cap
+  pub within : t ≤ c.n
+  pub lo : unit.lo ≡ reserve_lo c cap t
+  pub hi : unit.hi ≡ reserve_hi c cap t
+
+pub record IsUnitAt (unit : Pair) : Type 0 where
+  pub cover : Cover
+  pub cap : Cover
+  pub year : ℕ
+  pub made : IsUnitFor cover cap year unit
 
 -- columns and premium were made for one cover and its cap
 pub record AreMadeFor (c cap : Cover) (columns : Columns) (premium : Premium) : Type 0 where

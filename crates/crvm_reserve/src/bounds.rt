@@ -3,9 +3,10 @@ ghost use Rattle.present_value.specs.Reserve.{reserve, Encloses};
 ghost use Rattle.present_value.specs.Rounding.{UNIT};
 ghost use Rattle.present_value.specs.Sums.{Cover};
 ghost use Rattle.crvm_reserve.specs.Rounded.{reserve_lo, reserve_hi, rounded};
-ghost use Rattle.crvm_reserve.specs.Made.{AreMade, AreMadeFor, AreClose, IsMadeAt, IsMadeFor};
+ghost use Rattle.crvm_reserve.specs.Made.{AreMade, AreMadeFor, AreClose, IsMadeAt, IsMadeFor, IsUnitAt, IsUnitFor};
 
 use crate::premium::Premium;
+use crate::share::{share_down, share_up};
 use present_value::{Columns, Pair, UNITS_IN_ONE, Values, quotient_down, quotient_up};
 
 /// A lower and an upper bound of the reserve of an amount at year `t`, in the amount's cents.
@@ -37,11 +38,19 @@ pub fn bounds_by(values: &Values, premium: &Premium, amount: u64) -> (u64, u64)
     ensures close { (c cap : Cover) → (t : ℕ) → IsMadeFor c cap t values.now premium.now
         → AreClose (reserve_lo c cap t) (reserve_hi c cap t) (reserve c cap t) }
 {
-    let reserve = unit_reserve(values, premium);
-    (
-        quotient_down(amount as u128 * reserve.lo as u128, UNITS_IN_ONE as u128),
-        quotient_up(amount as u128 * reserve.hi as u128, UNITS_IN_ONE as u128),
-    )
+    bounds_by_unit(unit_reserve(values, premium), amount)
+}
+
+/// The same by the reserve per unit of amount.
+pub fn bounds_by_unit(unit: Pair, amount: u64) -> (u64, u64)
+    requires made { IsUnitAt unit }
+    requires amount { amount ≤ 10000000000 }
+    ensures rounded { (c cap : Cover) → (t : ℕ) → IsUnitFor c cap t unit → result ≡ rounded c cap amount t }
+    ensures exact { (c cap : Cover) → (t : ℕ) → IsUnitFor c cap t unit
+        → Encloses result.0 result.1 amount (reserve c cap t) }
+    ensures most { result.1 ≤ amount }
+{
+    (share_down(amount, unit.lo), share_up(amount, unit.hi))
 }
 
 /// The reserve per unit of amount, in units of 10^-16.
@@ -49,6 +58,7 @@ pub fn unit_reserve(values: &Values, premium: &Premium) -> Pair
     requires made { IsMadeAt values.now premium.now }
     ensures lo { (c cap : Cover) → (t : ℕ) → IsMadeFor c cap t values.now premium.now → result.lo ≡ reserve_lo c cap t }
     ensures hi { (c cap : Cover) → (t : ℕ) → IsMadeFor c cap t values.now premium.now → result.hi ≡ reserve_hi c cap t }
+    ensures unit { (c cap : Cover) → (t : ℕ) → IsMadeFor c cap t values.now premium.now → IsUnitFor c cap t result }
     ensures small_lo { result.lo ≤ UNIT }
     ensures small_hi { result.hi ≤ UNIT }
 {

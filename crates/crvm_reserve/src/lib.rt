@@ -9,10 +9,11 @@ mod mean;
 mod paid_up;
 mod paid_up_mean;
 mod premium;
+mod share;
 mod worked;
 
 pub use basis::{basis_premium, premium_with_cap};
-pub use bounds::{bounds_by, reserve_bounds};
+pub use bounds::{bounds_by, bounds_by_unit, reserve_bounds, unit_reserve};
 pub use cap::shape_of_cap;
 pub use mean::{MeanParts, mean_bounds, mean_by};
 pub use paid_up::{paid_up_bounds, paid_up_by};

@@ -5,7 +5,8 @@ ghost use Rattle.present_value.specs.Sums.{Cover, ben};
 ghost use Rattle.crvm_reserve.specs.Made.{ArePaidUp, ArePaidUpFor, IsPaidUpAt, IsPaidUpFor};
 ghost use Rattle.crvm_reserve.specs.Rounded.{rounded_paid_up};
 
-use present_value::{Columns, UNITS_IN_ONE, Values, quotient_down, quotient_up};
+use crate::share::{share_down, share_up};
+use present_value::{Columns, Values};
 
 /// A lower and an upper bound of the reserve of a paid-up amount at year `t`, in the amount's cents: the value of its
 /// benefits.
@@ -31,7 +32,7 @@ pub fn paid_up_by(values: &Values, amount: u64) -> (u64, u64)
 {
     let benefits = values.ben;
     (
-        quotient_down(amount as u128 * benefits.lo as u128, UNITS_IN_ONE as u128),
-        quotient_up(amount as u128 * benefits.hi as u128, UNITS_IN_ONE as u128),
+        share_down(amount, benefits.lo),
+        share_up(amount, benefits.hi),
     )
 }

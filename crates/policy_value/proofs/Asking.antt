@@ -1,7 +1,6 @@
 -- The keys of a cache after one of them was asked for.
-use Rattle.std.proofs.Common.{rules, true≢false, subst, ◌≡◌, ℕ, ◌+◌, ◌-◌, ◌^◌, min, Bool, true, false, List, [], ◌∷◌, Contains, Option, Some, None, is_some, refl, sym, ap, ◌∙◌, inl, inr}
+use Rattle.std.proofs.Common.{true≢false, subst, ◌≡◌, ℕ, ◌+◌, ◌-◌, ◌^◌, min, Bool, true, false, List, [], ◌∷◌, Contains, Option, Some, None, is_some, refl, sym, ap, ◌∙◌, inl, inr}
 use Rattle.std.proofs.lemmas.List.{take-map}
-use Rattle.std.specs.Cmp.Rules.{comparing, hashing}
 use Rattle.std.specs.Map.{keys_of, lookup, lookup_entry, remove_entry}
 use Rattle.std.specs.Set.{remove_key}
 use Rattle.lru.specs.LruCache.{LruCache, lru_cache, promoted, put_entries}
@@ -10,7 +9,7 @@ use Rattle.policy_value.specs.Caches.{HasAsked, KeepsKeys}
 use Rattle.policy_value.specs.declared.cache.ColumnCache.{ColumnCache}
 use Rattle.policy_value.specs.declared.key.CacheKey.{CacheKey}
 use Rattle.policy_value.specs.contracts.key.CacheKeyPartialEq.TheImpl.{eq-value}
-use Rattle.policy_value.proofs.Keeping.{same_key}
+use Rattle.policy_value.proofs.Keeping.{itself, same_key}
 use Rattle.crvm_reserve.specs.declared.premium.Premium.{Premium}
 
 module _ {K V : Type 0} (test : K → Bool) where
@@ -46,9 +45,6 @@ module _ {K V : Type 0} (test : K → Bool) where
       some_none : {v : V} → (let o : Option V = Some v in o) ≡ None → ⊥
       some_none h = cc
 
-itself : (key : CacheKey) → eq-value.it key key ≡ true
-itself key = search (comparing, hashing, rules)
-
 -- a key that is found goes to the front
 pub asked_hit : (key : CacheKey) (old new : ColumnCache) (v : Premium) → lookup (eq-value.it key) old.premiums.entries ≡ Some v
     → new.premiums ≡ lru_cache (promoted (eq-value.it key) old.premiums.entries) old.premiums.cap → new.unkept ≡ old.unkept → HasAsked key old new
@@ -67,7 +63,7 @@ asked_hit key old new v found is unkept =
     }
 
 -- one that isn't is put in front, or not
-missing : (key : CacheKey) (es : List (CacheKey × Premium)) → lookup (eq-value.it key) es ≡ None → Contains (keys_of es) key → ⊥
+pub missing : (key : CacheKey) (es : List (CacheKey × Premium)) → lookup (eq-value.it key) es ≡ None → Contains (keys_of es) key → ⊥
 missing key es none at =
     let no = (none_found (eq-value.it key) es none).1 key at in
     let yes = itself key in

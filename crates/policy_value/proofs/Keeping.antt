@@ -56,6 +56,9 @@ module _ {K V : Type 0} (P : K × V → Type 0) where
 pub same_key : (key other : CacheKey) → eq-value.it key other ≡ true → key ≡ other
 same_key key other is = search (comparing, hashing, rules)
 
+pub itself : (key : CacheKey) → eq-value.it key key ≡ true
+itself key = search (comparing, hashing, rules)
+
 -- a place of a basis has one row
 pub one_entry : (basis : List Dated) (place : ℕ) (entry other : Dated) → slice_get basis place ≡ Some entry → slice_get basis place ≡ Some other
     → entry ≡ other

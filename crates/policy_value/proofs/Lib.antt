@@ -3,3 +3,4 @@ pub mod Asking
 pub mod Statuses
 pub mod Covering
 pub mod Putting
+pub mod PerUnit

@@ -1,5 +1,5 @@
 -- What a cache holds, and when that is right.
-use Rattle.std.specs.Prelude.{◌≡◌, ℕ, ◌+◌, ◌^◌, min, ◌<◌, ◌≤◌, List, length, None, slice_get, All, Some, Ok, vec_capacity, Contains, take, ◌-◌, ◌*◌, ◌∷◌, ◌⊎◌}
+use Rattle.std.specs.Prelude.{◌≡◌, ℕ, ◌+◌, ◌^◌, min, ◌<◌, ◌≤◌, List, length, None, slice_get, All, Some, Ok, vec_capacity, Contains, take, ◌-◌, ◌*◌, ◌∷◌, ◌⊎◌, Option, IfSome}
 use Rattle.std.specs.Map.{keys_of, lookup}
 use Rattle.std.specs.Set.{remove_key}
 use Rattle.policy_value.specs.contracts.key.CacheKeyPartialEq.TheImpl.{eq-value}
@@ -10,7 +10,7 @@ use Rattle.plan_benefits.specs.Shapes.{shape_of}
 use Rattle.present_value.specs.Ends.{value_to}
 use Rattle.present_value.specs.Values.{pair_at}
 use Rattle.present_value.specs.declared.pair.Pair.{Pair}
-use Rattle.crvm_reserve.specs.Made.{premium_of}
+use Rattle.crvm_reserve.specs.Made.{IsUnitFor, premium_of}
 use Rattle.crvm_reserve.specs.declared.premium.Premium.{Premium}
 use Rattle.basis_book.specs.Dated.{Dated}
 use Rattle.policy_value.specs.Covers.{cap_along, cover_along}
@@ -18,6 +18,8 @@ use Rattle.policy_value.specs.declared.cache.ColumnCache.{ColumnCache}
 use Rattle.policy_value.specs.declared.columns.ColumnStore.{ColumnStore}
 use Rattle.policy_value.specs.declared.columns.KeptColumn.{KeptColumn}
 use Rattle.policy_value.specs.declared.key.CacheKey.{CacheKey}
+use Rattle.policy_value.specs.declared.units.KeptUnit.{KeptUnit}
+use Rattle.policy_value.specs.declared.units.UnitStore.{UnitStore}
 
 -- the table of an age at issue and the interest, of the row of a basis at a place, counted from 0
 abbrev pub IsRowOf : List Dated → ℕ → ℕ → Rates → ℕ → Type 0
@@ -41,6 +43,27 @@ IsRightPremium basis kept = (entry : Dated) → (shape : Shape) → slice_get ba
     → shape_of kept.0.plan kept.0.age kept.0.years entry.table ≡ Ok shape
     → kept.1 ≡ premium_of (cover_along entry.table shape entry.bp) (cap_along entry.table shape.age entry.bp)
 
+-- a unit is the reserve per unit of amount that its key says for its year by this basis
+abbrev pub IsRightUnit : List Dated → KeptUnit → Type 0
+IsRightUnit basis kept = (entry : Dated) → (shape : Shape) → slice_get basis kept.key.basis_row ≡ Some entry
+    → shape_of kept.key.plan kept.key.age kept.key.years entry.table ≡ Ok shape
+    → IsUnitFor (cover_along entry.table shape entry.bp) (cap_along entry.table shape.age entry.bp) kept.t kept.unit
+
+-- a place is empty, or what is there is right
+abbrev pub IsRightPlace : List Dated → Option KeptUnit → Type 0
+IsRightPlace basis place = IfSome place (IsRightUnit basis)
+
+-- a store has a place, and room for as many as there may be
+pub record IsUnitStore (store : UnitStore) : Type 0 where
+  pub some : 1 ≤ length store.places.items
+  pub few : length store.places.items ≤ store.most
+  pub most : store.most ≤ 524288
+  pub room : store.most ≤ vec_capacity store.places
+
+pub record IsRightUnits (basis : List Dated) (given : UnitStore) : Type 0 where
+  pub store : IsUnitStore given
+  pub places : All (IsRightPlace basis) given.places.items
+
 -- a store has room for its columns, and for the values of as many of all ages as it says
 pub record IsStore (store : ColumnStore) : Type 0 where
   pub slots : length store.places.items ≡ 65536
@@ -58,6 +81,7 @@ pub record IsRightStore (basis : List Dated) (given : ColumnStore) : Type 0 wher
 pub record IsRightFor (basis : List Dated) (cache : ColumnCache) : Type 0 where
   pub premiums : All (IsRightPremium basis) cache.premiums.entries
   pub columns : IsRightStore basis cache.columns
+  pub units : IsRightUnits basis cache.units
 
 -- the keys of the policies, the last used first
 abbrev pub kept_keys : ColumnCache → List CacheKey

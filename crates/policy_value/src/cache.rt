@@ -1,28 +1,33 @@
-ghost use Rattle.std.specs.Prelude.{◌≡◌, ◌≤◌, ◌*◌, [], List, All, IfSome, IfNone, IsSome, IfOk, Ok, length, min};
+ghost use Rattle.std.specs.Prelude.{◌≡◌, ◌≤◌, ◌*◌, [], List, All, Contains, IfSome, IfNone, IsSome, IfOk, Ok, Some, length, min};
 ghost use Rattle.present_value.specs.Premium.{cap_shape};
-ghost use Rattle.crvm_reserve.specs.Made.{IsMadeFor, IsPaidUpFor, premium_of};
+ghost use Rattle.crvm_reserve.specs.Made.{IsMadeFor, IsPaidUpFor, IsUnitFor, premium_of};
+ghost use Rattle.present_value.specs.declared.pair.Pair.{Pair as APair};
 ghost use Rattle.basis_book.specs.Dated.{Dated};
-ghost use Rattle.policy_value.specs.Caches.{HasAsked, IsMissing, IsRightFor, IsRightPremium, IsRightStore, KeepsKeys, kept_keys, most_keys};
+ghost use Rattle.policy_value.specs.Caches.{HasAsked, IsMissing, IsRightFor, IsRightPremium, IsRightPlace, IsRightStore, IsRightUnit, IsUnitStore, KeepsKeys, kept_keys, most_keys};
 ghost use Rattle.policy_value.specs.inside.Covered.{IsCovered, IsCoverOf, cap_by, cover_by};
+ghost use Rattle.policy_value.specs.inside.Kept.{HoldsUnit, kept_unit};
 
 use crate::columns::ColumnStore;
 use crate::covered::Covered;
 use crate::key::CacheKey;
+use crate::units::UnitStore;
 use basis_book::Basis;
-use crvm_reserve::{Premium, shape_of_cap};
+use crvm_reserve::{Premium, shape_of_cap, unit_reserve};
 use lru::LruCache;
 use policy_types::NoMemory;
-use present_value::Values;
+use present_value::{Pair, Values};
 use rate_table::Shape;
 use std::alloc::Global;
 use std::num::NonZeroUsize;
 
-/// What was computed for policies and serves others: columns of present values by the age at which they end, and
-/// premiums by the key of the policy. The premiums last used are kept, and columns until there is no room for more.
+/// What was computed for policies and serves others: columns of present values by the age at which they end, premiums by
+/// the key of the policy, and reserves per unit of amount by the key and the year. The premiums last used are kept, and
+/// columns until there is no room for more.
 #[derive(Drop)]
 pub struct ColumnCache {
     premiums: LruCache<CacheKey, Premium>,
     columns: ColumnStore,
+    units: UnitStore,
     /// How many keys weren't kept.
     unkept: u64,
 }
@@ -47,11 +52,13 @@ impl ColumnCache {
         ensures room { IfOk result (λ cache. (most_keys cache ≡ premiums) × (cache.columns.most ≡ columns)) }
     {
         let columns = ColumnStore::new(alloc, columns)?;
+        let units = UnitStore::new(alloc, premiums)?;
         let most = NonZeroUsize::new(premiums as usize).unwrap();
         match LruCache::sparse(alloc, most) {
             Ok(premiums) => Ok(ColumnCache {
                 premiums,
                 columns,
+                units,
                 unkept: 0,
             }),
             Err(_) => Err(NoMemory),
@@ -94,6 +101,29 @@ impl ColumnCache {
         (values, premium)
     }
 
+    /// The bounds of the reserve per unit of amount of a cover at year `t`, in units of 10^-16.
+    pub fn unit(&mut self, basis: &Basis, key: CacheKey, covered: &Covered<'_>, t: u8) -> Pair
+        requires right { IsRightFor basis.now self.old }
+        requires cover { IsCoverOf basis.now key.plan key.age key.years covered.now }
+        requires row { key.basis_row ≡ covered.now.own.basis_row }
+        requires year { t ≤ covered.now.shape.n }
+        ensures unit { IsUnitFor (cover_by covered.now) (cap_by covered.now) t result }
+        ensures right { IsRightFor basis.now self.new }
+        ensures keys { HasAsked key self.old self.new }
+        ensures holds { HoldsUnit self.new.units key t result }
+        // One that is found isn't made again.
+        ensures found { (unit : APair) → HoldsUnit self.old.units key t unit → Contains (kept_keys self.old) key
+            → self.new.columns ≡ self.old.columns }
+    {
+        if let Some(unit) = self.find_unit(key, t) {
+            return unit;
+        }
+        let (values, premium) = self.priced(basis, key, covered, t);
+        let unit = unit_reserve(&values, &premium);
+        self.units.keep(key, t, unit);
+        unit
+    }
+
     /// The values of a cover at year `t`.
     pub fn valued(&mut self, basis: &Basis, covered: &Covered<'_>, t: u8) -> Values
         requires right { IsRightFor basis.now self.old }
@@ -134,6 +164,7 @@ impl ColumnCache {
     fn keep(&mut self, key: CacheKey, premium: Premium)
         requires missing { IsMissing key self.old }
         ensures columns { self.new.columns ≡ self.old.columns }
+        ensures units { self.new.units ≡ self.old.units }
         ensures right { (basis : List Dated) → IsRightPremium basis (key, premium)
             → All (IsRightPremium basis) self.old.premiums.entries → All (IsRightPremium basis) self.new.premiums.entries }
         ensures keys { HasAsked key self.old self.new }
@@ -147,6 +178,7 @@ impl ColumnCache {
     /// The premium of a key that is kept, which is now the last used.
     fn find(&mut self, key: CacheKey) -> Option<Premium>
         ensures columns { self.new.columns ≡ self.old.columns }
+        ensures units { self.new.units ≡ self.old.units }
         ensures right { (basis : List Dated) → All (IsRightPremium basis) self.old.premiums.entries
             → All (IsRightPremium basis) self.new.premiums.entries }
         ensures found { (basis : List Dated) → All (IsRightPremium basis) self.old.premiums.entries
@@ -157,6 +189,31 @@ impl ColumnCache {
     {
         if self.premiums.promote(&key) {
             self.premiums.peek(&key).copied()
+        } else {
+            None
+        }
+    }
+
+    /// The unit of a key at year `t` if both it and the key are kept, which is now the last used.
+    fn find_unit(&mut self, key: CacheKey, t: u8) -> Option<Pair>
+        requires store { IsUnitStore self.old.units }
+        ensures units { self.new.units ≡ self.old.units }
+        ensures columns { self.new.columns ≡ self.old.columns }
+        ensures premiums { (basis : List Dated) → All (IsRightPremium basis) self.old.premiums.entries
+            → All (IsRightPremium basis) self.new.premiums.entries }
+        ensures right { (basis : List Dated) → All (IsRightPlace basis) self.old.units.places.items
+            → IfSome result (λ unit. IsRightUnit basis (kept_unit key t unit)) }
+        ensures holds { IfSome result (λ unit. HoldsUnit self.old.units key t unit) }
+        ensures hit { IsSome result → HasAsked key self.old self.new }
+        ensures miss { IfNone result (self.new ≡ self.old) }
+        ensures found { (unit : APair) → HoldsUnit self.old.units key t unit → Contains (kept_keys self.old) key
+            → result ≡ Some unit }
+    {
+        let Some(unit) = self.units.find(key, t) else {
+            return None;
+        };
+        if self.premiums.promote(&key) {
+            Some(unit)
         } else {
             None
         }

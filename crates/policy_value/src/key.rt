@@ -1,4 +1,4 @@
-ghost use Rattle.std.specs.Prelude.{◌≡◌};
+ghost use Rattle.std.specs.Prelude.{◌≡◌, ◌<◌};
 ghost use Rattle.std.proofs.Common.{rules};
 ghost use Rattle.std.specs.Cmp.Rules.{hashing};
 ghost use Rattle.std.specs.Hash as fed;
@@ -39,8 +39,10 @@ impl CacheKey {
     }
 }
 
-fn plan_number(plan: Plan) -> u64
-    ensures { result ≡ plan_number plan }
+/// One number for each plan.
+pub fn plan_number(plan: Plan) -> u64
+    ensures is { result ≡ plan_number plan }
+    ensures small { result < 4 }
 {
     match plan {
         Plan::Term => 0,

@@ -7,6 +7,7 @@ mod covered;
 mod key;
 mod laws;
 mod measures;
+mod units;
 mod valuing;
 mod worth;
 

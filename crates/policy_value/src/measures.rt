@@ -14,7 +14,7 @@ use crate::covered::Covered;
 use crate::key::CacheKey;
 use crate::worth::{Measure, Worth};
 use basis_book::Basis;
-use crvm_reserve::{MeanParts, bounds_by, mean_by, paid_up_by, paid_up_mean_by};
+use crvm_reserve::{MeanParts, bounds_by, bounds_by_unit, mean_by, paid_up_by, paid_up_mean_by};
 use deficiency_reserve::{Adequacy, adequacy, minimum_by};
 use policy_types::{Policy, Status};
 
@@ -74,8 +74,8 @@ fn bounds(
         return paid_up_by(&values, policy.amount);
     }
     let key = key_of(policy, covered.own.basis_row);
-    let (values, premium) = cache.priced(basis, key, covered, t);
-    bounds_by(&values, &premium, policy.amount)
+    let unit = cache.unit(basis, key, covered, t);
+    bounds_by_unit(unit, policy.amount)
 }
 
 /// The bounds of the mean reserve, which is the terminal one at the end of cover.

@@ -1,5 +1,5 @@
--- The store of columns.
-use Rattle.std.specs.Prelude.{◌≡◌, ℕ, ◌+◌, ◌-◌, ◌*◌, ◌%◌, ◌<◌, ◌≤◌, List, Some, length, slice_get, slice_index_or}
+-- The stores of columns and of units.
+use Rattle.std.specs.Prelude.{◌≡◌, ℕ, ◌+◌, ◌-◌, ◌*◌, ◌%◌, ◌<◌, ◌≤◌, ◌⊎◌, List, Some, length, slice_get, slice_index_or}
 use Rattle.rate_table.specs.Rates.{Rates}
 use Rattle.present_value.specs.Ends.{value_to}
 use Rattle.present_value.specs.Values.{pair_at}
@@ -9,6 +9,10 @@ use Rattle.present_value.specs.declared.column.Stream.TheVariants.{Insurance, En
 use Rattle.policy_value.specs.declared.columns.ColumnKey.{ColumnKey}
 use Rattle.policy_value.specs.declared.columns.ColumnStore.{ColumnStore}
 use Rattle.policy_value.specs.declared.columns.KeptColumn.{KeptColumn}
+use Rattle.policy_value.specs.declared.key.CacheKey.{CacheKey}
+use Rattle.policy_value.specs.declared.units.KeptUnit.{KeptUnit}
+use Rattle.policy_value.specs.declared.units.UnitStore.{UnitStore}
+use Rattle.policy_value.specs.Keys.{plan_number}
 
 -- the column is that of a key, and has the value at an age
 abbrev pub HasAge : KeptColumn → ColumnKey → ℕ → Type 0
@@ -45,3 +49,20 @@ slot_of key = (((key.basis_row * 41 + key.issue) * 3 + stream_number key.stream)
 pub record IsAtSlot (store : ColumnStore) (key : ColumnKey) (age place : ℕ) : Type 0 where
   pub written : slice_get store.places.items (slot_of key) ≡ Some place
   pub lies : HasAgeAt store.kept.items place key age
+
+-- the reserve per unit of amount of a key at year t
+abbrev pub kept_unit : CacheKey → ℕ → Pair → KeptUnit
+kept_unit key t unit = record { key = key; t = t; unit = unit }
+
+-- where among so many places that of a key at year t is
+abbrev pub unit_place : CacheKey → ℕ → ℕ → ℕ
+unit_place key t count = ((((4 * key.basis_row + plan_number key.plan) * 131 + key.age) * 131 + key.years) * 131 + t) % count
+
+-- it is kept
+abbrev pub HoldsUnit : UnitStore → CacheKey → ℕ → Pair → Type 0
+HoldsUnit store key t unit =
+    slice_get store.places.items (unit_place key t (length store.places.items)) ≡ Some (Some (kept_unit key t unit))
+
+-- at most half of the places were taken since there are so many, or there may be no more
+abbrev pub HasUnitRoom : UnitStore → Type 0
+HasUnitRoom store = (store.most ≤ length store.places.items) ⊎ (2 * store.put ≤ length store.places.items)

@@ -22,6 +22,14 @@ returns-clause-hi c = λ cover cap t made.
     c.saturating_sub-2.ensures ∙ ap (λ k. c.args.values.now.ben.hi - k) c.quotient_down-least.ensures
     ∙ reserve_hi_is cover cap t c.args.values.now c.args.premium.now made
 
+pub returns-clause-unit : goal.returns-clause-unit
+returns-clause-unit c = λ cover cap t made. record {
+  reserved = made.reserved;
+  within = made.within;
+  lo = c.saturating_sub.ensures ∙ ap (λ k. c.args.values.now.ben.lo - k) c.quotient_up-most.ensures ∙ reserve_lo_is cover cap t c.args.values.now c.args.premium.now made;
+  hi = c.saturating_sub-2.ensures ∙ ap (λ k. c.args.values.now.ben.hi - k) c.quotient_down-least.ensures ∙ reserve_hi_is cover cap t c.args.values.now c.args.premium.now made;
+}
+
 pub returns-clause-small_lo : goal.returns-clause-small_lo
 returns-clause-small_lo c =
     let are = small c.requires.made.cover c.requires.made.cap c.requires.made.year c.args.values.now c.args.premium.now c.requires.made.made in

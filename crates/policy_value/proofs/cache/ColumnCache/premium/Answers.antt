@@ -10,6 +10,7 @@ returns-clause-right c =
           (premium_by_row basis c.args.key c.args.covered.now c.premium-premium.result c.requires.cover c.requires.row c.premium-premium.ensures.premium)
           (c.find.ensures.right basis c.requires.right.premiums);
       columns = rw c.keep.ensures.columns c.premium-premium.ensures.right;
+      units = rw (c.keep.ensures.units, c.find.ensures.units) c.requires.right.units;
     }
 
 pub returns-in-Some-clause-premium : goal.returns-in-Some-clause-premium
@@ -21,6 +22,7 @@ pub returns-in-Some-clause-right : goal.returns-in-Some-clause-right
 returns-in-Some-clause-right c = record {
   premiums = c.find.ensures.right c.args.basis.now c.requires.right.premiums;
   columns = rw c.find.ensures.columns c.requires.right.columns;
+  units = rw c.find.ensures.units c.requires.right.units;
 }
 
 pub returns-clause-keys : goal.returns-clause-keys

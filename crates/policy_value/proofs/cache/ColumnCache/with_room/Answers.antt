@@ -7,6 +7,7 @@ pub returns-in-Ok-clause-right : goal.returns-in-Ok-clause-right
 returns-in-Ok-clause-right c = λ basis. record {
   premiums = rw c.in-Ok.ensures (All-nil (IsRightPremium basis));
   columns = c.in_ok-columns.ensures.right basis;
+  units = c.in_ok-units.ensures basis;
 }
 
 pub returns-in-Ok-clause-empty : goal.returns-in-Ok-clause-empty

@@ -1,0 +1,10 @@
+use Rattle.std.proofs.Common.{rules}
+use Rattle.std.proofs.lemmas.List.Elements.{All-nil}
+use Rattle.policy_value.specs.Caches.{IsRightPlace}
+use Rattle.policy_value.proofs.units.UnitStore.new.Goals as goal
+
+pub returns : goal.returns
+returns c = λ basis. record {
+  store = record { some = search rules; few = search rules; most = search rules; room = search rules };
+  places = c.add_places.ensures.right basis (rw c.in-Ok.ensures.items (All-nil (IsRightPlace basis)));
+}
