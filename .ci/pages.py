@@ -26,9 +26,9 @@ LIMITS = {
     "docs/AUDIT.md": 2700,
     "docs/OPERATIONS.md": 2650,
     "docs/FORMATS.md": 6150,
-    "docs/ARCHITECTURE.md": 5100,
+    "docs/ARCHITECTURE.md": 5200,
     "docs/PROOF.md": 8200,
-    "docs/DECISIONS.md": 4100,
+    "docs/DECISIONS.md": 4300,
     "docs/FIGURES.md": 1700,
 }
 MOST_IN_A_SENTENCE = 35
