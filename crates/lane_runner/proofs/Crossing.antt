@@ -7,8 +7,8 @@ use denote.Param.SendFields.{FieldsHave}
 use denote.Param.Send.{IsSend, IsSync, sendable}
 use Rattle.std.proofs.Crossing.{crosses}
 use Rattle.rtrb.proofs.end.End.TheSendSync as ring
-use Rattle.std.specs.contracts.timed.Parker as parker
 use Rattle.policy_types.specs.contracts.script.Lane as lane
+use Rattle.lane_runner.specs.contracts.bell.WriterBell as bell
 use Rattle.lane_runner.specs.contracts.telling.Inlet as inlet
 use Rattle.lane_runner.specs.contracts.telling.Outlet as outlet
 use Rattle.lane_runner.specs.contracts.transcript.TranscriptLine as line
@@ -19,9 +19,9 @@ line_crosses = search (sendable, crosses) depth 100 fits 200000
 pub lane_crosses : IsSync lane.the_row
 lane_crosses = search (sendable, crosses) depth 40 fits 50000
 
--- whoever sleeps may be woken by several
-pub parker_crosses : IsSync parker.the_row
-parker_crosses = search (sendable, crosses) depth 40 fits 50000
+-- the writer may be woken by several
+pub bell_crosses : IsSync bell.the_row
+bell_crosses = search (sendable, crosses) depth 40 fits 50000
 
 pub outlet_crosses : IsSend outlet.the_row
 outlet_crosses = search (line_crosses, ring.the_send, sendable, crosses) depth 100 fits 200000

@@ -5,7 +5,7 @@ use Rattle.std.proofs.Crossing.{crosses, sync}
 use Rattle.shared_office.proofs.Crossing.{crosses_office}
 use Rattle.snapshot_value.proofs.Crossing.{basis_crosses}
 use Rattle.lane_runner.specs.inside.Parts.{HasRunIn, IsReadySeat}
-use Rattle.lane_runner.proofs.Crossing.{lane_crosses, outlet_crosses, parker_crosses, seven_sync}
+use Rattle.lane_runner.proofs.Crossing.{bell_crosses, lane_crosses, outlet_crosses, seven_sync}
 use Rattle.lane_runner.proofs.SeatSteps.{got, have_run, zip_at, zip_length}
 use Rattle.lane_runner.proofs.running.run_all.Goals as goal
 
@@ -39,4 +39,4 @@ for_each_mut-requires-send-T g c κs within = search (crosses_office, outlet_cro
 
 pub for_each_mut-requires-sync-F : goal.for_each_mut-requires-sync-F
 for_each_mut-requires-sync-F g c κs within =
-    search (crosses_office, lane_crosses, basis_crosses, parker_crosses, sync, seven_sync, declared_sync, as_row_sync, sendable, crosses) depth 20
+    search (crosses_office, lane_crosses, basis_crosses, bell_crosses, sync, seven_sync, declared_sync, as_row_sync, sendable, crosses) depth 20
