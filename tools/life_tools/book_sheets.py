@@ -9,7 +9,7 @@ from __future__ import annotations
 from dataclasses import dataclass
 from typing import Any, Callable, Iterator, Sequence
 
-from life_tools.arrays import Cents, np
+from life_tools.arrays import Cents
 from life_tools.changes import Cash, Moved
 from life_tools.class_bases import one_basis
 from life_tools.columns import columns_at
@@ -21,9 +21,9 @@ from life_tools.entries.report import read_both
 from life_tools.formats import Wrong, day_in, demand
 from life_tools.groups import Groups, Joined, Sums, demand_whole, grouped, whole
 from life_tools.periods import Asked, NotWhole
-from life_tools.policy_columns import CODE_OF_STATUS
 from life_tools.printed_columns import ColumnValuation, Rows, valuation_of
 from life_tools.provenance import sum_of_file
+from life_tools.samples import sizes_of
 from life_tools.statement import Statement, statement_of
 
 AT_ONCE = 1 << 20
@@ -162,11 +162,7 @@ def due_of(wanted: Wanted, day: str, within: str) -> Made:
 
 def drawable_of(wanted: Wanted, on: str, measure: str, by: str) -> Made:
     valuation, joined = both(wanted, on, measure)
-    sizes = joined.rows.bounds[:, -1]
-    if by == "amount":
-        of = joined.policies
-        insured = np.isin(joined.rows.status, [CODE_OF_STATUS["inforce"], CODE_OF_STATUS["paidup"]])
-        sizes = np.where(insured & (of.issued <= number_at(day_in(on))), of.amount, 0)
+    sizes = sizes_of(joined.rows, joined.policies, by, day_in(on))
     return Made(valuation.position, Drawable(joined.rows, sizes, valuation.words))
 
 

@@ -5,13 +5,14 @@ n + 1. `commands.command_in` says the same of one record.
 """
 from __future__ import annotations
 
+import os
 from dataclasses import dataclass, fields
-from typing import Iterable, Iterator
+from typing import IO, Iterable, Iterator
 
 from life_tools.commands import BODY_SIZE, LAST_AGE, OLDEST_AT_ISSUE, PLAN_CODES, Command
 from life_tools.day_columns import FIRST, LAST, day_at
-from life_tools.formats import FIELDS, KINDS, MOST_CENTS, MOST_REINSTATEMENT_CENTS, PLANS
-from life_tools.journals import FIRST_GATE, RECORD_SIZE
+from life_tools.formats import FIELDS, KINDS, MOST_CENTS, MOST_REINSTATEMENT_CENTS, PLANS, demand
+from life_tools.journals import FIRST_GATE, RECORD_SIZE, gate_of
 from life_tools.arrays import Array, Cents, np
 
 # a record as it stands in the file; the bytes behind its premium are 0 of every kind
@@ -40,8 +41,11 @@ class Records:
     def __len__(self) -> int:
         return len(self.kind)
 
+    def some(self, places: slice) -> Records:
+        return Records(*(getattr(self, column.name)[places] for column in fields(self)))
+
     def front(self, count: int) -> Records:
-        return Records(*(getattr(self, column.name)[:count] for column in fields(self)))
+        return self.some(slice(count))
 
     def command(self, place: int) -> Command:
         """The command of a place, as an object."""
@@ -122,18 +126,39 @@ def raw_records(data: bytes, count: int) -> Array:
     return np.frombuffer(data, RECORD, count, FIRST_GATE) if count else np.empty(0, RECORD)
 
 
-def records_of(data: bytes, count: int) -> tuple[Records, int]:
-    """The columns of a file's first records, and the place of the first one that spells no command, or their count."""
-    raw, records = raw_records(data, count), blank(count)
-    for start in range(0, count, AT_ONCE):
-        some = slice(start, start + AT_ONCE)
-        block = Records(*(getattr(records, column.name)[some] for column in fields(Records)))
-        take_block(raw[some], block)
-        wrong = ~is_right(block) | has_idle_bytes(raw[some])
+def taken(blocks: Iterable[Array], count: int) -> tuple[Records, int]:
+    """The columns of so many records, and the place of the first one that spells no command, or their count."""
+    records, start = blank(count), 0
+    for raw in blocks:
+        block = records.some(slice(start, start + len(raw)))
+        take_block(raw, block)
+        wrong = ~is_right(block) | has_idle_bytes(raw)
         if wrong.any():
             first = start + int(wrong.argmax())
             return records.front(first), first
+        start += len(raw)
     return records, count
+
+
+def records_of(data: bytes, count: int) -> tuple[Records, int]:
+    """Those of a file's first records."""
+    raw = raw_records(data, count)
+    return taken((raw[start:start + AT_ONCE] for start in range(0, count, AT_ONCE)), count)
+
+
+def blocks_in(file: IO[bytes], count: int) -> Iterator[Array]:
+    """So many records from here on."""
+    for start in range(0, count, AT_ONCE):
+        yield np.fromfile(file, RECORD, min(AT_ONCE, count - start))
+
+
+def records_behind(path: str, first: int, last: int) -> Records:
+    """The columns of a journal's records behind one position, up to another; none but these are read."""
+    with open(path, "rb") as file:
+        file.seek(gate_of(first), os.SEEK_SET)
+        records, spelled = taken(blocks_in(file, last - first), last - first)
+    demand(spelled == last - first, f"{path}: record {first + spelled} spells no command")
+    return records
 
 
 # --- some policies alone, of a file whose records aren't judged ---

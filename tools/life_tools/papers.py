@@ -13,11 +13,12 @@ from life_tools.day_columns import day_at
 from life_tools.entries.why import compared
 from life_tools.formats import Wrong, demand
 from life_tools.fronts import front
-from life_tools.printed_books import ValuedRow, state_in, valuation_in
+from life_tools.printed_books import ValuedRow
+from life_tools.printed_columns import printed_policies
 from life_tools.progress import Progress
 from life_tools.reserves import row_for
 from life_tools.rules import Policy
-from life_tools.samples import Sample, drawn_of, sizes_of
+from life_tools.samples import Sample, drawn_of, printed_by, sizes_of
 from life_tools.sampling import Draw, chance_of
 from life_tools.seals import Seal, seal_of
 from life_tools.tables import BasisRow, read_basis
@@ -81,22 +82,21 @@ def paper_of(policy: Policy, row: ValuedRow, size: int, sample: Sample, basis: S
 def papers_of(sample: Sample, folder: str, life: str | None = None) -> Papers:
     """The papers of a sample of a folder's book, which is drawn once more: it must come to the same rows."""
     with front(folder, sample.position, [sample.basis], life) as copy:
-        words = [] if sample.measure == "terminal" else [f"--{sample.measure}"]
-        valuation = valuation_in(copy.asks("value", str(sample.on), "--at", str(copy.position), "--basis", sample.basis, *words))
-        policies = state_in(copy.asks("state")).policies
+        valuation, state = printed_by(copy, sample.on, sample.basis, sample.measure)
         basis = read_basis(os.path.join(copy.folder, sample.basis))
         book = columns_at(os.path.join(copy.folder, JOURNAL))
         seal = seal_of(copy.folder, None, [sample.basis])
-    drawn = drawn_of(valuation, policies, sample.basis, sample.by, sample.asked, sample.seed)
+    sizes = sizes_of(valuation.rows, state.policies, sample.by, sample.on)
+    drawn = drawn_of(valuation, sizes, sample.basis, sample.by, sample.asked, sample.seed)
     if drawn.sample != sample:
         raise NotTheSample(f"seed {sample.seed} draws other rows of {folder} at position {sample.position}")
-    sizes = sizes_of(valuation.rows, policies, sample.by, sample.on)
+    policies = printed_policies(state.policies)
     found, progress = [], Progress("working out rows", len(sample.rows))
     for place, row in zip(drawn.draw.places, sample.rows):
         postings = postings_in(book, row.number)
-        policy = replace(policies[place], last=day_at(book.policies.last[place]))
+        policy = replace(policies.policy(place), last=day_at(book.policies.last[place]))
         demand(policy == book.policies.policy(place), f"the state has another policy {row.number} than the journal")
-        found.append(paper_of(policy, row, sizes[place], sample, basis, postings))
+        found.append(paper_of(policy, row, int(sizes[place]), sample, basis, postings))
         progress.at(len(found))
     progress.end()
     return Papers(os.path.basename(os.path.realpath(folder)), sample, drawn.draw, seal, found)

@@ -6,6 +6,8 @@ command of each, then the second, and so on. Of the few policies that are left i
 """
 from __future__ import annotations
 
+from typing import Iterator
+
 from life_tools.day_columns import anniversaries
 from life_tools.formats import MOST_YEARS
 from life_tools.journal_columns import CLAIM, ISSUE, MATURE, PAIDUP, PREMIUM, REINSTATE, SETTLE, UPGRADE, Records
@@ -17,6 +19,38 @@ from life_tools.rules import EARLY, GRACE, Policy, Refusal, booking_of, decide
 SPREAD, LEAST_TABLE = 8, 1 << 20
 # so few policies that their commands are decided one after the other
 FEW = 24
+
+
+class Rounds:
+    """What is left of policies' commands, in rounds: the first of each policy, then the second, and so on.
+
+    `order` has the commands policy by policy, and of each policy it begins and ends at a place. Those with most commands left
+    stand first; what few policies have left in the end is given of one policy after the other.
+    """
+
+    def __init__(self, order: Array, begins: Array, ends: Array) -> None:
+        self.order, self.begins, self.ends = order, begins, ends
+        left = ends - begins
+        mine = np.flatnonzero(left)
+        self.mine = mine[np.argsort(-left[mine], kind="stable")]
+        self.rising = left[self.mine][::-1]
+        self.done = 0
+
+    @property
+    def active(self) -> int:
+        return len(self.mine) - int(np.searchsorted(self.rising, self.done, "right"))
+
+    def rounds(self) -> Iterator[tuple[Array, Array]]:
+        """A command of each of some policies, and the policies."""
+        while (active := self.active) > FEW:
+            mine = self.mine[:active]
+            yield self.order[self.begins[mine] + self.done], mine
+            self.done += 1
+
+    def alone(self) -> Iterator[tuple[int, Array]]:
+        """A policy, and all commands that it has left behind the rounds."""
+        for place in self.mine[:self.active].tolist():
+            yield place, self.order[self.begins[place] + self.done:self.ends[place]]
 
 
 class Replay:
@@ -95,17 +129,11 @@ class Replay:
         self.finds_bad(where[~right])
 
     def judge_tails(self, order: Array, tails: Array, ends: Array) -> None:
-        """The rounds, in which the policies with most commands left stand first."""
-        left = ends - tails
-        mine = np.flatnonzero(left)
-        mine = mine[np.argsort(-left[mine], kind="stable")]
-        rising, tail = left[mine][::-1], tails[mine]
-        done = 0
-        while (active := len(mine) - int(np.searchsorted(rising, done, "right"))) > FEW:
-            self.judge_round(order[tail[:active] + done], mine[:active])
-            done += 1
-        for place in mine[:active]:
-            self.judge_alone(int(place), order[tails[place] + done:ends[place]])
+        left = Rounds(order, tails, ends)
+        for where, places in left.rounds():
+            self.judge_round(where, places)
+        for place, where in left.alone():
+            self.judge_alone(place, where)
 
     def judge_round(self, where: Array, places: Array) -> None:
         """A command of each of some policies."""
@@ -167,10 +195,11 @@ def stable_order(place: Array) -> Array:
 
 def places_of(numbers: Array, known: Array) -> Array:
     """The first place of each number among those that are known, or -1."""
-    if not len(known):
+    if not len(known) or not len(numbers):
         return np.full(len(numbers), -1, np.int32)
-    if int(numbers.max()) <= SPREAD * len(numbers) + LEAST_TABLE:
-        table = np.full(int(numbers.max()) + 1, -1, np.int32)
+    most = int(max(numbers.max(), known.max()))
+    if most <= SPREAD * len(numbers) + LEAST_TABLE:
+        table = np.full(most + 1, -1, np.int32)
         # of equal ones the last that is written stays
         table[known[::-1]] = np.arange(len(known), dtype=np.int32)[::-1]
         return table[numbers]

@@ -11,15 +11,22 @@ import datetime
 from dataclasses import dataclass
 from typing import Sequence
 
+from life_tools.arrays import Cents, np
+from life_tools.class_bases import one_basis
+from life_tools.class_columns import valued_columns
+from life_tools.day_columns import number_at
 from life_tools.formats import MOST_NUMBER, Wrong, day_in, demand, measure_of, money, number_of, read_whole
-from life_tools.fronts import front
-from life_tools.printed_books import PrintedValuation, ValuedRow, row_of, state_in, valuation_in
-from life_tools.rules import Policy
+from life_tools.fronts import Front, front
+from life_tools.groups import demand_same
+from life_tools.policy_columns import INFORCE, MADE_PAIDUP
+from life_tools.printed_books import ValuedRow, row_of
+from life_tools.printed_columns import ColumnState, ColumnValuation, Rows, StatePolicies, WholePolicies, whole_state_of
 from life_tools.sampling import Draw, asked_in, draw, seed_in
 from life_tools.tables import NAME
 
 BY = ("amount", "reserve")
 MEASURED = ("terminal", "mean")
+INSURED = (INFORCE, MADE_PAIDUP)
 MOST_SAMPLE_BYTES = 64 * 2**20
 MOST_TOTAL = 10**18
 BOUNDS = 2
@@ -62,27 +69,26 @@ class Drawn:
 
 # --- how one is drawn ---
 
-def sizes_of(rows: Sequence[ValuedRow], policies: Sequence[Policy], by: str, on: datetime.date) -> list[int]:
+def sizes_of(rows: Rows, policies: StatePolicies, by: str, on: datetime.date) -> Cents:
     """What each row counts for: its upper bound, or the amount that is insured on the day."""
     if by == "reserve":
-        return [row.bounds[-1] for row in rows]
-    return [policy.amount if policy.status in ("inforce", "paidup") and policy.issued <= on else 0 for policy in policies]
+        return rows.bounds[:, -1]
+    return np.where(np.isin(rows.status, INSURED) & (policies.issued <= number_at(on)), policies.amount, 0)
 
 
-def demand_same(valuation: PrintedValuation, policies: Sequence[Policy]) -> None:
-    same = len(policies) == len(valuation.rows) and all(
-        row.number == policy.number and row.status == policy.status for row, policy in zip(valuation.rows, policies))
-    demand(same, "the valuation's rows aren't those of the policies of the state")
-
-
-def drawn_of(valuation: PrintedValuation, policies: Sequence[Policy], basis: str, by: str, asked: int, seed: int) -> Drawn:
-    """The sample of a printed valuation, whose rows add up to its total, and of the printed state beside it."""
-    demand_same(valuation, policies)
-    found = draw(sizes_of(valuation.rows, policies, by, valuation.on), asked, seed)
-    rows = tuple(valuation.rows[place] for place in found.places)
-    sample = Sample(valuation.on, valuation.position, len(valuation.rows), valuation.measure, basis, by, asked, seed, found.total,
-                    found.start, rows)
+def drawn_of(valuation: ColumnValuation, sizes: Cents, basis: str, by: str, asked: int, seed: int) -> Drawn:
+    """The sample of the rows of a printed valuation, which add up to its total."""
+    rows, found = valuation.rows, draw(sizes.tolist(), asked, seed)
+    sample = Sample(valuation.on, valuation.position, len(rows), valuation.measure, basis, by, asked, seed, found.total,
+                    found.start, tuple(map(rows.row, found.places)))
     return Drawn(sample, found, valuation.words)
+
+
+def printed_by(copy: Front, on: datetime.date, basis: str, measure: str) -> tuple[ColumnValuation, ColumnState[WholePolicies]]:
+    """The valuation of a copy, and its state, which have the same policies."""
+    valuation, state = valued_columns(copy, str(on), one_basis(basis), measure), whole_state_of(copy.streams("state"))
+    demand_same(valuation, state)
+    return valuation, state
 
 
 def sample_of(folder: str, on: datetime.date, asked: int, seed: int, by: str, position: int | None = None,
@@ -91,10 +97,8 @@ def sample_of(folder: str, on: datetime.date, asked: int, seed: int, by: str, po
     demand(by in BY, f"{by} is none of {', '.join(BY)}")
     demand(measure in MEASURED, f"{measure} is none of {', '.join(MEASURED)}")
     with front(folder, position, [basis], life) as copy:
-        words = [] if measure == "terminal" else [f"--{measure}"]
-        valuation = valuation_in(copy.asks("value", str(on), "--at", str(copy.position), "--basis", basis, *words))
-        policies = state_in(copy.asks("state")).policies
-    return drawn_of(valuation, policies, basis, by, asked, seed)
+        valuation, state = printed_by(copy, on, basis, measure)
+    return drawn_of(valuation, sizes_of(valuation.rows, state.policies, by, on), basis, by, asked, seed)
 
 
 # --- as text ---

@@ -4,7 +4,8 @@ from __future__ import annotations
 import csv
 import os
 import shutil
-from typing import Any, Callable, Sequence
+from itertools import chain
+from typing import Any, Callable, Iterable, Sequence
 
 from life_tools.formats import Wrong, demand
 from life_tools.packages import package
@@ -50,7 +51,7 @@ def csv_rows(sheet: Sheet) -> list[list[str]]:
     return [head, *([harmless(cell) if kind == TEXT else cell for cell, kind in zip(row, kinds)] for row in rows)]
 
 
-def write_rows(path: str, rows: Sequence[Sequence[str]]) -> None:
+def write_rows(path: str, rows: Iterable[Sequence[str]]) -> None:
     with open(path, "x", newline="", encoding="utf-8") as file:
         csv.writer(file, lineterminator="\n").writerows(rows)
 
@@ -88,7 +89,7 @@ def write_policies(folder: str, sheets: Sequence[Sheet]) -> None:
     """A file for each sheet that tells each policy's part."""
     for sheet in sheets:
         if sheet.policy_head:
-            write_rows(os.path.join(folder, f"{sheet.name}.csv"), [sheet.policy_head, *sheet.policy_rows])
+            write_rows(os.path.join(folder, f"{sheet.name}.csv"), chain([sheet.policy_head], sheet.policy_rows))
 
 
 # --- a workbook ---

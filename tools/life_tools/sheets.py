@@ -2,7 +2,7 @@
 from __future__ import annotations
 
 from dataclasses import dataclass, field
-from typing import NamedTuple, Sequence, Union
+from typing import Iterable, NamedTuple, Sequence, Union
 
 from life_tools.formats import demand, money
 
@@ -37,7 +37,7 @@ class Sheet:
     checks: list[str] = field(default_factory=list)
     # each policy's part, where that was asked for: a head, and rows as they are written
     policy_head: list[str] = field(default_factory=list)
-    policy_rows: list[list[str]] = field(default_factory=list)
+    policy_rows: Iterable[list[str]] = ()
 
     def add(self, *cells: Cell, section: int = 0, is_total: bool = False) -> None:
         demand(len(cells) == len(self.columns), f"{self.name}: a row of {len(cells)} cells for {len(self.columns)} columns")
