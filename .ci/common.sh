@@ -51,6 +51,8 @@ needs_proved() {
 }
 
 export PYTHONDONTWRITEBYTECODE=1
+# Debian's Python sees the packages that .ci/setup.sh installs; by another one each tool would begin anew
+[ ! -x /usr/bin/python3 ] || PATH=/usr/bin:$PATH
 failed=0
 name=
 examples=$root/examples
@@ -144,6 +146,12 @@ ends_before_the_journal() {
     "$life" "$@" </dev/null >out
     judge $? "$wanted_status" wanted
     leaves_none
+}
+
+# Lines `PATTERN | WORDS` of standard input: words of life-tools that are refused with 2, or with this status, all of them by
+# one run of Python. Each that isn't refused, or tells otherwise, is told.
+refused() {
+    python3 "$root/.ci/tools/refused.py" "$check: $name" "$@" || failed=1
 }
 
 # the last line of a check: what was tried, where all was well

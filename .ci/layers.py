@@ -1,6 +1,10 @@
 """The layers: each crate of crates.txt stands only on crates above its own heading; docs/ARCHITECTURE.md lists the same
 crates under the same headings, in the same order. And each file of a crate that the page names is there, with the
-functions that a table has beside it; and its table of the gate names each check."""
+functions that a table has beside it; and its table of the gate names each check.
+
+usage: python3 .ci/layers.py          looks at all of that
+       python3 .ci/layers.py NAME     the crates that a change of this one has proved again, and the processor seconds of each
+"""
 from __future__ import annotations
 
 
@@ -13,6 +17,7 @@ from typing import Any
 
 TOP = pathlib.Path(__file__).resolve().parent.parent
 PAGE = "docs/ARCHITECTURE.md"
+FIGURES = "docs/FIGURES.md"
 
 
 def crates_by_heading(text: str) -> list[tuple[str, list[tuple[str, list[str]]]]]:
@@ -86,8 +91,38 @@ def wrong_checks(page: str) -> Iterator[Any]:
             yield f"{PAGE}: the table of the gate doesn't name the check {check.stem}"
 
 
+def crates_above(layers: list[tuple[str, list[tuple[str, list[str]]]]], name: str) -> list[str]:
+    """A crate and those that stand on it, or on one that does, in the order of crates.txt."""
+    found: list[str] = []
+    for crate, libraries in (each for _, crates in layers for each in crates):
+        if crate == name or not set(found).isdisjoint(libraries):
+            found.append(crate)
+    return found
+
+
+def seconds_of_crates() -> dict[str, int]:
+    """The processor seconds of each crate in a gate from nothing, all parts together, as the figures have them."""
+    block = (TOP / FIGURES).read_text(encoding="utf-8").partition("\nSeconds by crate")[2].split("```")[1]
+    return {name: int(seconds) for name, seconds in re.findall(r"(\w+) +(\d+)\b", block)}
+
+
+def tell_above(layers: list[tuple[str, list[tuple[str, list[str]]]]], name: str) -> int:
+    above, seconds = crates_above(layers, name), seconds_of_crates()
+    if not above:
+        print(f"layers: crates.txt has no crate {name}", file=sys.stderr)
+        return 2
+    for crate in above:
+        print(f"{crate:20}{seconds.get(crate, '?'):>6}")
+    unknown = [crate for crate in above if crate not in seconds]
+    print(f"{len(above)} crates, {sum(seconds.get(crate, 0) for crate in above)} processor seconds ({FIGURES})"
+          f"{', without those of ' + ', '.join(unknown) if unknown else ''}")
+    return 0
+
+
 def main() -> int:
     layers = crates_by_heading((TOP / "crates.txt").read_text(encoding="utf-8"))
+    if sys.argv[1:]:
+        return tell_above(layers, sys.argv[1])
     page = (TOP / PAGE).read_text(encoding="utf-8")
     wrong = [*wrong_order(layers), *wrong_page(layers, page), *wrong_files(page), *wrong_checks(page)]
     for what in wrong:

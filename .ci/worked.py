@@ -34,11 +34,11 @@ OF_A_DISK = set("""
 
 # Held by no worked case, for good, by the reason.
 EXCEPTIONS = {
-    "How a mode ends with a basis: no worked run has one. It puts together what is held apart, and says no value of its own.": """
-        script_run.specs.Running.EndsByName script_run.specs.Running.EndsScriptBy trial_load.specs.Loading.IsLoadOf""",
+    "How a mode ends with a basis: no worked run has one. It puts together what is held apart, and says no value of its own.":
+        "trial_load.specs.Loading.IsLoadOf",
     "The devices of a contract, as one value.": """
         program_endings.specs.Writing.between program_endings.specs.Writing.input_between
-        program_endings.specs.Writing.shelf_between life_app.specs.inside.Books.ended_disks""",
+        program_endings.specs.Writing.shelf_between life_app.specs.inside.Over.ended_disks""",
     "Says nothing.": "program_endings.specs.Replies.AreAny",
 }
 

@@ -3,10 +3,12 @@
 are carried on to so many policies.
 
 usage: LIFE_PROGRAM=PROGRAM python3 bench/measure_company.py [--books 40] [--policies 250000] [--commands 16]
-       [--company 40000000] [--folder FOLDER]
+       [--company 40000000] [--minutes 20] [--folder FOLDER]
 
 A book has whole life policies, each with its issue and premiums on its anniversaries, and so 65 bytes for each command. Forty
-books of 250,000 policies with 16 commands take 10.4 GB. One book of the list has a basis of another name, and one is held by
+books of 250,000 policies with 16 commands take 10.4 GB. A month-end is taken of as many books first as there are processors;
+where so many more wouldn't be done in the minutes, or find no room on the disk, the largest number that does is taken, and it
+says so. From there all is carried on by plain proportion. One book of the list has a basis of another name, and one is held by
 somebody else while the list is valued once more: its line and the status are looked at.
 """
 from __future__ import annotations
@@ -20,6 +22,7 @@ import subprocess
 import sys
 import tempfile
 import time
+from typing import NamedTuple
 
 ROOT = os.path.dirname(os.path.dirname(os.path.abspath(__file__)))
 sys.path.insert(0, os.path.join(ROOT, "tools"))
@@ -33,6 +36,12 @@ from life_tools.journals import EMPTY, FIRST_GATE  # noqa: E402
 ON = "2024-12-31"
 PREMIUM_CENTS, AMOUNT_CENTS = 40000, 10_000_000
 FIRST_ISSUE, DAYS_OF_ISSUE = 9000, 3650
+# of which try_held takes the third
+LEAST_BOOKS = 3
+# what a row takes that is kept, and what stays free of the disk
+ROW_BYTES, DISK_LEFT = 64, 4 * 10**9
+# of the minutes, beside a first month-end of a few books and the division
+SHARE = 0.8
 TOOL = [sys.executable, os.path.join(ROOT, "tools", "life-tools"), "books"]
 
 
@@ -44,25 +53,32 @@ def journal(place: int, policies: int, commands: int) -> bytes:
     records = np.zeros(policies * commands, RECORD)
     records["gate"], records["number"] = 1, np.tile(numbers, commands)
     first, later = records[:policies], records[policies:]
-    first["head"] = (ISSUE << 24) + (PLAN_CODES["whole"] << 16) + (ages << 8)
+    first["kind"], first["plan"], first["age"] = ISSUE, PLAN_CODES["whole"], ages
     first["day"], first["amount"], first["premium"] = issued, AMOUNT_CENTS, PREMIUM_CENTS
-    later["head"], later["amount"] = PREMIUM << 24, PREMIUM_CENTS
+    later["kind"], later["amount"] = PREMIUM, PREMIUM_CENTS
     for year in range(commands - 1):
         later["day"][year * policies:(year + 1) * policies] = anniversaries(issued, year)
     return EMPTY[:FIRST_GATE] + records.tobytes() + bytes(1)
 
 
-def write_books(folder: str, books: int, policies: int, commands: int) -> None:
-    with open(os.path.join(folder, "books.csv"), "w", encoding="ascii") as file:
-        for place in range(books):
-            name, basis = f"book{place + 1}", "other.csv" if place == 1 else "basis.csv"
-            os.mkdir(os.path.join(folder, name))
-            with open(os.path.join(folder, name, "journal.life"), "wb") as book:
-                book.write(journal(place, policies, commands))
-            with open(os.path.join(folder, name, basis), "w", encoding="ascii") as rows:
-                rows.write(f"1900-01-01,g.xml,{350 if place == 1 else 400}\n")
-            shutil.copy(os.path.join(ROOT, "examples", "g.xml"), os.path.join(folder, name))
-            file.write(f"{name},{name},{basis}\n")
+def write_book(folder: str, place: int, policies: int, commands: int) -> str:
+    """A book in a folder of its own; its row of the list."""
+    name, basis = f"book{place + 1}", "other.csv" if place == 1 else "basis.csv"
+    os.mkdir(os.path.join(folder, name))
+    with open(os.path.join(folder, name, "journal.life"), "wb") as book:
+        book.write(journal(place, policies, commands))
+    with open(os.path.join(folder, name, basis), "w", encoding="ascii") as rows:
+        rows.write(f"1900-01-01,g.xml,{350 if place == 1 else 400}\n")
+    shutil.copy(os.path.join(ROOT, "examples", "g.xml"), os.path.join(folder, name))
+    return f"{name},{name},{basis}\n"
+
+
+def write_books(folder: str, first: int, last: int, asked: argparse.Namespace) -> None:
+    """The books from one place to another, in the list behind those that are there."""
+    with open(os.path.join(folder, "books.csv"), "a", encoding="ascii") as file:
+        for place in range(first, last):
+            file.write(write_book(folder, place, asked.policies, asked.commands))
+    os.sync()
 
 
 def timed(folder: str, *words: str, status: int = 0) -> tuple[float, str]:
@@ -84,27 +100,82 @@ def try_held(folder: str) -> None:
         sys.exit(f"the held book: {lines[-3:]}")
 
 
-def measure(folder: str, asked: argparse.Namespace) -> None:
-    books, policies, commands = asked.books, asked.policies, asked.commands
-    write_books(folder, books, policies, commands)
-    size = os.path.getsize(os.path.join(folder, "book1", "journal.life"))
-    os.sync()
-    value, _ = timed(folder, "books.csv", "value", ON, "--totals")
-    parts, _ = timed(folder, "books.csv", "value", ON, "--parts", "rows")
-    report, _ = timed(folder, "books.csv", "report", ON, "--rows", "rows", "--csv", "report")
-    try_held(folder)
+class MonthEnd(NamedTuple):
+    """The seconds of a month-end: positions, a total, rows that are kept, and a report by these."""
+
+    positions: float
+    total: float
+    rows: float
+    report: float
+
+    @property
+    def seconds(self) -> float:
+        return sum(self)
+
+
+def month_end(folder: str) -> MonthEnd:
+    positions, printed = timed(folder, "books.csv", "position-on", ON)
+    with open(os.path.join(folder, "at.csv"), "w", encoding="ascii") as file:
+        file.write(printed)
+    at = ("--at", "at.csv")
+    total, _ = timed(folder, "books.csv", "value", ON, *at, "--totals")
+    rows, _ = timed(folder, "books.csv", "value", ON, *at, "--parts", "rows")
+    report, _ = timed(folder, "books.csv", "report", ON, *at, "--rows", "rows", "--csv", "report")
+    shutil.rmtree(os.path.join(folder, "report"))
+    return MonthEnd(positions, total, rows, report)
+
+
+def books_that_fit(folder: str, asked: argparse.Namespace, few: int) -> int:
+    """How many books can be measured in the minutes and on the disk, by the month-end of a few."""
+    begun = time.monotonic()
+    write_books(folder, 0, few, asked)
+    written, taken = time.monotonic() - begun, month_end(folder)
+    # they are written, taken, and valued once more
+    each = (written + taken.seconds + taken.total) / few
+    size = os.path.getsize(os.path.join(folder, "book1", "journal.life")) + ROW_BYTES * asked.policies
+    in_time, on_disk = int(SHARE * asked.minutes * 60 / each), few + (shutil.disk_usage(folder).free - DISK_LEFT) // size
+    print(f"{few} books: {each:.1f} s a book; so {in_time} books are done in {asked.minutes} minutes, and {on_disk} find room")
+    found: int = max(few, min(asked.books, in_time, on_disk))
+    if found < asked.books:
+        print(f"measured are {found} books, and not {asked.books}")
+    return found
+
+
+def split_in_four(folder: str, policies: int) -> float:
     last = policies // 4
     rules = [*(f"numbers={1 + last * place}-{last * (place + 1)}" for place in range(3)), "others"]
-    split, _ = timed(folder, "split", "book1/journal.life", *rules, "part1", "part2", "part3", "part4")
-    print(f"{books} books of {policies:,} policies, {commands} commands each: {books * size / 1e9:.1f} GB; "
-          f"{len(os.sched_getaffinity(0))} processors")
-    print(f"valued in {value:.1f} s, with rows kept in {parts:.1f} s; reported by these rows in {report:.1f} s")
-    print(f"one book of {policies * commands:,} commands divided in four in {split:.1f} s, "
-          f"{split / policies / commands * 1e6:.1f} s for 1,000,000")
-    wanted = math.ceil(asked.company / policies)
-    machines = math.ceil(wanted / books)
-    print(f"{asked.company:,} policies: {wanted} books, {wanted * size / 1e9:.0f} GB, on {machines} such machines; a month-end "
-          f"of rows and report {(parts + report) / 60:.1f} minutes, on one machine {(parts + report) * wanted / books / 60:.0f}")
+    return timed(folder, "split", "book1/journal.life", *rules, "part1", "part2", "part3", "part4")[0]
+
+
+def measure(folder: str, asked: argparse.Namespace) -> None:
+    processors = len(os.sched_getaffinity(0))
+    few = min(asked.books, max(processors, LEAST_BOOKS))
+    books = books_that_fit(folder, asked, few)
+    write_books(folder, few, books, asked)
+    taken = month_end(folder)
+    try_held(folder)
+    split = split_in_four(folder, asked.policies)
+    size, commands = os.path.getsize(os.path.join(folder, "book1", "journal.life")), asked.policies * asked.commands
+    print(f"{books} books of {asked.policies:,} policies, {asked.commands} commands each: {books * size / 1e9:.1f} GB; "
+          f"{processors} processors")
+    print(f"positions in {taken.positions:.1f} s, valued in {taken.total:.1f} s, with rows kept in {taken.rows:.1f} s; reported "
+          f"by these rows in {taken.report:.1f} s")
+    print(f"one book of {commands:,} commands divided in four in {split:.1f} s, {split / commands * 1e6:.1f} s for 1,000,000")
+    tell_company(asked, books, size, taken, split)
+
+
+def tell_company(asked: argparse.Namespace, books: int, size: int, taken: MonthEnd, split: float) -> None:
+    """The rows of the page, carried on by plain proportion."""
+    wanted = math.ceil(asked.company / asked.policies)
+    one = taken.seconds / 60 * wanted / books
+    print(f"carried on from {books} books to {asked.company:,} policies by plain proportion:")
+    rows = ((f"books, of {asked.policies * asked.commands:,} commands each", f"{wanted}"),
+            ("journals", f"{wanted * size / 1e9:.0f} GB"),
+            (f"machines like this one, {books} books each", f"{math.ceil(wanted / books)}"),
+            ("a month-end: positions, total, rows, a report on these", f"{taken.seconds / 60:.1f} minutes"),
+            ("the same on one machine", f"{one:.1f} minutes"), ("a book divided in four", f"{split:.0f} s"))
+    for what, how_much in rows:
+        print(f"| {what} | {how_much} |")
 
 
 def main() -> None:
@@ -113,6 +184,7 @@ def main() -> None:
     parser.add_argument("--policies", type=int, default=250_000)
     parser.add_argument("--commands", type=int, default=16)
     parser.add_argument("--company", type=int, default=40_000_000)
+    parser.add_argument("--minutes", type=float, default=20)
     parser.add_argument("--folder", help="where the books are made (a folder for a while)")
     asked = parser.parse_args()
     with tempfile.TemporaryDirectory(prefix="life-company-", dir=asked.folder) as folder:

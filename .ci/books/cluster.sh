@@ -60,7 +60,7 @@ else
     wait_for 'grep -q "has no workers" remarks || ! kill -0 "$run" 2>/dev/null'
     wait "$run" && complain "books began without a worker"
     begin_worker 2
-    wait_for 'grep -q Registered worker2.log || [ "$("$dask" -c "import distributed; print(len(distributed.Client(\"$address\").scheduler_info()[\"workers\"]))" 2>/dev/null)" = 1 ]'
+    has_workers 1
     timeout 240 python3 "$tools/life-tools" books books.csv value 2010-12-31 --scheduler "$address" >out 2>remarks &
     run=$!
     wait_for 'ls begun.* >/dev/null 2>&1' || complain "nothing was begun"

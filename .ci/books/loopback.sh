@@ -6,11 +6,16 @@ begin_cluster() {
     "$dask" -m distributed.cli.dask_scheduler --host 127.0.0.1 --port 0 --no-dashboard --scheduler-file where.json >scheduler.log 2>&1 &
     scheduler=$!
     wait_for 'test -s where.json' || { complain "no scheduler: $(tail -n 3 scheduler.log)"; return 1; }
-    address=$("$dask" -c 'import json; print(json.load(open("where.json"))["address"])')
+    address=$(sed -n 's/^ *"address": "\(tcp:[^"]*\)".*/\1/p' where.json)
     begin_worker 1
     begin_worker 2
-    wait_for "$dask -c 'import distributed, sys; sys.exit(len(distributed.Client(\"$address\").scheduler_info()[\"workers\"]) < 2)' 2>/dev/null" ||
-        complain "there are no two workers: $(tail -n 3 worker*.log)"
+    has_workers 2
+}
+
+# until the scheduler has so many workers
+has_workers() {
+    "$dask" "$root/.ci/books/workers.py" "$address" "$1" >workers.log 2>&1 ||
+        complain "there are no $1 workers: $(tail -n 1 workers.log) $(tail -n 3 worker?.log)"
 }
 
 begin_worker() {
@@ -34,7 +39,7 @@ end_cluster() {
 }
 
 has_dask() {
-    "$dask" -c 'import distributed' 2>/dev/null
+    "$dask" "$root/.ci/books/workers.py"
 }
 
 skip_cluster() {

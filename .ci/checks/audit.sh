@@ -116,15 +116,17 @@ fi
 sed 's/^sample,reserve,3,3,/sample,reserve,3,4,/' sample >other
 refuses 1 'seed 4 draws other rows' audit papers other --html written
 sed 's/1418.86$/1418.87/' sample >other
-refuses 1 'draws other rows' audit papers other --html written
+refuses 1 'sample has other rows at position 11' audit papers other --html written
 refuses 2 'is no sample' audit papers transcript --html written
 refuses 2 'No such file' audit papers nowhere --html written
-refuses 2 'is no number of rows' audit sample 0 --seed 1 --on 2022-12-31
-refuses 2 'is no seed' audit sample 1 --seed -1 --on 2022-12-31
-refuses 2 'is no day' audit sample 1 --seed 1 --on 2022-13-31
-refuses 2 'no row has a size' audit sample 1 --seed 1 --on 2019-12-31
-refuses 2 'is no position' audit sample 1 --seed 1 --on 2022-12-31 --at 99
-refuses 2 'required' audit papers sample
+refused <<'ROWS'
+is no number of rows | audit sample 0 --seed 1 --on 2022-12-31
+is no seed | audit sample 1 --seed -1 --on 2022-12-31
+is no day | audit sample 1 --seed 1 --on 2022-13-31
+no row has a size | audit sample 1 --seed 1 --on 2019-12-31
+is no position | audit sample 1 --seed 1 --on 2022-12-31 --at 99
+required | audit papers sample
+ROWS
 # a book with a word: its row counts for nothing by its reserve
 echo 2021-02-01,g.xml,400 >late.csv
 refuses 1 'of these 1 have a word in place' audit sample 2 --seed 1 --on 2022-12-31 --at 11 --basis late.csv

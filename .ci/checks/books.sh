@@ -148,42 +148,44 @@ echo >>installed/life
 [ $? = 2 ] && grep -q "installed/life isn't the program that these tools were installed with" remarks || complain "$(cat remarks)"
 
 go_on "wrong input"
-refuses "No such file" nowhere.csv state
-refuses "is no name of a book\|it has a name, a folder" "$empty" state
-refuses "nothing has no book" "$nothing" state
+cp "$empty" no-list && cp "$nothing" no-book
 lists() {
-    words=$1
-    shift
-    printf "$@" >list.csv
-    refuses "list.csv, line $words" list.csv state
+    mkdir -p lists && printf "$2" >"lists/$1" && echo "lists/$1, line $3 | books lists/$1 state"
 }
-lists "1: it has a name, a folder and a basis file" 'book1,book1\n'
-lists "2: the name book1 stands twice" 'book1,book1,basis.csv\nbook1,book2,basis.csv\n'
-lists "2: other is the folder of book1" 'book1,book1,basis.csv\nother,book2/../book1,basis.csv\n'
 ln book1/journal.life linked.life && mkdir linked && mv linked.life linked/journal.life
-lists "2: other has the journal of book1" 'book1,book1,basis.csv\nother,linked,basis.csv\n'
-lists "1: all is no name of a book" 'all,book1,basis.csv\n'
-lists "1: a b is no name of a book" 'a b,book1,basis.csv\n'
-lists "1: ../basis.csv is no name of a basis file" 'a,book1,../basis.csv\n'
-refuses "run is none of value, project" books.csv run
-refuses "value takes 1 words" books.csv value
-refuses "2021-02-29 is no day" books.csv value 2021-02-29
-refuses "1 to 131 years are wanted" books.csv project 2020-01-01 132
-refuses "of --mean and --deficiency one stands" books.csv value 2020-01-01 --mean --deficiency
-refuses "belongs to value" books.csv state --mean
-refuses "1 to 64 are wanted" books.csv value 2020-01-01 --workers 65
-refuses "1 to 64 are wanted" books.csv value 2020-01-01 --processes 0
-printf 'book1,10\nbook2,0\n' >positions.csv
-refuses "has no position of book3" books.csv value 2010-12-31 --at positions.csv
-printf 'book1,10\nbook2,0\nbook3,1\nbook4,2\n' >positions.csv
-refuses "has a position of book4" books.csv value 2010-12-31 --at positions.csv
-printf 'book1,10\nbook2,x\nbook3,1\n' >positions.csv
-refuses "line 2: book2,x is no name with a position" books.csv value 2010-12-31 --at positions.csv
+printf 'book1,10\nbook2,0\n' >few.csv
+printf 'book1,10\nbook2,0\nbook3,1\nbook4,2\n' >many.csv
+printf 'book1,10\nbook2,x\nbook3,1\n' >no-number.csv
+mkdir cut-book && head -c 100 book1/journal.life >cut-book/journal.life && echo cut,cut-book,basis.csv >cut.csv
+{
+    lists fields 'book1,book1\n' "1: it has a name, a folder and a basis file"
+    lists name 'book1,book1,basis.csv\nbook1,book2,basis.csv\n' "2: the name book1 stands twice"
+    lists folder 'book1,../book1,basis.csv\nother,../book2/../book1,basis.csv\n' "2: other is the folder of book1"
+    lists journal 'book1,../book1,basis.csv\nother,../linked,basis.csv\n' "2: other has the journal of book1"
+    lists all 'all,book1,basis.csv\n' "1: all is no name of a book"
+    lists blank 'a b,book1,basis.csv\n' "1: a b is no name of a book"
+    lists basis 'a,book1,../basis.csv\n' "1: ../basis.csv is no name of a basis file"
+    cat <<'ROWS'
+No such file | books nowhere.csv state
+is no name of a book|it has a name, a folder | books no-list state
+no-book has no book | books no-book state
+run is none of value, project | books books.csv run
+value takes 1 words | books books.csv value
+2021-02-29 is no day | books books.csv value 2021-02-29
+1 to 131 years are wanted | books books.csv project 2020-01-01 132
+of --mean and --deficiency one stands | books books.csv value 2020-01-01 --mean --deficiency
+belongs to value | books books.csv state --mean
+1 to 64 are wanted | books books.csv value 2020-01-01 --workers 65
+1 to 64 are wanted | books books.csv value 2020-01-01 --processes 0
+has no position of book3 | books books.csv value 2010-12-31 --at few.csv
+has a position of book4 | books books.csv value 2010-12-31 --at many.csv
+line 2: book2,x is no name with a position | books books.csv value 2010-12-31 --at no-number.csv
+badjournal,badrecord,1 | books cut.csv position-on 2010-12-31
+ROWS
+} >rows
+refused <rows
 printf 'book1,10\nbook2,0\nbook3,241\n' >positions.csv
 ends 10 "book3: status 10: refused,ahead,240" books.csv value 2010-12-31 --at positions.csv
-head -c 100 book1/journal.life >linked/journal.life.cut && mkdir cut-book && mv linked/journal.life.cut cut-book/journal.life
-echo cut,cut-book,basis.csv >cut.csv
-refuses "badjournal,badrecord,1" cut.csv position-on 2010-12-31
 
 . "$root/.ci/books/cluster.sh"
 

@@ -6,17 +6,6 @@ tool() {
     python3 "$tools/life-tools" "$@" >out 2>remarks
 }
 
-# status 2, a line that has these words, nothing printed, and nothing made
-refuses() {
-    words=$1
-    shift
-    tool export "$@"
-    status=$?
-    [ "$status" = 2 ] && [ ! -s out ] && [ "$(wc -l <remarks)" = 1 ] && grep -q -e "$words" remarks ||
-        complain "export $*: status $status: $(cat out remarks)"
-    [ ! -e new ] && [ -z "$(find . -name '.life-tools-*')" ] || complain "export $*: something was made"
-}
-
 begin_with_examples "the small office"
 cat "$examples/small-office.csv" >script
 # of every plan: awaiting a premium from 29 February on; paid in full; lapsed; claimed; paid up; matured
@@ -69,7 +58,9 @@ if /usr/bin/python3 -c 'import pandas' 2>/dev/null; then
     cmp -s tables found || complain "the frames have $(diff tables found | head -n 5)"
 else
     echo "export: skipped: frames for pandas: apt-get install python3-pandas"
-    refuses "apt-get install python3-pandas" pandas journal.life new
+    refused <<'ROWS'
+apt-get install python3-pandas | export pandas journal.life new
+ROWS
 fi
 
 go_on "drawn books"
@@ -81,19 +72,21 @@ python3 "$root/.ci/tools/exported.py" sqlite drawn.db | grep -e ^policy, -e ^bal
 
 go_on "wrong input"
 head -c 100 journal.life >cut.life
-refuses "badjournal,badrecord,1: record 1: it is cut short" sqlite cut.life new
-refuses "badjournal,badrecord,1: record 1: it is cut short" csv cut.life
-refuses "badjournal,notajournal" sqlite printed new
-refuses "No such file" sqlite nowhere.life new
-refuses "book.db is there already" sqlite journal.life book.db
-refuses "is no folder" sqlite journal.life nowhere/book.db
-refuses "No such file" sqlite journal.life new --valuation nowhere
-refuses "has no valuation in it" sqlite journal.life new --valuation wanted
-sed 's/^total,[^,]*,/total,1.00,/' printed >wrong
-refuses "the rows add up to" sqlite journal.life new --valuation wrong
-head -n 3 printed >wrong
-refuses "its last valuation has no total" sqlite journal.life new --valuation wrong
-sed '1s/,[0-9]*,[0-9]*$//' printed >wrong
-refuses "wrong, line 2: .*it belongs to no valuation" sqlite journal.life new --valuation wrong
+sed 's/^total,[^,]*,/total,1.00,/' printed >wrong-total
+head -n 3 printed >no-total
+sed '1s/,[0-9]*,[0-9]*$//' printed >no-head
+refused <<'ROWS'
+badjournal,badrecord,1: record 1: it is cut short | export sqlite cut.life new
+badjournal,badrecord,1: record 1: it is cut short | export csv cut.life
+badjournal,notajournal | export sqlite printed new
+No such file | export sqlite nowhere.life new
+book.db is there already | export sqlite journal.life book.db
+is no folder | export sqlite journal.life nowhere/book.db
+No such file | export sqlite journal.life new --valuation nowhere
+has no valuation in it | export sqlite journal.life new --valuation wanted
+the rows add up to | export sqlite journal.life new --valuation wrong-total
+its last valuation has no total | export sqlite journal.life new --valuation no-total
+no-head, line 2: .*it belongs to no valuation | export sqlite journal.life new --valuation no-head
+ROWS
 
 end "the tables of an export hold what the program prints"

@@ -16,12 +16,6 @@ gives() {
         [ "$(wc -l <remarks)" = "$lines" ] || complain "headroom $*: status $status: $(cat out remarks)"
 }
 
-refuses() {
-    timeout 100 python3 "$tools/life-tools" "$@" >out 2>remarks
-    status=$?
-    [ "$status" = 2 ] && [ ! -s out ] || complain "$*: status $status: $(cat out remarks)"
-}
-
 name="drawn books"
 python3 "$root/.ci/tools/needed_days.py" "$root" || failed=1
 
@@ -64,12 +58,14 @@ gives 0 9,3999991,9,"after 2199-12-31",10,6,never 0 --today 2024-06-01
 # a count that the book hasn't is of another one
 echo 10 >log/2024-05-31T180000-b/before
 gives 0 "$row" 0 --today 2024-06-01
-refuses headroom --today 2024-02-30
-refuses headroom --least -1
-refuses headroom --within x
 cp month-end-2023-06-02.csv month-end.csv
-refuses headroom --recorded month-end.csv
-refuses headroom nowhere.life
+refused <<'ROWS'
+2024-02-30 is no day | headroom --today 2024-02-30
+numbers up to 4000000 and 36525 are wanted | headroom --least -1
+numbers up to 4000000 and 36525 are wanted | headroom --within x
+month-end.csv has no day YYYY-MM-DD in its name | headroom --recorded month-end.csv
+there is no nowhere.life | headroom nowhere.life
+ROWS
 
 begin "19 commands left"
 # 401,000 were used in the year, and one issue is dated 2081
@@ -77,11 +73,12 @@ python3 "$root/.ci/tools/nearly_full.py" journal.life 19 2026-11-29 || complain 
 gives 1 3999981,19,401000,2026-11-29,4159810,479981,2026-11-29 1 --today 2026-11-29
 grep -q "19 commands are left, 401000 were used in the last year, and it is full on 2026-11-29: life-tools books split divides it$" remarks ||
     complain "it told $(cat remarks)"
+mkdir full && cp journal.life full
 # without the last 9,981: 9 days at this pace; the old policies need 64,000 at once
 truncate -s $((17 + 65 * 3990000)) journal.life && printf '\0' >>journal.life
 gives 1 3990000,10000,391019,2026-12-08,4060000,470000,2026-11-29 1 --today 2026-11-29 --within 0
 rm journal.life
-mkdir -p full && python3 "$root/.ci/tools/nearly_full.py" full/journal.life 0 2026-11-29 || complain "no full book"
+python3 "$root/.ci/tools/nearly_full.py" full/journal.life --fill 2026-11-29 || complain "no full book"
 
 go_on "a list with a missing, cut, held, foreign and full book"
 mkdir good missing cut held foreign damaged
@@ -100,7 +97,7 @@ missing,failed,2,there is no $here/missing/journal.life
 cut,failed,5,badjournal,badrecord,1
 held,9,3999991,0,never,10,6,never
 foreign,failed,5,badjournal,notajournal
-full,4000000,0,401000,2026-11-29,4160000,480000,2026-11-29
+full,4000000,0,401019,2026-11-29,4160000,480000,2026-11-29
 damaged,failed,1,$here/damaged/journal.life: 325 bytes lie behind byte 277, the gate of record 4, which is closed
 good,9,3999991,0,never,10,6,never
 LINES
@@ -110,7 +107,7 @@ missing: status 2: there is no $here/missing/journal.life
 cut: status 5: badjournal,badrecord,1
 $here/held/journal.life is held by process $holder, and may have more commands by now
 foreign: status 5: badjournal,notajournal
-full: 0 commands are left, 401000 were used in the last year, and it is full on 2026-11-29: life-tools books split divides it
+full: 0 commands are left, 401019 were used in the last year, and it is full on 2026-11-29: life-tools books split divides it
 damaged: status 1: $here/damaged/journal.life: 325 bytes lie behind byte 277, the gate of record 4, which is closed
 LINES
 cmp -s wanted remarks || complain "it told $(diff wanted remarks)"
@@ -122,7 +119,8 @@ for each in "0 good" "1 held" "1 full" "1 damaged" "2 missing" "5 cut" "5 foreig
 done
 let_go
 # positions are of all books or of none
-refuses books books.csv position-on 2024-06-01
+timeout 100 python3 "$tools/life-tools" books books.csv position-on 2024-06-01 >out 2>remarks
+[ $? = 2 ] && [ ! -s out ] || complain "positions of some books: $(cat out remarks)"
 # noted positions of a list, and what is wanted of each book
 printf 'good,2\nheld,9\n' >month-end-2024-05-31.csv
 grep -e ^good -e ^held books.csv >two.csv

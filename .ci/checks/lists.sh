@@ -1,6 +1,7 @@
 #!/bin/sh
-# Reports, movements, statements, what is due and samples over a list of books: a book is divided, and its parts together
-# have to say what it says alone; here and on a cluster, by new rows and by those that were left; and one bad book is told.
+# Reports, movements, statements, what is due, flags, samples, papers and letters over a list of books: a book is divided, and
+# its parts together have to say what it says alone, by one basis and by classes; here and on a cluster, by new rows and by
+# those that were left; and one bad book is told.
 . "$(dirname "$0")/../common.sh"
 
 LIFE_PROGRAM=$program
@@ -77,15 +78,60 @@ grep -qx "$wanted" listed || complain "other cash: $(cat listed)"
 go_on "statements"
 tool statement 2015-12-31 "$p1" 2019-12-31 "$p2" --folder main --csv single-sheets || complain "$(cat remarks)"
 tool books books.csv statement 2015-12-31 2019-12-31 --from p1.csv --at p2.csv --csv listed-sheets || complain "$(cat remarks)"
-for sheet in claims exhibit premiums reserves; do
-    sort single-sheets/$sheet.csv >one
-    sort listed-sheets/$sheet.csv | cmp -s one - || complain "$sheet: $(sort listed-sheets/$sheet.csv | diff one - | head -n 6)"
+# to the cent, also where exact sums are rounded
+for sheet in claims exhibit premiums reserves increase; do
+    cmp -s single-sheets/$sheet.csv listed-sheets/$sheet.csv || complain "$sheet: $(diff single-sheets/$sheet.csv listed-sheets/$sheet.csv | head -n 6)"
 done
-# interest, cost and net premium are exact of a book, and rounded to cents of each before they are added
-python3 "$root/.ci/tools/near_sheets.py" single-sheets/increase.csv listed-sheets/increase.csv >found 2>&1 ||
-    complain "increase: $(tail -n 2 found)"
-grep -q '^books,2: low at position [0-9]*; high at position' listed-sheets/facts.csv || grep -q 'low at position' listed-sheets/facts.csv ||
-    complain "$(cat listed-sheets/facts.csv)"
+grep -q '^books,2: low at position [0-9]*; high at position' listed-sheets/facts.csv || complain "$(cat listed-sheets/facts.csv)"
+
+# each number has a class, whichever book it is in; and the bases are changed to those of the second file
+go_on "classes"
+for book in main low high; do
+    echo 1900-01-01,g.xml,300 >$book/three.csv
+    printf '1900-01-01,q.xml,0\n2008-01-01,g.xml,250\n' >$book/two.csv
+done
+printf '1-700,smoker\n701-1400,other\n1401-3000,smoker\n' >classes.csv
+printf 'smoker,three.csv\nother,basis.csv\n' >bases.csv
+printf 'other,two.csv\nsmoker,basis.csv\n' >changed.csv
+classes="--classes classes.csv --bases bases.csv"
+# the same of the undivided book and of its parts, but for the table of the books
+of_both() {
+    listed=$1 single=$2 but=$3
+    # shellcheck disable=SC2086
+    tool $single --folder main && mv out single || complain "$single: $(cat remarks)"
+    # shellcheck disable=SC2086
+    tool books books.csv $listed && mv out listed || complain "$listed: status $?: $(cat remarks)"
+    alike single listed "$but"
+}
+of_both "report 2019-12-31 --at p2.csv --by plan --by basis-row $classes" "report 2019-12-31 --at $p2 --by plan --by basis-row $classes" '1{/^total /d}'
+[ "$(grep -c -e '^basis.csv 1' -e '^three.csv 1' one)" = 2 ] || complain "the report isn't by both bases: $(cat one)"
+grep -qx 'classes: smoker by three.csv, other by basis.csv' listed || complain "the classes aren't told: $(cat listed)"
+of_both "movement 2015-12-31 2019-12-31 --from p1.csv --at p2.csv $classes changed.csv" "movement 2015-12-31 $p1 2019-12-31 $p2 $classes changed.csv" ''
+grep -q '^change of basis [1-9]' one || complain "no basis was changed: $(cat one)"
+of_both "statement 2015-12-31 2019-12-31 --from p1.csv --at p2.csv $classes --mean" "statement 2015-12-31 $p1 2019-12-31 $p2 $classes --mean" ''
+for word in sample papers; do
+    of=12 && [ $word = sample ] || { of=drawn && mv out drawn; }
+    more="--seed 5 --on 2019-12-31 --at p2.csv" && [ $word = sample ] || more="--html by-class.html"
+    # shellcheck disable=SC2086
+    tool books books.csv $word $of $more $classes || complain "$word by class: $(cat remarks)"
+done
+for basis in basis three; do grep -q "Basis $basis.csv, row 1" by-class.html || complain "no paper is by $basis.csv"; done
+ends 2 "is a sample of a list: books LIST papers and" audit papers drawn --folder main --html no.html
+ends 1 "low has other rows" books books.csv papers drawn --html no.html
+[ ! -e no.html ] || complain "papers of other rows were written"
+ends 2 "go together" books books.csv report 2019-12-31 --classes classes.csv
+ends 2 "belongs to report and movement" books books.csv due 2019-12-31 --classes classes.csv
+ends 2 "report takes 1 of --bases at most" books books.csv report 2019-12-31 $classes changed.csv
+printf '1-700,smoker\n' >few.csv
+ends 2 "is in no class" books books.csv report 2019-12-31 --at p2.csv --classes few.csv --bases bases.csv
+
+go_on "flags"
+tool audit flags --folder main --after "$p1" --late 3
+cut -d , -f 1,3- out | sort >single
+tool books books.csv flags --from p1.csv --late 3
+[ $? = 1 ] && head -n 1 out | grep -qx book,flag,position,policy,kind,day,amount,since,why || complain "flags: $(cat out remarks)"
+sed 's/^book,flag/flag/;s/^low,//;s/^high,//' out | cut -d , -f 1,3- | sort | cmp -s single - || complain "other flags: $(cat out)"
+[ "$(wc -l <single)" -gt 2 ] || complain "nothing is flagged: $(cat single)"
 
 go_on "what is due"
 tool due 2024-12-31 main/journal.life --within 40 && tail -n +2 out | sort >single || complain "$(cat remarks)"
@@ -104,6 +150,38 @@ timeout 60 python3 "$tools/life-tools" books books.csv value 2019-12-31 --at p2.
 python3 "$root/.ci/tools/drawn_rows.py" "$total" all-rows >wanted
 grep ',row,' out | cmp -s wanted - || complain "other rows were drawn: $(cat out) and $(cat wanted)"
 [ "$(grep -c ^low, wanted)" -ge 1 ] && [ "$(grep -c ^high, wanted)" -ge 1 ] || complain "of one book alone were drawn: $(cat wanted)"
+cp out drawn
+sed 1d drawn | grep -v ',row,' >heads
+sed 's/^\(.*\),\(.*\)$/\1,0,value,2019-12-31,\2/' p2.csv | paste -d , - /dev/null >wanted
+cut -d , -f 1-5 heads | sed 's/$/,/' | cmp -s wanted - || complain "other positions: $(cat heads)"
+# what is drawn of one book is a sample that is worked out without the program
+for book in low high; do
+    grep "^$book," drawn | cut -d , -f 2- >part
+    tool check-values $book/journal.life $book/basis.csv part --sample && grep -q "^$(grep -c ^row, part) of" out || complain "$book: $(cat out remarks)"
+done
+tool books books.csv papers drawn --html papers.html --title "All of us" || complain "papers: $(cat remarks)"
+[ "$(grep -c ': the same</pre>' papers.html)" = "$(grep -c ,row, drawn)" ] || complain "papers of other policies"
+for book in low high; do
+    tool seal --folder $book --at "$(sed -n "s/^$book,//p" p2.csv)"
+    grep -q "$(sed -n 's/^front,//p' out)" papers.html || complain "the papers lack the seal of $book"
+done
+tool books books.csv letters drawn && tail -n +2 out | cut -d , -f 1,2 >letters || complain "letters: $(cat remarks)"
+sed -n 's/^\(.*\),row,\([0-9]*\),.*/\2,\1/p' drawn | cmp -s letters - || complain "letters of other policies: $(cat letters)"
+sed 's/^all,sample,reserve,12,5/all,sample,reserve,12,6/' drawn >forged
+ends 1 "seed 6 draws other rows" books books.csv papers forged --html no.html
+sed '0,/^low,row/s/^low,row,[0-9]*/low,row,1/' drawn >forged
+ends 1 "low has other rows" books books.csv papers forged --html no.html
+sed 's/^low,0,/all,0,/' drawn >forged
+ends 2 "forged: " books books.csv papers forged --html no.html
+head -n 1 drawn >forged
+ends 2 "the sample is of no book" books books.csv letters forged
+tool audit sample 3 --seed 5 --on 2019-12-31 --folder main --at "$p2" && mv out forged
+ends 2 "is a sample of one book: audit papers and" books books.csv letters forged
+head -n 1 books.csv >one.csv
+ends 2 "is of the books low, high, and the list of low" books one.csv letters drawn
+ends 2 "and not of --at" books books.csv letters drawn --at p2.csv
+ends 2 "papers want --html or --pdf" books books.csv papers drawn
+[ ! -e no.html ] || complain "papers of another sample were written"
 tool books books.csv sample 12 --seed 5 --on 2019-12-31 --at p2.csv --by amount
 grep -q "^all,sample,amount,12,5,$(python3 "$tools/life-tools" audit sample 12 --seed 5 --on 2019-12-31 --folder main --at "$p2" --by amount 2>remarks | sed -n '2s/^sample,amount,12,5,\([0-9]*,[0-9]*\),.*/\1/p'),2019" out || complain "$(cat out)"
 
@@ -139,15 +217,17 @@ printf 'low,low,basis.csv\nmain,main,basis.csv\n' >twice.csv
 ends 1 "^policy [0-9]* stands in low, main$" books twice.csv report 2019-12-31
 
 go_on "wrong words"
-ends 2 "wants --from and --at" books books.csv statement 2015-12-31 2019-12-31
-ends 2 "statement takes 2 words" books books.csv statement 2015-12-31
-ends 2 "color is none of" books books.csv report 2019-12-31 --by color
-ends 2 "by plan: sample takes\|--by plan" books books.csv sample 3 --seed 1 --on 2019-12-31 --by plan
-ends 2 "sample wants --on and --seed" books books.csv sample 3
-ends 2 "--seed belongs to sample" books books.csv report 2019-12-31 --seed 4
-ends 2 "--from belongs to" books books.csv report 2019-12-31 --from p1.csv
-ends 2 "doesn't belong to statement" books books.csv statement 2015-12-31 2019-12-31 --from p1.csv --at p2.csv --deficiency
-ends 2 "there is already\|is there already" books books.csv report 2019-12-31 --csv new-rows
+refused <<'ROWS'
+wants --from and --at | books books.csv statement 2015-12-31 2019-12-31
+statement takes 2 words | books books.csv statement 2015-12-31
+color is none of | books books.csv report 2019-12-31 --by color
+by plan: sample takes|--by plan | books books.csv sample 3 --seed 1 --on 2019-12-31 --by plan
+sample wants --on and --seed | books books.csv sample 3
+--seed belongs to sample | books books.csv report 2019-12-31 --seed 4
+--from belongs to | books books.csv report 2019-12-31 --from p1.csv
+doesn't belong to statement | books books.csv statement 2015-12-31 2019-12-31 --from p1.csv --at p2.csv --deficiency
+is there already | books books.csv report 2019-12-31 --csv new-rows
+ROWS
 
 . "$root/.ci/books/loopback.sh"
 if ! has_dask; then
@@ -155,16 +235,24 @@ if ! has_dask; then
 else
     go_on "a cluster on the loopback"
     begin_cluster
-    for words in "report 2019-12-31" "statement 2015-12-31 2019-12-31 --from p1.csv --mean" "movement 2015-12-31 2019-12-31 --from p1.csv" "due 2019-12-31 30" "sample 9 --seed 2 --on 2019-12-31"; do
+    # each word once, and each way of a book to its worker by several words
+    while read -r how words; do
         # shellcheck disable=SC2086
-        tool books books.csv $words --at p2.csv
+        tool books books.csv $words --at p2.csv </dev/null
         grep -v ^made: out >wanted
-        for how in "" --send; do
-            # shellcheck disable=SC2086
-            tool books books.csv $words --at p2.csv --scheduler "$address" $how
-            grep -v ^made: out | cmp -s wanted - || complain "$words $how on the cluster: $(cat out remarks)"
-        done
-    done
+        # shellcheck disable=SC2086
+        tool books books.csv $words --at p2.csv --scheduler "$address" ${how#seen} </dev/null
+        grep -v ^made: out | cmp -s wanted - || complain "$words $how on the cluster: $(cat out remarks)"
+    done <<'WORDS'
+seen report 2019-12-31
+--send report 2019-12-31
+--send statement 2015-12-31 2019-12-31 --from p1.csv --mean
+seen movement 2015-12-31 2019-12-31 --from p1.csv
+--send due 2019-12-31 30
+seen sample 9 --seed 2 --on 2019-12-31
+seen flags --late 3
+--send report 2019-12-31 --classes classes.csv --bases bases.csv
+WORDS
     end_cluster "$scheduler" "$worker1" "$worker2"
 fi
 

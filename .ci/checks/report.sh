@@ -120,6 +120,7 @@ fi
 go_on "what moved in the small office"
 says movement 2022-12-31 11 2024-06-30 27 --policies parts.csv
 has <<'LINES'
+policies by lower bounds by upper bounds
 opening reserve 4 4075.07 4075.09
 maturities 2 -2656.22 -2656.23
 alterations 1 -472.95 -472.95

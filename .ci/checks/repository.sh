@@ -1,7 +1,7 @@
 #!/bin/sh
 # What a reader relies on: the handles' line, the layers in crates.txt and docs/ARCHITECTURE.md, few lines of specs and
-# proofs that stand twice, tests in crates of tests alone, and of the wrong bodies few for each crate, among them each that
-# has a name.
+# proofs that stand twice, no public function that the program doesn't run and has no reason, tests in crates of tests
+# alone, and of the wrong bodies few for each crate, among them each that has a name.
 cd "$(dirname "$0")/../.." || exit 2
 failed=0
 complain() {
@@ -12,6 +12,7 @@ complain() {
 [ "$(cat HANDLES)" = "Handles allowed: Threads, Wait." ] || complain "HANDLES isn't the one line that it must be"
 python3 .ci/layers.py || failed=1
 python3 .ci/repeated.py || failed=1
+python3 .ci/reached.py || failed=1
 for crate in $(sed -n 's/^\([a-z_]*\):.*/\1/p' crates.txt); do
     edits=$(find "crates/$crate/must-fail" -name '*.edit' 2>/dev/null | wc -l)
     [ "$edits" -le 12 ] || complain "$crate has $edits wrong bodies, which slow the gate"
@@ -51,6 +52,9 @@ the_first_lane_with_a_line      lane_runner/first_lane_with_a_line
 the_last_line_never_printed     lane_runner/last_line_dropped
 a_text_begun_anew               lane_runner/written_again_after_a_fault
 lanes_stopped_by_the_output     lane_runner/lane_stopped_by_the_output
+a_failed_output_told_as_9       lane_runner/failed_output_told_as_want_of_memory
+answered_lines_dropped_at_9     lane_runner/gathered_lines_dropped_for_want_of_memory
+a_lane_at_its_end_awaited       lane_runner/end_of_a_lane_awaited
 a_block_at_its_end's_turn       lane_runner/block_at_its_ends_turn
 an_invented_reply               shared_office/invented_reply
 a_reinstatement_unpaid          policy_machine/reinstated_unpaid
@@ -80,7 +84,7 @@ a_replay_begun_late             journal_replay/replay_begun_one_late
 a_body_read_uncounted           journal_replay/body_read_uncounted
 a_checkpoint's_ledger_unchecked checkpoint_store/ledger_not_checked
 an_upgrade_forgotten            checkpoint_store/upgrade_forgotten
-a_second_disk_touched_by_run    life_app/second_disk_touched_by_run
+a_second_disk_touched_by_others life_app/second_disk_touched_by_account
 an_exit_status_always_0         life_cli/exit_status_always_0
 words_of_no_text_as_no_memory   life_cli/no_text_told_as_no_memory
 files_exchanged                 life_cli/files_exchanged
@@ -97,6 +101,14 @@ printf 'four: all rows are right\n' >"$made/four.said"
 [ "$(sh .ci/not_tried.sh "$made" | LC_ALL=C sort | paste -sd ';')" = "one: skipped: no wind;three: Skipping what needs a kit;\
 three: run again: it failed beside the others;two: the page in a browser is skipped" ] ||
     complain "skips are named so: $(sh .ci/not_tried.sh "$made")"
+rm -r "$made"
+# a public function that main doesn't reach is told
+made=$(mktemp -d) || exit 2
+cp -r .ci crates.txt "$made" && cp -r --parents crates/*/src "$made" || exit 2
+printf 'pub fn nobody_asks() -> u8 {\n    0\n}\n' >"$made/crates/money_core/src/nobody.rt"
+echo 'pub mod nobody;' >>"$made/crates/money_core/src/lib.rt"
+[ "$(python3 "$made/.ci/reached.py" 2>&1)" = "reached: money_core::nobody_asks isn't reached from main" ] ||
+    complain "a function that nobody asks isn't told: $(python3 "$made/.ci/reached.py" 2>&1)"
 rm -r "$made"
 # the names that pages for engineers tell are there
 python3 .ci/told_names.py || failed=1

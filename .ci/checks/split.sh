@@ -92,25 +92,27 @@ printf '#!/bin/sh\ncase $PWD$1 in */0run) sed 2p | "%s" "$@" ;; *) exec "%s" "$@
 LIFE_PROGRAM=$PWD/liar ends 1 "a line of the old book was answered 1,[a-z]*,[0-9]*,refused," main/journal.life $halves
 
 go_on "what can't be divided"
+echo 1-99999999,smoker >classes.csv
+refused <<ROWS
+policy [0-9]* falls under no rule | books split main/journal.life numbers=1-1000 numbers=1500- low high
+policy [0-9]* falls under numbers=1-1000 and numbers=900- | books split main/journal.life numbers=1-1000 numbers=900- low high
+no policy falls under years=1900-1950 | books split main/journal.life years=1900-1950 others low high
+x is no span from 1 to 4294967295 | books split main/journal.life numbers=x others low high
+5-4 is no span | books split main/journal.life numbers=5-4 others low high
+wants --classes | books split main/journal.life class=smoker others low high
+has no class other | books split main/journal.life class=smoker class=other low high --classes classes.csv
+by 2 to 64 rules | books split main/journal.life others low
+there are 2 rules and 1 folders | books split main/journal.life numbers=1-1000 others low
+the rules stand in front | books split main/journal.life numbers=1-1000 low others high
+two new books have one name | books split main/journal.life numbers=1-1000 others low ./low
+a b is no name of a book | books split main/journal.life numbers=1-1000 others low "a b"
+there is no folder for nowhere/high | books split main/journal.life numbers=1-1000 others low nowhere/high
+main is no journal.life | books split main numbers=1-1000 others low high
+there is no nowhere/journal.life | books split nowhere/journal.life numbers=1-1000 others low high
+there is no main/other.csv | books split main/journal.life $halves --basis other.csv
+ROWS
 # shellcheck disable=SC2086
 {
-    ends 2 "policy [0-9]* falls under no rule" main/journal.life numbers=1-1000 numbers=1500- low high
-    ends 2 "policy [0-9]* falls under numbers=1-1000 and numbers=900-" main/journal.life numbers=1-1000 numbers=900- low high
-    ends 2 "no policy falls under years=1900-1950" main/journal.life years=1900-1950 others low high
-    ends 2 "x is no span from 1 to 4294967295" main/journal.life numbers=x others low high
-    ends 2 "5-4 is no span" main/journal.life numbers=5-4 others low high
-    ends 2 "wants --classes" main/journal.life class=smoker others low high
-    echo 1-99999999,smoker >classes.csv
-    ends 2 "has no class other" main/journal.life class=smoker class=other low high --classes classes.csv
-    ends 2 "by 2 to 64 rules" main/journal.life others low
-    ends 2 "there are 2 rules and 1 folders" main/journal.life numbers=1-1000 others low
-    ends 2 "the rules stand in front" main/journal.life numbers=1-1000 low others high
-    ends 2 "two new books have one name" main/journal.life numbers=1-1000 others low ./low
-    ends 2 "a b is no name of a book" main/journal.life numbers=1-1000 others low "a b"
-    ends 2 "there is no folder for nowhere/high" main/journal.life numbers=1-1000 others low nowhere/high
-    ends 2 "main is no journal.life" main numbers=1-1000 others low high
-    ends 2 "there is no nowhere/journal.life" nowhere/journal.life numbers=1-1000 others low high
-    ends 2 "there is no main/other.csv" main/journal.life $halves --basis other.csv
     hold main/journal.life
     ends 2 "main/journal.life is held by another run" main/journal.life $halves
     let_go

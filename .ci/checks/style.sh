@@ -20,7 +20,7 @@ has() {
 typed() {
     folder=$1
     shift
-    (cd "$folder" && MYPYPATH=$root/tools:$root/.ci:$root/bench:$root/.ci/stress:$root/.ci/faults:$root/.ci/documents \
+    (cd "$folder" && MYPYPATH=$root/tools:$root/.ci:$root/.ci/tools:$root/bench:$root/.ci/stress:$root/.ci/faults:$root/.ci/documents \
         mypy --strict --cache-dir "$work/mypy" "$@") >"$work/out" 2>&1 ||
         { echo "style: $folder: $(cat "$work/out")" >&2; failed=1; }
 }

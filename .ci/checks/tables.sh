@@ -29,17 +29,18 @@ printf '<XTbML><Table><MetaData><ScalingFactor>1</ScalingFactor></MetaData><Valu
 
 go_on "wrong input"
 cp t.xml kept.xml
-refuses 2 'kept.xml is there already' table convert f.xml kept.xml
-cmp -s t.xml kept.xml || complain "a file was written over"
-refuses 2 'No such file' table check nowhere.xml
-refuses 2 'No such file' table convert nowhere.xml written
-refuses 2 'No such file' table join t.xml nowhere.xml written
-refuses 2 'required' table join t.xml f.xml
-refuses 2 'invalid choice' table nonsense t.xml
-refuses 2 'is no XML' table convert "$program" written
-refuses 2 'is no program' table check t.xml --life nowhere
 mkdir folder
-refuses 2 'Is a directory' table check folder
+refused <<ROWS
+kept.xml is there already | table convert f.xml kept.xml
+No such file | table check nowhere.xml
+No such file | table convert nowhere.xml written
+No such file | table join t.xml nowhere.xml written
+required | table join t.xml f.xml
+invalid choice | table nonsense t.xml
+is no XML | table convert $program written
+is no program | table check t.xml --life nowhere
+Is a directory | table check folder
+ROWS
 : >empty.xml
 refuses 1 'badbasis,empty.xml,0,notdocument' table check empty.xml
 # a name that can't stand in a basis, and one of the program's own files

@@ -39,22 +39,18 @@ both_tell() {
 # each tool that reads the book tells it, and prints nothing of it
 all_tell() {
     both_tell "$1"
-    while read -r words; do
-        # shellcheck disable=SC2086
-        ends 1 "$pattern" $words
-        [ ! -s out ] || complain "$words printed $(head -n 3 out)"
-    done <<'WORDS'
-read journal.life
-position-on 2024-12-31 journal.life
-seal --no-basis
-books books.csv position-on 2024-12-31
-at 10 state
-report 2010-12-31
-export csv journal.life
-due 2010-12-31
-dry-run script
-check script
-WORDS
+    refused 1 <<ROWS
+$pattern | read journal.life
+$pattern | position-on 2024-12-31 journal.life
+$pattern | seal --no-basis
+$pattern | books books.csv position-on 2024-12-31
+$pattern | at 10 state
+$pattern | report 2010-12-31
+$pattern | export csv journal.life
+$pattern | due 2010-12-31
+$pattern | dry-run script
+$pattern | check script
+ROWS
     for words in "value 2010-12-31" "project 2010-12-31 2"; do
         # shellcheck disable=SC2086
         ends 1 "$pattern" books books.csv $words

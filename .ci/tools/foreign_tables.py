@@ -6,11 +6,12 @@ usage: python3 foreign_tables.py ROOT PROGRAM      in an empty folder
 from __future__ import annotations
 
 import re
-import subprocess
 import sys
 import xml.etree.ElementTree as Tree
 from decimal import Decimal, getcontext
 from pathlib import Path
+
+from forked import ended, read_modules
 
 ROOT, PROGRAM = Path(sys.argv[1]), sys.argv[2]
 TABLES = ROOT / "tests" / "tables"
@@ -19,9 +20,8 @@ HALF = Decimal("0.5e-9")
 
 
 def tool(*words: str) -> tuple[int, str, str]:
-    ran = subprocess.run([str(ROOT / "tools" / "life-tools"), "table", *words, "--life", PROGRAM], stdout=subprocess.PIPE,
-                         stderr=subprocess.PIPE, check=False)
-    return ran.returncode, ran.stdout.decode(), ran.stderr.decode()
+    found = ended(["table", *words, "--life", PROGRAM])
+    return found.status, found.printed, found.told
 
 
 def rates_of(path: Path) -> list[Decimal]:
@@ -178,5 +178,6 @@ def look_at_remarks() -> None:
     assert status == 0 and "the file says: no class of lives; no age basis; no year" in said, said
 
 
+read_modules(["table"])
 for look in (look_at_forms, look_at_layouts, look_at_joining, look_at_refusals, look_at_remarks):
     look()

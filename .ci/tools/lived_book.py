@@ -8,6 +8,7 @@ import datetime
 import random
 import sys
 from pathlib import Path
+from typing import NamedTuple
 
 sys.path.insert(0, str(Path(__file__).resolve().parents[2] / "tools"))
 
@@ -15,24 +16,32 @@ from life_tools.commands import UPGRADE, Command  # noqa: E402
 from life_tools.journals import file_of  # noqa: E402
 from life_tools.rules import Policy, decide, due_of, end_of, missed_by, payments_of  # noqa: E402
 
-FIRST, UPGRADED, LAST = datetime.date(1998, 1, 1), datetime.date(2010, 6, 1), datetime.date(2024, 12, 31)
-# how many of a hundred policies go on paying from one premium to the next, and what befalls the others
-GOES_ON = 88
+LEAP_YEARS = (2000, 2004, 2008, 2012, 2016, 2020)
 BEFALLS = ("claim", "lapse", "lapse", "paidup", "alter", "stop")
 
 
-def drawn_issue(draw: random.Random, number: int) -> Command:
+class Times(NamedTuple):
+    """From when to when a book is drawn, when it is upgraded, and how many of a hundred policies go on paying from one premium to
+    the next."""
+
+    first: datetime.date = datetime.date(1998, 1, 1)
+    upgraded: datetime.date = datetime.date(2010, 6, 1)
+    last: datetime.date = datetime.date(2024, 12, 31)
+    go_on: int = 88
+
+
+def drawn_issue(draw: random.Random, number: int, times: Times = Times()) -> Command:
     plan = draw.choice(("term", "whole", "endowment", "limited"))
     age = draw.randint(18, 70)
     years = 0 if plan == "whole" else draw.choice((2, 3, 5, 8, 12, 20))
-    day = FIRST + datetime.timedelta(draw.randrange((LAST - FIRST).days))
+    day = times.first + datetime.timedelta(draw.randrange((times.last - times.first).days))
     if draw.random() < 0.1:
-        day = datetime.date(draw.choice((2000, 2004, 2008, 2012, 2016, 2020)), 2, 29)
+        day = datetime.date(draw.choice([year for year in LEAP_YEARS if year >= times.first.year]), 2, 29)
     amount = draw.randint(1, 500) * 100000
     return Command("issue", number, day, plan, age, years, amount, amount // 50)
 
 
-def following(draw: random.Random, policy: Policy) -> Command | None:
+def following(draw: random.Random, policy: Policy, times: Times) -> Command | None:
     """What may befall a policy next, if anything: it is tried, and kept where the rules take it."""
     number, due = policy.number, due_of(policy)
     if policy.status in ("claimed", "matured"):
@@ -42,7 +51,7 @@ def following(draw: random.Random, policy: Policy) -> Command | None:
         day = policy.last + datetime.timedelta(draw.randrange(1200))
         missed = missed_by(policy, day) * policy.premium
         return Command("reinstate", number, day, amount=missed) if missed and draw.random() < 0.5 else None
-    if due is not None and policy.status == "inforce" and draw.randrange(100) < GOES_ON:
+    if due is not None and policy.status == "inforce" and draw.randrange(100) < times.go_on:
         day = max(policy.last, due + datetime.timedelta(draw.randint(-40, 31)))
         return Command("premium", number, day, amount=policy.premium)
     if draw.random() < 0.3 or due is None:
@@ -51,33 +60,33 @@ def following(draw: random.Random, policy: Policy) -> Command | None:
     return {
         "claim": Command("claim", number, day),
         "lapse": Command("lapse", number, max(policy.last, due + datetime.timedelta(draw.randint(32, 300)))),
-        "paidup": Command("paidup", number, max(day, UPGRADED), amount=max(policy.amount // 3, 1)),
+        "paidup": Command("paidup", number, max(day, times.upgraded), amount=max(policy.amount // 3, 1)),
         "alter": Command("alter", number, day, amount=policy.amount - 100, premium=policy.premium + 100),
     }.get(draw.choice(BEFALLS))
 
 
-def life_of(draw: random.Random, issue: Command) -> list[Command]:
+def life_of(draw: random.Random, issue: Command, times: Times = Times()) -> list[Command]:
     policy = decide(None, issue)
     assert isinstance(policy, Policy)
     commands = [issue]
     for _ in range(payments_of(policy) + 8):
-        tried = following(draw, policy)
+        tried = following(draw, policy, times)
         if tried is None:
             break
         after = decide(policy, tried)
-        if tried.day and tried.day <= LAST and isinstance(after, Policy):
+        if tried.day and tried.day <= times.last and isinstance(after, Policy):
             commands.append(tried)
             policy = after
     return commands
 
 
-def lived(seed: int, policies: int) -> list[Command]:
+def lived(seed: int, policies: int, times: Times = Times()) -> list[Command]:
     """The commands of a book, sorted by day, with an upgrade in the midst."""
     draw = random.Random(seed)
     numbers = draw.sample(range(1, 50 * policies), policies)
-    commands = [command for number in numbers for command in life_of(draw, drawn_issue(draw, number))]
+    commands = [command for number in numbers for command in life_of(draw, drawn_issue(draw, number, times), times)]
     commands.sort(key=lambda command: str(command.day))
-    place = next((place for place, it in enumerate(commands) if it.day and it.day >= UPGRADED), len(commands))
+    place = next((place for place, it in enumerate(commands) if it.day and it.day >= times.upgraded), len(commands))
     return [*commands[:place], UPGRADE, *commands[place:]]
 
 

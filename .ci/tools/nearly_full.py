@@ -1,16 +1,19 @@
 """Writes a journal that is nearly full, each command accepted after the other.
 
-usage: python3 nearly_full.py OUT LEFT TODAY
+usage: python3 nearly_full.py OUT LEFT TODAY       writes it
+       python3 nearly_full.py OUT --fill TODAY     adds what such a journal lacks, as issues of that day
 
 32,000 whole lives from the age 20, issued in 1900, have paid all their 111 premiums, and their cover has ended. Then policies
 were issued three years before TODAY, one is dated 2081, and 401,000 were issued on the days of the last year.
 """
 import datetime
+import os
 import sys
 
 HEADER = b"\x01LIFEJRNL\x00\x01\x00\x40\x00\x00\x00\x00"
 EPOCH = datetime.date(1970, 1, 1)
 MOST, OLD, PREMIUMS, LAST_YEAR = 4_000_000, 32_000, 111, 401_000
+RECORD = 65
 WHOLE, TERM = bytes([1, 2, 20, 0]), bytes([1, 1, 30, 10])
 
 
@@ -25,8 +28,17 @@ def records(kind: bytes, numbers: list[bytes], day: datetime.date, amount: int, 
     return b"".join(front + number + rest for number in numbers)
 
 
-def main() -> None:
-    out, left, today = sys.argv[1], int(sys.argv[2]), datetime.date.fromisoformat(sys.argv[3])
+def fill(out: str, today: datetime.date) -> None:
+    with open(out, "r+b") as file:
+        count = (file.seek(0, os.SEEK_END) - len(HEADER)) // RECORD
+        file.seek(len(HEADER) + count * RECORD)
+        # numbers are given in order, one for each record that is no premium
+        first = count - OLD * PREMIUMS + 1
+        numbers = [number.to_bytes(4, "big") for number in range(first, first + MOST - count)]
+        file.write(records(TERM, numbers, today, 100_000, 1_000) + b"\x00")
+
+
+def write(out: str, left: int, today: datetime.date) -> None:
     begun = OLD * (PREMIUMS + 1)
     rest = [number.to_bytes(4, "big") for number in range(OLD + 1, OLD + 1 + MOST - left - begun)]
     before, last = rest[:-LAST_YEAR - 1], rest[-LAST_YEAR:]
@@ -40,6 +52,14 @@ def main() -> None:
         for day in range(365):
             file.write(records(TERM, last[day::365], today - datetime.timedelta(364 - day), 100_000, 1_000))
         file.write(b"\x00")
+
+
+def main() -> None:
+    out, left, today = sys.argv[1], sys.argv[2], datetime.date.fromisoformat(sys.argv[3])
+    if left == "--fill":
+        fill(out, today)
+    else:
+        write(out, int(left), today)
 
 
 if __name__ == "__main__":

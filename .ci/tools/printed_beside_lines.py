@@ -117,8 +117,8 @@ def main() -> None:
     taken = {"value": 0, "state": 0}
     for seed in range(first, first + texts):
         draw = random.Random(seed)
-        printed_columns.BLOCK = draw.choice((50, 1000, 1 << 20))
-        book = Book(lived(seed, draw.choice((0, 1, 20, 60))))
+        printed_columns.BLOCK = draw.choice((50, 1000, 1000, 1 << 20, 1 << 20))
+        book = Book(lived(seed, draw.choice((0, 1, 10, 40))))
         for name, text, compare in (("value", value_text(draw, book), compare_value), ("state", state_text(book), compare_state)):
             compare(draw, text.encode(), True, seed)
             taken[name] += compare(draw, changed(draw, text), False, seed)

@@ -13,16 +13,18 @@ from dataclasses import dataclass, field
 from typing import IO, Any, Iterator
 
 from life_tools.book_totals import Text, text_in
+from life_tools.class_bases import Bases, one_basis
 from life_tools.copied_folder import copy_basis
 from life_tools.formats import Wrong, bytes_of, demand
 from life_tools.program import program_beside
 from life_tools.record_columns import BadJournal, beginnings_at, copy_front, front_count, front_sum, places_in
+from life_tools.samples import Sample
 from life_tools.valuation_rows import VALUATION, valuation_rows
 from life_tools.wholeness import doubt_of
 
 JOURNAL = "journal.life"
 # the words of which these tools make something of their own, by what the program prints
-OWN = ("report", "movement", "statement", "due", "sample")
+OWN = ("report", "movement", "statement", "due", "flags", "sample", "papers", "letters")
 # the status of what the program can't be asked, and the program's own of a file that is no journal
 NOT_DONE, BAD_JOURNAL = 2, 5
 
@@ -56,6 +58,14 @@ class Task:
     # the opening position, and of rows that were printed already the file and its sum
     first: int | None = None
     rows_in: tuple[str, str] | None = None
+    # the bases of classes, of a change those before and after it; and the book's part of a sample
+    bases: tuple[Bases, ...] = ()
+    drawn: Sample | None = None
+
+    @property
+    def basis_names(self) -> list[str]:
+        """The basis files that are wanted in the folder."""
+        return list(dict.fromkeys(name for each in self.bases for name in each.names)) or [self.basis]
 
 
 @dataclass
@@ -116,7 +126,8 @@ def lay_copy(task: Task, folder: str) -> None:
     else:
         demand_journal(task.folder)
         copy_front(os.path.join(task.folder, JOURNAL), task.at, os.path.join(folder, JOURNAL))
-        copy_basis(task.folder, task.basis, folder)
+        for name in task.basis_names:
+            copy_basis(task.folder, name, folder)
     for name, wanted in task.sums:
         path = os.path.join(folder, name)
         demand(os.path.exists(path), f"{socket.gethostname()} doesn't see {os.path.join(task.folder, name)}")
@@ -238,7 +249,8 @@ def own_in(task: Task, folder: str) -> Outcome:
     from life_tools.book_sheets import Wanted, made_of
     program = program_of(task)
     life = program[0] if len(program) == 1 else None
-    made = made_of(Wanted(task.name, folder, task.basis, life, task.first, task.at, task.words, task.rows_in))
+    bases = task.bases or (one_basis(task.basis),)
+    made = made_of(Wanted(task.name, folder, bases, life, task.first, task.at, task.words, task.rows_in, task.drawn))
     look = look_at(task, folder)
     begun = beginnings_at(os.path.join(folder, JOURNAL), made.position)
     return Outcome(task.name, 0, beginnings=begun, sums=look.sums, doubt=look.doubt, made=made)

@@ -1,29 +1,34 @@
-"""What a worker makes of one book of a list beside the program's texts: a report, a movement, a statement, what is due, rows
-to draw from. Each adds up to what the program printed of that book, before it is sent.
+"""What a worker makes of one book of a list beside the program's texts: a report, a movement, a statement, what is due,
+flags, rows to draw from, papers and letters. What is added up is what the program printed of that book, before it is sent.
 
-The words of a task: report ON MEASURE KEYS.., movement ON1 ON2 MEASURE, statement ON1 ON2 MEASURE, due DAY WITHIN, sample ON
-MEASURE BY.
+The words of a task: report ON MEASURE KEYS.., movement ON1 ON2 MEASURE, statement ON1 ON2 MEASURE, due DAY WITHIN,
+flags LATE, sample ON MEASURE BY, papers, letters.
 """
 from __future__ import annotations
 
+import os
 from dataclasses import dataclass
 from typing import Any, Callable, Iterator, Sequence
 
-from life_tools.arrays import Cents
 from life_tools.changes import Cash, Moved
-from life_tools.class_bases import one_basis
+from life_tools.class_bases import Bases
 from life_tools.columns import columns_at
 from life_tools.copied_folder import JOURNAL
 from life_tools.day_columns import number_at
+from life_tools.drawn_samples import drawable_of
 from life_tools.entries.due import Items
 from life_tools.entries.movement import Books, Moment, moved_in
 from life_tools.entries.report import read_both
+from life_tools.flags import flags_of
 from life_tools.formats import Wrong, day_in, demand
 from life_tools.groups import Groups, Joined, Sums, demand_whole, grouped, whole
+from life_tools.letters import letters_of
+from life_tools.listed_samples import with_bases
+from life_tools.papers import NotTheSample, sheets_of
 from life_tools.periods import Asked, NotWhole
-from life_tools.printed_columns import ColumnValuation, Rows, valuation_of
+from life_tools.printed_columns import ColumnValuation, valuation_of
 from life_tools.provenance import sum_of_file
-from life_tools.samples import sizes_of
+from life_tools.samples import Sample
 from life_tools.statement import Statement, statement_of
 
 AT_ONCE = 1 << 20
@@ -37,17 +42,27 @@ class NotAdded(Wrong):
 
 @dataclass(frozen=True)
 class Wanted:
-    """One book's work: its folder, basis and program; its positions; the words; and a part with its sum, where rows are taken
-    from it."""
+    """One book's work: its folder, bases (of a change those before and after it) and program; its positions; the words; a
+    part with its sum, where rows are taken from it; and its own part of a sample."""
 
     name: str
     folder: str
-    basis: str
+    bases: tuple[Bases, ...]
     life: str | None
     first: int | None
     last: int | None
     words: tuple[str, ...]
     part: tuple[str, str] | None = None
+    drawn: Sample | None = None
+
+    @property
+    def journal(self) -> str:
+        return os.path.join(self.folder, JOURNAL)
+
+    @property
+    def sample(self) -> Sample:
+        assert self.drawn is not None
+        return with_bases(self.drawn, self.bases[0].names)
 
     @property
     def position(self) -> int:
@@ -87,15 +102,6 @@ class MovedBook:
     words: tuple[int, int]
 
 
-@dataclass(frozen=True)
-class Drawable:
-    """The rows of a valuation, and what each counts for in cents."""
-
-    rows: Rows
-    sizes: Cents
-    words: int
-
-
 # --- rows that `books value --parts` left ---
 
 def without_name(path: str, name: str) -> Iterator[bytes]:
@@ -122,7 +128,7 @@ def valuation_in_part(wanted: Wanted, on: str, measure: str) -> ColumnValuation 
 def both(wanted: Wanted, on: str, measure: str) -> tuple[ColumnValuation, Joined]:
     made = valuation_in_part(wanted, on, measure)
     position = made.position if made else wanted.last
-    return read_both(wanted.folder, position, wanted.life, on, one_basis(wanted.basis), measure, made)
+    return read_both(wanted.folder, position, wanted.life, on, wanted.bases[0], measure, made)
 
 
 # --- what is made ---
@@ -136,8 +142,8 @@ def report_of(wanted: Wanted, on: str, measure: str, *tables: str) -> Made:
 
 
 def movement_of(wanted: Wanted, on1: str, on2: str, measure: str) -> Made:
-    books = Books(Moment(on1, wanted.opening), Moment(on2, wanted.position), [one_basis(wanted.basis)], measure, wanted.folder,
-                  wanted.life)
+    asked, later = Moment(on1, wanted.opening), Moment(on2, wanted.position)
+    books = Books(asked, later, list(wanted.bases), measure, wanted.folder, wanted.life)
     try:
         _, lines, cash = moved_in(books)
     except Wrong as wrong:
@@ -146,7 +152,7 @@ def movement_of(wanted: Wanted, on1: str, on2: str, measure: str) -> Made:
 
 
 def statement_made(wanted: Wanted, on1: str, on2: str, measure: str) -> Made:
-    asked = Asked(wanted.folder, day_in(on1), wanted.opening, day_in(on2), wanted.position, one_basis(wanted.basis), measure,
+    asked = Asked(wanted.folder, day_in(on1), wanted.opening, day_in(on2), wanted.position, wanted.bases[0], measure,
                   wanted.life)
     try:
         statement: Statement = statement_of(asked)
@@ -156,18 +162,35 @@ def statement_made(wanted: Wanted, on1: str, on2: str, measure: str) -> Made:
 
 
 def due_of(wanted: Wanted, day: str, within: str) -> Made:
-    book = columns_at(f"{wanted.folder}/{JOURNAL}", wanted.last)
+    book = columns_at(wanted.journal, wanted.last)
     return Made(book.count, Items(book.policies, number_at(day_in(day)), int(within)).find_all())
 
 
-def drawable_of(wanted: Wanted, on: str, measure: str, by: str) -> Made:
-    valuation, joined = both(wanted, on, measure)
-    sizes = sizes_of(joined.rows, joined.policies, by, day_in(on))
-    return Made(valuation.position, Drawable(joined.rows, sizes, valuation.words))
+def flags_made(wanted: Wanted, late: str) -> Made:
+    """The flags behind the opening position, where one is told."""
+    book = columns_at(wanted.journal, wanted.last)
+    return Made(book.count, [flag for flag in flags_of(book, int(late)) if flag.position > (wanted.first or 0)])
+
+
+def drawable_made(wanted: Wanted, on: str, measure: str, by: str) -> Made:
+    valuation, rows = both(wanted, on, measure)
+    return Made(valuation.position, drawable_of(valuation, rows.policies, by))
+
+
+def sheets_made(wanted: Wanted) -> Made:
+    try:
+        return Made(wanted.position, sheets_of(wanted.sample, wanted.folder, wanted.name, wanted.bases[0], wanted.life))
+    except NotTheSample as other:
+        raise NotAdded(str(other)) from other
+
+
+def letters_made(wanted: Wanted) -> Made:
+    return Made(wanted.position, letters_of(wanted.sample, wanted.journal, wanted.name))
 
 
 MAKES: dict[str, Callable[..., Made]] = {"report": report_of, "movement": movement_of, "statement": statement_made, "due": due_of,
-                                         "sample": drawable_of}
+                                         "flags": flags_made, "sample": drawable_made, "papers": sheets_made,
+                                         "letters": letters_made}
 
 
 def made_of(wanted: Wanted) -> Made:

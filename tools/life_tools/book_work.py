@@ -11,12 +11,14 @@ from typing import Callable
 from life_tools.book_cluster import Cluster, Make
 from life_tools.book_lists import ListedBook
 from life_tools.book_runs import JOURNAL, OWN, Outcome, Parts, Task, demand_journal, failure, run_once, sum_of
+from life_tools.class_bases import Bases
 from life_tools.copied_folder import basis_files
 from life_tools.formats import Wrong, bytes_of, demand, remark
 from life_tools.holders import holder_of
 from life_tools.program import demand_as_installed, life_command, program_file
 from life_tools.progress import Progress
 from life_tools.record_columns import columns_at, front_sum
+from life_tools.samples import Sample
 from life_tools.wholeness import doubt_of
 
 # the program's own status of a book that somebody has
@@ -40,6 +42,9 @@ class Asked:
     # of a word of these tools: the opening positions, and by name the files of rows that were printed already, with their sums
     firsts: dict[str, int] = field(default_factory=dict)
     rows_in: dict[str, tuple[str, str]] = field(default_factory=dict)
+    # the bases of classes, and by name each book's part of a sample
+    bases: tuple[Bases, ...] = ()
+    drawn: dict[str, Sample] = field(default_factory=dict)
 
     @property
     def is_own(self) -> bool:
@@ -61,15 +66,22 @@ def task_here(asked: Asked, book: ListedBook) -> Task:
     """A task of this machine, in the book's folder; where the word takes no position, on a copy."""
     at = asked.positions.get(book.name)
     is_copied = at is not None and asked.words[0] != "value" and not asked.is_own
-    return Task(book.name, book.folder, book.basis, asked.words, tuple(life_command()), at, is_copied=is_copied,
-                parts=asked.parts, are_rows_kept=asked.are_rows_kept, first=asked.firsts.get(book.name),
-                rows_in=asked.rows_in.get(book.name))
+    task = Task(book.name, book.folder, book.basis, asked.words, tuple(life_command()), at, is_copied=is_copied,
+                parts=asked.parts, are_rows_kept=asked.are_rows_kept)
+    return of_book(asked, task)
+
+
+def of_book(asked: Asked, task: Task) -> Task:
+    """A task with what is asked of its book by the words of these tools."""
+    return replace(task, first=asked.firsts.get(task.name), rows_in=asked.rows_in.get(task.name), bases=asked.bases,
+                   drawn=asked.drawn.get(task.name))
 
 
 def task_elsewhere(asked: Asked, book: ListedBook, program: str, program_sum: str) -> Task:
     """A task of any machine, on a copy at a position."""
-    task = Task(book.name, book.folder, book.basis, asked.words, (program,), asked.positions.get(book.name), True, program_sum,
-                parts=asked.parts, first=asked.firsts.get(book.name), rows_in=asked.rows_in.get(book.name))
+    at = asked.positions.get(book.name)
+    task = of_book(asked, Task(book.name, book.folder, book.basis, asked.words, (program,), at, True, program_sum,
+                               parts=asked.parts))
     if not asked.are_sent:
         return task
     files = {JOURNAL: columns_at(book.journal, task.at).front()}
@@ -79,8 +91,11 @@ def task_elsewhere(asked: Asked, book: ListedBook, program: str, program_sum: st
 
 
 def names_of_basis(asked: Asked, book: ListedBook) -> list[str]:
-    """The basis file and its tables, where the words need them."""
-    return basis_files(book.folder, book.basis) if asked.words[0] in ("value", "project", *OWN) else []
+    """The basis files and their tables, where the words need them."""
+    if asked.words[0] not in ("value", "project", *OWN):
+        return []
+    names = [name for each in asked.bases for name in each.names] or [book.basis]
+    return list(dict.fromkeys(each for name in names for each in basis_files(book.folder, name)))
 
 
 def held(asked: Asked, book: ListedBook) -> Outcome | None:

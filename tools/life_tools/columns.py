@@ -5,14 +5,16 @@ words; an object is made only of what is asked for. Positions count from 1, plac
 """
 from __future__ import annotations
 
+import io
 from dataclasses import dataclass
 
 from life_tools.commands import command_in
-from life_tools.formats import Wrong, bytes_of, demand
+from life_tools.formats import Wrong, demand
 from life_tools.journal_columns import CLAIM, MATURE, PREMIUM, REINSTATE, SETTLE, Records, records_of
-from life_tools.journals import Journal, bad_record, gate_of, is_unfinished_creation, records_in
+from life_tools.journals import Journal, bad_record
 from life_tools.arrays import Array, Cents, np
 from life_tools.policy_columns import Policies
+from life_tools.record_blocks import Blocks, blocks_at
 from life_tools.replays import Replay
 from life_tools.rules import ACCOUNTS
 
@@ -54,38 +56,52 @@ def book_of(replay: Replay) -> Columns:
     return Columns(replay.records, replay.policies, replay.place, replay.booked, replay.upgrade)
 
 
-def why_misspelled(data: bytes, record: int) -> str:
+def why_misspelled(body: bytes) -> str:
     try:
-        command_in(data[gate_of(record) + 1:gate_of(record + 1)])
+        command_in(body)
     except Wrong as wrong:
         return str(wrong)
-    raise AssertionError(f"record {record} spells a command")
+    raise AssertionError(f"{body.hex()} spells a command")
 
 
-def judged(data: bytes) -> Columns | Journal:
-    """What the program makes of a file's bytes: a book; or, as `read_journal` has it, a refusal with its reason."""
-    count = 0 if is_unfinished_creation(data) else records_in(data)
+def judged_by(blocks: Blocks) -> Columns | Journal:
+    """What the program makes of a file: a book; or, as `read_journal` has it, a refusal with its reason."""
+    records, misspelled = records_of(blocks)
+    count = blocks.count()
     if isinstance(count, Journal):
         return count
-    records, spelled = records_of(data, count)
     replay = Replay(records)
     if replay.bad is not None:
         return bad_record(replay.bad, f"command {replay.bad + 1} can't follow: {','.join(replay.refusal().words())}")
-    if spelled < count:
-        return bad_record(spelled, why_misspelled(data, spelled))
+    if misspelled is not None:
+        return bad_record(len(records), why_misspelled(misspelled))
     return book_of(replay)
+
+
+def judged(data: bytes) -> Columns | Journal:
+    """The same of a file's bytes."""
+    return judged_by(Blocks(io.BytesIO(data)))
+
+
+def taken(found: Columns | Journal, path: str, at: int | None = None) -> Columns:
+    """The book that was found in a file, or that of its first commands, of which it must have so many."""
+    if isinstance(found, Journal):
+        raise Wrong(f"{path}: {found.refused}: {found.why}")
+    demand(at is None or at <= found.count, f"{path} has {found.count} commands, and not {at}")
+    return found if at is None else found.front(at)
 
 
 def columns_in(data: bytes, path: str) -> Columns:
     """The book of a file's bytes, which must be a journal or an unfinished creation of one."""
-    found = judged(data)
-    if isinstance(found, Journal):
-        raise Wrong(f"{path}: {found.refused}: {found.why}")
-    return found
+    return taken(judged(data), path)
+
+
+def looked_at(path: str) -> tuple[Columns | Journal, Blocks]:
+    """The same of a file, with what was seen of it."""
+    with blocks_at(path) as blocks:
+        return judged_by(blocks), blocks
 
 
 def columns_at(path: str, at: int | None = None) -> Columns:
-    """The book of a journal's file, or of its first commands, of which it must have so many."""
-    found = columns_in(bytes_of(path), path)
-    demand(at is None or at <= found.count, f"{path} has {found.count} commands, and not {at}")
-    return found if at is None else found.front(at)
+    """The same of a journal's file."""
+    return taken(looked_at(path)[0], path, at)

@@ -2,24 +2,24 @@
 from __future__ import annotations
 
 import fcntl
+import io
 import os
 import shutil
 import subprocess
-import tempfile
 from contextlib import contextmanager
 from typing import IO, Iterator, Sequence
 
-from life_tools.formats import Wrong, bytes_of, remark, rows_in
+from life_tools.desks import desk_for
+from life_tools.formats import Wrong, bytes_of, rows_in
 from life_tools.tables import NAME
 
 JOURNAL = "journal.life"
-MEMORY = "/dev/shm"
-# what postings to a copy may add to it
-ROOM = 2**26
+# how the names of folders with copies begin
+PREFIX = "life-desk-"
 
 
 @contextmanager
-def reading(path: str) -> Iterator[IO[bytes]]:
+def reading(path: str) -> Iterator[io.BufferedReader]:
     """A journal's file, which no run has meanwhile."""
     try:
         file = open(path, "rb")
@@ -31,15 +31,6 @@ def reading(path: str) -> Iterator[IO[bytes]]:
         except BlockingIOError as error:
             raise Wrong(f"{path} is held by another run") from error
         yield file
-
-
-def journal_bytes(folder: str) -> bytes | None:
-    """The folder's journal, read while no run has it; none where there is no such file."""
-    path = os.path.join(folder, JOURNAL)
-    if not os.path.exists(path):
-        return None
-    with reading(path) as file:
-        return file.read()
 
 
 def written(path: str, data: bytes) -> None:
@@ -61,38 +52,30 @@ def copy_basis(folder: str, name: str, to: str) -> None:
         shutil.copyfile(os.path.join(folder, each), os.path.join(to, each))
 
 
-def place_to_post(size: int) -> str | None:
-    """Memory, where a posting waits for no disk, unless TMPDIR tells another place or memory has no room for the copy."""
-    if os.environ.get("TMPDIR") or not os.access(MEMORY, os.W_OK | os.X_OK):
-        return None
-    return MEMORY if shutil.disk_usage(MEMORY).free >= size + ROOM else None
-
-
 @contextmanager
-def desk_of(journal: bytes | None, folder: str, basis: str, place: str | None = None) -> Iterator[str]:
-    """A folder for a while, with this journal and with the folder's basis."""
-    with tempfile.TemporaryDirectory(prefix="life-tools-", dir=place) as desk:
-        if journal is not None:
-            written(os.path.join(desk, JOURNAL), journal)
+def desk_of(folder: str, basis: str) -> Iterator[str]:
+    """A folder for a while, with the folder's basis, and with room for a copy of its journal."""
+    path = os.path.join(folder, JOURNAL)
+    with desk_for(os.path.getsize(path) if os.path.exists(path) else 0, PREFIX) as desk:
         copy_basis(folder, basis, desk)
         yield desk
 
 
-def run_in(desk: str, life: Sequence[str], words: Sequence[str], given: IO[bytes] | int = subprocess.DEVNULL) -> tuple[int, str]:
-    """The status of a run of the program in a folder, and what it printed."""
+def begun(desk: str, life: Sequence[str], words: Sequence[str],
+          given: IO[bytes] | int = subprocess.DEVNULL) -> subprocess.Popen[bytes]:
+    """A run of the program in a folder, which goes on meanwhile."""
     try:
-        ran = subprocess.run([*life, *words], cwd=desk, stdin=given, stdout=subprocess.PIPE)
+        return subprocess.Popen([*life, *words], cwd=desk, stdin=given, stdout=subprocess.PIPE)
     except OSError as error:
         raise Wrong(f"{life[0]}: {error.strerror}") from error
-    return ran.returncode, ran.stdout.decode("ascii", "replace")
 
 
-def dry_run(script: str, journal: bytes | None, folder: str, basis: str, life: Sequence[str]) -> tuple[int, str]:
-    """The status of a script's run on copies, and the transcript."""
-    if journal is None:
-        remark(f"there is no {os.path.join(folder, JOURNAL)}: the script is run on an empty journal")
-    try:
-        with open(script, "rb") as rows, desk_of(journal, folder, basis, place_to_post(len(journal or b""))) as desk:
-            return run_in(desk, life, ["run", "--basis", basis], rows)
-    except OSError as error:
-        raise Wrong(f"{script}: {error.strerror}") from error
+def run_in(desk: str, life: Sequence[str], words: Sequence[str]) -> tuple[int, str]:
+    """The status of a run of the program in a folder, and what it printed."""
+    with begun(desk, life, words) as ran:
+        return ended(ran)
+
+
+def ended(ran: subprocess.Popen[bytes]) -> tuple[int, str]:
+    printed, _ = ran.communicate()
+    return ran.returncode, printed.decode("ascii", "replace")

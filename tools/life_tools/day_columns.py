@@ -32,6 +32,10 @@ def calendar() -> tuple[Array, Array, Array, Array]:
 
 
 STARTS, IS_LEAP, YEAR, PLACE = calendar()
+# of each day twice the place of its year, and one more from 29 February on; by these what is added to a day's place in a leap
+# year for its number
+TURN = 2 * YEAR + (PLACE >= LEAP_DAY)
+BASE = np.column_stack([STARTS, STARTS - ~IS_LEAP]).ravel()
 
 
 def years_at(days: Array) -> Array:
@@ -42,9 +46,8 @@ def years_at(days: Array) -> Array:
 
 def anniversaries(days: Array, years: Array | int) -> Array:
     """So many years later; of a 29 February the 28th in a year that has none."""
-    at = days - STARTS[0]
-    year, place = YEAR[at] + years, PLACE[at]
-    found: Array = STARTS[year] + place - ((place >= LEAP_DAY) & ~IS_LEAP[year])
+    at = (days - STARTS[0]).astype(np.intp)
+    found: Array = BASE[TURN[at] + 2 * years] + PLACE[at]
     return found
 
 

@@ -6,21 +6,17 @@ row, and the balances in sums.
 """
 from __future__ import annotations
 
-import fcntl
 import os
-import shutil
 import subprocess
-import tempfile
 import time
 from concurrent.futures import Future, ThreadPoolExecutor
-from contextlib import contextmanager
 from dataclasses import dataclass, fields
 from typing import IO, Iterator, Sequence
 
 from life_tools.arrays import Array, np
 from life_tools.book_totals import Text, text_in, total_of
 from life_tools.columns import Columns
-from life_tools.copied_folder import JOURNAL, copy_basis, place_to_post, written
+from life_tools.copied_folder import JOURNAL, copy_basis, written
 from life_tools.formats import MOST_SCRIPT_BYTES, Wrong, demand
 from life_tools.journal_columns import UPGRADE, Records, raw_records
 from life_tools.journals import FIRST_GATE, RECORD_SIZE
@@ -28,8 +24,6 @@ from life_tools.progress import Progress
 from life_tools.record_texts import HELD, lines_of
 
 PREFIX = "life-split-"
-# so old is a folder in memory whose run was killed; a younger one may not be held yet by whoever made it
-STALE_SECONDS = 60
 SECONDS_BETWEEN = 0.1
 # beside the journals lie scripts, transcripts and what is printed
 TIMES_THE_JOURNAL = 6
@@ -69,43 +63,6 @@ class Division:
     def more_commands(self) -> int:
         """The upgrade is in each part."""
         return self.parts - 1 if self.book.upgrade else 0
-
-
-# --- the desk ---
-
-def is_left(path: str) -> bool:
-    """Whether a folder was left by a run that is gone."""
-    if os.stat(path).st_uid != os.getuid() or time.time() - os.stat(path).st_mtime < STALE_SECONDS:
-        return False
-    handle = os.open(path, os.O_RDONLY | os.O_DIRECTORY)
-    try:
-        fcntl.flock(handle, fcntl.LOCK_EX | fcntl.LOCK_NB)
-        return True
-    except BlockingIOError:
-        return False
-    finally:
-        os.close(handle)
-
-
-def remove_left(place: str) -> None:
-    for name in os.listdir(place):
-        path = os.path.join(place, name)
-        if name.startswith(PREFIX) and os.path.isdir(path) and not os.path.islink(path) and is_left(path):
-            shutil.rmtree(path, ignore_errors=True)
-
-
-@contextmanager
-def desk_for(size: int) -> Iterator[str]:
-    """A folder in memory where it has room, which is this run's until it ends, however it does."""
-    place = place_to_post(TIMES_THE_JOURNAL * size) or tempfile.gettempdir()
-    remove_left(place)
-    with tempfile.TemporaryDirectory(prefix=PREFIX, dir=place) as desk:
-        handle = os.open(desk, os.O_RDONLY | os.O_DIRECTORY)
-        try:
-            fcntl.flock(handle, fcntl.LOCK_EX)
-            yield desk
-        finally:
-            os.close(handle)
 
 
 # --- the scripts and the runs ---

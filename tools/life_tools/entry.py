@@ -9,6 +9,7 @@ import sys
 from typing import Sequence
 
 from life_tools.formats import Wrong
+from life_tools.packages import see
 
 # name -> the module of life_tools.entries that answers it, and what it does, in one line
 ENTRIES: dict[str, tuple[str, str]] = {
@@ -43,6 +44,10 @@ ENTRIES: dict[str, tuple[str, str]] = {
     "version": ("version", "version and revision, and whether program and tools belong together"),
 }
 
+# those that read in bulk
+BY_NUMPY = {"audit", "books", "browse", "check", "due", "export", "headroom", "movement", "position-on", "read",
+            "read-checkpoint", "report", "statement", "why"}
+
 
 def parser_of(names: Sequence[str]) -> argparse.ArgumentParser:
     """The parser of all entries; only the modules of those named are read, since some need packages of their own."""
@@ -52,6 +57,8 @@ def parser_of(names: Sequence[str]) -> argparse.ArgumentParser:
     for name, (module, does) in ENTRIES.items():
         entry = entries.add_parser(name, help=does, description=does, formatter_class=argparse.RawDescriptionHelpFormatter)
         if name in names:
+            if name in BY_NUMPY:
+                see("numpy", "python3-numpy")
             answers = importlib.import_module(f"life_tools.entries.{module}")
             entry.description = answers.__doc__
             answers.arguments(entry)

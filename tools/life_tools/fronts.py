@@ -7,13 +7,15 @@ from __future__ import annotations
 import contextlib
 import os
 import subprocess
+from concurrent.futures import ThreadPoolExecutor
 from typing import Iterator, Sequence
 
-from life_tools.copied_folder import JOURNAL, copy_basis, desk_of, reading, run_in, written
-from life_tools.formats import Wrong, bytes_of, demand
-from life_tools.journals import EMPTY, count_of
+from life_tools.copied_folder import JOURNAL, begun, copy_basis, desk_of, reading, run_in, written
+from life_tools.formats import Wrong, demand
+from life_tools.journals import EMPTY, FIRST_GATE, RECORD_SIZE, gate_of
 from life_tools.program import life_command
-from life_tools.record_columns import copy_front, front_count
+from life_tools.record_blocks import Blocks, demanded
+from life_tools.record_columns import close_gate, send
 from life_tools.wholeness import tell_doubt
 
 # so many threads value, which change no byte of what is printed
@@ -39,49 +41,67 @@ class Front:
         self.demand_well(status, words, printed)
         return printed
 
-    def streams(self, *words: str) -> Iterator[bytes]:
-        """The same in parts, while the program goes on."""
-        try:
-            ran = subprocess.Popen([*self.life, *words], cwd=self.folder, stdin=subprocess.DEVNULL, stdout=subprocess.PIPE)
-        except OSError as error:
-            raise Wrong(f"{self.life[0]}: {error.strerror}") from error
-        with ran:
-            assert ran.stdout
+    def begins(self, *words: str) -> subprocess.Popen[bytes]:
+        """The program at work on these words, while something else is done."""
+        return begun(self.folder, self.life, words)
+
+    def parts(self, ran: subprocess.Popen[bytes], *words: str) -> Iterator[bytes]:
+        """What it prints, which must end with status 0, in parts."""
+        assert ran.stdout
+        part = ran.stdout.read(AT_ONCE)
+        if len(part) < AT_ONCE:
+            self.demand_well(ran.wait(), words, part.decode("ascii", "replace"))
+        while part:
+            yield part
             part = ran.stdout.read(AT_ONCE)
-            if len(part) < AT_ONCE:
-                self.demand_well(ran.wait(), words, part.decode("ascii", "replace"))
-            while part:
-                yield part
-                part = ran.stdout.read(AT_ONCE)
-            self.demand_well(ran.wait(), words, "")
+        self.demand_well(ran.wait(), words, "")
+
+    def streams(self, *words: str) -> Iterator[bytes]:
+        """The same from the beginning on."""
+        with self.begins(*words) as ran:
+            yield from self.parts(ran, *words)
+
+    def alone(self, places: Sequence[int]) -> Front:
+        """A copy of the commands of these places alone."""
+        folder = os.path.join(self.folder, "alone")
+        os.mkdir(folder)
+        with open(os.path.join(self.folder, JOURNAL), "rb") as file, open(os.path.join(folder, JOURNAL), "wb") as copy:
+            copy.write(EMPTY[:FIRST_GATE])
+            for place in places:
+                file.seek(gate_of(place))
+                copy.write(file.read(RECORD_SIZE))
+            copy.write(bytes(1))
+        return Front(folder, len(places), self.life)
 
 
-def copied(path: str, position: int | None, to: str) -> int:
-    """The position to which a journal was copied: the one told, or the newest; nobody posts meanwhile."""
-    with reading(path):
-        count = front_count(path)
-        if count is None:
-            # which tells what is wrong with it, where it is no unfinished creation
-            count = count_of(bytes_of(path), path)
-        demand(position is None or position <= count, f"{position} is no position of {path}, which has {count} commands")
-        wanted = count if position is None else position
+def copied(path: str, position: int | None, to: str) -> Blocks:
+    """Copies a journal up to a position, or all of it, and looks at it meanwhile, while nobody posts."""
+    with reading(path) as file, ThreadPoolExecutor(1) as beside:
+        size = os.fstat(file.fileno()).st_size if position is None else gate_of(position)
+        sending = beside.submit(send, path, size, to)
+        blocks = Blocks(file).through()
         try:
-            if wanted:
-                copy_front(path, wanted, to)
-            else:
-                written(to, EMPTY)
+            sending.result()
         except OSError as error:
             raise Wrong(f"{to}: {error.strerror}") from error
-    return wanted
+    return blocks
 
 
 @contextlib.contextmanager
 def front(folder: str, position: int | None, bases: Sequence[str], life: str | None) -> Iterator[Front]:
     """A copy of the book at a position (the newest where none is told), with these basis files and their tables."""
     path, command = os.path.join(folder, JOURNAL), life_command(life)
-    tell_doubt(path)
-    with desk_of(None, folder, bases[0]) as desk:
-        position = copied(path, position, os.path.join(desk, JOURNAL))
+    with desk_of(folder, bases[0]) as desk:
+        copy = os.path.join(desk, JOURNAL)
+        blocks = copied(path, position, copy)
+        tell_doubt(path, blocks.seen)
+        count = demanded(blocks, path)
+        demand(position is None or position <= count, f"{position} is no position of {path}, which has {count} commands")
+        position = count if position is None else position
+        if position:
+            close_gate(copy, gate_of(position))
+        else:
+            written(copy, EMPTY)
         for basis in bases[1:]:
             copy_basis(folder, basis, desk)
         yield Front(desk, position, command)

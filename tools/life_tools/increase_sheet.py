@@ -6,7 +6,7 @@ this one. What is insured is added up by case and year before it is multiplied b
 """
 from __future__ import annotations
 
-from typing import Iterator, NamedTuple
+from typing import Iterator, NamedTuple, Sequence
 
 from life_tools.arrays import Array, Cents, np
 from life_tools.day_columns import completed_years
@@ -17,7 +17,7 @@ from life_tools.posted_steps import REPEATED, Steps, blocks_of
 from life_tools.printed_columns import NO_WORDS
 from life_tools.reserve_cases import Cases
 from life_tools.reserve_units import ONE, Units, cents
-from life_tools.sheets import COUNT, TEXT, Column, Sheet
+from life_tools.sheets import BY_BOUNDS, COUNT, TEXT, Column, Sheet
 
 OPENING, ROUNDING, CLOSING = "reserve at the beginning", "rounding", "reserve at the end"
 NET, INTEREST, COST, HELD = GROWN = "net premiums", "interest", "cost of insurance", "kept from falling below 0"
@@ -289,36 +289,76 @@ class Increase:
                                                                        "closing")
 
 
+class Led(NamedTuple):
+    """What leads from the opening of one book, or of several, to the closing: the printed totals, the exact sums and the
+    counts of the lines, and how wide the rows' bounds are at both ends."""
+
+    measure: str
+    opening: tuple[int, ...]
+    closing: tuple[int, ...]
+    sums: dict[str, int]
+    counts: dict[str, int]
+    widths: tuple[int, int]
+
+
 def width_of(moment: Moment) -> int:
     bounds = moment.valuation.rows.bounds
     return int((bounds[:, 1] - bounds[:, 0]).sum())
 
 
-def increase_sheet(period: Period, increase: Increase) -> Sheet:
+def led_by(period: Period, increase: Increase) -> Led:
     increase.demand_led()
-    sheet = Sheet("increase", f"Increase in reserves, {period.asked.measure}",
-                  [Column("line", TEXT), Column("policies", COUNT), Column("lower bounds"), Column("upper bounds")])
-    opening, closing = period.opening.valuation.total, period.closing.valuation.total
-    lines = {line: cents(scaled) for line, scaled in increase.sums.items()}
-    rounding = [closing[bound] - opening[bound] - sum(lines.values()) for bound in (0, 1)]
-    most = [width_of(period.opening), width_of(period.closing)]
+    opening, closing = period.opening, period.closing
+    return Led(period.asked.measure, opening.valuation.total[:2], closing.valuation.total[:2], increase.sums,
+               increase.counts, (width_of(opening), width_of(closing)))
+
+
+def led_together(books: Sequence[Led]) -> Led:
+    """What leads all books from their openings to their closings."""
+    def sums(pairs: Sequence[tuple[int, ...]]) -> tuple[int, ...]:
+        return tuple(map(sum, zip(*pairs)))
+
+    most = sums([it.widths for it in books])
+    return Led(books[0].measure, sums([it.opening for it in books]), sums([it.closing for it in books]),
+               {line: sum(it.sums[line] for it in books) for line in WORKED},
+               {line: sum(it.counts[line] for it in books) for line in LINES}, (most[0], most[1]))
+
+
+def lines_sheet(led: Led) -> Sheet:
+    """The sheet of what leads from the opening to the closing, each exact sum rounded once."""
+    columns = [Column("line", TEXT), Column("policies", COUNT), *BY_BOUNDS]
+    sheet = Sheet("increase", f"Increase in reserves, {led.measure}", columns, exact=led)
+    lines = {line: cents(scaled) for line, scaled in led.sums.items()}
+    rounding = [led.closing[bound] - led.opening[bound] - sum(lines.values()) for bound in (0, 1)]
+    most = led.widths
     demand_whole(-most[1] - len(lines) <= rounding[0] <= most[0] + len(lines)
                  and -most[0] - len(lines) <= rounding[1] <= most[1] + len(lines),
                  f"increase: {rounding} cents are left, and the rows are {most} cents wide")
-    counts = increase.counts
-    sheet.add(OPENING, counts[OPENING], *opening[:2], is_total=True)
+    sheet.add(OPENING, led.counts[OPENING], *led.opening, is_total=True)
     for line, amount in lines.items():
-        sheet.add(line, counts[line] if line in JUMPS else None, amount, amount, section=1)
+        sheet.add(line, led.counts[line] if line in JUMPS else None, amount, amount, section=1)
     sheet.add(ROUNDING, None, *rounding, section=2)
-    sheet.add(CLOSING, counts[CLOSING], *closing[:2], section=3, is_total=True)
-    sheet.notes = [f"Rounding: what the printed bounds of the rows leave open, which are {money(most[0])} wide at the beginning "
+    sheet.add(CLOSING, led.counts[CLOSING], *led.closing, section=3, is_total=True)
+    sheet.notes = ["By lower and by upper bounds: each column begins and ends with the sum of the printed rows' bounds; the "
+                   "lines between are worked out once for both.",
+                   f"Rounding: what the printed bounds of the rows leave open, which are {money(most[0])} wide at the beginning "
                    f"and {money(most[1])} at the end, and less than a cent of each line."]
     sheet.checks = ["Each policy's exact opening and closing reserve lies in its printed row.",
                     "The lines lead from the printed opening total to the printed closing one."]
+    return sheet
+
+
+def increase_sheet(period: Period, increase: Increase) -> Sheet:
+    sheet = lines_sheet(led_by(period, increase))
     if increase.parts:
         sheet.policy_head = ["policy", "opening lower", "opening upper", *WORKED, "closing lower", "closing upper"]
         sheet.policy_rows = policy_rows(period, increase.parts)
     return sheet
+
+
+def increases_added(sheets: Sequence[Sheet]) -> Sheet:
+    """Such sheets of several books as one."""
+    return lines_sheet(led_together([sheet.exact for sheet in sheets]))
 
 
 def policy_rows(period: Period, parts: Parts) -> Iterator[list[str]]:

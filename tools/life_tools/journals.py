@@ -55,19 +55,38 @@ def read_journal(data: bytes, into: Book | None = None) -> Journal:
     return count if isinstance(count, Journal) else replayed(data, count, book)
 
 
-def records_in(data: bytes) -> int | Journal:
-    """How many records stand in front of the first gate that isn't open; or the refusal of what is no journal."""
-    if len(data) < len(EMPTY):
-        return Journal(refused="badjournal,notajournal", why=f"it has {len(data)} bytes, and an empty journal has {len(EMPTY)}")
-    if data[:FIRST_GATE] != EMPTY[:FIRST_GATE]:
+def open_gates(gates: bytes | bytearray) -> int:
+    """How many gates stand in front of the first one that isn't open."""
+    is_all = gates == bytes([OPEN]) * len(gates)
+    return len(gates) if is_all else len(gates) - len(gates.lstrip(bytes([OPEN])))
+
+
+def wrong_front(front: bytes) -> Journal | None:
+    """The refusal of a file that begins so, with as many bytes as an empty journal where it has them; none of a journal."""
+    if len(front) < len(EMPTY):
+        return Journal(refused="badjournal,notajournal", why=f"it has {len(front)} bytes, and an empty journal has {len(EMPTY)}")
+    if front[:FIRST_GATE] != EMPTY[:FIRST_GATE]:
         return Journal(refused="badjournal,notajournal", why="its first 17 bytes aren't those of a journal")
-    gates = data[FIRST_GATE::RECORD_SIZE]
-    count = len(gates) - len(gates.lstrip(bytes([OPEN])))
+    return None
+
+
+def counted(count: int, is_ended: bool, length: int) -> int | Journal:
+    """So many records with open gates, where another gate ends them; or the refusal of a file of that length."""
     if count > MOST_COMMANDS:
         return bad_record(MOST_COMMANDS, "a journal has at most so many")
-    if count == len(gates):
-        return bad_record(count - 1, f"it is cut short at byte {len(data)}")
+    if not is_ended:
+        return bad_record(count - 1, f"it is cut short at byte {length}")
     return count
+
+
+def records_in(data: bytes) -> int | Journal:
+    """How many records stand in front of the first gate that isn't open; or the refusal of what is no journal."""
+    wrong = wrong_front(data[:len(EMPTY)])
+    if wrong:
+        return wrong
+    gates = data[FIRST_GATE::RECORD_SIZE]
+    count = open_gates(gates)
+    return counted(count, count < len(gates), len(data))
 
 
 def count_of(data: bytes, path: str) -> int:

@@ -1,10 +1,8 @@
 """What a letter of confirmation says of each policy of a sample: a row a letter, for whoever has the addresses."""
 from __future__ import annotations
 
-from life_tools.arrays import np
 from life_tools.columns import columns_at
 from life_tools.formats import demand, money
-from life_tools.replays import places_of
 from life_tools.rules import anniversary, due_of, end_of
 from life_tools.samples import Sample
 
@@ -15,13 +13,12 @@ HEADS = ("policy", "book", "as of", "position", "plan", "issued", "age at issue"
 def letters_of(sample: Sample, path: str, book: str) -> list[list[str]]:
     """The rows of a sample's letters, by the journal at its position; the last two fields are for the answer."""
     columns = columns_at(path, sample.position)
-    policies = columns.policies
-    demand(len(policies) == sample.policies, f"{path} has {len(policies)} policies at position {sample.position}")
-    places = places_of(np.array([row.number for row in sample.rows], np.uint32), policies.number)
+    place_of = {int(number): place for place, number in enumerate(columns.policies.number)}
+    demand(len(place_of) == sample.policies, f"{path} has {len(place_of)} policies at position {sample.position}")
     found = []
-    for row, place in zip(sample.rows, places.tolist()):
-        demand(place >= 0, f"{path} has no policy {row.number} at position {sample.position}")
-        policy = policies.policy(place)
+    for row in sample.rows:
+        demand(row.number in place_of, f"{path} has no policy {row.number} at position {sample.position}")
+        policy = columns.policies.policy(place_of[row.number])
         demand(policy.status == row.status, f"policy {row.number} is {policy.status}, and in the sample {row.status}")
         due = due_of(policy) if policy.status == "inforce" else None
         paid_to = str(anniversary(policy.issued, policy.paid)) if policy.paid else ""

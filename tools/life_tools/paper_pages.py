@@ -6,7 +6,7 @@ from html import escape
 from typing import Sequence
 
 from life_tools.formats import money as plain_money
-from life_tools.papers import Paper, Papers
+from life_tools.papers import BookPapers, Paper, Papers
 from life_tools.report_pages import STYLE, apart, money, table
 from life_tools.revisions import made_now, revision
 from life_tools.seals import text_of
@@ -46,24 +46,44 @@ def verdict(paper: Paper) -> str:
     return "right" if paper.is_right else "wrong"
 
 
+def book_facts(papers: Papers) -> list[tuple[str, str]]:
+    """The books and their positions."""
+    if len(papers.books) == 1:
+        [book] = papers.books
+        return [("book", book.book), ("position", apart(str(book.sample.position)))]
+    return [("books", f"{papers.title}: {len(papers.books)}")]
+
+
 def front_of(papers: Papers) -> list[str]:
     sample, draw = papers.sample, papers.draw
-    told = [("book", papers.book), ("day", str(sample.on)), ("position", apart(str(sample.position))),
-            ("measure", sample.measure), ("policies", apart(str(sample.policies))), ("drawn by", sample.by),
+    policies, rows = sum(it.sample.policies for it in papers.books), sum(len(it.papers) for it in papers.books)
+    told = [*book_facts(papers), ("day", str(sample.on)),
+            ("measure", sample.measure), ("policies", apart(str(policies))), ("drawn by", sample.by),
             ("rows wished for", apart(str(sample.asked))), ("seed", str(sample.seed)),
             (f"total {sample.by}", money(sample.total)), ("interval", f"{money(sample.total)} / {sample.asked}"),
-            ("start", f"{plain_money(sample.start)} / {sample.asked}"), ("rows drawn", apart(str(len(sample.rows)))),
+            ("start", f"{plain_money(sample.start)} / {sample.asked}"), ("rows drawn", apart(str(rows))),
             ("certain rows", apart(str(draw.certain))), ("rows of 0, not drawn", apart(str(draw.nothing))),
             ("revision of the tools", revision()), ("made", made_now())]
-    return [facts(told), contents(papers), "<h2>The book's seal</h2>", f"<pre>{escape(text_of(papers.seal))}</pre>"]
+    return [facts(told), contents(papers), *seals(papers)]
+
+
+def seals(papers: Papers) -> list[str]:
+    if len(papers.books) == 1:
+        return ["<h2>The book's seal</h2>", f"<pre>{escape(text_of(papers.books[0].seal))}</pre>"]
+    each = (f"<h3>{escape(it.book)}</h3><pre>{escape(text_of(it.seal))}</pre>" for it in papers.books)
+    return ["<h2>The books' seals</h2>", *each]
 
 
 def contents(papers: Papers) -> str:
-    rows = [[str(it.policy.number), money(it.size), chance_text(it.chance),
-             *([it.row.word, ""] if it.row.word else map(money, it.row.bounds)), verdict(it)] for it in papers.papers]
-    total = ["drawn", money(sum(it.size for it in papers.papers)), "",
-             *(money(sum(it.row.bounds[place] for it in papers.papers)) for place in range(2)), ""]
-    heads = ["policy", papers.sample.by, "chance", "lower bound", "upper bound", "row"]
+    """A row for each drawn policy; of several books the book stands in front."""
+    are_many = len(papers.books) > 1
+    rows = [[*([book.book] * are_many), str(it.policy.number), money(it.size), chance_text(it.chance),
+             *([it.row.word, ""] if it.row.word else map(money, it.row.bounds)), verdict(it)]
+            for book, it in papers.all]
+    drawn = [paper for _, paper in papers.all]
+    total = ["drawn", *([""] * are_many), money(sum(it.size for it in drawn)), "",
+             *(money(sum(it.row.bounds[place] for it in drawn)) for place in range(2)), ""]
+    heads = [*(["book"] * are_many), "policy", papers.sample.by, "chance", "lower bound", "upper bound", "row"]
     return "<h2>What was drawn</h2>" + table(heads, rows, total)
 
 
@@ -73,12 +93,12 @@ def postings_text(paper: Paper) -> str:
     return "\n".join(f"{apart(str(position)):>{width}}  {line}" for position, line in paper.postings)
 
 
-def sheet(paper: Paper, papers: Papers) -> list[str]:
+def sheet(paper: Paper, book: BookPapers) -> list[str]:
     """The sheet of a policy, which says of itself what it is of."""
-    policy, sample = paper.policy, papers.sample
+    policy, sample = paper.policy, book.sample
     right = "" if paper.is_right else "<p class=\"wrong\">The printed row isn't what was worked out.</p>"
-    is_of = f"{papers.book} on {sample.on} at position {sample.position:,}; {sample.by} {money(paper.size)}"
-    return [f"<section id=\"policy-{policy.number}\"><h2>Policy {policy.number}</h2>",
+    is_of = f"{book.book} on {sample.on} at position {sample.position:,}; {sample.by} {money(paper.size)}"
+    return [f"<section id=\"{escape(book.book)}-{policy.number}\"><h2>Policy {policy.number}</h2>",
             f"<p>{escape(is_of)}, chance {chance_text(paper.chance)}. Basis {escape(paper.basis_row)}.</p>", right,
             f"<h3>The row, worked out</h3><pre>{escape(chr(10).join(paper.worked))}</pre>",
             f"<h3>Its postings</h3><pre>{escape(postings_text(paper))}</pre>",
@@ -88,11 +108,12 @@ def sheet(paper: Paper, papers: Papers) -> list[str]:
 
 def page(papers: Papers) -> str:
     """The whole page, which needs no network."""
-    title = f"Audit papers: {papers.book} on {papers.sample.on} at position {papers.sample.position}"
+    at = f" at position {papers.sample.position}" if len(papers.books) == 1 else ""
+    title = f"Audit papers: {papers.title} on {papers.sample.on}{at}"
     parts = ["<!doctype html>", "<html lang=\"en\"><head><meta charset=\"utf-8\">",
              "<meta name=\"viewport\" content=\"width=device-width, initial-scale=1\">",
              f"<title>{escape(title)}</title><style>{STYLE}{PRINTED}</style></head><body>", f"<h1>{escape(title)}</h1>",
              *front_of(papers), signed()]
-    for paper in papers.papers:
-        parts += sheet(paper, papers)
+    for book, paper in papers.all:
+        parts += sheet(paper, book)
     return "\n".join([*parts, "</body></html>", ""])

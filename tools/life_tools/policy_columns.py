@@ -6,7 +6,8 @@ journals. Of a refusal only that there is one is said here: its reason is given 
 from __future__ import annotations
 
 from dataclasses import dataclass, fields
-from typing import NamedTuple, Sequence
+from functools import cached_property
+from typing import NamedTuple, Sequence, Union
 
 from life_tools.commands import LAST_AGE, PLAN_CODES
 from life_tools.day_columns import NEVER, anniversaries, completed_years, day_at, number_at
@@ -62,9 +63,32 @@ class Policies:
 
     @property
     def due(self) -> Array:
-        """The day on which the next premium is due, or NEVER where all are paid or the policy is paid up."""
-        none = (self.status == MADE_PAIDUP) | (self.paid >= self.payments)
-        return np.where(none, NEVER, anniversaries(self.issued, np.where(none, 0, self.paid)))
+        return due_of(self)
+
+
+class Chosen:
+    """The policies of some places: of their columns those that are asked for are taken, once."""
+
+    def __init__(self, policies: Policies, places: Array) -> None:
+        self.policies, self.places = policies, places
+
+    def __getattr__(self, name: str) -> Array:
+        column: Array = getattr(self.policies, name)[self.places]
+        setattr(self, name, column)
+        return column
+
+    @cached_property
+    def due(self) -> Array:
+        return due_of(self)
+
+
+Some = Union[Policies, Chosen]
+
+
+def due_of(of: Some) -> Array:
+    """The day on which the next premium is due, or NEVER where all are paid or the policy is paid up."""
+    none = (of.status == MADE_PAIDUP) | (of.paid >= of.payments)
+    return np.where(none, NEVER, anniversaries(of.issued, np.where(none, 0, of.paid)))
 
 
 class IssueTerms(NamedTuple):
@@ -113,62 +137,61 @@ def together(one: Policies, other: Policies) -> Policies:
 
 # --- the rules, of policies and of a command on each ---
 
-def missed(of: Policies, day: Array) -> Array:
+def missed(of: Some, day: Array) -> Array:
     """How many premiums that weren't paid were due up to the day."""
     return np.maximum(np.minimum(completed_years(of.issued, day) + 1, of.payments) - of.paid, 0)
 
 
-def is_in_grace(of: Policies, day: Array) -> Array:
+def is_in_grace(of: Some, day: Array) -> Array:
     """Whether a premium can still be paid, as far as one is due."""
-    due = of.due
-    found: Array = (due == NEVER) | (day <= due + GRACE.days * (due != NEVER))
+    # a premium that is due never is behind each day
+    found: Array = day - GRACE.days <= of.due
     return found
 
 
-def is_premium_right(of: Policies, day: Array, amount: Cents) -> Array:
-    due = of.due
-    found: Array = ((of.status == INFORCE) & (day < of.end) & (due != NEVER) & (day >= due - EARLY.days) & is_in_grace(of, day)
+def is_premium_right(of: Some, day: Array, amount: Cents) -> Array:
+    found: Array = ((of.status == INFORCE) & (day < of.end) & (day >= of.due - EARLY.days) & is_in_grace(of, day)
                     & (amount == of.premium))
     return found
 
 
-def is_alter_right(of: Policies, day: Array, amount: Cents) -> Array:
+def is_alter_right(of: Some, day: Array, amount: Cents) -> Array:
     found: Array = (of.status == INFORCE) & (day < of.end) & is_in_grace(of, day) & (amount < of.amount)
     return found
 
 
-def is_lapse_right(of: Policies, day: Array, amount: Cents) -> Array:
+def is_lapse_right(of: Some, day: Array, amount: Cents) -> Array:
     found: Array = (of.status == INFORCE) & (of.due != NEVER) & ~is_in_grace(of, day)
     return found
 
 
-def is_reinstate_right(of: Policies, day: Array, amount: Cents) -> Array:
+def is_reinstate_right(of: Some, day: Array, amount: Cents) -> Array:
     limit = anniversaries(of.issued, of.paid + REINSTATEMENT_ANNIVERSARIES)
     found: Array = (of.status == LAPSED) & (day < of.end) & (day <= limit) & (amount == missed(of, day) * of.premium)
     return found
 
 
-def is_insured(of: Policies) -> Array:
+def is_insured(of: Some) -> Array:
     found: Array = (of.status == INFORCE) | (of.status == MADE_PAIDUP)
     return found
 
 
-def is_claim_right(of: Policies, day: Array, amount: Cents) -> Array:
+def is_claim_right(of: Some, day: Array, amount: Cents) -> Array:
     found: Array = is_insured(of) & (day < of.end) & is_in_grace(of, day)
     return found
 
 
-def is_settle_right(of: Policies, day: Array, amount: Cents) -> Array:
+def is_settle_right(of: Some, day: Array, amount: Cents) -> Array:
     found: Array = ((of.status == CLAIMED) | (of.status == MATURED)) & (amount <= of.outstanding)
     return found
 
 
-def is_mature_right(of: Policies, day: Array, amount: Cents) -> Array:
+def is_mature_right(of: Some, day: Array, amount: Cents) -> Array:
     found: Array = is_insured(of) & is_in_grace(of, day) & (day >= of.end)
     return found
 
 
-def is_paidup_right(of: Policies, day: Array, amount: Cents) -> Array:
+def is_paidup_right(of: Some, day: Array, amount: Cents) -> Array:
     found: Array = is_alter_right(of, day, amount) & (of.due != NEVER)
     return found
 
@@ -177,13 +200,13 @@ RIGHT = {PREMIUM: is_premium_right, ALTER: is_alter_right, LAPSE: is_lapse_right
          CLAIM: is_claim_right, SETTLE: is_settle_right, MATURE: is_mature_right, PAIDUP: is_paidup_right}
 
 
-def is_accepted(of: Policies, kind: int, day: Array, amount: Cents) -> Array:
+def is_accepted(of: Some, kind: int, day: Array, amount: Cents) -> Array:
     """Whether the rules take a command of a kind, which is neither an issue nor an upgrade, on each of the policies."""
     found: Array = (day >= of.last) & RIGHT[kind](of, day, amount)
     return found
 
 
-def change(policies: Policies, places: Array, of: Policies, kind: int, day: Array, amount: Cents, premium: Cents) -> None:
+def change(policies: Policies, places: Array, of: Some, kind: int, day: Array, amount: Cents, premium: Cents) -> None:
     """What accepted commands of a kind make of the policies of these places, which are `of`."""
     policies.last[places] = day
     if kind == PREMIUM:

@@ -6,7 +6,12 @@ Each field must be what the program prints there, and the sums of the rows the p
 from __future__ import annotations
 
 import datetime
+import os
+from collections import deque
+from concurrent.futures import Future, ThreadPoolExecutor
 from dataclasses import dataclass, fields
+from functools import partial
+from itertools import chain
 from typing import Callable, Generic, Iterable, Iterator, NamedTuple, Sequence, TypeVar
 
 from life_tools.arrays import Array, Cents, np
@@ -20,9 +25,18 @@ from life_tools.rules import ACCOUNTS
 from life_tools.worked_rows import WORDS
 
 LINE_END, COMMA, POINT, MINUS, ZERO = b"\n,.-0"
-# so many bytes at least that a block has, where the text has them
-BLOCK = 1 << 20
-MOST_DIGITS = 18
+# so many bytes at least that a block has, where the text has them; so many threads read blocks, in which numpy lets them work
+# side by side; and so many blocks more may wait for them
+BLOCK, THREADS, WAITING = 1 << 20, min(os.cpu_count() or 1, 3), 8
+# so many bytes of a text are looked at as one number, of which the first byte is the least part
+WORD = 8
+# the first and the last so many bytes of it, and each one's highest bit and 1
+FIRSTS = np.array([2**(8 * many) - 1 for many in range(WORD)] + [2**64 - 1], np.uint64)
+LASTS = ~FIRSTS[::-1]
+HIGHEST, EACH = np.uint64(0x8080808080808080), np.uint64(0x0101010101010101)
+# how neighbours are added up, then pairs, then fours: by what a number is multiplied and moved, and what of it is kept
+ADDED = [(np.uint64(ten << many | 1), np.uint64(many), np.uint64(kept)) for many, ten, kept in (
+    (8, 10, 0x00ff00ff00ff00ff), (16, 100, 0x0000ffff0000ffff), (32, 10000, 0x00000000ffffffff))]
 NO_WORDS = ("", *WORDS)
 PREMIUMS = ("", "short", "enough", "close")
 
@@ -42,78 +56,132 @@ def blocks_of(parts: Iterable[bytes]) -> Iterator[bytes]:
         yield b"".join(held)
 
 
-@dataclass(frozen=True)
-class Fields:
-    """Lines of a block that have so many fields: their places among its lines, and where each field begins and ends."""
+class Field(NamedTuple):
+    """A field of some lines: where it begins and where it ends in each, its lengths, and the least and the most of these."""
 
-    text: Array
-    lines: Array
     begins: Array
     ends: Array
+    length: Array
+    least: int
+    most: int
 
-    def some(self, chosen: Array) -> Fields:
-        return Fields(self.text, self.lines[chosen], self.begins[chosen], self.ends[chosen])
+    def mask(self, masks: Array, less: int = 0) -> Array:
+        """The masks of these lengths, or of a whole word, or of so many bytes less."""
+        is_one = self.least == self.most or self.least >= WORD
+        length = np.minimum(self.length[:1] if is_one else self.length, WORD)
+        mask: Array = masks[length - less]
+        return mask
+
+
+def between(begins: Array, ends: Array) -> Field:
+    length = ends - begins
+    return Field(begins, ends, length, int(length.min(initial=2 * WORD)), int(length.max(initial=0)))
+
+
+@dataclass(frozen=True)
+class Fields:
+    """Lines of a block that have so many fields: their places among its lines, where each begins, and where its fields end.
+
+    The text has a word of nothing on each side.
+    """
+
+    text: Array
+    lines: Array | slice
+    starts: Array
+    ends: Array
+
+    def __len__(self) -> int:
+        return len(self.starts)
+
+    @property
+    def words(self) -> Array:
+        """The word from each place on."""
+        return np.ndarray(len(self.text) - WORD + 1, "<u8", self.text, strides=(1,))
+
+    def field(self, field: int) -> Field:
+        return between(self.ends[:, field - 1] + 1 if field else self.starts, self.ends[:, field])
 
     def wrong(self, right: Array) -> None:
         """Demands something of each line, and tells the first of which it isn't so."""
         if not right.all():
             at = int(right.argmin())
-            line = self.text[self.begins[at, 0]:self.ends[at, -1]].tobytes().decode("ascii", "replace")
+            line = self.text[self.starts[at]:self.ends[at, -1]].tobytes().decode("ascii", "replace")
             raise Wrong(f"{line[:200]} isn't a line that life prints there")
 
-    def digits(self, begins: Array, ends: Array) -> Array:
-        """The numbers that digits spell between these places, at most eighteen."""
-        length, value = ends - begins, np.zeros(len(begins), np.int64)
-        self.wrong((length > 0) & (length <= MOST_DIGITS))
-        right, all_have, factor = np.ones(len(begins), bool), int(length.min(initial=MOST_DIGITS)), 1
-        for place in range(1, int(length.max(initial=0)) + 1):
-            # a byte below the digits is above 9 then
-            digit = self.text[np.maximum(ends - place, begins)] - np.uint8(ZERO)
-            right &= digit <= 9
-            if place > all_have:
-                digit *= place <= length
-            value += digit.astype(np.int64) * factor
-            factor *= 10
-        self.wrong(right)
-        return value
+    def demand_length(self, field: Field, least: int, most: int) -> None:
+        if field.least < least or field.most > most:
+            self.wrong((field.length >= least) & (field.length <= most))
+
+    def digits(self, words: Array, mask: Array) -> Array:
+        """The numbers that digits at the end of words spell."""
+        digits: Array = (words ^ EACH * np.uint64(ZERO)) & mask
+        # a byte above 9 has its highest bit then, if it hadn't
+        high = digits + EACH * np.uint64(0x80 - 10) | digits
+        if np.bitwise_or.reduce(high) & HIGHEST:
+            self.wrong(high & HIGHEST == 0)
+        for factor, many, kept in ADDED:
+            digits *= factor
+            digits >>= many
+            digits &= kept
+        return digits.view(np.int64)
+
+    def number(self, field: Field) -> Array:
+        """The numbers that digits spell, at most sixteen."""
+        self.demand_length(field, 1, 2 * WORD)
+        number = self.digits(self.words[field.ends - WORD], field.mask(LASTS))
+        if field.most > WORD:
+            number += 10**WORD * self.higher(field)
+        return number
+
+    def higher(self, field: Field) -> Array:
+        """The numbers that the digits in front of the last eight spell."""
+        return self.digits(self.words[np.maximum(field.ends - 2 * WORD, 0)], LASTS[np.clip(field.length - WORD, 0, WORD)])
 
     def whole(self, field: int, most: int) -> Array:
-        begins, ends = self.begins[:, field], self.ends[:, field]
-        value = self.digits(begins, ends)
-        self.wrong((value <= most) & ((self.text[begins] != ZERO) | (ends - begins == 1)))
+        of = self.field(field)
+        value = self.number(of)
+        self.wrong((value <= most) & ((self.text[of.begins] != ZERO) | (of.length == 1)))
         return value
 
     def cents(self, field: int) -> Cents:
         """Amounts of digits, a point and two digits, perhaps with a sign."""
-        ends, below = self.ends[:, field], self.text[self.begins[:, field]] == MINUS
-        begins = self.begins[:, field] + below
-        self.wrong(ends - begins >= 4)
-        self.wrong(self.text[ends - 3] == POINT)
-        found: Cents = self.digits(begins, ends - 3) * 100 + self.digits(ends - 2, ends)
-        return np.where(below, -found, found)
+        of = self.field(field)
+        below = self.text[of.begins] == MINUS
+        of = between(of.begins + below, of.ends) if below.any() else of
+        self.demand_length(of, 4, 2 * WORD)
+        last = self.words[of.ends - WORD]
+        self.wrong(last >> np.uint64(40) & np.uint64(0xff) == POINT)
+        # what stands before the point moves into its place
+        joined = (last & FIRSTS[5]) << np.uint64(8) | last & LASTS[2]
+        cents = self.digits(joined, of.mask(LASTS, 1))
+        if of.most > WORD:
+            cents += 10**(WORD - 1) * self.higher(of)
+        return np.where(below, -cents, cents) if below.any() else cents
 
     def days(self, field: int) -> Array:
         """Days YYYY-MM-DD as numbers from 1970-01-01."""
-        begins, ends = self.begins[:, field], self.ends[:, field]
-        self.wrong(ends - begins == 10)
-        self.wrong((self.text[begins + 4] == MINUS) & (self.text[begins + 7] == MINUS))
-        year, month, day = self.digits(begins, begins + 4), self.digits(begins + 5, begins + 7), self.digits(begins + 8, ends)
+        of = self.field(field)
+        self.demand_length(of, 10, 10)
+        self.wrong((self.text[of.begins + 4] == MINUS) & (self.text[of.begins + 7] == MINUS))
+        year, month, day = (self.number(between(of.begins + first, of.begins + end)) for first, end in ((0, 4), (5, 7), (8, 10)))
         found = np.searchsorted(SPELLED, year * 10000 + month * 100 + day)
         self.wrong(SPELLED[np.minimum(found, len(SPELLED) - 1)] == year * 10000 + month * 100 + day)
         days: Array = (found + FIRST).astype(np.int32)
         return days
 
     def codes(self, field: int, words: Sequence[str]) -> Array:
-        """The place of each word among these."""
-        begins, length = self.begins[:, field], self.ends[:, field] - self.begins[:, field]
-        first, code = self.text[begins], np.full(len(self.lines), len(words), np.uint8)
+        """The place of each field's word among these, which have at most sixteen letters."""
+        of, code = self.field(field), np.full(len(self), len(words), np.uint8)
+        first, left = self.words[of.begins] & of.mask(FIRSTS), len(self)
         for place, word in enumerate(words):
-            if word:
-                found = np.flatnonzero((first == ord(word[0])) & (length == len(word)))
-                right = np.ones(len(found), bool)
-                for at, letter in enumerate(word.encode()):
-                    right &= self.text[begins[found] + at] == letter
-                code[found[right]] = place
+            if not word or not left or not of.least <= len(word) <= of.most:
+                continue
+            spelled = np.frombuffer(word.encode().ljust(2 * WORD, b"\0"), "<u8")
+            is_this = (first == spelled[0]) & (of.length == len(word))
+            if len(word) > WORD:
+                is_this &= self.words[of.begins + WORD] & FIRSTS[len(word) - WORD] == spelled[1]
+            code[is_this] = place
+            left -= np.count_nonzero(is_this)
         self.wrong(code < len(words))
         return code
 
@@ -133,18 +201,35 @@ SPELLED = spelled_days()
 
 def fields_in(block: bytes) -> dict[int, Fields]:
     """The lines of a block by how many fields they have."""
-    text = np.frombuffer(block, np.uint8)
-    separators = np.flatnonzero((text == COMMA) | (text == LINE_END))
-    lasts = np.flatnonzero(text[separators] == LINE_END)
-    counts = np.diff(lasts, prepend=-1)
-    begins_of_lines = np.append(0, separators[lasts[:-1]] + 1)
+    text = np.frombuffer(b"".join((bytes(WORD), block, bytes(WORD))), np.uint8)
+    is_end = text == LINE_END
+    separators, many = np.flatnonzero(is_end | (text == COMMA)), np.count_nonzero(is_end)
+    count = len(separators) // max(many, 1)
+    if count * many == len(separators) and is_end[separators[count - 1::max(count, 1)]].all():
+        ends = separators.reshape(many, count)
+        return {count: Fields(text, slice(None), np.append(WORD, ends[:-1, -1] + 1), ends)} if many else {}
+    lasts = np.flatnonzero(is_end[separators])
+    counts, starts = np.diff(lasts, prepend=-1), np.append(WORD, separators[lasts[:-1]] + 1)
     found = {}
-    for count in np.unique(counts).tolist():
+    for count in np.flatnonzero(np.bincount(counts)).tolist():
         lines = np.flatnonzero(counts == count)
-        ends = separators[lasts[lines][:, None] + np.arange(1 - count, 1)]
-        begins = np.column_stack([begins_of_lines[lines], ends[:, :-1] + 1])
-        found[count] = Fields(text, lines, begins, ends)
+        found[count] = Fields(text, lines, starts[lines], separators[lasts[lines][:, None] + np.arange(1 - count, 1)])
     return found
+
+
+Read = TypeVar("Read")
+
+
+def read_in_threads(read: Callable[[bytes], Read], blocks: Iterable[bytes]) -> Iterator[Read]:
+    """What is read of each block, in their order."""
+    with ThreadPoolExecutor(THREADS) as pool:
+        waiting: deque[Future[Read]] = deque()
+        for block in blocks:
+            waiting.append(pool.submit(read, block))
+            if len(waiting) > THREADS + WAITING:
+                yield waiting.popleft().result()
+        while waiting:
+            yield waiting.popleft().result()
 
 
 # --- a valuation ---
@@ -192,13 +277,13 @@ def bounds_by(measure: str) -> int:
 def rows_in(block: bytes, bounds: int) -> Rows:
     """The rows of a block, which has nothing else."""
     found = fields_in(block)
-    count = sum(len(each.lines) for each in found.values())
+    count = sum(map(len, found.values()))
     made = Rows(np.zeros(count, np.uint32), np.zeros(count, np.uint8), np.zeros(count, np.uint8), np.zeros(count, np.uint8),
                 np.zeros((count, bounds), np.int64), np.zeros(count, np.uint8))
     usual = 4 + bounds + (bounds == 4)
     for many, each in found.items():
         each.wrong(each.codes(0, ("row",)) == 0)
-        each.wrong(np.full(len(each.lines), many in (5, usual)))
+        each.wrong(np.full(len(each), many in (5, usual)))
         lines = each.lines
         made.number[lines], made.status[lines] = each.whole(1, MOST_NUMBER), each.codes(2, STATUSES) + 1
         made.year[lines] = each.whole(3, MOST_YEARS)
@@ -226,20 +311,21 @@ def head_in(line: bytes) -> tuple[datetime.date, int, str, int]:
 
 def valuation_of(parts: Iterable[bytes]) -> ColumnValuation:
     """The one valuation of a text, whose rows add up to its total."""
-    head, found, last = None, [], b""
-    for block in blocks_of(parts):
-        held = last + block
-        if head is None:
-            line, _, held = held.partition(b"\n")
-            head = head_in(line)
-        # the last line may be the total
-        at = held.rfind(b"\n", 0, -1) + 1
-        if at:
-            found.append(rows_in(held[:at], bounds_by(head[2])))
-        last = held[at:]
-    if head is None:
-        raise Wrong("that is no valuation that life value prints")
-    return whole_valuation(*head, found, last)
+    blocks = blocks_of(parts)
+    line, _, begun = next(blocks, b"").partition(b"\n")
+    head, last = head_in(line), [b""]
+
+    def rows() -> Iterator[bytes]:
+        for block in chain((begun,), blocks):
+            held = last[0] + block
+            # the last line may be the total
+            at = held.rfind(b"\n", 0, -1) + 1
+            last[0] = held[at:]
+            if at:
+                yield held[:at]
+
+    found = list(read_in_threads(partial(rows_in, bounds=bounds_by(head[2])), rows()))
+    return whole_valuation(*head, found, last[0])
 
 
 def whole_valuation(on: datetime.date, position: int, measure: str, count: int, found: list[Rows],
@@ -324,20 +410,26 @@ def policies_in(block: bytes, of: type[P]) -> P:
 
 
 def read_state(parts: Iterable[bytes], of: type[P]) -> ColumnState[P]:
-    found, rest = [], b""
-    for block in blocks_of(parts):
-        # behind the policies stand the balances and the count
-        at = 0 if rest or not block.startswith(b"policy,") else block.find(b"\nbalance,") + 1 or len(block)
-        if at:
-            found.append(policies_in(block[:at], of))
-        rest += block[at:]
-    balances, count = balances_in(rest)
+    """What a run of `state` printed."""
+    rest = [b""]
+
+    def policies() -> Iterator[bytes]:
+        for block in blocks_of(parts):
+            # behind the policies stand the balances and the count
+            is_in = not rest[0] and block.startswith(b"policy,")
+            at = (block.find(b"\nbalance,") + 1 or len(block)) if is_in else 0
+            rest[0] += block[at:]
+            if at:
+                yield block[:at]
+
+    found = list(read_in_threads(partial(policies_in, of=of), policies()))
+    balances, count = balances_in(rest[0])
     made = joined_columns(of, found) if found else [np.empty(0, np.int64) for _ in fields(of)]
     return ColumnState(of(*made), balances, count)
 
 
 def state_of(parts: Iterable[bytes]) -> ColumnState[StatePolicies]:
-    """The book that a run of `state` printed."""
+    """The book that a run of `state` printed, as far as groups are made by it."""
     return read_state(parts, StatePolicies)
 
 

@@ -111,14 +111,25 @@ def copy_front(path: str, at: int | None, to: str) -> None:
         shutil.copyfile(path, to)
         return
     size = gate_of(count if at is None else at)
+    demand(send(path, size, to) == size, f"{path} became shorter")
+    close_gate(to, size)
+
+
+def send(path: str, size: int, to: str) -> int:
+    """Copies a file's first bytes, as far as it has them: how many these are."""
+    place = 0
     with open(path, "rb") as file, open(to, "wb") as copy:
-        place = 0
-        while place < size:
-            sent = os.sendfile(copy.fileno(), file.fileno(), place, size - place)
-            demand(sent, f"{path} became shorter")
+        while place < size and (sent := os.sendfile(copy.fileno(), file.fileno(), place, size - place)):
             place += sent
-        copy.seek(size)
-        copy.write(bytes(1))
+    return place
+
+
+def close_gate(path: str, place: int) -> None:
+    """Ends a journal's file with a closed gate at a place."""
+    with open(path, "r+b") as file:
+        file.truncate(place)
+        file.seek(place)
+        file.write(bytes(1))
 
 
 def places_in(path: str) -> int:

@@ -1,22 +1,21 @@
 """What a journal's commands make of its policies, of all policies at once, and the first command that can't follow.
 
-Issues with the premiums right behind them are judged in one go, and what follows of the policies in rounds: the first
-command of each, then the second, and so on. Of the few policies that are left in the end each command is decided by
-`rules.decide`.
+The commands are judged block by block. Those of a block go in rounds: the first command of each policy there, then the second,
+and so on; of the few policies that are left in the end each command is decided by `rules.decide`.
 """
 from __future__ import annotations
 
 from typing import Iterator
 
-from life_tools.day_columns import anniversaries
-from life_tools.formats import MOST_YEARS
 from life_tools.journal_columns import CLAIM, ISSUE, MATURE, PAIDUP, PREMIUM, REINSTATE, SETTLE, UPGRADE, Records
 from life_tools.arrays import Array, Cents, np
-from life_tools.policy_columns import TERM, Policies, change, is_accepted, issued_by
-from life_tools.rules import EARLY, GRACE, Policy, Refusal, booking_of, decide
+from life_tools.policy_columns import RIGHT, TERM, Chosen, Policies, change, is_accepted, issued_by
+from life_tools.rules import Policy, Refusal, booking_of, decide
 
 # numbers are looked up in a table where the greatest is at most so many times as great as the count and this, else in a list
 SPREAD, LEAST_TABLE = 8, 1 << 20
+# so many commands at once that what is made of them lies in a processor's cache
+AT_ONCE = 1 << 15
 # so few policies that their commands are decided one after the other
 FEW = 24
 
@@ -62,11 +61,14 @@ class Replay:
         # the position of the upgrade, or 0
         self.upgrade = 0
         self.find_upgrade()
+        issues = np.flatnonzero(self.kind == ISSUE)
+        self.policies: Policies = issued_by(records, issues)
         # of each record the place of its policy, or -1 of an upgrade; and the cents that it books
-        self.place: Array = np.empty(0, np.int32)
-        self.policies: Policies = self.find_policies()
-        self.booked: Cents = np.where(np.isin(self.kind, (PREMIUM, REINSTATE, SETTLE)), records.amount[:self.count], 0)
-        self.judge()
+        self.place: Array = np.empty(self.count, np.int32)
+        self.booked: Cents = np.zeros(self.count, np.int64)
+        # of each policy the place of a command in its block
+        self.last_at: Array = np.zeros(len(issues), np.int32)
+        self.judge(issues)
 
     @property
     def count(self) -> int:
@@ -88,64 +90,64 @@ class Replay:
         self.finds_bad(upgrades[1:])
         self.finds_bad(np.flatnonzero(self.kind[:self.upgrade - 1 if self.upgrade else self.count] == PAIDUP))
 
-    def find_policies(self) -> Policies:
+    def judge(self, issues: Array) -> None:
+        numbers = Numbers(self.records.number[issues], self.records.number[:self.count])
+        # behind all records that of a policy that is nowhere
+        issued_at = np.append(issues, self.count)
+        start = 0
+        while start < self.count:
+            some = slice(start, min(start + AT_ONCE, self.count))
+            place = numbers.places(self.records.number[some])
+            self.judge_block(some, place, issued_at)
+            start = some.stop
+
+    def judge_block(self, some: slice, place: Array, issued_at: Array) -> None:
         """Each issue makes a policy, of a new number, and every other command names one that is there."""
-        kind, issues = self.kind, np.flatnonzero(self.kind == ISSUE)
-        place = places_of(self.records.number[:self.count], self.records.number[issues])
-        place[kind == UPGRADE] = -1
-        # an upgrade looks for no policy
-        issued_at = np.append(issues, self.count)[place]
-        at = np.arange(self.count)
-        self.finds_bad(np.flatnonzero(((issued_at > at) & (kind != UPGRADE)) | ((kind == ISSUE) & (issued_at != at))))
-        self.place = place[:self.count]
-        return issued_by(self.records, issues[issues < self.count])
+        kind, at = self.records.kind[some], np.arange(some.start, some.stop)
+        is_issue, is_upgrade = kind == ISSUE, kind == UPGRADE
+        place[is_upgrade] = -1
+        self.place[some] = place
+        np.copyto(self.booked[some], self.records.amount[some], where=BOOKS[kind])
+        issues, others = np.flatnonzero(is_issue), np.flatnonzero(~(is_issue | is_upgrade))
+        self.finds_bad(at[issues[issued_at[place[issues]] != at[issues]]])
+        self.finds_bad(at[others[issued_at[place[others]] > at[others]]])
+        # behind the first one that can't follow nothing is judged; so each of these names a policy that is there
+        sound = others if self.bad is None else others[at[others] < self.bad]
+        self.judge_rounds(at[sound], place[sound].astype(np.intp))
 
-    def judge(self) -> None:
-        """Judges what is behind the issues."""
-        order = stable_order(self.place)
-        order = order[np.count_nonzero(self.place < 0):]
-        policy, kind = self.place[order], self.kind[order]
-        starts = np.flatnonzero(kind == ISSUE)
-        ends = np.append(starts[1:], len(order))[:len(starts)]
-        tails = ends.copy()
-        others = np.flatnonzero((kind != ISSUE) & (kind != PREMIUM))
-        firsts = others[np.diff(policy[others], prepend=-1) != 0]
-        tails[policy[firsts]] = firsts
-        self.judge_plain(order, policy, starts, tails)
-        self.judge_tails(order, tails, ends)
+    def are_apart(self, places: Array) -> bool:
+        """Whether no policy is there twice."""
+        at = np.arange(len(places), dtype=np.int32)
+        self.last_at[places] = at
+        return bool((self.last_at[places] == at).all())
 
-    def judge_plain(self, order: Array, policy: Array, starts: Array, tails: Array) -> None:
-        """The premiums right behind an issue; they end where a policy's tail begins."""
-        of, day = self.policies, self.records.day[order]
-        of.paid[:] = np.minimum(tails - starts - 1, MOST_YEARS + 1)
-        of.last[:] = day[tails - 1]
-        at = np.arange(len(order))
-        premiums = np.flatnonzero((at < tails[policy]) & (at > starts[policy]))
-        mine, on, where = policy[premiums], day[premiums], order[premiums]
-        paid = premiums - starts[mine] - 1
-        due = anniversaries(of.issued[mine], np.minimum(paid, MOST_YEARS))
-        right = (on >= day[premiums - 1]) & (on < of.end[mine]) & (paid < of.payments[mine]) & (on >= due - EARLY.days)
-        right &= (on <= due + GRACE.days) & (self.records.amount[where] == of.premium[mine])
-        self.finds_bad(where[~right])
-
-    def judge_tails(self, order: Array, tails: Array, ends: Array) -> None:
-        left = Rounds(order, tails, ends)
-        for where, places in left.rounds():
+    def judge_rounds(self, where: Array, places: Array) -> None:
+        """Commands of a block that are no issues; the policies with most of them stand first."""
+        if self.are_apart(places):
             self.judge_round(where, places)
-        for place, where in left.alone():
-            self.judge_alone(place, where)
+            return
+        order = stable_order(places)
+        where, places = where[order], places[order]
+        starts = np.flatnonzero(np.diff(places, prepend=-2))
+        left, mine = Rounds(where, starts, np.append(starts[1:], len(where))), places[starts]
+        for now, of in left.rounds():
+            self.judge_round(now, mine[of])
+        for one, rest in left.alone():
+            self.judge_alone(int(mine[one]), rest)
 
     def judge_round(self, where: Array, places: Array) -> None:
         """A command of each of some policies."""
-        still = where < self.count
-        where, places = where[still], places[still]
+        if self.bad is not None:
+            still = where < self.bad
+            where, places = where[still], places[still]
         kinds = self.records.kind[where]
-        for kind in np.unique(kinds).tolist():
-            chosen = kinds == kind
-            self.judge_kind(kind, where[chosen], places[chosen])
+        for kind in RIGHT:
+            chosen = np.flatnonzero(kinds == kind)
+            if len(chosen):
+                self.judge_kind(kind, where[chosen], places[chosen])
 
     def judge_kind(self, kind: int, where: Array, places: Array) -> None:
-        of, records = self.policies.at(places), self.records
+        of, records = Chosen(self.policies, places), self.records
         day, amount = records.day[where], records.amount[where]
         self.finds_bad(where[~is_accepted(of, kind, day, amount)])
         change(self.policies, places, of, kind, day, amount, records.premium[where])
@@ -184,6 +186,9 @@ class Replay:
         raise AssertionError(f"command {self.bad + 1} can follow")
 
 
+BOOKS = np.isin(np.arange(256), (PREMIUM, REINSTATE, SETTLE))
+
+
 def stable_order(place: Array) -> Array:
     """The places of numbers from -1 on in rising order, equal ones in their own: sixteen bits at once, as numpy's radix sort."""
     number = (place + 1).astype(np.uint32)
@@ -193,16 +198,30 @@ def stable_order(place: Array) -> Array:
     return order
 
 
+class Numbers:
+    """Finds the policies of numbers: the first place of each among those that are known, or -1."""
+
+    def __init__(self, known: Array, asked: Array) -> None:
+        most = int(max(known.max(initial=0), asked.max(initial=0)))
+        self.table = self.order = np.empty(0, np.int32)
+        self.known = known
+        if most <= SPREAD * len(asked) + LEAST_TABLE:
+            self.table = np.full(most + 1, -1, np.int32)
+            # of equal ones the last that is written stays
+            self.table[known[::-1]] = np.arange(len(known), dtype=np.int32)[::-1]
+        else:
+            self.order = np.argsort(known, kind="stable").astype(np.int32)
+            self.known = known[self.order]
+
+    def places(self, numbers: Array) -> Array:
+        if len(self.table):
+            return self.table[numbers]
+        if not len(self.known):
+            return np.full(len(numbers), -1, np.int32)
+        at = np.minimum(np.searchsorted(self.known, numbers), len(self.known) - 1)
+        return np.where(self.known[at] == numbers, self.order[at], np.int32(-1))
+
+
 def places_of(numbers: Array, known: Array) -> Array:
     """The first place of each number among those that are known, or -1."""
-    if not len(known) or not len(numbers):
-        return np.full(len(numbers), -1, np.int32)
-    most = int(max(numbers.max(), known.max()))
-    if most <= SPREAD * len(numbers) + LEAST_TABLE:
-        table = np.full(most + 1, -1, np.int32)
-        # of equal ones the last that is written stays
-        table[known[::-1]] = np.arange(len(known), dtype=np.int32)[::-1]
-        return table[numbers]
-    order = np.argsort(known, kind="stable").astype(np.int32)
-    at = np.minimum(np.searchsorted(known[order], numbers), len(known) - 1)
-    return np.where(known[order[at]] == numbers, order[at], np.int32(-1))
+    return Numbers(known, numbers).places(numbers)

@@ -2,34 +2,29 @@
 
 Its first line is the valuation's own, with all policies of the position; then come
 
-    sample,BY,COUNT ASKED FOR,SEED,TOTAL IN CENTS,START,BASIS
-    row,..                                            the drawn rows, as they were printed
+    sample,BY,COUNT ASKED FOR,SEED,TOTAL IN CENTS,START,BASIS[,BASIS ..]     of classes the basis of each
+    row,..                                                                  the drawn rows, as they were printed
 """
 from __future__ import annotations
 
 import datetime
 from dataclasses import dataclass
-from typing import Sequence
+from typing import NamedTuple, Sequence
 
-from life_tools.arrays import Cents, np
-from life_tools.class_bases import one_basis
-from life_tools.class_columns import valued_columns
-from life_tools.day_columns import number_at
+from life_tools.book_lists import ALL
 from life_tools.formats import MOST_NUMBER, Wrong, day_in, demand, measure_of, money, number_of, read_whole
-from life_tools.fronts import Front, front
-from life_tools.groups import demand_same
-from life_tools.policy_columns import INFORCE, MADE_PAIDUP
 from life_tools.printed_books import ValuedRow, row_of
-from life_tools.printed_columns import ColumnState, ColumnValuation, Rows, StatePolicies, WholePolicies, whole_state_of
-from life_tools.sampling import Draw, asked_in, draw, seed_in
 from life_tools.tables import NAME
 
 BY = ("amount", "reserve")
 MEASURED = ("terminal", "mean")
-INSURED = (INFORCE, MADE_PAIDUP)
 MOST_SAMPLE_BYTES = 64 * 2**20
 MOST_TOTAL = 10**18
+MOST_DRAWN = 10**6
+MOST_SEED = 2**63 - 1
 BOUNDS = 2
+# the fields of a line `sample` in front of the bases
+HEAD = 6
 
 
 @dataclass(frozen=True)
@@ -40,7 +35,7 @@ class Sample:
     position: int
     policies: int
     measure: str
-    basis: str
+    bases: tuple[str, ...]
     by: str
     asked: int
     seed: int
@@ -49,70 +44,25 @@ class Sample:
     rows: tuple[ValuedRow, ...]
 
 
-@dataclass(frozen=True)
-class Drawn:
-    """A sample, how it was drawn, and how many rows have a word in place of a reserve."""
-
-    sample: Sample
-    draw: Draw
-    words: int
-
-    def told(self) -> list[str]:
-        """What a person is told beside the rows."""
-        sample, drawn = self.sample, self.draw
-        lines = [f"{len(sample.rows)} of {sample.policies} rows were drawn by {sample.by}, of {money(sample.total)} in all; "
-                 f"the interval is {money(drawn.total // drawn.asked)}",
-                 f"rows of at least the interval, which are drawn for certain: {drawn.certain}",
-                 f"rows of 0, which can't be drawn: {drawn.nothing}"]
-        return lines + ([f"of these {self.words} have a word in place of a reserve"] if self.words else [])
-
-
-# --- how one is drawn ---
-
-def sizes_of(rows: Rows, policies: StatePolicies, by: str, on: datetime.date) -> Cents:
-    """What each row counts for: its upper bound, or the amount that is insured on the day."""
-    if by == "reserve":
-        return rows.bounds[:, -1]
-    return np.where(np.isin(rows.status, INSURED) & (policies.issued <= number_at(on)), policies.amount, 0)
-
-
-def drawn_of(valuation: ColumnValuation, sizes: Cents, basis: str, by: str, asked: int, seed: int) -> Drawn:
-    """The sample of the rows of a printed valuation, which add up to its total."""
-    rows, found = valuation.rows, draw(sizes.tolist(), asked, seed)
-    sample = Sample(valuation.on, valuation.position, len(rows), valuation.measure, basis, by, asked, seed, found.total,
-                    found.start, tuple(map(rows.row, found.places)))
-    return Drawn(sample, found, valuation.words)
-
-
-def printed_by(copy: Front, on: datetime.date, basis: str, measure: str) -> tuple[ColumnValuation, ColumnState[WholePolicies]]:
-    """The valuation of a copy, and its state, which have the same policies."""
-    valuation, state = valued_columns(copy, str(on), one_basis(basis), measure), whole_state_of(copy.streams("state"))
-    demand_same(valuation, state)
-    return valuation, state
-
-
-def sample_of(folder: str, on: datetime.date, asked: int, seed: int, by: str, position: int | None = None,
-              basis: str = "basis.csv", measure: str = "terminal", life: str | None = None) -> Drawn:
-    """A sample of what the program prints of a folder's book at a position (the newest where none is told)."""
-    demand(by in BY, f"{by} is none of {', '.join(BY)}")
-    demand(measure in MEASURED, f"{measure} is none of {', '.join(MEASURED)}")
-    with front(folder, position, [basis], life) as copy:
-        valuation, state = printed_by(copy, on, basis, measure)
-    return drawn_of(valuation, sizes_of(valuation.rows, state.policies, by, on), basis, by, asked, seed)
-
-
-# --- as text ---
-
 def text_of_row(row: ValuedRow) -> str:
     fields = [row.word] if row.word else [money(each) for each in row.bounds]
     return ",".join(["row", str(row.number), row.status, str(row.year), *fields])
 
 
+def head_of(sample: Sample) -> str:
+    """The first line of the valuation."""
+    measure = [] if sample.measure == MEASURED[0] else [sample.measure]
+    return ",".join(["0", "value", str(sample.on), str(sample.position), str(sample.policies), *measure])
+
+
+def numbers_told(sample: Sample) -> list[str]:
+    """The first fields of the line `sample`."""
+    return ["sample", sample.by, *map(str, (sample.asked, sample.seed, sample.total, sample.start))]
+
+
 def text_of(sample: Sample) -> str:
-    head = ["0", "value", str(sample.on), str(sample.position), str(sample.policies)]
-    head += [] if sample.measure == "terminal" else [sample.measure]
-    told = ["sample", sample.by, str(sample.asked), str(sample.seed), str(sample.total), str(sample.start), sample.basis]
-    return "".join(f"{line}\n" for line in [",".join(head), ",".join(told), *map(text_of_row, sample.rows)])
+    lines = [head_of(sample), ",".join([*numbers_told(sample), *sample.bases]), *map(text_of_row, sample.rows)]
+    return "".join(f"{line}\n" for line in lines)
 
 
 def is_sample(rows: Sequence[Sequence[str]]) -> bool:
@@ -120,23 +70,85 @@ def is_sample(rows: Sequence[Sequence[str]]) -> bool:
     return len(rows) > 1 and rows[1][0] == "sample"
 
 
+def is_listed(line: str) -> bool:
+    """Whether a first line is that of a sample of many books."""
+    return line.split(",")[:2] == [ALL, "sample"]
+
+
+class Head(NamedTuple):
+    """What a valuation's first line tells."""
+
+    on: datetime.date
+    position: int
+    policies: int
+    measure: str
+
+
+def head_in(line: str) -> Head:
+    fields = line.split(",")
+    measure = measure_of(fields)
+    position, policies = (number_of(text, 0, MOST_NUMBER) for text in fields[3:5]) if measure else (None, None)
+    if measure not in MEASURED or position is None or policies is None:
+        raise Wrong("that is no sample that audit sample writes")
+    return Head(day_in(fields[2]), position, policies, measure)
+
+
+class Numbers(NamedTuple):
+    """By what was drawn, how many rows were asked for, the seed, the total in cents and the start."""
+
+    by: str
+    asked: int
+    seed: int
+    total: int
+    start: int
+
+
+def asked_in(text: str) -> int:
+    asked = number_of(text, 1, MOST_DRAWN)
+    if asked is None:
+        raise Wrong(f"{text} is no number of rows from 1 to {MOST_DRAWN}")
+    return asked
+
+
+def seed_in(text: str) -> int:
+    seed = number_of(text, 0, MOST_SEED)
+    if seed is None:
+        raise Wrong(f"{text} is no seed: a whole number from 0 to {MOST_SEED}")
+    return seed
+
+
+def numbers_in(fields: Sequence[str]) -> Numbers:
+    """Those of a line `sample`, by its first fields."""
+    is_one = len(fields) == HEAD and fields[0] == "sample" and fields[1] in BY
+    demand(is_one, f"{','.join(fields)} is no line of a sample")
+    total, start = (number_of(text, 0, MOST_TOTAL) for text in fields[4:])
+    if total is None or start is None or start >= total:
+        raise Wrong(f"{','.join(fields)} is of no sample")
+    return Numbers(fields[1], asked_in(fields[2]), seed_in(fields[3]), total, start)
+
+
+def rows_in(lines: Sequence[str], policies: int) -> tuple[ValuedRow, ...]:
+    """The rows of a book's sample, each policy once."""
+    rows = tuple(row_of(line, BOUNDS) for line in lines)
+    demand(len({row.number for row in rows}) == len(rows) <= policies, "a sample has each of its policies once")
+    return rows
+
+
+def sample_from(head: Head, bases: tuple[str, ...], of: Numbers, rows: tuple[ValuedRow, ...]) -> Sample:
+    numbers = of.by, of.asked, of.seed, of.total, of.start
+    return Sample(head.on, head.position, head.policies, head.measure, bases, *numbers, rows)
+
+
 def sample_in(text: str) -> Sample:
     """The sample of a text that `audit sample` wrote."""
     lines = text.splitlines()
-    head, told = (line.split(",") for line in [*lines[:2], "", ""][:2])
-    measure = measure_of(head)
-    if measure not in MEASURED or len(told) != 7 or told[0] != "sample":
-        raise Wrong("that is no sample that audit sample writes")
-    position, policies = (number_of(text, 0, MOST_NUMBER) for text in head[3:5])
-    total, start = (number_of(text, 0, MOST_TOTAL) for text in told[4:6])
-    demand(told[1] in BY and NAME.fullmatch(told[6]), f"{lines[1]} is no line of a sample")
-    if position is None or policies is None or total is None or start is None or start >= total:
-        raise Wrong(f"{lines[0]} and {lines[1]} are of no sample")
-    rows = tuple(row_of(line, BOUNDS) for line in lines[2:])
-    numbers = {row.number for row in rows}
-    demand(rows and len(numbers) == len(rows) <= policies, "a sample has each of its policies once")
-    asked, seed = asked_in(told[2]), seed_in(told[3])
-    return Sample(day_in(head[2]), position, policies, measure, told[6], told[1], asked, seed, total, start, rows)
+    first, told = [*lines[:2], "", ""][:2]
+    demand(not is_listed(first), "it is a sample of a list: books LIST papers and books LIST letters take it")
+    head, fields = head_in(first), told.split(",")
+    bases, rows = tuple(fields[HEAD:]), rows_in(lines[2:], head.policies)
+    demand(bases and all(map(NAME.fullmatch, bases)), f"{told} is no line of a sample")
+    demand(rows, "a sample has each of its policies once")
+    return sample_from(head, bases, numbers_in(fields[:HEAD]), rows)
 
 
 def sample_at(path: str) -> Sample:

@@ -11,10 +11,9 @@ import hashlib
 from fractions import Fraction
 from typing import NamedTuple, Sequence
 
-from life_tools.formats import Wrong, demand, number_of
-
-MOST_DRAWN = 10**6
-MOST_SEED = 2**63 - 1
+from life_tools.arrays import Cents, np
+from life_tools.formats import demand
+from life_tools.samples import MOST_DRAWN
 
 
 class Draw(NamedTuple):
@@ -42,42 +41,22 @@ def chance_of(size: int, total: int, asked: int) -> Fraction:
     return min(Fraction(1), Fraction(size * asked, total))
 
 
-def points_in(before: int, ahead: int, start: int, total: int) -> int:
-    """How many of the points start, start + total, start + 2 total .. lie from one length on to below another."""
-    return (ahead - 1 - start) // total - (before - 1 - start) // total
-
-
-def draw_at(sizes: Sequence[int], asked: int, total: int, start: int) -> list[int]:
+def draw_at(sizes: Cents | Sequence[int], asked: int, total: int, start: int) -> list[int]:
     """The places of the rows in which a point lies."""
-    found, ahead = [], 0
-    for place, size in enumerate(sizes):
-        before, ahead = ahead, ahead + size * asked
-        if points_in(before, ahead, start, total):
-            found.append(place)
+    ends = np.cumsum(sizes, dtype=np.int64)
+    # a length in whole cents lies behind a point where it lies behind the point's whole cents
+    points = np.array([(start + place * total) // asked for place in range(asked)], np.int64)
+    found: list[int] = np.unique(np.searchsorted(ends, points, "right")).tolist()
     return found
 
 
-def draw(sizes: Sequence[int], asked: int, seed: int) -> Draw:
+def draw(sizes: Cents | Sequence[int], asked: int, seed: int) -> Draw:
     """A sample of rows of these sizes, which mustn't be negative."""
-    total = sum(sizes)
+    of = np.asarray(sizes, np.int64)
+    total = int(of.sum())
     demand(1 <= asked <= MOST_DRAWN, f"a sample has 1 to {MOST_DRAWN} rows")
     demand(total > 0, "no row has a size, so none can be drawn")
-    demand(min(sizes) >= 0, "a row's size is below 0")
+    demand(of.min() >= 0, "a row's size is below 0")
     start = start_of(seed, total)
-    places = draw_at(sizes, asked, total, start)
-    certain = sum(size * asked >= total for size in sizes)
-    return Draw(places, asked, seed, total, start, certain, sum(size == 0 for size in sizes))
-
-
-def asked_in(text: str) -> int:
-    asked = number_of(text, 1, MOST_DRAWN)
-    if asked is None:
-        raise Wrong(f"{text} is no number of rows from 1 to {MOST_DRAWN}")
-    return asked
-
-
-def seed_in(text: str) -> int:
-    seed = number_of(text, 0, MOST_SEED)
-    if seed is None:
-        raise Wrong(f"{text} is no seed: a whole number from 0 to {MOST_SEED}")
-    return seed
+    certain, nothing = (int(np.count_nonzero(some)) for some in (of >= -(-total // asked), of == 0))
+    return Draw(draw_at(of, asked, total, start), asked, seed, total, start, certain, nothing)

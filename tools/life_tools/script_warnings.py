@@ -2,13 +2,13 @@
 from __future__ import annotations
 
 import datetime
-from typing import Callable, Iterator
+from typing import Callable, Iterable, Iterator
 
 from life_tools.commands import Command, command_in
 from life_tools.deaths import standing
 from life_tools.formats import money
-from life_tools.journal_columns import places_in, upgrade_in
 from life_tools.journals import gate_of
+from life_tools.record_blocks import Data
 from life_tools.remedies import remedy_of
 from life_tools.rules import Book, Policy, Refusal, anniversary, due_of, end_of
 from life_tools.script_lines import Line
@@ -28,10 +28,10 @@ class Desk:
         # of each policy what was accepted, in order
         self.taken: dict[int, list[Command]] = {}
 
-    def read(self, data: bytes, count: int, numbers: set[int]) -> None:
-        """Takes their commands among a file's first records, which the program has judged."""
-        self.book.upgrade = upgrade_in(data, count)
-        for place in places_in(data, count, numbers).tolist():
+    def read(self, data: Data, upgrade: int, places: Iterable[int]) -> None:
+        """Takes the commands of these places of a file's records, which the program has judged, and the upgrade's position."""
+        self.book.upgrade = upgrade
+        for place in places:
             self.take(command_in(data[gate_of(place) + 1:gate_of(place + 1)]), place + 1)
 
     def warnings(self, line: Line, command: Command) -> list[str]:

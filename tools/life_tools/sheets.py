@@ -2,7 +2,7 @@
 from __future__ import annotations
 
 from dataclasses import dataclass, field
-from typing import Iterable, NamedTuple, Sequence, Union
+from typing import Any, Iterable, NamedTuple, Sequence, Union
 
 from life_tools.formats import demand, money
 
@@ -15,6 +15,10 @@ class Column(NamedTuple):
 
     name: str
     kind: str = CENTS
+
+
+# of amounts that are added up twice, from the lower and from the upper bounds of printed rows
+BY_BOUNDS = (Column("by lower bounds"), Column("by upper bounds"))
 
 
 class Row(NamedTuple):
@@ -38,6 +42,8 @@ class Sheet:
     # each policy's part, where that was asked for: a head, and rows as they are written
     policy_head: list[str] = field(default_factory=list)
     policy_rows: Iterable[list[str]] = ()
+    # what exact sums the rows were rounded from, where several books' are added before they are rounded
+    exact: Any = None
 
     def add(self, *cells: Cell, section: int = 0, is_total: bool = False) -> None:
         demand(len(cells) == len(self.columns), f"{self.name}: a row of {len(cells)} cells for {len(self.columns)} columns")
@@ -69,7 +75,8 @@ def plus(one: Row, other: Row, columns: Sequence[Column]) -> Row:
 
 
 def added(sheets: Sequence[Sheet]) -> Sheet:
-    """One sheet of several books: rows of the same texts added, sections in their order, a section's sums at its end."""
+    """One sheet of several books: rows of the same texts added; where not all have the same, in the order of their texts, a
+    section's sums at its end."""
     first = sheets[0]
     demand(all(sheet.columns == first.columns and sheet.name == first.name for sheet in sheets), "sheets of several kinds")
     found: dict[tuple[Cell, ...], Row] = {}
@@ -79,6 +86,6 @@ def added(sheets: Sequence[Sheet]) -> Sheet:
             found[key] = plus(found[key], row, first.columns) if key in found else row
     rows = list(found.values())
     if any(len(sheet.rows) != len(rows) for sheet in sheets):
-        rows.sort(key=lambda row: (row.section, row.is_total))
+        rows.sort(key=lambda row: key_of(row, first.columns))
     return Sheet(first.name, first.title, first.columns, rows, list(dict.fromkeys(it for sheet in sheets for it in sheet.notes)),
                  list(dict.fromkeys(it for sheet in sheets for it in sheet.checks)))

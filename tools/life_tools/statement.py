@@ -9,7 +9,7 @@ from life_tools.basis_sheet import basis_sheet
 from life_tools.claim_sheet import Claims, claim_sheet
 from life_tools.exhibits import LifeExhibit, exhibit_sheet
 from life_tools.formats import demand
-from life_tools.increase_sheet import Increase, increase_sheet
+from life_tools.increase_sheet import Increase, increase_sheet, increases_added
 from life_tools.periods import Asked, Period, period_of
 from life_tools.posted_steps import steps_of
 from life_tools.premium_sheet import Collected, Uncollected, premium_sheet
@@ -72,7 +72,11 @@ def of_books(names: Sequence[str], statements: Sequence[Statement]) -> Statement
         demand(alike, f"the statement of {name} is of other days or reserves than that of {names[0]}")
     facts = {"from": days(first.facts["from"]), "to": days(first.facts["to"]), "reserves": first.facts["reserves"],
              "books": ", ".join(names)}
-    return Statement(facts, [added(sheets) for sheets in zip(*(statement.sheets for statement in statements))])
+    return Statement(facts, [together(sheets) for sheets in zip(*(statement.sheets for statement in statements))])
+
+
+def together(sheets: Sequence[Sheet]) -> Sheet:
+    return added(sheets) if sheets[0].exact is None else increases_added(sheets)
 
 
 def days(fact: str) -> str:

@@ -11,7 +11,7 @@ import mmap
 import os
 import re
 from dataclasses import dataclass, field
-from typing import Iterator, NamedTuple, Sequence
+from typing import Iterator, NamedTuple, Sequence, Tuple
 
 from life_tools.checkpoints import HEADER as CHECKPOINT_HEADER
 from life_tools.formats import MOST_COMMANDS, Wrong, bytes_of, demand, number_of, remark
@@ -27,6 +27,10 @@ ACCEPTED = re.compile(rb",accepted,([0-9]{1,7})\n")
 LOOKED_AT = 1 << 16
 # a file that grows meanwhile is looked at so often
 LOOKS = 3
+
+
+# the commands and the bytes of a journal's file
+Seen = Tuple[int, int]
 
 
 class Damaged(Wrong):
@@ -92,9 +96,11 @@ def look(path: str) -> tuple[int, int] | None:
     return (count, length) if is_one else None
 
 
-def shape_at(path: str) -> Shape:
+def shape_at(path: str, seen: Seen | None = None) -> Shape:
     """The shape of a journal's file alone; of one that isn't a journal the program's answer is told."""
     demand(os.path.isfile(path), f"there is no {path}")
+    if seen:
+        return Shape(path, *seen)
     try:
         for _ in range(LOOKS):
             found = look(path)
@@ -168,9 +174,9 @@ def noted_by(checkpoint: str | None, log: str | None) -> Iterator[Noted]:
             yield Noted(path, found)
 
 
-def shape_with(path: str, checkpoint: str | None, log: str | None, seals: Sequence[str] = ()) -> Shape:
+def shape_with(path: str, checkpoint: str | None, log: str | None, seals: Sequence[str] = (), seen: Seen | None = None) -> Shape:
     """The shape of a file with what these have noted of it."""
-    shape, noted, unlike = shape_at(path), list(noted_by(checkpoint, log)), []
+    shape, noted, unlike = shape_at(path, seen), list(noted_by(checkpoint, log)), []
     for each in seals:
         seal = seal_at(each)
         noted.append(Noted(each, seal.count))
@@ -188,31 +194,27 @@ def beside(path: str) -> tuple[str | None, str | None]:
     return (checkpoint if is_book and os.path.isfile(checkpoint) else None), (log if is_book and os.path.isdir(log) else None)
 
 
-def shape_beside(path: str) -> Shape:
-    return shape_with(path, *beside(path))
+# --- what a tool does with it; one that has read the file tells what it has seen of it ---
 
-
-# --- what a tool does with it ---
-
-def demand_undamaged(path: str) -> Shape:
+def demand_undamaged(path: str, seen: Seen | None = None) -> Shape:
     """The shape of a book of which nothing shows to be gone."""
-    shape = shape_beside(path)
+    shape = shape_with(path, *beside(path), seen=seen)
     if shape.verdict == DAMAGED:
         raise Damaged(shape.told())
     return shape
 
 
-def doubt_of(path: str) -> str:
+def doubt_of(path: str, seen: Seen | None = None) -> str:
     """What is to be told of a book that may not be whole; what is no journal is left to who reads it."""
     try:
-        return demand_undamaged(path).told()
+        return demand_undamaged(path, seen).told()
     except BadJournal:
         return ""
 
 
-def tell_doubt(path: str) -> None:
+def tell_doubt(path: str, seen: Seen | None = None) -> None:
     """Tells it, of a book of which nothing shows to be gone, or of none."""
-    doubt = doubt_of(path) if os.path.isfile(path) else ""
+    doubt = doubt_of(path, seen) if os.path.isfile(path) else ""
     if doubt:
         remark(doubt)
 

@@ -146,11 +146,6 @@ tally_sized basis on years policies tally is most few =
     let many : tally.policies ≡ length policies = is.tallied.policies ∙ zip_length (IsProspect basis on) policies is.prospects is.each in
     (sized years is.prospects tally is.tallied most (omega (arith, many)), many)
 
--- of as many years as it says
-pub tallied_years : (basis : List Dated) (on : ℤ) (years : ℕ) (policies : List Policy) (tally : Tally) → IsTallyOf basis on years policies tally
-    → IsTallyOf basis on tally.years policies tally
-tallied_years basis on years policies tally is = subst (λ n. IsTallyOf basis on n policies tally) (sym is.tallied.same) is
-
 -- before each of so many there is room for one more
 pub room_for_one : (basis : List Dated) (on : ℤ) (years : ℕ) (policies : List Policy) (i : ℕ) (tally : Tally) → IsTallyOf basis on years (take i policies) tally
     → years ≤ 131 → length policies ≤ most_commands → i < length policies → TakesOneMore tally

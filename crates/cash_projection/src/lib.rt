@@ -19,7 +19,7 @@ pub use laws::{benefits_add_up_to_the_amount, pairs_enclose_the_expected, surviv
 pub use paths::Paths;
 pub use pinned::project;
 pub use printing::{Projection, print_projection};
-pub use projecting::{project_policies, tally_policies};
+pub use projecting::tally_policies;
 pub use sharing::tally_in;
 pub use tally::Tally;
 pub use worked::{endowment_by_hand, later_years_by_hand, paid_premium_by_hand, policies_by_hand};

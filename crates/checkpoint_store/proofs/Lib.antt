@@ -1,6 +1,6 @@
 pub mod BookEntries
 pub mod Taking
-pub mod Numbers
+pub mod Balances
 pub mod Parts
 pub mod Behind
 pub mod GateSteps

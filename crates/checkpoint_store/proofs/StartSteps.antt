@@ -1,5 +1,5 @@
 -- From where records are decided, and what stands there.
-use Rattle.std.proofs.Common.{◌≡◌, ℕ, ◌≤◌, List, [], length, take, sym, ap, ◌∙◌, subst, None, Err, arith}
+use Rattle.std.proofs.Common.{◌≡◌, ℕ, ◌≤◌, List, [], length, take, sym, ap, refl, ◌∙◌, subst, None, Err, arith}
 use Rattle.outside_io.specs.declared.disks.Disk.{Ghosts}
 use Rattle.policy_machine.specs.Book.{judge}
 use Rattle.policy_types.specs.declared.command.Command.{Command}
@@ -9,14 +9,14 @@ use Rattle.journal_replay.specs.Keeping.{AreKept}
 use Rattle.journal_replay.specs.Replays.{Replays, Stops, bodies_of}
 use Rattle.journal_replay.specs.declared.replaying.ReplayFault.{ReplayFault}
 use Rattle.journal_replay.specs.declared.replaying.ReplayFault.TheVariants as replay
-use Rattle.journal_replay.proofs.ReplaySteps.{all_replayed}
+use Rattle.journal_replay.proofs.ReplaySteps.{Stops-weaker, all_replayed}
 use Rattle.checkpoint_store.specs.declared.faults.ReopenFault.{ReopenFault}
 use Rattle.checkpoint_store.specs.declared.faults.ReopenFault.TheVariants.{DiskFault, BadRecord, NoMemory}
 use Rattle.checkpoint_store.specs.declared.front.Front.{Front}
 use Rattle.checkpoint_store.specs.declared.numbered.NumberedBooks.{NumberedBooks}
 use Rattle.checkpoint_store.specs.declared.snapshot.Snapshot.{Snapshot}
 use Rattle.checkpoint_store.specs.Checkpoints.{CheckpointBytes}
-use Rattle.checkpoint_store.specs.Reopening.{IsReopened, IsSnapshotOfAll, IsSnapshotOfFront, IsStartOf}
+use Rattle.checkpoint_store.specs.Reopening.{AreDecided, IsReopened, IsSnapshotOfAll, IsSnapshotOfFront, IsSnapshotRead, IsStartOf}
 use Rattle.checkpoint_store.specs.inside.Numbered.{AreBooksOf, as_snapshot}
 use Rattle.checkpoint_store.specs.inside.Reading.{HasStoreCause, as_reopen_fault}
 use Rattle.checkpoint_store.proofs.InStore.{checkpoint_parts, front_for, front_range}
@@ -106,3 +106,23 @@ module _ {D : Type 0} {g : Ghosts D} (journal : Journal D g) (now : D) (bodies :
         };
       }
   fault_shown file replay.NoMemory begun stops = tt
+
+-- with all records of a journal decided from the first on, the books are those of its commands
+pub all_read : {D : Type 0} {g : Ghosts D} (journal : Journal D g) (now : D) (after : NumberedBooks)
+    → Replays (λ commands. AreBooksOf commands after) journal now (count_of journal) [] → IsSnapshotRead journal now (as_snapshot after)
+all_read journal now after all = record {
+  commands = all.later;
+  decided = (all.kept.valid, all.kept.accepted);
+  snapshot = all.kept.snapshot;
+  bodies = λ bodies last honest stands.
+      all_replayed (λ commands. AreBooksOf commands after) journal now [] all bodies last honest stands refl;
+}
+
+-- what stops that
+pub reading_stopped : {D : Type 0} {g : Ghosts D} (journal : Journal D g) (now : D) (fault : ReplayFault)
+    → Stops (AreKept (λ (books : NumberedBooks) commands. AreBooksOf commands books)) (λ commands command. judge commands command ≡ None) journal now [] fault
+    → Stops AreDecided (λ commands command. judge commands command ≡ None) journal now [] fault
+reading_stopped journal now fault stops =
+    Stops-weaker (AreKept (λ (books : NumberedBooks) commands. AreBooksOf commands books)) AreDecided
+    (λ commands command. judge commands command ≡ None) (λ commands command. judge commands command ≡ None)
+    (λ commands of. (of.1.valid, of.1.accepted)) (λ commands command follows. follows) journal now [] fault stops

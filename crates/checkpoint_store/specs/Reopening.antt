@@ -6,7 +6,7 @@ use Rattle.outside_io.specs.declared.disks.Disk.{Ghosts}
 use Rattle.policy_machine.specs.Book.{IsAccepted, judge}
 use Rattle.policy_types.specs.declared.command.Command.{Command}
 use Rattle.policy_types.specs.Valid.{IsValid}
-use Rattle.journal_replay.specs.Replays.{StaysAs}
+use Rattle.journal_replay.specs.Replays.{BodiesHave, StaysAs, bodies_of}
 use Rattle.posting_journal.specs.Runs.{LooksOn}
 use Rattle.posting_journal.specs.States.{StandsFor, count_of, disk_of}
 use Rattle.posting_journal.specs.declared.journal.Journal.{Journal}
@@ -33,6 +33,17 @@ pub record IsSnapshotOfAll (bodies : List (List ℕ)) (s : Snapshot) : Type 0 wh
   pub valid : AllByRecursion IsValid commands
   pub accepted : IsAccepted commands
   pub snapshot : IsSnapshotOf commands s
+
+-- the commands are valid, and accepted one after the other
+abbrev pub AreDecided : List Command → Type 0
+AreDecided commands = AllByRecursion IsValid commands × IsAccepted commands
+
+-- Such commands leave the snapshot, whatever the disk is; and where it comes back honest, all bodies of the journal spell them.
+pub record IsSnapshotRead {D : Type 0} {g : Ghosts D} (journal : Journal D g) (now : D) (s : Snapshot) : Type 0 where
+  pub commands : List Command
+  pub decided : AreDecided commands
+  pub snapshot : IsSnapshotOf commands s
+  pub bodies : BodiesHave journal now (λ bodies. bodies ≡ bodies_of commands)
 
 -- a checkpoint that the file holds is one of the journal's front
 abbrev pub IsTrueCheckpoint : List ℕ → List (List ℕ) → Type 0

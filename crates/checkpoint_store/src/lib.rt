@@ -25,6 +25,6 @@ pub mod worked;
 
 pub use books::Books;
 pub use faults::{ReopenFault, StoreFault};
-pub use reopening::{reopen, reopen_books};
+pub use reopening::{read_books, reopen, reopen_books};
 pub use snapshot::Snapshot;
 pub use store::Store;

@@ -1,6 +1,10 @@
 // A store and a journal are reopened.
-ghost use Rattle.std.specs.Prelude.{◌≡◌, ℕ, ◌≤◌, List, length, IfOk};
-ghost use Rattle.checkpoint_store.specs.Reopening.{IsSnapshotOfFront, IsStartOf, IsTrueWhereUsed, KeepsAsBefore, Reopens};
+ghost use Rattle.std.specs.Prelude.{◌≡◌, ℕ, ◌≤◌, List, [], length, None, IfErr, IfOk};
+ghost use Rattle.journal_replay.specs.Replays.{HasReplayCause, StaysAs, Stops};
+ghost use Rattle.policy_machine.specs.Book.{judge};
+ghost use Rattle.posting_journal.specs.States.{disk_of};
+ghost use Rattle.checkpoint_store.specs.Checkpoints.{IsSoundSnapshot};
+ghost use Rattle.checkpoint_store.specs.Reopening.{AreDecided, IsSnapshotOfFront, IsSnapshotRead, IsStartOf, IsTrueWhereUsed, KeepsAsBefore, Reopens};
 ghost use Rattle.checkpoint_store.specs.Stores.{store_disk};
 ghost use Rattle.checkpoint_store.specs.inside.Numbered.{AreSoundBooks, as_snapshot};
 ghost use Rattle.checkpoint_store.specs.inside.Reading.{HasReadCause};
@@ -9,7 +13,7 @@ use crate::faults::reopen_fault;
 use crate::numbered::NumberedBooks;
 use crate::stored::stored;
 use crate::{Books, ReopenFault, Snapshot, Store};
-use journal_replay::replay;
+use journal_replay::{ReplayFault, replay, replay_all};
 use outside_io::{Disk, Steps};
 use posting_journal::Journal;
 use std::alloc::Global;
@@ -32,6 +36,23 @@ pub fn reopen_books<E: Disk, D: Disk, L: Ledger>(
     match replay(journal, from, &mut books, steps) {
         Ok(()) => Ok(Books::new(books)),
         Err(fault) => Err(reopen_fault(fault)),
+    }
+}
+
+/// The books of a journal without a store: each record is decided anew, from the first on. Nothing is written.
+#[tactic(auto, using(crate::proofs::StartSteps::all_read, crate::proofs::StartSteps::reading_stopped))]
+pub fn read_books<D: Disk>(alloc: Global, journal: &mut Journal<D>) -> Result<Books, ReplayFault>
+    ensures stays { StaysAs journal.old journal.new }
+    ensures cause { HasReplayCause journal.old (disk_of journal.new) result }
+    ensures sound { IfOk result IsSoundSnapshot }
+    ensures read { IfOk result (IsSnapshotRead journal.old (disk_of journal.new)) }
+    ensures stopped { IfErr result (Stops AreDecided (λ commands command. judge commands command ≡ None)
+        journal.old (disk_of journal.new) []) }
+{
+    let mut books = NumberedBooks::new(alloc);
+    match replay_all(journal, &mut books) {
+        Ok(()) => Ok(Books::new(books)),
+        Err(fault) => Err(fault),
     }
 }
 

@@ -8,6 +8,7 @@ ghost use Rattle.present_value.specs.Values.{AreColumns};
 ghost use Rattle.present_value.specs.Ends.{AreValuesAt};
 ghost use Rattle.crvm_reserve.specs.Made.{CanReserve, AreMadeFor, premium_of};
 
+use crate::cap::shape_of_cap;
 use crate::premium::{Premium, PremiumParts, premium_by};
 use present_value::{Columns, Values, columns};
 use rate_table::{RateTable, Shape};
@@ -71,12 +72,5 @@ fn cap_values(table: &RateTable, age: u8, bp: u16) -> Values
     ensures values { AreValuesAt (cap_of table.now age bp) 0 result }
     ensures within { AreRates table.now }
 {
-    let years = table.last_age() - age;
-    let shape = Shape {
-        age: age + 1,
-        n: years,
-        h: years.min(19),
-        matures: true,
-    };
-    columns(table, &shape, bp).at(0)
+    columns(table, &shape_of_cap(table, age), bp).at(0)
 }

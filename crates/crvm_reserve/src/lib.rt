@@ -4,6 +4,7 @@
 
 mod basis;
 mod bounds;
+mod cap;
 mod mean;
 mod paid_up;
 mod paid_up_mean;
@@ -12,6 +13,7 @@ mod worked;
 
 pub use basis::{basis_premium, premium_with_cap};
 pub use bounds::{bounds_by, reserve_bounds};
+pub use cap::shape_of_cap;
 pub use mean::{MeanParts, mean_bounds, mean_by};
 pub use paid_up::{paid_up_bounds, paid_up_by};
 pub use paid_up_mean::{paid_up_mean_bounds, paid_up_mean_by};

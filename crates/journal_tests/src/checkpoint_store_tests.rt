@@ -1,12 +1,11 @@
 // The bytes of a checkpoint, and what faults and crashes leave of one. The files were packed by hand from the layout.
-ghost use Rattle.std.specs.Prelude.{IfOk};
 ghost use Rattle.checkpoint_store.specs.Checkpoints.{IsSoundSnapshot};
 
+use crate::reopening_tests::{SETTLED, snapshot_of};
 use checkpoint_store::{Snapshot, Store, StoreFault};
 use memory_disk::MemoryDisk;
-use money_ledgers::Ledger;
 use outside_io::Disk;
-use policy_types::{Plan, Policy, Slice, Status};
+use policy_types::{Command, Plan, Policy, Status};
 use posting_journal::DiskFault;
 use std::alloc::{AllocError, Global};
 use std::test::Fail;
@@ -34,45 +33,16 @@ const CLAIMED: Policy = Policy {
     outstanding: 60_000,
 };
 
-// The same with another number.
-const OTHER: Policy = Policy {
+// The issue of another policy.
+const OTHER: Command = Command::Issue {
     id: 7002,
+    day: 18444,
     plan: Plan::Endowment,
     age: 0,
     years: 3,
     amount: 100_000,
     premium: 40_000,
-    issued: 18262,
-    last: 18444,
-    paid: 1,
-    status: Status::Claimed,
-    outstanding: 60_000,
 };
-
-fn snapshot_of(alloc: Global, policies: &[Policy]) -> Result<Snapshot, AllocError> {
-    Ok(Snapshot {
-        position: 4,
-        upgrade: 0,
-        ledger: Ledger {
-            cash: 0,
-            premiums: -40_000,
-            incurred: 100_000,
-            payable: -60_000,
-        },
-        book: Slice::new(Vec::from_slice(alloc, policies)?),
-    })
-}
-
-fn sound_snapshot_of(alloc: Global, policies: &[Policy]) -> Result<Snapshot, Fail>
-    ensures { IfOk result (λ snapshot. IsSoundSnapshot snapshot) }
-{
-    let snapshot = snapshot_of(alloc, policies)?;
-    if snapshot.is_sound(alloc)? {
-        Ok(snapshot)
-    } else {
-        Err(Fail::new("not sound"))
-    }
-}
 
 fn file_of(alloc: Global, parts: &[&[u8]]) -> Result<Vec<u8>, AllocError> {
     let mut bytes = Vec::new(alloc);
@@ -98,27 +68,11 @@ fn saved(disk: MemoryDisk, snapshot: &Snapshot) -> (Result<(), u64>, MemoryDisk)
     }
 }
 
-// Books, and whether they are sound: a policy that stands in one twice isn't.
-const BOOKS: &[(&[Policy], bool)] = &[
-    (&[], true),
-    (&[OTHER, CLAIMED], true),
-    (&[CLAIMED, CLAIMED], false),
-    (&[CLAIMED, OTHER, CLAIMED], false),
-];
-
-#[test]
-fn numbers_are_compared(rt: HostRuntime) -> Result<(), Fail> {
-    let alloc = rt.alloc();
-    for (policies, sound) in BOOKS {
-        assert!(rt; snapshot_of(alloc, policies)?.is_sound(alloc)? == *sound);
-    }
-    Ok(())
-}
-
 #[test]
 fn a_snapshot_is_spelled(rt: HostRuntime) -> Result<(), Fail> {
     let alloc = rt.alloc();
-    let snapshot = sound_snapshot_of(alloc, &[CLAIMED])?;
+    let snapshot = snapshot_of(alloc, &SETTLED[..4])?;
+    assert!(rt; snapshot.position == 4 && snapshot.book.as_slice() == [CLAIMED].as_slice());
     let wanted = file_of(alloc, &[CLAIMED_FRONT, CLAIMED_POLICY])?;
     for before in [&[] as &[u8], &[0], &[7; 40], &[1; 40]] {
         let (answer, disk) = saved(
@@ -134,7 +88,7 @@ fn a_snapshot_is_spelled(rt: HostRuntime) -> Result<(), Fail> {
 #[test]
 fn a_longer_file_is_not_cut(rt: HostRuntime) -> Result<(), Fail> {
     let alloc = rt.alloc();
-    let snapshot = sound_snapshot_of(alloc, &[CLAIMED])?;
+    let snapshot = snapshot_of(alloc, &SETTLED[..4])?;
     let before = file_of(alloc, &[&[1; 200]])?;
     let wanted = file_of(alloc, &[CLAIMED_FRONT, CLAIMED_POLICY, &[1; 88]])?;
     let (answer, disk) = saved(MemoryDisk::new(alloc, before, Vec::new(alloc)), &snapshot);
@@ -189,7 +143,9 @@ fn is_closed_or(file: &[u8], old: &[u8], new: &[u8]) -> bool {
 fn a_fault_or_a_crash_leaves_the_old_or_the_new(rt: HostRuntime) -> Result<(), Fail> {
     let alloc = rt.alloc();
     let old = file_of(alloc, &[CLAIMED_FRONT, CLAIMED_POLICY])?;
-    let snapshot = sound_snapshot_of(alloc, &[CLAIMED, OTHER])?;
+    let mut commands = SETTLED;
+    commands[4] = OTHER;
+    let snapshot = snapshot_of(alloc, &commands)?;
     let (answer, disk) = saved(
         MemoryDisk::new(
             alloc,
@@ -221,7 +177,7 @@ fn a_fault_or_a_crash_leaves_the_old_or_the_new(rt: HostRuntime) -> Result<(), F
 #[test]
 fn a_save_after_a_fault_is_whole(rt: HostRuntime) -> Result<(), Fail> {
     let alloc = rt.alloc();
-    let snapshot = sound_snapshot_of(alloc, &[CLAIMED])?;
+    let snapshot = snapshot_of(alloc, &SETTLED[..4])?;
     let wanted = file_of(alloc, &[CLAIMED_FRONT, CLAIMED_POLICY])?;
     for call in 4..11_u64 {
         let failing = Vec::from_slice(alloc, &[call])?;
@@ -245,7 +201,7 @@ fn a_save_after_a_fault_is_whole(rt: HostRuntime) -> Result<(), Fail> {
 #[test]
 fn a_closed_gate_is_left(rt: HostRuntime) -> Result<(), Fail> {
     let alloc = rt.alloc();
-    let snapshot = sound_snapshot_of(alloc, &[CLAIMED])?;
+    let snapshot = snapshot_of(alloc, &SETTLED[..4])?;
     let cases: [(&[u8], u32); 3] = [(&[0], 8), (&[1], 10), (&[], 9)];
     for (before, calls) in cases {
         let (answer, disk) = saved(

@@ -1,5 +1,6 @@
 // A store and a journal are reopened: with a checkpoint of the count, with one that is out of date, and with none.
-ghost use Rattle.std.specs.Prelude.{◌≡◌, ◌<◌, ◌≤◌};
+ghost use Rattle.std.specs.Prelude.{◌≡◌, ◌<◌, ◌≤◌, IfOk};
+ghost use Rattle.checkpoint_store.specs.Checkpoints.{IsSoundSnapshot};
 
 use checkpoint_store::{ReopenFault, Snapshot, Store, reopen};
 use memory_disk::{DiskCall, MemoryDisk};
@@ -32,7 +33,7 @@ const CLAIMED_POLICY: [u8; 48] =
 const NONE: usize = usize::MAX;
 
 // The issue, the premium, the claim, and settlements of 400.00 and 600.00.
-const SETTLED: [Command; 5] = [
+pub const SETTLED: [Command; 5] = [
     Command::Issue {
         id: 7001,
         day: 18262,
@@ -156,6 +157,37 @@ fn reopened<L: StepLedger>(
 
 fn outcome_of(alloc: Global, second: MemoryDisk, first: MemoryDisk) -> Outcome {
     reopened::<Brand>(alloc, second, first, Blank::new(1))
+}
+
+// The snapshot of a journal, beside a store.
+fn snapshot_beside<L: StepLedger>(
+    alloc: Global,
+    second: MemoryDisk,
+    first: MemoryDisk,
+    blank: Blank,
+) -> Result<Snapshot, Fail>
+    requires name { blank.name ≡ L.name }
+    requires parts { blank.parts ≡ L.parts }
+    requires some { 0 < L.parts }
+    ensures { IfOk result (λ snapshot. IsSoundSnapshot snapshot) }
+{
+    let mut steps: Steps<L> = Steps::open(blank);
+    let (Ok(mut store), Ok(mut journal)) = (Store::start(second), Journal::start(first)) else {
+        return Err(Fail::new("not started"));
+    };
+    match reopen(alloc, &mut store, &mut journal, &mut steps) {
+        Ok(snapshot) => Ok(snapshot),
+        Err(_) => Err(Fail::new("not reopened")),
+    }
+}
+
+// The snapshot of a journal of these commands.
+pub fn snapshot_of(alloc: Global, commands: &[Command]) -> Result<Snapshot, Fail>
+    ensures { IfOk result (λ snapshot. IsSoundSnapshot snapshot) }
+{
+    let journal = journal_of(alloc, commands, NONE)?;
+    let first = disk_of(alloc, journal.as_slice(), &[])?;
+    snapshot_beside::<Brand>(alloc, disk_of(alloc, &[], &[])?, first, Blank::new(1))
 }
 
 // How many calls a journal that is started makes.

@@ -5,17 +5,19 @@ use Rattle.std.proofs.KnownBytes.{Appends-nil, Appends-trans}
 use Rattle.outside_io.specs.Faults.{Rose}
 use Rattle.outside_io.specs.Streams.{AppendsPart}
 use Rattle.office_state.proofs.HistorySteps.{rose_since}
+use Rattle.lane_runner.specs.declared.transcript.TranscriptLine.{TranscriptLine}
 use Rattle.lane_runner.specs.declared.wording.Unwritten.{Unwritten}
 use Rattle.lane_runner.specs.declared.wording.Unwritten.TheVariants.{WriteFault, NoMemory}
-use Rattle.lane_runner.specs.Written.{HasEnded}
+use Rattle.lane_runner.specs.Written.{HasEnded, StopsShort, line_texts}
 use Rattle.lane_runner.specs.inside.Gathering.{HasPutOut}
+use Rattle.lane_runner.proofs.TakeSteps.{texts_push}
 
-pub take_front : (n : ℕ) (xs ys : List ℕ) → n ≤ length xs → take n (xs ++ ys) ≡ take n xs
+pub take_front : {A : Type 0} (n : ℕ) (xs ys : List A) → n ≤ length xs → take n (xs ++ ys) ≡ take n xs
 take_front zero xs ys short = refl
 take_front (suc n) [] ys short = absurd (omega arith)
 take_front (suc n) (x ∷ xs) ys short = ap (λ rest. x ∷ rest) (take_front n xs ys (omega arith))
 
-pub take_past : (xs ys : List ℕ) (n : ℕ) → take (length xs + n) (xs ++ ys) ≡ xs ++ take n ys
+pub take_past : {A : Type 0} (xs ys : List A) (n : ℕ) → take (length xs + n) (xs ++ ys) ≡ xs ++ take n ys
 take_past [] ys n = ap (λ k. take k ys) (omega arith)
 take_past (x ∷ xs) ys n =
     let one : length (x ∷ xs) + n ≡ suc (length xs + n) = omega arith in
@@ -49,106 +51,144 @@ part_behind before mid now out gathered text first is part = record {
       (Appends-trans before mid now out (take part.taken gathered) first part.written));
 }
 
--- nothing was put yet
-pub put_none : (faults : ℕ) (first : Option (List ℕ)) (gathered : List ℕ) (stopped : Option Unwritten) → gathered ≡ [] → stopped ≡ None
-    → HasPutOut faults faults first first [] gathered stopped
-put_none faults first gathered stopped none going =
-    subst (HasPutOut faults faults first first [] gathered) (sym going)
-    (subst (λ (bytes : List ℕ). HasPutOut faults faults first first [] bytes None) (sym none) (record { passed = omega arith; out = []; wrote = Appends-nil first; is = refl }))
+module _ (text : TranscriptLine → List ℕ) where
+  -- nothing was put yet
+  pub put_none : (faults : ℕ) (first : Option (List ℕ)) (gathered : List ℕ) (stopped : Option Unwritten) → gathered ≡ [] → stopped ≡ None
+      → HasPutOut faults faults first first text [] gathered stopped
+  put_none faults first gathered stopped none going =
+      subst (HasPutOut faults faults first first text [] gathered) (sym going)
+      (subst (λ (bytes : List ℕ). HasPutOut faults faults first first text [] bytes None) (sym none)
+      (record { held = refl; out = []; wrote = Appends-nil first; is = refl }))
 
--- where no more is written, nothing changes
-put_stopped : (faults now : ℕ) (first last : Option (List ℕ)) (text more gathered other : List ℕ) (why : Unwritten)
-    → HasPutOut faults now first last text gathered (Some why) → HasPutOut faults now first last (text ++ more) other (Some why)
-put_stopped faults now first last text more gathered other WriteFault put = (put.0, part_more first last text more put.1)
-put_stopped faults now first last text more gathered other NoMemory put = part_more first last text more put
+  -- a front of the lines' text is one of the text of more lines
+  part_line : (before now : Option (List ℕ)) (lines : List TranscriptLine) (told : TranscriptLine)
+      → AppendsPart before now (line_texts text lines) → AppendsPart before now (line_texts text (lines ++ told ∷ []))
+  part_line before now lines told part =
+      subst (AppendsPart before now) (sym (texts_push text lines told)) (part_more before now (line_texts text lines) (text told) part)
 
--- it is gathered
-pub put_kept : (faults now : ℕ) (first last : Option (List ℕ)) (text more gathered bytes : List ℕ) (stopped after : Option Unwritten)
-    → stopped ≡ None → bytes ≡ gathered ++ more → after ≡ stopped
-    → HasPutOut faults now first last text gathered stopped → HasPutOut faults now first last (text ++ more) bytes after
-put_kept faults now first last text more gathered bytes (Some why) after going is same put = absurd (cc)
-put_kept faults now first last text more gathered bytes None after going is same put =
-    subst (HasPutOut faults now first last (text ++ more) bytes) (sym same)
-    (subst (λ (b : List ℕ). HasPutOut faults now first last (text ++ more) b None) (sym is)
-    (record { passed = put.passed; out = put.out; wrote = put.wrote; is = sym (append_assoc put.out gathered more) ∙ ap (λ front. front ++ more) put.is }))
+  -- where no more is written, nothing changes
+  put_stopped : (faults now : ℕ) (first last : Option (List ℕ)) (lines : List TranscriptLine) (told : TranscriptLine) (gathered other : List ℕ)
+      (why : Unwritten) → HasPutOut faults now first last text lines gathered (Some why)
+      → HasPutOut faults now first last text (lines ++ told ∷ []) other (Some why)
+  put_stopped faults now first last lines told gathered other WriteFault put = (put.0, part_line first last lines told put.1)
+  put_stopped faults now first last lines told gathered other NoMemory put = record {
+    held = put.held;
+    many = put.many;
+    fewer = omega (arith, put.fewer, length-append lines (told ∷ []));
+    wrote = subst (λ (l : List TranscriptLine). Appends first last (line_texts text l))
+        (sym (take_front put.many lines (told ∷ []) (omega (arith, put.fewer)))) put.wrote;
+    part = part_line first last lines told put.part;
+  }
 
--- what was gathered is written
-pub put_out : (faults now later : ℕ) (first mid last : Option (List ℕ)) (text gathered bytes : List ℕ) (stopped : Option Unwritten)
-    → stopped ≡ None → now ≤ later → bytes ≡ [] → Appends mid last gathered
-    → HasPutOut faults now first mid text gathered stopped → HasPutOut faults later first last text bytes stopped
-put_out faults now later first mid last text gathered bytes (Some why) going passed none wrote put = absurd (cc)
-put_out faults now later first mid last text gathered bytes None going passed none wrote put =
-    subst (λ (b : List ℕ). HasPutOut faults later first last text b None) (sym none)
-    (record {
-      passed = omega (arith, passed, put.passed);
-      out = put.out ++ gathered;
-      wrote = Appends-trans first mid last put.out gathered put.wrote wrote;
-      is = append-nil (put.out ++ gathered) ∙ put.is;
-    })
+  -- it is gathered
+  pub put_kept : (faults now : ℕ) (first last : Option (List ℕ)) (lines : List TranscriptLine) (told : TranscriptLine)
+      (words gathered bytes : List ℕ) (stopped after : Option Unwritten)
+      → stopped ≡ None → bytes ≡ gathered ++ words → words ≡ text told → after ≡ stopped
+      → HasPutOut faults now first last text lines gathered stopped
+      → HasPutOut faults now first last text (lines ++ told ∷ []) bytes after
+  put_kept faults now first last lines told words gathered bytes (Some why) after going is words_are same put = absurd (cc)
+  put_kept faults now first last lines told words gathered bytes None after going is words_are same put =
+      subst (HasPutOut faults now first last text (lines ++ told ∷ []) bytes) (sym same)
+      (subst (λ (b : List ℕ). HasPutOut faults now first last text (lines ++ told ∷ []) b None) (sym is)
+      (record {
+        held = put.held;
+        out = put.out;
+        wrote = put.wrote;
+        is = sym (append_assoc put.out gathered words) ∙ ap (λ front. front ++ words) put.is
+            ∙ ap (λ back. line_texts text lines ++ back) words_are ∙ sym (texts_push text lines told);
+      }))
 
--- the output failed at it
-pub put_failed : (faults now later : ℕ) (first mid last : Option (List ℕ)) (text gathered bytes : List ℕ) (stopped after : Option Unwritten)
-    → stopped ≡ None → after ≡ Some WriteFault → Rose now later → AppendsPart mid last gathered
-    → HasPutOut faults now first mid text gathered stopped → HasPutOut faults later first last text bytes after
-put_failed faults now later first mid last text gathered bytes (Some why) after going failed rose part put = absurd (cc)
-put_failed faults now later first mid last text gathered bytes None after going failed rose part put =
-    subst (HasPutOut faults later first last text bytes) (sym failed)
-    (rose_since faults now later put.passed rose, part_behind first mid last put.out gathered text put.wrote put.is part)
+  -- what was gathered is written
+  pub put_out : (faults now later : ℕ) (first mid last : Option (List ℕ)) (lines : List TranscriptLine) (gathered bytes : List ℕ)
+      (stopped : Option Unwritten) → stopped ≡ None → later ≡ now → bytes ≡ [] → Appends mid last gathered
+      → HasPutOut faults now first mid text lines gathered stopped → HasPutOut faults later first last text lines bytes stopped
+  put_out faults now later first mid last lines gathered bytes (Some why) going held none wrote put = absurd (cc)
+  put_out faults now later first mid last lines gathered bytes None going held none wrote put =
+      subst (λ (b : List ℕ). HasPutOut faults later first last text lines b None) (sym none)
+      (record {
+        held = held ∙ put.held;
+        out = put.out ++ gathered;
+        wrote = Appends-trans first mid last put.out gathered put.wrote wrote;
+        is = append-nil (put.out ++ gathered) ∙ put.is;
+      })
 
--- more is written where nothing is gathered
-pub put_through : (faults now later : ℕ) (first mid last : Option (List ℕ)) (text more gathered : List ℕ) (stopped : Option Unwritten)
-    → stopped ≡ None → gathered ≡ [] → now ≤ later → Appends mid last more
-    → HasPutOut faults now first mid text gathered stopped → HasPutOut faults later first last (text ++ more) gathered stopped
-put_through faults now later first mid last text more gathered stopped going none passed wrote put =
-    put_out faults now later first mid last (text ++ more) (gathered ++ more) gathered stopped going passed none
-    (subst (λ (front : List ℕ). Appends mid last (front ++ more)) (sym none) wrote)
-    (put_kept faults now first mid text more gathered (gathered ++ more) stopped stopped going refl refl put)
+  -- the output failed at it
+  pub put_failed : (faults now later : ℕ) (first mid last : Option (List ℕ)) (lines : List TranscriptLine) (gathered bytes : List ℕ)
+      (stopped after : Option Unwritten) → stopped ≡ None → after ≡ Some WriteFault → Rose now later → AppendsPart mid last gathered
+      → HasPutOut faults now first mid text lines gathered stopped → HasPutOut faults later first last text lines bytes after
+  put_failed faults now later first mid last lines gathered bytes (Some why) after going failed rose part put = absurd (cc)
+  put_failed faults now later first mid last lines gathered bytes None after going failed rose part put =
+      subst (HasPutOut faults later first last text lines bytes) (sym failed) (
+        rose_since faults now later (omega (arith, put.held)) rose,
+        part_behind first mid last put.out gathered (line_texts text lines) put.wrote put.is part,
+      )
 
--- the output failed at it
-pub put_lost : (faults now later : ℕ) (first mid last : Option (List ℕ)) (text more gathered : List ℕ) (stopped after : Option Unwritten)
-    → stopped ≡ None → gathered ≡ [] → after ≡ Some WriteFault → Rose now later → AppendsPart mid last more
-    → HasPutOut faults now first mid text gathered stopped → HasPutOut faults later first last (text ++ more) gathered after
-put_lost faults now later first mid last text more gathered stopped after going none failed rose part put =
-    put_failed faults now later first mid last (text ++ more) (gathered ++ more) gathered stopped after going failed rose
-    (subst (λ (front : List ℕ). AppendsPart mid last (front ++ more)) (sym none) part)
-    (put_kept faults now first mid text more gathered (gathered ++ more) stopped stopped going refl refl put)
+  module _ (faults now later : ℕ) (first mid last : Option (List ℕ)) (lines : List TranscriptLine) (told : TranscriptLine)
+      (words gathered : List ℕ) (stopped : Option Unwritten) (going : stopped ≡ None) (none : gathered ≡ []) (words_are : words ≡ text told)
+      (put : HasPutOut faults now first mid text lines gathered stopped) where
+    owed : HasPutOut faults now first mid text (lines ++ told ∷ []) (gathered ++ words) stopped
+    owed = put_kept faults now first mid lines told words gathered (gathered ++ words) stopped stopped going refl words_are refl put
 
--- there is no memory for more
-pub put_short : (faults now : ℕ) (first last : Option (List ℕ)) (text more gathered : List ℕ) (stopped after : Option Unwritten)
-    → stopped ≡ None → gathered ≡ [] → after ≡ Some NoMemory → 0 < length more
-    → HasPutOut faults now first last text gathered stopped → HasPutOut faults now first last (text ++ more) gathered after
-put_short faults now first last text more gathered (Some why) after going none lacks some put = absurd (cc)
-put_short faults now first last text more gathered None after going none lacks some put =
-    subst (HasPutOut faults now first last (text ++ more) gathered) (sym lacks)
-    (part_whole first last text more some
-    (subst (Appends first last) (sym (append-nil put.out) ∙ ap (λ back. put.out ++ back) (sym none) ∙ put.is) put.wrote))
+    -- more is written where nothing is gathered
+    pub put_through : later ≡ now → Appends mid last words → HasPutOut faults later first last text (lines ++ told ∷ []) gathered stopped
+    put_through held wrote =
+        put_out faults now later first mid last (lines ++ told ∷ []) (gathered ++ words) gathered stopped going held none
+        (subst (λ (front : List ℕ). Appends mid last (front ++ words)) (sym none) wrote) owed
 
--- no more is written, and nothing of it was
-pub put_held : (faults now : ℕ) (first last : Option (List ℕ)) (text more gathered : List ℕ) (stopped : Option Unwritten) (why : Unwritten)
-    → stopped ≡ Some why → HasPutOut faults now first last text gathered stopped → HasPutOut faults now first last (text ++ more) gathered stopped
-put_held faults now first last text more gathered None why held put = absurd (cc)
-put_held faults now first last text more gathered (Some other) why held put = put_stopped faults now first last text more gathered gathered other put
+    -- the output failed at it
+    pub put_lost : (after : Option Unwritten) → after ≡ Some WriteFault → Rose now later → AppendsPart mid last words
+        → HasPutOut faults later first last text (lines ++ told ∷ []) gathered after
+    put_lost after failed rose part =
+        put_failed faults now later first mid last (lines ++ told ∷ []) (gathered ++ words) gathered stopped after going failed rose
+        (subst (λ (front : List ℕ). AppendsPart mid last (front ++ words)) (sym none) part) owed
 
--- the same page
-pub put_same : (faults now : ℕ) (first last : Option (List ℕ)) (text gathered bytes : List ℕ) (stopped after : Option Unwritten)
-    → bytes ≡ gathered → after ≡ stopped → HasPutOut faults now first last text gathered stopped → HasPutOut faults now first last text bytes after
-put_same faults now first last text gathered bytes stopped after is same put =
-    subst (HasPutOut faults now first last text bytes) (sym same) (subst (λ (b : List ℕ). HasPutOut faults now first last text b stopped) (sym is) put)
+  -- there is no memory for more
+  pub put_short : (faults now : ℕ) (first last : Option (List ℕ)) (lines : List TranscriptLine) (told : TranscriptLine) (gathered : List ℕ)
+      (stopped after : Option Unwritten) → stopped ≡ None → gathered ≡ [] → after ≡ Some NoMemory → 0 < length (text told)
+      → HasPutOut faults now first last text lines gathered stopped
+      → HasPutOut faults now first last text (lines ++ told ∷ []) gathered after
+  put_short faults now first last lines told gathered (Some why) after going none lacks some put = absurd (cc)
+  put_short faults now first last lines told gathered None after going none lacks some put =
+      subst (HasPutOut faults now first last text (lines ++ told ∷ []) gathered) (sym lacks)
+      (record {
+        held = put.held;
+        many = length lines + 0;
+        fewer = omega (arith, length-append lines (told ∷ []));
+        wrote = subst (λ (l : List TranscriptLine). Appends first last (line_texts text l))
+            (sym (take_past lines (told ∷ []) 0 ∙ append-nil lines)) whole;
+        part = subst (AppendsPart first last) (sym (texts_push text lines told))
+            (part_whole first last (line_texts text lines) (text told) some whole);
+      })
+    where
+      whole : Appends first last (line_texts text lines)
+      whole = subst (Appends first last) (sym (append-nil put.out) ∙ ap (λ back. put.out ++ back) (sym none) ∙ put.is) put.wrote
 
--- the same text
-pub put_text : (faults now : ℕ) (first last : Option (List ℕ)) (text words more gathered : List ℕ) (stopped : Option Unwritten) → words ≡ more
-    → HasPutOut faults now first last (text ++ words) gathered stopped → HasPutOut faults now first last (text ++ more) gathered stopped
-put_text faults now first last text words more gathered stopped is put =
-    subst (λ (w : List ℕ). HasPutOut faults now first last (text ++ w) gathered stopped) is put
+  -- no more is written, and nothing of it was
+  pub put_held : (faults now : ℕ) (first last : Option (List ℕ)) (lines : List TranscriptLine) (told : TranscriptLine) (gathered : List ℕ)
+      (stopped : Option Unwritten) (why : Unwritten) → stopped ≡ Some why
+      → HasPutOut faults now first last text lines gathered stopped
+      → HasPutOut faults now first last text (lines ++ told ∷ []) gathered stopped
+  put_held faults now first last lines told gathered None why held put = absurd (cc)
+  put_held faults now first last lines told gathered (Some other) why held put =
+      put_stopped faults now first last lines told gathered gathered other put
 
--- how it ends
-pub put_ended : (faults now : ℕ) (first last : Option (List ℕ)) (text gathered : List ℕ) (stopped : Option Unwritten)
-    → (stopped ≡ None → gathered ≡ []) → stopped ≡ None → HasPutOut faults now first last text gathered stopped → Appends first last text
-put_ended faults now first last text gathered (Some why) empty going put = absurd (cc)
-put_ended faults now first last text gathered None empty going put =
-    subst (Appends first last) (sym (append-nil put.out) ∙ ap (λ back. put.out ++ back) (sym (empty refl)) ∙ put.is) put.wrote
+  -- the same page
+  pub put_same : (faults now : ℕ) (first last : Option (List ℕ)) (lines : List TranscriptLine) (gathered bytes : List ℕ)
+      (stopped after : Option Unwritten) → bytes ≡ gathered → after ≡ stopped
+      → HasPutOut faults now first last text lines gathered stopped → HasPutOut faults now first last text lines bytes after
+  put_same faults now first last lines gathered bytes stopped after is same put =
+      subst (HasPutOut faults now first last text lines bytes) (sym same)
+      (subst (λ (b : List ℕ). HasPutOut faults now first last text lines b stopped) (sym is) put)
 
-pub put_unwritten : (faults now : ℕ) (first last : Option (List ℕ)) (text gathered : List ℕ) (why : Unwritten)
-    → HasPutOut faults now first last text gathered (Some why) → HasEnded faults now first last text (Err why)
-put_unwritten faults now first last text gathered WriteFault put = put
-put_unwritten faults now first last text gathered NoMemory put = put
+  -- how it ends
+  pub put_ended : (faults now : ℕ) (first last : Option (List ℕ)) (lines : List TranscriptLine) (gathered : List ℕ) (stopped : Option Unwritten)
+      → (stopped ≡ None → gathered ≡ []) → stopped ≡ None → HasPutOut faults now first last text lines gathered stopped
+      → (now ≡ faults) × Appends first last (line_texts text lines)
+  put_ended faults now first last lines gathered (Some why) empty going put = absurd (cc)
+  put_ended faults now first last lines gathered None empty going put =
+      (put.held, subst (Appends first last) (sym (append-nil put.out) ∙ ap (λ back. put.out ++ back) (sym (empty refl)) ∙ put.is) put.wrote)
+
+  pub put_unwritten : (faults now : ℕ) (first last : Option (List ℕ)) (lines : List TranscriptLine) (gathered : List ℕ) (why : Unwritten)
+      → HasPutOut faults now first last text lines gathered (Some why) → HasEnded faults now first last text lines (Err why)
+  put_unwritten faults now first last lines gathered WriteFault put = put
+  put_unwritten faults now first last lines gathered NoMemory put = put

@@ -60,6 +60,17 @@ looked_to_come [] (new ∷ news) looked = absurd looked
 looked_to_come (old ∷ olds) [] looked = absurd looked
 looked_to_come (old ∷ olds) (new ∷ news) looked = omega (arith, looked.0.left, looked_to_come olds news looked.1)
 
+all_spent : (inlets : List Inlet) → AllByRecursion (λ (inlet : Inlet). inlet.left ≡ 0) inlets → all_to_come inlets ≡ 0
+all_spent [] none = refl
+all_spent (inlet ∷ inlets) none = omega (arith, none.0, all_spent inlets none.1)
+
+-- where lines are left, one of them is the nearest
+pub some_nearest : (olds news : List Inlet) (found : Option Near) → AllZip HasLooked olds news → IsNearest news found
+    → 0 < all_to_come olds → found ≡ None → ⊥
+some_nearest olds news None looked nearest some none =
+    omega (arith, some, looked_to_come olds news looked, all_spent news nearest)
+some_nearest olds news (Some near) looked nearest some none = cc
+
 pub looked_none : (inlets : List Inlet) → AllZip HasLooked inlets inlets
 looked_none [] = tt
 looked_none (inlet ∷ inlets) = (record { ring = (((refl, refl, refl, refl), refl), refl, ([], append-nil (known_items inlet.ring))); left = refl }, looked_none inlets)

@@ -1,5 +1,5 @@
 -- What was written of the text of a run
-use Rattle.std.specs.Prelude.{ℕ, List, Option, Result, Ok, Err}
+use Rattle.std.specs.Prelude.{◌≡◌, ◌<◌, ℕ, List, Option, Result, Ok, Err, length, take}
 use Rattle.std.specs.Io.KnownBytes.{Appends}
 use Rattle.std.specs.List.{flat_map}
 use Rattle.outside_io.specs.Faults.{Rose}
@@ -12,9 +12,20 @@ use Rattle.lane_runner.specs.declared.wording.Unwritten.TheVariants.{WriteFault,
 abbrev pub line_texts : (TranscriptLine → List ℕ) → List TranscriptLine → List ℕ
 line_texts text lines = flat_map text lines
 
--- Of an output whose count of faults and bytes are these before and now: the whole text was written; or a front and not all
--- of it, since the output failed, or since memory was wanting.
-abbrev pub HasEnded : (faults faults_now : ℕ) (before now : Option (List ℕ)) → List ℕ → Result (Unit {0}) Unwritten → Type 0
-HasEnded faults faults_now before now text (Ok done) = Appends before now text
-HasEnded faults faults_now before now text (Err WriteFault) = Rose faults faults_now × AppendsPart before now text
-HasEnded faults faults_now before now text (Err NoMemory) = AppendsPart before now text
+-- The texts of the first so many lines were written, and no more: memory was wanting for the next one. The output had no fault.
+pub record StopsShort (faults faults_now : ℕ) (before now : Option (List ℕ)) (text : TranscriptLine → List ℕ)
+    (lines : List TranscriptLine) : Type 0 where
+  pub held : faults_now ≡ faults
+  pub many : ℕ
+  pub fewer : many < length lines
+  pub wrote : Appends before now (line_texts text (take many lines))
+  pub part : AppendsPart before now (line_texts text lines)
+
+-- Of an output whose count of faults and bytes are these before and now: the text of all lines was written, without a fault; or
+-- a front and not all of it, since the output failed; or that of the lines before one for which memory was wanting.
+abbrev pub HasEnded : (faults faults_now : ℕ) (before now : Option (List ℕ)) → (TranscriptLine → List ℕ) → List TranscriptLine
+    → Result (Unit {0}) Unwritten → Type 0
+HasEnded faults faults_now before now text lines (Ok done) = (faults_now ≡ faults) × Appends before now (line_texts text lines)
+HasEnded faults faults_now before now text lines (Err WriteFault) =
+    Rose faults faults_now × AppendsPart before now (line_texts text lines)
+HasEnded faults faults_now before now text lines (Err NoMemory) = StopsShort faults faults_now before now text lines

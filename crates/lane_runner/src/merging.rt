@@ -1,13 +1,12 @@
 // The lines of all lanes are merged by their turns, and written while the lanes go on.
-ghost use Rattle.std.specs.Prelude.{◌≡◌, ℕ, ◌+◌, ◌≤◌, ◌<◌, ◌^◌, List, [], Option, None, length, IsTrue, IfSome};
+ghost use Rattle.std.specs.Prelude.{◌≡◌, ℕ, ◌+◌, ◌≤◌, ◌<◌, ◌^◌, List, [], Option, None, length, IsTrue, IsFalse, IfSome};
 ghost use Rattle.std.specs.List.{AllByRecursion, AllZip};
 ghost use Rattle.rtrb.specs.Ring.{SameConsumer, received};
 ghost use Rattle.outside_io.specs.Streams.{TakenPiece};
 ghost use Rattle.lane_runner.specs.declared.transcript.TranscriptLine.{TranscriptLine as ALine};
 ghost use Rattle.lane_runner.specs.Tallies.{accepted_lines};
-ghost use Rattle.lane_runner.specs.Written.{line_texts};
 ghost use Rattle.lane_runner.specs.inside.Gathering.{HasPutOut};
-ghost use Rattle.lane_runner.specs.inside.Merging.{HasLooked, HasNext, HasTakenLines, IsMerged, IsNearerOf, IsNearest, all_to_come};
+ghost use Rattle.lane_runner.specs.inside.Merging.{HasLooked, HasNext, HasTakenLines, IsMerged, IsNearerOf, IsNearest, IsWaitedFor, all_to_come};
 ghost use Rattle.lane_runner.specs.inside.Showing.{IsShowing};
 
 use crate::page::Page;
@@ -48,7 +47,7 @@ pub fn merge<R: Wait, X: Wording, D: Disk, K: Sink<Beside = D>>(
     ensures merged { IsMerged inlets.new page.new.lines }
     ensures later { K.faults output.old ≤ K.faults output.new }
     ensures put { HasPutOut (K.faults output.old) (K.faults output.new) (K.written output.old) (K.written output.new)
-        (line_texts X.text page.new.lines) page.new.bytes.items page.new.stopped }
+        X.text page.new.lines page.new.bytes.items page.new.stopped }
     ensures flushed { page.new.stopped ≡ None → page.new.bytes.items ≡ [] }
     ensures ring { SameConsumer moments.old.ring moments.new.ring }
     ensures counted { length (received moments.new.ring) ≡ accepted_lines page.new.lines }
@@ -93,8 +92,8 @@ fn merge_next<R: Wait, X: Wording, D: Disk, K: Sink<Beside = D>>(
     ensures more { length page.new.lines ≡ length page.old.lines + 1 }
     ensures later { K.faults output.old ≤ K.faults output.new }
     ensures put { (faults : ℕ) (first : Option (List ℕ))
-        → HasPutOut faults (K.faults output.old) first (K.written output.old) (line_texts X.text page.old.lines) page.old.bytes.items page.old.stopped
-        → HasPutOut faults (K.faults output.new) first (K.written output.new) (line_texts X.text page.new.lines) page.new.bytes.items page.new.stopped }
+        → HasPutOut faults (K.faults output.old) first (K.written output.old) X.text page.old.lines page.old.bytes.items page.old.stopped
+        → HasPutOut faults (K.faults output.new) first (K.written output.new) X.text page.new.lines page.new.bytes.items page.new.stopped }
     ensures ring { SameConsumer moments.old.ring moments.new.ring }
     ensures counted { length (received moments.new.ring) ≡ accepted_lines page.new.lines }
     ensures shown { (first : List TakenPiece)
@@ -121,9 +120,9 @@ fn wait_for_next<R: Wait, D: Disk, K: Sink<Beside = D>>(
     ensures next { IsNearest inlets.new (Some result) }
     ensures lines { page.new.lines ≡ page.old.lines }
     ensures later { K.faults output.old ≤ K.faults output.new }
-    ensures put { (faults : ℕ) (first : Option (List ℕ)) (text : List ℕ)
-        → HasPutOut faults (K.faults output.old) first (K.written output.old) text page.old.bytes.items page.old.stopped
-        → HasPutOut faults (K.faults output.new) first (K.written output.new) text page.new.bytes.items page.new.stopped }
+    ensures put { (faults : ℕ) (first : Option (List ℕ)) (text : ALine → List ℕ) (lines : List ALine)
+        → HasPutOut faults (K.faults output.old) first (K.written output.old) text lines page.old.bytes.items page.old.stopped
+        → HasPutOut faults (K.faults output.new) first (K.written output.new) text lines page.new.bytes.items page.new.stopped }
     ensures shown { (text : ALine → List ℕ) (first : List TakenPiece) (lines : List ALine) (moments : List ℕ)
         → IsShowing text first (K.pieces output.old) lines moments page.old.latest page.old.bytes.items page.old.stopped
         → IsShowing text first (K.pieces output.new) lines moments page.new.latest page.new.bytes.items page.new.stopped }
@@ -143,6 +142,7 @@ fn look(inlets: &mut [Inlet]) -> Option<Near>
     ensures looked { AllZip HasLooked inlets.old inlets.new }
     ensures place { IfSome result (λ near. near.place < length inlets.new) }
     ensures next { IfSome result (λ near. IsNearest inlets.new (Some near)) }
+    ensures waits { 0 < all_to_come inlets.old → result ≡ None → IsWaitedFor inlets.new }
 {
     if !have_next(inlets) {
         return None;
@@ -154,6 +154,7 @@ fn look(inlets: &mut [Inlet]) -> Option<Near>
 fn have_next(inlets: &mut [Inlet]) -> bool
     ensures looked { AllZip HasLooked inlets.old inlets.new }
     ensures next { IsTrue result → AllByRecursion HasNext inlets.new }
+    ensures waits { IsFalse result → IsWaitedFor inlets.new }
 {
     let Some((first, rest)) = inlets.split_first_mut() else {
         return true;

@@ -6,7 +6,7 @@ ghost use Rattle.lane_runner.specs.declared.transcript.TranscriptLine.{Transcrip
 ghost use Rattle.lane_runner.specs.Shown.{HasShown};
 ghost use Rattle.lane_runner.specs.Tallies.{accepted_lines};
 ghost use Rattle.lane_runner.specs.Telling.{IsLegallyTold};
-ghost use Rattle.lane_runner.specs.Written.{HasEnded, line_texts};
+ghost use Rattle.lane_runner.specs.Written.{HasEnded};
 ghost use Rattle.lane_runner.specs.inside.Gathering.{HasPutOut};
 ghost use Rattle.lane_runner.specs.inside.Showing.{IsShowing};
 
@@ -61,8 +61,8 @@ impl<D: Disk> Page<D> {
         ensures lines { self.new.lines ≡ self.old.lines ++ told ∷ [] }
         ensures later { K.faults output.old ≤ K.faults output.new }
         ensures put { (faults : ℕ) (first : Option (List ℕ))
-            → HasPutOut faults (K.faults output.old) first (K.written output.old) (line_texts X.text self.old.lines) self.old.bytes.items self.old.stopped
-            → HasPutOut faults (K.faults output.new) first (K.written output.new) (line_texts X.text self.new.lines) self.new.bytes.items self.new.stopped }
+            → HasPutOut faults (K.faults output.old) first (K.written output.old) X.text self.old.lines self.old.bytes.items self.old.stopped
+            → HasPutOut faults (K.faults output.new) first (K.written output.new) X.text self.new.lines self.new.bytes.items self.new.stopped }
         ensures ring { SameConsumer moments.old.ring moments.new.ring }
         ensures counted { length (received moments.new.ring) ≡ accepted_lines self.new.lines }
         ensures shown { (first : List TakenPiece)
@@ -102,9 +102,9 @@ impl<D: Disk> Page<D> {
         requires tellable { IsLegallyTold told.now }
         ensures lines { self.new.lines ≡ self.old.lines }
         ensures later { K.faults output.old ≤ K.faults output.new }
-        ensures put { (faults : ℕ) (first : Option (List ℕ)) (text : List ℕ)
-            → HasPutOut faults (K.faults output.old) first (K.written output.old) text self.old.bytes.items self.old.stopped
-            → HasPutOut faults (K.faults output.new) first (K.written output.new) (text ++ X.text told.now) self.new.bytes.items self.new.stopped }
+        ensures put { (faults : ℕ) (first : Option (List ℕ)) (lines : List ALine)
+            → HasPutOut faults (K.faults output.old) first (K.written output.old) X.text lines self.old.bytes.items self.old.stopped
+            → HasPutOut faults (K.faults output.new) first (K.written output.new) X.text (lines ++ told.now ∷ []) self.new.bytes.items self.new.stopped }
         ensures shown { (first : List TakenPiece) (lines : List ALine) (moments : List ℕ) → accepted_lines (lines ++ told.now ∷ []) ≤ length moments
             → IsShowing X.text first (K.pieces output.old) lines moments self.old.latest self.old.bytes.items self.old.stopped
             → IsShowing X.text first (K.pieces output.new) (lines ++ told.now ∷ []) moments self.new.latest self.new.bytes.items self.new.stopped }
@@ -123,9 +123,9 @@ impl<D: Disk> Page<D> {
         requires going { self.old.stopped ≡ None }
         ensures lines { self.new.lines ≡ self.old.lines }
         ensures later { K.faults output.old ≤ K.faults output.new }
-        ensures put { (faults : ℕ) (first : Option (List ℕ)) (text : List ℕ)
-            → HasPutOut faults (K.faults output.old) first (K.written output.old) text self.old.bytes.items self.old.stopped
-            → HasPutOut faults (K.faults output.new) first (K.written output.new) (text ++ words.now) self.new.bytes.items self.new.stopped }
+        ensures put { (faults : ℕ) (first : Option (List ℕ)) (text : ALine → List ℕ) (lines : List ALine) (told : ALine) → words.now ≡ text told
+            → HasPutOut faults (K.faults output.old) first (K.written output.old) text lines self.old.bytes.items self.old.stopped
+            → HasPutOut faults (K.faults output.new) first (K.written output.new) text (lines ++ told ∷ []) self.new.bytes.items self.new.stopped }
         ensures shown { (text : ALine → List ℕ) (first : List TakenPiece) (lines : List ALine) (moments : List ℕ) (told : ALine)
             → words.now ≡ text told → accepted_lines (lines ++ told ∷ []) ≤ length moments
             → IsShowing text first (K.pieces output.old) lines moments self.old.latest self.old.bytes.items self.old.stopped
@@ -154,9 +154,9 @@ impl<D: Disk> Page<D> {
     pub fn flush<K: Sink<Beside = D>>(&mut self, output: &mut K)
         ensures lines { self.new.lines ≡ self.old.lines }
         ensures later { K.faults output.old ≤ K.faults output.new }
-        ensures put { (faults : ℕ) (first : Option (List ℕ)) (text : List ℕ)
-            → HasPutOut faults (K.faults output.old) first (K.written output.old) text self.old.bytes.items self.old.stopped
-            → HasPutOut faults (K.faults output.new) first (K.written output.new) text self.new.bytes.items self.new.stopped }
+        ensures put { (faults : ℕ) (first : Option (List ℕ)) (text : ALine → List ℕ) (lines : List ALine)
+            → HasPutOut faults (K.faults output.old) first (K.written output.old) text lines self.old.bytes.items self.old.stopped
+            → HasPutOut faults (K.faults output.new) first (K.written output.new) text lines self.new.bytes.items self.new.stopped }
         ensures shown { (text : ALine → List ℕ) (first : List TakenPiece) (lines : List ALine) (moments : List ℕ)
             → IsShowing text first (K.pieces output.old) lines moments self.old.latest self.old.bytes.items self.old.stopped
             → IsShowing text first (K.pieces output.new) lines moments self.new.latest self.new.bytes.items self.new.stopped }
@@ -176,9 +176,9 @@ impl<D: Disk> Page<D> {
         requires empty { self.old.stopped ≡ None → self.old.bytes.items ≡ [] }
         ensures lines { self.new.lines ≡ self.old.lines }
         ensures later { K.faults output.old ≤ K.faults output.new }
-        ensures put { (faults : ℕ) (first : Option (List ℕ)) (text : List ℕ)
-            → HasPutOut faults (K.faults output.old) first (K.written output.old) text self.old.bytes.items self.old.stopped
-            → HasPutOut faults (K.faults output.new) first (K.written output.new) (text ++ words.now) self.new.bytes.items self.new.stopped }
+        ensures put { (faults : ℕ) (first : Option (List ℕ)) (text : ALine → List ℕ) (lines : List ALine) (told : ALine) → words.now ≡ text told
+            → HasPutOut faults (K.faults output.old) first (K.written output.old) text lines self.old.bytes.items self.old.stopped
+            → HasPutOut faults (K.faults output.new) first (K.written output.new) text (lines ++ told ∷ []) self.new.bytes.items self.new.stopped }
         ensures shown { (text : ALine → List ℕ) (first : List TakenPiece) (lines : List ALine) (moments : List ℕ) (told : ALine)
             → words.now ≡ text told → accepted_lines (lines ++ told ∷ []) ≤ length moments
             → IsShowing text first (K.pieces output.old) lines moments self.old.latest self.old.bytes.items self.old.stopped
@@ -197,9 +197,9 @@ impl<D: Disk> Page<D> {
     fn stop_short<K: Sink<Beside = D>>(&mut self, output: &mut K)
         ensures lines { self.new.lines ≡ self.old.lines }
         ensures later { K.faults output.old ≤ K.faults output.new }
-        ensures put { (faults : ℕ) (first : Option (List ℕ)) (text more : List ℕ) → 0 < length more
-            → HasPutOut faults (K.faults output.old) first (K.written output.old) text self.old.bytes.items self.old.stopped
-            → HasPutOut faults (K.faults output.new) first (K.written output.new) (text ++ more) self.new.bytes.items self.new.stopped }
+        ensures put { (faults : ℕ) (first : Option (List ℕ)) (text : ALine → List ℕ) (lines : List ALine) (told : ALine) → 0 < length (text told)
+            → HasPutOut faults (K.faults output.old) first (K.written output.old) text lines self.old.bytes.items self.old.stopped
+            → HasPutOut faults (K.faults output.new) first (K.written output.new) text (lines ++ told ∷ []) self.new.bytes.items self.new.stopped }
         ensures shown { (text : ALine → List ℕ) (first : List TakenPiece) (lines : List ALine) (moments : List ℕ) (told : ALine)
             → 0 < length (text told) → accepted_lines (lines ++ told ∷ []) ≤ length moments
             → IsShowing text first (K.pieces output.old) lines moments self.old.latest self.old.bytes.items self.old.stopped
@@ -215,9 +215,9 @@ impl<D: Disk> Page<D> {
     /// What became of the text, where nothing is gathered any more.
     pub fn written(&self) -> Result<(), Unwritten>
         requires empty { self.now.stopped ≡ None → self.now.bytes.items ≡ [] }
-        ensures put { (faults : ℕ) (now : ℕ) (first last : Option (List ℕ)) (text : List ℕ)
-            → HasPutOut faults now first last text self.now.bytes.items self.now.stopped
-            → HasEnded faults now first last text result }
+        ensures put { (faults : ℕ) (now : ℕ) (first last : Option (List ℕ)) (text : ALine → List ℕ) (lines : List ALine)
+            → HasPutOut faults now first last text lines self.now.bytes.items self.now.stopped
+            → HasEnded faults now first last text lines result }
         ensures shown { (text : ALine → List ℕ) (first now : List TakenPiece) (lines : List ALine) (moments : List ℕ)
             → length moments ≡ accepted_lines lines
             → IsShowing text first now lines moments self.now.latest self.now.bytes.items self.now.stopped

@@ -11,7 +11,7 @@ ghost use Rattle.lane_runner.specs.Transcripts.{HasAnsweredLanes};
 ghost use Rattle.rtrb.specs.Ring.{SameConsumer, received};
 ghost use Rattle.lane_runner.specs.Shown.{HasShown};
 ghost use Rattle.lane_runner.specs.Tallies.{accepted_lines};
-ghost use Rattle.lane_runner.specs.Written.{HasEnded, line_texts};
+ghost use Rattle.lane_runner.specs.Written.{HasEnded};
 ghost use Rattle.lane_runner.specs.inside.Gathering.{HasPutOut};
 ghost use Rattle.lane_runner.specs.inside.Merging.{AreInOrder, HasLooked, IsMerged, all_to_come};
 ghost use Rattle.lane_runner.specs.inside.Showing.{IsShowing};
@@ -74,7 +74,7 @@ pub fn run_lanes<
     requires unheard { received moments.old.ring ≡ [] }
     ensures answered { IfOk result (λ ran. HasAnsweredLanes basis.now lanes.now pass.old pass.new ran.transcript) }
     ensures wrote { IfOk result (λ ran. HasEnded (K.faults output.old) (K.faults output.new) (K.written output.old) (K.written output.new)
-        (line_texts X.text ran.transcript.lines) ran.written) }
+        X.text ran.transcript.lines ran.written) }
     ensures shown { IfOk result (λ ran. HasShown X.text (K.pieces output.old) (K.pieces output.new) ran.transcript.lines
         (received moments.new.ring) ran.latest ran.written) }
     ensures ring { SameConsumer moments.old.ring moments.new.ring }
@@ -131,7 +131,7 @@ fn run_in<
     requires page { (room.page.lines ≡ []) × (room.page.bytes.items ≡ []) × (room.page.stopped ≡ None) }
     ensures answered { HasAnsweredLanes run.now.basis.now run.now.lanes.now pass.old pass.new result.transcript }
     ensures wrote { HasEnded (K.faults output.old) (K.faults output.new) (K.written output.old) (K.written output.new)
-        (line_texts X.text result.transcript.lines) result.written }
+        X.text result.transcript.lines result.written }
     ensures shown { HasShown X.text (K.pieces output.old) (K.pieces output.new) result.transcript.lines
         (received moments.new.ring) result.latest result.written }
     ensures ring { SameConsumer moments.old.ring moments.new.ring }
@@ -211,7 +211,7 @@ fn run_beside<
     ensures sorted { AreInOrder page.new.lines }
     ensures later { K.faults output.old ≤ K.faults output.new }
     ensures put { HasPutOut (K.faults output.old) (K.faults output.new) (K.written output.old) (K.written output.new)
-        (line_texts X.text page.new.lines) page.new.bytes.items page.new.stopped }
+        X.text page.new.lines page.new.bytes.items page.new.stopped }
     ensures flushed { page.new.stopped ≡ None → page.new.bytes.items ≡ [] }
     ensures ring { SameConsumer moments.old.ring moments.new.ring }
     ensures counted { length (received moments.new.ring) ≡ accepted_lines page.new.lines }

@@ -1,8 +1,8 @@
 // A lane tells its answered lines in a ring, of which the writer has the other end.
-ghost use Rattle.std.specs.Prelude.{◌≡◌, ◌+◌, ◌<◌, [], ◌∷◌, ◌++◌, IfOk, IsTrue};
+ghost use Rattle.std.specs.Prelude.{◌≡◌, ◌+◌, ◌<◌, [], ◌∷◌, ◌++◌, IfOk, IsTrue, IsFalse};
 ghost use Rattle.rtrb.specs.Ring.{IsPair, SameConsumer, known_free, known_items, received, sent};
 ghost use Rattle.lane_runner.specs.Telling.{MayTellNext};
-ghost use Rattle.lane_runner.specs.inside.Merging.{HasLooked, HasNext, IsNextTurn};
+ghost use Rattle.lane_runner.specs.inside.Merging.{HasLooked, HasNext, IsNextTurn, LacksNext};
 
 use crate::transcript::TranscriptLine;
 use policy_types::NoMemory;
@@ -35,6 +35,7 @@ impl Inlet {
     pub fn has_next(&mut self) -> bool
         ensures looked { HasLooked self.old self.new }
         ensures next { IsTrue result → HasNext self.new }
+        ensures none { IsFalse result → LacksNext self.new }
     {
         let empty = self.ring.is_empty();
         self.left == 0 || !empty

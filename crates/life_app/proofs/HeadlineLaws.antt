@@ -145,9 +145,10 @@ there_once opening history held (command ∷ other ∷ more) image one opens = a
 
 module _ {D : Type 0} (g : Ghosts D) (old new : D) (output : Stream) where
   -- a run that ended so
-  promised : (lanes : List Lane) (basis : List Dated) (auditors : List Auditor) (Wrote : List ℕ → Type 0)
+  promised : (lanes : List Lane) (basis : List Dated) (auditors : List Auditor) (Wrote : List (List ℕ) → List ℕ → Type 0)
       (Replies : List Entry → List ℕ → Type 0) (ending : Ending) → (ran : IsRunOf g old new lanes basis auditors output Wrote Replies)
-      → ((text : List ℕ) → Wrote text → WroteAsEnded g old new ran.history ran.dry text output ending)
+      → ((texts : List (List ℕ)) (reports : List ℕ) → Wrote texts reports
+      → WroteAsEnded g old new ran.history ran.dry texts reports output ending)
       → IsPromised g Opens old new lanes basis auditors output (status_of ending)
   promised lanes basis auditors Wrote Replies ending ran written =
       let opening = opened_on ran.commands (g.faults old) in
@@ -167,7 +168,7 @@ module _ {D : Type 0} (g : Ghosts D) (old new : D) (output : Stream) where
         shown = ran.shown;
         ending = ending;
         exits = refl;
-        wrote = written _ ran.wrote;
+        wrote = written _ _ ran.wrote;
         now = λ honest image left. there_now opening ran.history image (ran.disk.now honest image left);
         since = λ honest image left. elim (ran.disk.since honest image left) [
           | inl before ↦ inl before
@@ -218,18 +219,18 @@ module _ {D : Type 0} (g : Ghosts D) (old new : D) (output : Stream) where
     by_ending : (lanes : List Lane) (basis : List Dated) (auditors : List Auditor) (ending : Ending)
         → EndsScript g old new lanes basis auditors output ending → Told lanes basis auditors (status_of ending)
     by_ending lanes basis auditors Done ends =
-        inl (promised lanes basis auditors _ _ Done ends (λ text all. (all, ends.replies)))
+        inl (promised lanes basis auditors _ _ Done ends (λ texts reports all. (all, ends.replies)))
     by_ending lanes basis auditors BadJournal ends = inr (unrun_alone BadJournal (ends.cause, ends.line, ends.shown) ends.alone)
     by_ending lanes basis auditors WriteFault ends =
-        inl (promised lanes basis auditors _ _ WriteFault ends.1 (λ text part. (ends.0, part)))
+        inl (promised lanes basis auditors _ _ WriteFault ends.1 (λ texts reports part. (ends.0, part)))
     by_ending lanes basis auditors DiskFault ends = elim ends.1 [
       | inl said ↦ inr (unrun_alone DiskFault (said.0, ends.0) said.1)
-      | inr ran ↦ inl (promised lanes basis auditors _ _ DiskFault ran (λ text all. (all, ran.replies, ends.0)))
+      | inr ran ↦ inl (promised lanes basis auditors _ _ DiskFault ran (λ texts reports all. (all, ran.replies, ends.0)))
     ]
     by_ending lanes basis auditors NoMemory ends = elim ends [
       | inl said ↦ inr (unrun_alone NoMemory said.0 said.1)
-      | inr (inl ran) ↦ inl (promised lanes basis auditors _ _ NoMemory ran (λ text part. inr part))
-      | inr (inr ran) ↦ inl (promised lanes basis auditors _ _ NoMemory ran (λ text all. inl (all, ran.replies)))
+      | inr (inl ran) ↦ inl (promised lanes basis auditors _ _ NoMemory ran (λ texts reports part. inr part))
+      | inr (inr ran) ↦ inl (promised lanes basis auditors _ _ NoMemory ran (λ texts reports all. inl (all, ran.replies)))
     ]
     by_ending lanes basis auditors _ ends = absurd ends
 

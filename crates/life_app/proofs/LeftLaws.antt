@@ -38,8 +38,8 @@ module _ {D : Type 0} (g : Ghosts D) (old new : D) where
   untouched : new ≡ old → Left
   untouched same = (opened_on [] (g.faults old), ([], inr (inr (refl, same))))
 
-  ran : (lanes : List Lane) (basis : List Dated) (auditors : List Auditor) (output : Stream) (Wrote : List ℕ → Type 0) (Replies : List Entry → List ℕ → Type 0)
-      → IsRunOf g old new lanes basis auditors output Wrote Replies → Left
+  ran : (lanes : List Lane) (basis : List Dated) (auditors : List Auditor) (output : Stream) (Wrote : List (List ℕ) → List ℕ → Type 0)
+      (Replies : List Entry → List ℕ → Type 0) → IsRunOf g old new lanes basis auditors output Wrote Replies → Left
   ran lanes basis auditors output Wrote Replies run = by_turns (opened_on run.commands (g.faults old)) run.history run.disk
 
   script : (lanes : List Lane) (basis : List Dated) (auditors : List Auditor) (output : Stream) (ending : Ending)

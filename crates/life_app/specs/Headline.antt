@@ -3,11 +3,11 @@
 -- a parameter: all that is asked of it is that a file opens to one list of commands at most, and an empty file to none. So is
 -- which files make which basis under a name: they make one at most.
 use Rattle.std.specs.Prelude.{◌≡◌, ◌⊎◌, ℕ, ℤ, ◌≤◌, ◌<ℤ◌, All, List, [], ◌∷◌, ◌++◌, codes, nat_eq, true, false, take, Result, Ok, Err}
-use Rattle.std.specs.List.{AllByRecursion, AllZip, Contains, IsDistinct, flat_map}
+use Rattle.std.specs.List.{AllByRecursion, AllZip, Contains, IsDistinct}
 use Rattle.basis_book.specs.Dated.{Dated, IsPicked}
 use Rattle.outside_io.specs.Faults.{Rose}
 use Rattle.outside_io.specs.Shelves.{Files}
-use Rattle.outside_io.specs.Streams.{AppendsPart, TakenPiece}
+use Rattle.outside_io.specs.Streams.{TakenPiece}
 use Rattle.outside_io.specs.declared.disks.Disk.{Ghosts}
 use Rattle.plan_benefits.specs.Shapes.{shape_of}
 use Rattle.plan_benefits.specs.declared.fault.NotValued.{NotValued}
@@ -42,11 +42,12 @@ use Rattle.program_endings.specs.Refusals.{SaysWhy}
 use Rattle.program_endings.specs.Replies.{AreAnswered, HaveAFault, LackMemory}
 use Rattle.program_endings.specs.Status.{status_of}
 use Rattle.program_endings.specs.WithoutBasis.{EndsNoBasis}
-use Rattle.program_endings.specs.Writing.{Input, Shelving, Stream, WroteAll, WroteLine, WrotePart}
+use Rattle.program_endings.specs.Writing.{Input, Shelving, Stream, WroteLine}
 use Rattle.program_endings.specs.declared.ending.Ending.{Ending}
 use Rattle.program_endings.specs.declared.ending.Ending.TheVariants.{Done, BadScript, BadBasis, BadJournal, ReadFault, WriteFault, DiskFault, NoMemory}
 use Rattle.script_run.specs.Script.{IsRefused, asks_for_values}
 use Rattle.script_run.specs.Shown.{AreSafeWhenShown}
+use Rattle.script_run.specs.Texts.{WroteFront, WroteUpTo, WroteWhole}
 
 -- by an entry of the basis: the bounds enclose the exact reserve of the amount at the policy's year, to at most two
 -- cents, by the rates of the age at issue and the duration, or the word says why the table has none
@@ -111,16 +112,18 @@ abbrev pub IsFrontThere : (List ℕ → List Command → Type 0) → List Comman
 IsFrontThere Opens commands history image =
     (held rest : List Command) × (accepted_of history ≡ held ++ rest) × IsThere Opens commands history held image
 
--- What was written of a text, and why no more of it: all, and each posting and valuation was answered, or the disk failed in
--- a posting, or memory was lacking for one; or a front and not all, since the output failed, or since memory was lacking.
-abbrev pub WroteAsEnded : {D : Type 0} → Ghosts D → D → D → List Entry → List ℕ → List ℕ → Stream → Ending → Type 0
-WroteAsEnded g old new history dry text output Done = WroteAll output text × AreAnswered history dry
-WroteAsEnded g old new history dry text output DiskFault =
-    WroteAll output text × HaveAFault history dry × Rose (g.faults old) (g.faults new)
-WroteAsEnded g old new history dry text output WriteFault = WrotePart output text
-WroteAsEnded g old new history dry text output NoMemory =
-    (WroteAll output text × LackMemory history dry) ⊎ AppendsPart output.before output.after text
-WroteAsEnded _ _ _ _ _ _ _ _ = ⊥
+-- What was written of the lines' texts and of the reports behind them, and why no more: all, and each posting and valuation
+-- was answered, or the disk failed in a posting, or memory was lacking for one; or a front and not all, since the output
+-- failed; or the texts before one for which memory was lacking, and the output had no fault.
+abbrev pub WroteAsEnded : {D : Type 0} → Ghosts D → D → D → List Entry → List ℕ → List (List ℕ) → List ℕ → Stream → Ending → Type 0
+WroteAsEnded g old new history dry texts reports output Done = WroteWhole output texts reports × AreAnswered history dry
+WroteAsEnded g old new history dry texts reports output DiskFault =
+    WroteWhole output texts reports × HaveAFault history dry × Rose (g.faults old) (g.faults new)
+WroteAsEnded g old new history dry texts reports output WriteFault =
+    Rose output.faults_before output.faults_after × WroteFront output texts reports
+WroteAsEnded g old new history dry texts reports output NoMemory =
+    (WroteWhole output texts reports × LackMemory history dry) ⊎ WroteUpTo output texts reports
+WroteAsEnded _ _ _ _ _ _ _ _ _ = ⊥
 
 -- The run of these lanes, by a basis, with these auditors, and with a disk before and after it.
 pub record IsPromised {D : Type 0} (g : Ghosts D) (Opens : List ℕ → List Command → Type 0) (old new : D) (lanes : List Lane)
@@ -143,8 +146,7 @@ pub record IsPromised {D : Type 0} (g : Ghosts D) (Opens : List ℕ → List Com
   pub told : AllZip (IsToldLine commands history basis dry) lines texts
   pub ending : Ending
   pub exits : status ≡ status_of ending
-  pub wrote : WroteAsEnded g old new history dry
-      (flat_map (λ (text : List ℕ). text) texts ++ reports_text (reports_of auditors (accepted_of history))) output ending
+  pub wrote : WroteAsEnded g old new history dry texts (reports_text (reports_of auditors (accepted_of history))) output ending
   -- and what was shown of the lines is safe by then
   pub shown : g.honest new → (run : List TakenPiece) × (output.pieces_after ≡ run ++ output.pieces_before)
       × AreSafeWhenShown g Opens new commands history lines texts run

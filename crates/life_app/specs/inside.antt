@@ -1,2 +1,2 @@
 pub mod Unasked
-pub mod Books
+pub mod Over

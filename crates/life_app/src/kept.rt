@@ -1,43 +1,32 @@
 // The top call over two disks.
-ghost use Rattle.std.specs.Prelude.{◌≡◌, ◌<◌, ◌≤◌, ◌⊎◌, ℕ, [], map, length};
+ghost use Rattle.std.specs.Prelude.{◌≡◌, ◌≤◌, ◌⊎◌, [], map, length};
 ghost use Rattle.std.specs.List.{AllByRecursion};
 ghost use Rattle.office_state.specs.Journals.{OpensToNone};
 ghost use Rattle.watcher_set.specs.Limits.{most_watchers};
 ghost use Rattle.program_endings.specs.Status.{status_of};
 ghost use Rattle.program_endings.specs.Writing.{between, input_between, shelf_between};
 ghost use Rattle.program_endings.specs.declared.ending.Ending.{Ending as AnEnding};
-ghost use Rattle.stating_modes.specs.Stated.{EndsStateKept};
-ghost use Rattle.stating_modes.specs.TwoDisks.{disks_of};
 ghost use Rattle.life_app.specs.Due.{IsDueEnding};
 ghost use Rattle.life_app.specs.DueKept.{IsDueOfBoth, IsReasonedOfBoth};
 ghost use Rattle.life_app.specs.Needs.{filing_between};
 ghost use Rattle.life_app.specs.ObeysKept.{AskForBoth, ObeysKept};
 ghost use Rattle.life_app.specs.Reasons.{IsReasoned};
-ghost use Rattle.life_app.specs.inside.Books.{GivesBooks, IsBooksOf, ended_disks};
+ghost use Rattle.life_app.specs.inside.Over.{ended_disks};
 
-use crate::program::{Ended, life};
-use life_args::{Mode, WordsFault, read_words};
-use outside_io::{Disk, Gate, Shelf, Sink, Source, Steps};
-use policy_types::{NoMemory, Watcher};
-use program_endings::lack_memory;
-use stating_modes::{FinishedKept, checkpoint, state_kept};
+use crate::modes::obey;
+use outside_io::{Disk, Gate, Shelf, Sink, Source};
+use policy_types::Watcher;
+use stating_modes::FinishedKept;
 use std::alloc::Global;
-use std::marker::Brand;
 use std::sync::Wait;
-use std::sync::ledger::{Blank, Ledger};
 use std::thread::Threads;
+use watcher_set::Watchers;
 
 /// What the program leaves: its exit status, and its two disks.
 pub struct EndedKept<D, E> {
     pub status: u8,
     pub disk: D,
     pub second: E,
-}
-
-/// Which of the modes that open both disks.
-pub enum BookMode {
-    State,
-    Checkpoint,
 }
 
 /// Does what `life` does, and the words `checkpoint`, with a second disk for a checkpoint of the journal. `state` of all
@@ -93,84 +82,30 @@ pub fn life_kept<
     // A file that opens to no commands reads as before, however the run ends, where its disk comes back honest.
     ensures unopened { D.honest result.disk → OpensToNone (D.reads disk) → D.reads result.disk ≡ D.reads disk }
 {
-    match books_of(alloc, words) {
-        Ok(Some(BookMode::State)) => {
-            let blank = Blank::new(1);
-            ended(state_by::<K, D, E, Brand>(alloc, output, disk, second, blank))
-        }
-        Ok(Some(BookMode::Checkpoint)) => ended(checkpoint(alloc, output, disk, second)),
-        Ok(None) => {
-            let Ended { status, disk } = life(
-                rt, alloc, words, input, output, shelf, disk, watchers, gate,
-            );
-            EndedKept {
-                status,
-                disk,
-                second,
-            }
-        }
-        Err(NoMemory) => EndedKept {
-            status: lack_memory(output).status(),
+    let watchers = Watchers::new(watchers);
+    let left = obey(
+        rt,
+        alloc,
+        words,
+        input,
+        output,
+        shelf,
+        disk,
+        Some(second),
+        watchers,
+        gate,
+    );
+    let FinishedKept {
+        ending,
+        disk,
+        second,
+    } = left;
+    match second {
+        Some(second) => EndedKept {
+            status: ending.status(),
             disk,
             second,
         },
-    }
-}
-
-// The books of the two disks, with a ledger for the steps of their reading that the blank becomes.
-fn state_by<K: Sink, D: Disk, E: Disk, L: Ledger>(
-    alloc: Global,
-    output: &mut K,
-    disk: D,
-    second: E,
-    blank: Blank,
-) -> FinishedKept<D, E>
-    requires name { blank.name ≡ L.name }
-    requires parts { blank.parts ≡ L.parts }
-    requires some { 0 < L.parts }
-    ensures { EndsStateKept D.Disk E.Disk (disks_of disk second result)
-        (between K.faults K.written K.pieces output.old output.new) result.ending }
-{
-    let mut steps: Steps<L> = Steps::open(blank);
-    state_kept(alloc, output, disk, second, &mut steps)
-}
-
-// Which of the modes that open both disks the words ask for, if one.
-fn books_of(alloc: Global, words: &[String]) -> Result<Option<BookMode>, NoMemory>
-    ensures { GivesBooks words.now result }
-{
-    match read_words(alloc, words) {
-        Ok(mode) => Ok(books_in(&mode)),
-        Err(WordsFault::Usage) => Ok(None),
-        Err(WordsFault::NoMemory) => Err(NoMemory),
-    }
-}
-
-// Whether it is one of those modes.
-fn books_in(mode: &Mode) -> Option<BookMode>
-    ensures { IsBooksOf mode.now result }
-{
-    match mode {
-        Mode::State { id: None } => Some(BookMode::State),
-        Mode::Checkpoint => Some(BookMode::Checkpoint),
-        Mode::State { id: Some(_) }
-        | Mode::Run { .. }
-        | Mode::Value { .. }
-        | Mode::Project { .. }
-        | Mode::Generate { .. }
-        | Mode::Load { .. } => None,
-    }
-}
-
-// The same with its status.
-fn ended<D, E>(finished: FinishedKept<D, E>) -> EndedKept<D, E>
-    ensures status { result.status ≡ status_of finished.ending }
-    ensures disk { result.disk ≡ finished.disk }
-    ensures second { result.second ≡ finished.second }
-{
-    EndedKept {
-        status: finished.ending.status(),
-        disk: finished.disk,
-        second: finished.second,
+        None => unreachable!(),
     }
 }

@@ -3,6 +3,7 @@
 
 mod kept;
 mod laws;
+mod modes;
 mod program;
 mod promise;
 pub mod worked;

@@ -1,30 +1,24 @@
-// The top call: all that the program does, over any devices.
-ghost use Rattle.std.specs.Prelude.{◌≡◌, ◌<◌, ◌≤◌, ◌⊎◌, ℕ, [], map, length};
+// The top call over the journal's disk alone.
+ghost use Rattle.std.specs.Prelude.{◌≡◌, ◌≤◌, ◌⊎◌, [], map, length};
 ghost use Rattle.std.specs.List.{AllByRecursion};
 ghost use Rattle.office_state.specs.Journals.{OpensToNone};
 ghost use Rattle.watcher_set.specs.Limits.{most_watchers};
 ghost use Rattle.program_endings.specs.Status.{status_of};
 ghost use Rattle.program_endings.specs.Writing.{between, input_between, shelf_between};
 ghost use Rattle.program_endings.specs.declared.ending.Ending.{Ending as AnEnding};
-ghost use Rattle.program_endings.specs.declared.ending.Ending.TheVariants.{ReadFault};
 ghost use Rattle.life_app.specs.Due.{IsDueEnding};
 ghost use Rattle.life_app.specs.Needs.{filing_between};
-ghost use Rattle.life_app.specs.Obeys.{Does, Obeys};
+ghost use Rattle.life_app.specs.Obeys.{Obeys};
 ghost use Rattle.life_app.specs.Reasons.{IsReasoned};
-ghost use Rattle.life_app.specs.inside.Unasked.{SaysNoMode};
 
-use life_args::{Mode, WordsFault, read_words};
+use crate::modes::obey;
 use outside_io::{Disk, Gate, Shelf, Sink, Source};
 use policy_types::Watcher;
-use program_endings::{Ending, Finished, end, lack_memory};
-use script_run::run;
-use stating_modes::{account, state};
+use stating_modes::FinishedKept;
 use std::alloc::Global;
 use std::sync::Wait;
 use std::thread::Threads;
-use trial_load::{generate, load};
-use valuing_modes::{project, value};
-use watcher_set::{Watchers, Watching};
+use watcher_set::Watchers;
 
 /// What the program leaves: its exit status, and the disk.
 pub struct Ended<D> {
@@ -80,100 +74,20 @@ pub fn life<
     ensures unopened { D.honest result.disk → OpensToNone (D.reads disk) → D.reads result.disk ≡ D.reads disk }
 {
     let watchers = Watchers::new(watchers);
-    let finished = obey(rt, alloc, words, input, output, shelf, disk, watchers, gate);
-    Ended {
-        status: finished.ending.status(),
-        disk: finished.disk,
-    }
-}
-
-// Does what the words ask for, with the watchers told of what is accepted.
-fn obey<
-    R: Threads + Wait + Sync,
-    S: Source,
-    D: Disk + Send,
-    K: Sink<Beside = D> + Send,
-    H: Shelf,
-    W: Watching + Send,
-    G: Gate + Sync,
->(
-    rt: &R,
-    alloc: Global,
-    words: &[String],
-    input: &mut S,
-    output: &mut K,
-    shelf: &mut H,
-    disk: D,
-    watchers: W,
-    gate: &G,
-) -> Finished<D>
-    requires told { (before : ℕ) → W.told watchers before [] }
-    ensures does { Does D.Disk disk result.disk words.now (W.handed watchers) (input_between S.faults S.left S.given S.ended input.old input.new)
-        (between K.faults K.written K.pieces output.old output.new)
-        (shelf_between H.faults H.agrees shelf.old shelf.new)
-        (input.new ≡ input.old) (shelf.new ≡ shelf.old) result.ending }
-    ensures heard { S.faults input.old < S.faults input.new → result.ending ≡ ReadFault }
-    ensures counted { H.faults shelf.old < H.faults shelf.new → result.ending ≡ ReadFault }
-    ensures files { H.files shelf.new ≡ H.files shelf.old }
-{
-    match read_words(alloc, words) {
-        Ok(Mode::Run { basis }) => run(
-            rt, alloc, &basis, input, output, shelf, disk, watchers, gate,
-        ),
-        Ok(
-            Mode::Value {
-                on,
-                at,
-                workers,
-                basis,
-                measure,
-            },
-        ) => value(
-            rt, alloc, on, at, measure, workers, &basis, shelf, output, disk, gate,
-        ),
-        Ok(
-            Mode::Project {
-                on,
-                years,
-                workers,
-                basis,
-            },
-        ) => project(
-            rt, alloc, on, years, workers, &basis, shelf, output, disk, gate,
-        ),
-        Ok(Mode::State { id: None }) => state(alloc, output, disk),
-        Ok(Mode::State { id: Some(id) }) => account(alloc, id, output, disk),
-        Ok(Mode::Checkpoint) => Finished {
-            ending: end(output, b"usage\n", Ending::Usage),
+    let none: Option<D> = None;
+    let left = obey(
+        rt, alloc, words, input, output, shelf, disk, none, watchers, gate,
+    );
+    let FinishedKept {
+        ending,
+        disk,
+        second,
+    } = left;
+    match second {
+        None => Ended {
+            status: ending.status(),
             disk,
         },
-        Ok(Mode::Generate { seed, count, lanes }) => Finished {
-            ending: generate(alloc, seed, count, lanes, output),
-            disk,
-        },
-        Ok(
-            Mode::Load {
-                seed,
-                count,
-                lanes,
-                workers,
-            },
-        ) => load(
-            rt, alloc, seed, count, lanes, workers, output, shelf, disk, gate,
-        ),
-        Err(fault) => Finished {
-            ending: refuse_words(fault, output),
-            disk,
-        },
-    }
-}
-
-// Says why the words aren't obeyed.
-fn refuse_words<K: Sink>(fault: WordsFault, output: &mut K) -> Ending
-    ensures { SaysNoMode fault (between K.faults K.written K.pieces output.old output.new) result }
-{
-    match fault {
-        WordsFault::Usage => end(output, b"usage\n", Ending::Usage),
-        WordsFault::NoMemory => lack_memory(output),
+        Some(_second) => unreachable!(),
     }
 }

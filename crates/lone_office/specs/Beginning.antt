@@ -1,10 +1,11 @@
--- How a mode begins that one caller alone runs, over the basis on a shelf and the disk's file; and how it ends, by that basis
-use Rattle.std.specs.Prelude.{◌≡◌, ◌⊎◌, ℕ, List}
+-- How a mode begins that has an office, over the disk's file and the basis that it asks for; and how it ends, by that basis
+use Rattle.std.specs.Prelude.{◌≡◌, ◌⊎◌, ℕ, List, [], Option, Some, None}
 use Rattle.outside_io.specs.Shelves.{Files}
 use Rattle.outside_io.specs.declared.disks.Disk.{Ghosts}
 use Rattle.basis_book.specs.Dated.{Dated}
 use Rattle.basis_shelf.specs.Bases.{IsBasis}
 use Rattle.office_state.specs.Opening.{HasNotOpened}
+use Rattle.office_state.specs.States.{MomentRing}
 use Rattle.office_state.specs.declared.faults.StartCause.{StartCause}
 use Rattle.turn_lock.specs.Passes.{Holding}
 use Rattle.shared_office.specs.Offices.{OfficeOpening}
@@ -25,16 +26,17 @@ abbrev pub EndsOverBasis : {D : Type 0} → D → D → (List Dated → Type 0) 
 EndsOverBasis old new Ends name shelf output ending =
     EndsByBasis Ends name shelf ⊎ ((new ≡ old) × EndsNoBasis name shelf output ending)
 
--- an office was opened on the disk, with some watchers, and this is its first pass
-abbrev pub HasFirstPass : {D W : Type 0} → Ghosts D → D → Holding (OfficeOpening D W) → Type 0
-HasFirstPass {D} {W} g old pass = (watchers : W) × HasStartedOffice g old watchers pass
+-- whatever files agree with the shelf's answers make this basis under the name that is asked for; where none is asked for it
+-- has no rows, and the shelf stays
+abbrev pub IsAskedBasis : Option (List ℕ) → Shelving → (ShelfStays : Type 0) → List Dated → Type 0
+IsAskedBasis (Some name) shelf ShelfStays basis = (files : Files) → shelf.Agrees files → IsBasis files name basis
+IsAskedBasis None shelf ShelfStays basis = ShelfStays × (basis ≡ [])
 
--- whatever files agree with the shelf's answers make this basis under the name, and an office was opened on the disk
-pub record HasBegun {D W : Type 0} (g : Ghosts D) (old : D) (name : List ℕ) (shelf : Shelving) (basis : List Dated)
+-- an office was opened on the disk, with these watchers and this outlet, and this is its first pass
+pub record HasFirstPass {D W : Type 0} (g : Ghosts D) (old : D) (watchers : W) (outlet : Option MomentRing)
     (pass : Holding (OfficeOpening D W)) : Type 0 where
-  pub is : (files : Files) → shelf.Agrees files → IsBasis files name basis
-  pub watchers : W
   pub started : HasStartedOffice g old watchers pass
+  pub same : started.outlet ≡ outlet
 
 -- no office was opened on the disk, and the line says why
 pub record IsUnopened {D : Type 0} (g : Ghosts D) (old new : D) (output : Stream) (ending : Ending) : Type 0 where
@@ -42,7 +44,9 @@ pub record IsUnopened {D : Type 0} (g : Ghosts D) (old new : D) (output : Stream
   pub refused : HasNotOpened g old new cause
   pub says : SaysUnopened cause output ending
 
--- there was no basis, or no office
-abbrev pub HasNotBegun : {D : Type 0} → Ghosts D → D → D → List ℕ → Shelving → Stream → Ending → Type 0
-HasNotBegun g old new name shelf output ending =
+-- there was no basis where one is asked for, or no office
+abbrev pub HasNotBegun : {D : Type 0} → Ghosts D → D → D → Option (List ℕ) → Shelving → (ShelfStays : Type 0) → Stream → Ending
+    → Type 0
+HasNotBegun g old new (Some name) shelf ShelfStays output ending =
     EndsOverBasis old new (λ basis. IsUnopened g old new output ending) name shelf output ending
+HasNotBegun g old new None shelf ShelfStays output ending = ShelfStays × IsUnopened g old new output ending

@@ -1,4 +1,5 @@
-//! An office over the basis on a shelf, at which one caller alone turns: how it is begun, and what it shows.
+//! The beginning of each mode that has an office: the basis that it asks for, and the office over the disk; and what an office
+//! shows at which one caller alone turned.
 #![tactic(auto)]
 
 mod beginning;

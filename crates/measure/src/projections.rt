@@ -6,10 +6,10 @@ ghost use Rattle.cash_projection.specs.Policies.{IsOfIssue};
 use crate::reserves::table_of_cubes;
 use crate::words::{Outcome, number_in};
 use basis_book::{Basis, read_basis};
-use cash_projection::project_policies;
+use cash_projection::{Paths, Years, tally_policies};
 use indexmap::IndexMap;
 use load_maker::{Drawn, Generator};
-use policy_types::{Command, Policy, Status};
+use policy_types::{Command, NoMemory, Policy, Status};
 use select_rates::AnyTable;
 use std::alloc::{AllocError, Global};
 use std::env::Args;
@@ -21,6 +21,9 @@ const ON: i32 = 18_627;
 const MOST_POLICIES: u32 = 4_000_000;
 
 const MOST_YEARS: u32 = 131;
+
+/// The paths that one worker keeps where there is no other.
+const PATHS_KEPT: u16 = 237;
 
 /// Projects so many policies drawn from a seed on 2020-12-31 over so many years, by the table of `measure_reserves`, and
 /// prints the sums of the lower and of the upper bounds in cents.
@@ -45,13 +48,7 @@ pub fn measure_projections<R: Print + AllocGlobal>(
     ) else {
         return Ok(Outcome::NoMemory);
     };
-    let Ok((years, unvalued)) = project_policies(
-        alloc,
-        policies.as_slice(),
-        &basis,
-        ON,
-        years as u8,
-    ) else {
+    let Ok((years, unvalued)) = projected(alloc, policies.as_slice(), &basis, years as u8) else {
         return Ok(Outcome::NoMemory);
     };
     let mut lower: u64 = 0;
@@ -64,6 +61,22 @@ pub fn measure_projections<R: Print + AllocGlobal>(
     }
     println!(rt; "projections,{},{unvalued},{lower},{upper}", policies.len())?;
     Ok(Outcome::Measured)
+}
+
+// The cash of policies in so many years, and how many have a word.
+fn projected(
+    alloc: Global,
+    policies: &[Policy],
+    basis: &Basis,
+    years: u8,
+) -> Result<(Years, u32), NoMemory>
+    requires sound { AllByRecursion IsOfIssue policies.now }
+    requires few { length policies.now ≤ 4000000 }
+    requires years { years ≤ 131 }
+{
+    let mut paths = Paths::new(alloc, PATHS_KEPT)?;
+    let tally = tally_policies(policies, basis, ON, years, &mut paths);
+    Ok((tally.cash(alloc)?, tally.unvalued))
 }
 
 // The policies that a generator draws, of which no premium is paid.

@@ -21,6 +21,11 @@ module _ {A P : Type 0} where
   CanTell (Some ring) = 0 < known_free ring
   CanTell None = Unit {0}
 
+  -- there is none: as many moments were told and not heard as it holds
+  abbrev pub CannotTell : Option (Producer ℕ A P) → Type 0
+  CannotTell (Some ring) = known_free ring ≡ 0
+  CannotTell None = ⊥
+
   -- one moment more was told, or nobody heard it
   abbrev pub TellsOne : Option (Producer ℕ A P) → Option (Producer ℕ A P) → ℕ → Type 0
   TellsOne (Some old) (Some new) moment = SameProducer old new × (sent new ≡ sent old ++ moment ∷ [])

@@ -1,6 +1,6 @@
 // The office's end of the ring.
-ghost use Rattle.std.specs.Prelude.{◌≡◌, None, IsTrue};
-ghost use Rattle.moment_ring.specs.Ends.{CanTell, SameOutlet, TellsOne, told};
+ghost use Rattle.std.specs.Prelude.{◌≡◌, None, IsTrue, IsFalse};
+ghost use Rattle.moment_ring.specs.Ends.{CanTell, CannotTell, SameOutlet, TellsOne, told};
 
 use outside_io::{Disk, Moment};
 use rtrb::Producer;
@@ -25,6 +25,7 @@ impl<D: Disk> MomentOutlet<D> {
         ensures same { SameOutlet self.old.ring self.new.ring }
         ensures told { told self.new.ring ≡ told self.old.ring }
         ensures room { IsTrue result → CanTell self.new.ring }
+        ensures full { IsFalse result → CannotTell self.new.ring }
     {
         match &mut self.ring {
             Some(ring) => !ring.is_full(),

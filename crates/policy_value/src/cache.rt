@@ -1,5 +1,4 @@
-ghost use Rattle.std.specs.Prelude.{◌≡◌, ◌≤◌, ◌+◌, ◌*◌, [], List, All, IfSome, IfNone, IsSome, IfOk, Ok, length, min};
-ghost use Rattle.rate_table.specs.Rates.{AreRates};
+ghost use Rattle.std.specs.Prelude.{◌≡◌, ◌≤◌, ◌*◌, [], List, All, IfSome, IfNone, IsSome, IfOk, Ok, length, min};
 ghost use Rattle.present_value.specs.Premium.{cap_shape};
 ghost use Rattle.crvm_reserve.specs.Made.{IsMadeFor, IsPaidUpFor, premium_of};
 ghost use Rattle.basis_book.specs.Dated.{Dated};
@@ -10,11 +9,11 @@ use crate::columns::ColumnStore;
 use crate::covered::Covered;
 use crate::key::CacheKey;
 use basis_book::Basis;
-use crvm_reserve::Premium;
+use crvm_reserve::{Premium, shape_of_cap};
 use lru::LruCache;
 use policy_types::NoMemory;
 use present_value::Values;
-use rate_table::{RateTable, Shape};
+use rate_table::Shape;
 use std::alloc::Global;
 use std::num::NonZeroUsize;
 
@@ -161,20 +160,5 @@ impl ColumnCache {
         } else {
             None
         }
-    }
-}
-
-/// Whole life at the next age, with nineteen premiums, or as many as there are years to the table's end.
-fn shape_of_cap(table: &RateTable, age: u8) -> Shape
-    requires { age + 2 ≤ table.now.first_age + length table.now.rates }
-    ensures shape { result ≡ cap_shape table.now age }
-    ensures ages { AreRates table.now }
-{
-    let years = table.last_age() - age;
-    Shape {
-        age: age + 1,
-        n: years,
-        h: years.min(19),
-        matures: true,
     }
 }

@@ -15,7 +15,7 @@ use Rattle.present_value.specs.declared.column.Stream.{Stream}
 use Rattle.present_value.specs.declared.column.Stream.TheVariants.{Insurance, Endowment, Annuity}
 use Rattle.present_value.specs.inside.Earlier.{benefits_earlier, premiums_earlier, earlier, most, end_payment}
 use Rattle.present_value.proofs.Steps.{ann-after, ben_lo-most, ben_hi-most, ann_lo-most, ann_hi-most}
-use Rattle.present_value.proofs.Places.{ben_pair-before, ann_pair-before, next}
+use Rattle.present_value.proofs.Places.{ben_pair-before, ann_pair-before, put}
 use Rattle.present_value.proofs.Ends.{benefits_are, premiums_are}
 
 -- a value from that of the next age
@@ -116,7 +116,7 @@ gone_down table bp column pair is above new =
       places = length-set column.pairs (column.from - 1) pair ∙ is.places;
       end = is.end;
       from = omega (arith, is.from);
-      done = next column.pairs pair value (column.from - 1) column.from column.end (omega (arith, is.places, is.end, is.from)) place is.done here;
+      done = λ age least most. put column.pairs pair value (column.from - 1) (omega (arith, is.places, is.end, is.from)) here age (λ other. is.done age (omega arith) most);
     }
 
 -- the last known value of a column is no larger than it may be

@@ -1,5 +1,5 @@
 -- The rounded values by the year, as the columns hold them.
-use Rattle.std.proofs.Common.{◌≡◌, ℕ, zero, suc, ◌+◌, ◌-◌, ◌*◌, ◌<◌, ◌≤◌, refl, ap, arith, if◌then◌else◌, inl, inr}
+use Rattle.std.proofs.Common.{◌≡◌, ℕ, zero, suc, ◌+◌, ◌-◌, ◌*◌, ◌<◌, ◌≤◌, refl, ap, arith, inl, inr}
 use Rattle.std.proofs.Math.Nat.{le_trans, le_of_mul-le-mul_right}
 use Rattle.std.proofs.lemmas.Bool.Decides.{leb_tells}
 use Rattle.rate_table.specs.Rates.{ONE}
@@ -66,11 +66,6 @@ ann-after c t within after =
     let lo = rounded_ann-after down c (c.n - t) place in
     let hi = rounded_ann-after up c (c.n - t) place in
     cc
-
--- at the end of the cover a survivor is paid or not
-pub ben-end : (c : Cover) → pair_of (ben_lo c c.n) (ben_hi c c.n) ≡ pair_of (if c.matures then UNIT else 0) (if c.matures then UNIT else 0)
-unfolding ben_lo ben_hi rounded_ben
-ben-end c = let none : c.n - c.n ≡ 0 = omega arith in rw none refl
 
 -- how large the values are
 pub ben_hi-most : (c : Cover) (t : ℕ) → ((k : ℕ) → k < c.n → c.rates k ≤ ONE) → ben_hi c t ≤ UNIT

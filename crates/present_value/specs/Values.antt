@@ -1,4 +1,4 @@
-use Rattle.std.specs.Prelude.{◌≡◌, ◌≢◌, ℕ, ◌+◌, ◌<◌, ◌≤◌, List, length, slice_index_or}
+use Rattle.std.specs.Prelude.{◌≡◌, ℕ, ◌+◌, ◌<◌, ◌≤◌, List, length, slice_index_or}
 use Rattle.rate_table.specs.Rates.{Rates}
 use Rattle.rate_table.specs.declared.shape.Shape.{Shape}
 use Rattle.present_value.specs.Fractions.{Fraction, Between}
@@ -23,12 +23,6 @@ pair_of lo hi = record { lo = lo; hi = hi }
 -- the pair at a year
 abbrev pub pair_at : List Pair → ℕ → Pair
 pair_at pairs t = slice_index_or pairs t (pair_of 0 0)
-
--- a column of 132 places holds a pair at one year, and zeros elsewhere
-pub record HoldsOnly (pairs : List Pair) (t : ℕ) (pair : Pair) : Type 0 where
-  pub places : length pairs ≡ 132
-  pub here : pair_at pairs t ≡ pair
-  pub elsewhere : (k : ℕ) → k ≢ t → pair_at pairs k ≡ pair_of 0 0
 
 -- each year's pair is the rounded value of the benefits, or of the premiums, and a place above n holds zeros
 pub record AreBenefits (c : Cover) (pairs : List Pair) : Type 0 where

@@ -1,4 +1,4 @@
-ghost use Rattle.std.specs.Prelude.{◌≡◌, ◌+◌, ◌*◌, ◌≤◌, ◌<◌, ◌↔◌, IsTrue};
+ghost use Rattle.std.specs.Prelude.{◌≡◌, ◌+◌, ◌*◌, ◌≤◌, ◌<◌};
 ghost use Rattle.rate_table.specs.Rates.{ONE};
 ghost use Rattle.present_value.specs.Rounding.{UNIT};
 ghost use Rattle.present_value.specs.Ends.{benefit_stream, CanEnd, IsColumn, IsOf, IsStarted, value_to};
@@ -6,7 +6,6 @@ ghost use Rattle.present_value.specs.inside.Earlier.{earlier, most, end_payment}
 
 use crate::pair::{Pair, UNITS_IN_ONE};
 use crate::reciprocal::Reciprocal;
-use crate::valuation::column_with;
 use crate::year::{benefits_before, premiums_before, year_reciprocal};
 use rate_table::RateTable;
 
@@ -53,12 +52,14 @@ impl Column {
         requires { end ≤ 131 }
         ensures { IsStarted stream end result }
     {
-        Column {
+        let mut column = Column {
             stream,
             end,
             from: end,
-            pairs: column_with(end, paid_at_end(stream)),
-        }
+            pairs: [Pair { lo: 0, hi: 0 }; 132],
+        };
+        column.restart(stream, end);
+        column
     }
 
     /// Becomes the column of another stream, which knows no value but the last.
@@ -71,13 +72,6 @@ impl Column {
         self.from = end;
         let paid = paid_at_end(stream);
         self.pairs[end as usize] = Pair { lo: paid, hi: paid };
-    }
-
-    /// Whether this is the column of a stream until an age.
-    pub fn is_of(&self, stream: Stream, end: u8) -> bool
-        ensures { IsTrue result ↔ IsOf self.now stream end }
-    {
-        self.end == end && self.stream == stream
     }
 
     /// The value at an attained age, by the table and at the interest of the column.

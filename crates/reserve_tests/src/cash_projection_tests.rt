@@ -1,12 +1,14 @@
-ghost use Rattle.std.specs.Prelude.{IsTrue};
+ghost use Rattle.std.specs.Prelude.{IsTrue, ◌≤◌, length};
+ghost use Rattle.std.specs.List.{AllByRecursion};
 ghost use Rattle.cash_projection.specs.Policies.{IsOfIssue};
 
 // Projections of cash. The cents were computed outside this program by exact fractions, and rounded down and up.
 use crate::bases::basis;
 use crate::policy_rows::{EARLY, FLAT, ISSUED, ONE_YEAR, THREE_YEARS};
 use crate::projection_rows::{PROJECTED, Projected};
-use cash_projection::{Year, project_policies};
-use policy_types::{Command, Plan, Policy, Status};
+use basis_book::Basis;
+use cash_projection::{Paths, Year, Years, tally_policies};
+use policy_types::{Command, NoMemory, Plan, Policy, Status};
 use std::alloc::Global;
 use std::process::Abort;
 use std::test::Fail;
@@ -27,6 +29,23 @@ pub fn is_of_issue(policy: &Policy) -> bool
     issue.is_valid()
 }
 
+/// The years of policies, and how many have a word.
+pub fn projected(
+    alloc: Global,
+    policies: &[Policy],
+    basis: &Basis,
+    on: i32,
+    years: u8,
+) -> Result<(Years, u32), NoMemory>
+    requires sound { AllByRecursion IsOfIssue policies.now }
+    requires few { length policies.now ≤ 4000000 }
+    requires years { years ≤ 131 }
+{
+    let mut paths = Paths::new(alloc, 240)?;
+    let tally = tally_policies(policies, basis, on, years, &mut paths);
+    Ok((tally.cash(alloc)?, tally.unvalued))
+}
+
 /// The years of one policy by the basis of a file, and how many have a word.
 fn cash(
     alloc: Global,
@@ -39,7 +58,7 @@ fn cash(
         return Err("a valid issue".into());
     }
     let basis = basis(alloc, file)?;
-    let Ok((years, unvalued)) = project_policies(alloc, &[*policy], &basis, on, years) else {
+    let Ok((years, unvalued)) = projected(alloc, &[*policy], &basis, on, years) else {
         return Err("memory".into());
     };
     Ok((years.as_slice().to_vec(alloc)?, unvalued))
@@ -262,8 +281,7 @@ fn are_by_age_at_issue(alloc: Global) -> Result<bool, Fail> {
         return Err("valid issues".into());
     }
     let basis = basis(alloc, EARLY)?;
-    let Ok((years, unvalued)) = project_policies(alloc, &[FIRST, SECOND], &basis, ONE_YEAR, 3)
-    else {
+    let Ok((years, unvalued)) = projected(alloc, &[FIRST, SECOND], &basis, ONE_YEAR, 3) else {
         return Err("memory".into());
     };
     Ok(unvalued == 0 && are_bounded(years.as_slice(), BY_AGE_AT_ISSUE))

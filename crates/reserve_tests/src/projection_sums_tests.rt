@@ -4,9 +4,9 @@ ghost use Rattle.cash_projection.specs.Policies.{IsOfIssue};
 
 // Projections of many policies. The cents were computed outside this program by exact fractions, and rounded down and up.
 use crate::bases::basis;
-use crate::cash_projection_tests::{are_bounded, is_of_issue};
+use crate::cash_projection_tests::{are_bounded, is_of_issue, projected};
 use crate::policy_rows::{DAY_BEFORE, FLAT, ISSUED, ONE_YEAR};
-use cash_projection::{Year, project_policies};
+use cash_projection::Year;
 use policy_types::{Plan, Policy, Status};
 use std::alloc::Global;
 use std::test::Fail;
@@ -31,7 +31,7 @@ fn cash_of_many(alloc: Global, policy: &Policy, on: i32, many: usize) -> Result<
         return Err("valid issues".into());
     }
     let basis = basis(alloc, FLAT)?;
-    let Ok((years, _)) = project_policies(alloc, policies.as_slice(), &basis, on, 4) else {
+    let Ok((years, _)) = projected(alloc, policies.as_slice(), &basis, on, 4) else {
         return Err("memory".into());
     };
     Ok(years.as_slice().to_vec(alloc)?)

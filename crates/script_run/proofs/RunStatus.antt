@@ -32,7 +32,7 @@ use Rattle.script_run.proofs.ScriptStatus.{never_long, never_readable, one_whole
 
 module _ {D : Type 0} (g : Ghosts D) (old new : D) (auditors : List Auditor) where
   -- no run goes on over a file that opens to none
-  ran_nowhere : {A : Type 0} (lanes : List Lane) (basis : List Dated) (output : Stream) (Wrote : List ℕ → Type 0) (Replies : List Entry → List ℕ → Type 0)
+  ran_nowhere : {A : Type 0} (lanes : List Lane) (basis : List Dated) (output : Stream) (Wrote : List (List ℕ) → List ℕ → Type 0) (Replies : List Entry → List ℕ → Type 0)
       → IsRunOf g old new lanes basis auditors output Wrote Replies → g.honest new → OpensToNone (g.reads old) → A
   ran_nowhere lanes basis output Wrote Replies ran honest none = absurd (none ran.commands (ran.opened honest))
 

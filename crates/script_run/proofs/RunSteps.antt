@@ -1,13 +1,16 @@
 -- How a run ends, by what its parts did
-use Rattle.std.proofs.Common.{◌≡◌, ℕ, Bool, true, false, List, [], ◌++◌, length, map, refl, ap, sym, ◌∙◌, subst, inl, inr, codes, Some, Result, Ok, Err, Option}
+use Rattle.std.proofs.Common.{◌≡◌, ℕ, Bool, true, false, List, [], ◌++◌, length, map, refl, ap, sym, ◌∙◌, subst, inl, inr, Some, Result, Ok, Err, Option}
 use Rattle.std.specs.Prelude.{IfOk, IfSome, OnErr, if◌then◌else◌}
 use Rattle.outside_io.specs.Faults.{Rose}
 use Rattle.std.specs.Global.{Global}
+use Rattle.std.specs.Bool.{then_some}
+use Rattle.std.specs.Borrow.{Bor}
+use Rattle.std.specs.Option.{option_copied}
 use Rattle.std.specs.List.{AllZip}
 use Rattle.rtrb.specs.Ring.{sent}
 use Rattle.rtrb.specs.declared.AnyItems.{AnyItems}
 use Rattle.rtrb.specs.declared.consumer.Consumer.{Consumer}
-use Rattle.moment_ring.specs.Ends.{ArePaired, SameOutlet, told}
+use Rattle.moment_ring.specs.Ends.{ArePaired, IsNewRing, SameOutlet, told}
 use Rattle.outside_io.specs.Streams.{AppendsPart, TakenPiece}
 use Rattle.outside_io.specs.declared.disks.Disk.{Ghosts}
 use Rattle.basis_book.specs.Dated.{Dated}
@@ -35,24 +38,28 @@ use Rattle.lane_runner.specs.declared.transcript.Transcript.{Transcript}
 use Rattle.program_endings.specs.declared.ending.Ending.{Ending}
 use Rattle.program_endings.specs.declared.ending.Ending.TheVariants.{Done, BadScript, BadJournal, ReadFault as InputFault, WriteFault, DiskFault, NoMemory}
 use Rattle.program_endings.specs.Replies.{AreAnswered, AreAny, HaveAFault, LackMemory}
-use Rattle.program_endings.specs.Writing.{Input, Shelving, Stream, WroteAll, WroteLine}
+use Rattle.program_endings.specs.Writing.{Input, Shelving, Stream, WroteAll}
 use Rattle.program_endings.specs.Refusals.{SaysUnopened}
 use Rattle.program_endings.proofs.FaultSteps.{rose_in}
 use Rattle.program_endings.proofs.ListSteps.{same_opened}
+use Rattle.lone_office.specs.Beginning.{HasFirstPass, HasNotBegun, IsAskedBasis, IsUnopened}
+use Rattle.lone_office.proofs.BeginningSteps.{ends_not_begun}
 use Rattle.transcript_text.specs.Transcript.{IsLineText, reports_text}
 use Rattle.transcript_text.specs.Lanes.{AreScriptLanes}
 use Rattle.lane_runner.specs.Shown.{HasShown}
 use Rattle.lane_runner.specs.Tallies.{accepted_lines, any_faulted, any_lacked}
 use Rattle.lane_runner.specs.declared.wording.Unwritten.{Unwritten}
-use Rattle.transcript_text.specs.Told.{run_text, told_text, told_texts}
+use Rattle.transcript_text.specs.Told.{run_text, told_text}
 use Rattle.transcript_text.proofs.Telling.{Telling, telling}
 use Rattle.script_run.specs.declared.intake.Unread.{Unread}
 use Rattle.script_run.specs.declared.intake.Unread.TheVariants.{TooLong, BadRow, ReadFault, NoMemory as OutOfMemory}
-use Rattle.script_run.specs.Running.{EndsRun}
+use Rattle.script_run.specs.Running.{EndsLanes, EndsRun}
 use Rattle.script_run.specs.Outcome.{EndsScript, IsRunOf}
-use Rattle.script_run.specs.Script.{EndsUnread, GaveBadRow, GaveTooMany}
+use Rattle.script_run.specs.Script.{EndsUnread, GaveBadRow, GaveTooMany, asks_for_values}
 use Rattle.script_run.specs.inside.Unread.{SaysUnread}
 use Rattle.script_run.specs.Shown.{AreSafeWhenShown}
+use Rattle.script_run.specs.inside.Hearing.{StartsHeard}
+use Rattle.script_run.specs.Texts.{WroteFront, WroteUpTo, WroteWhole, texts_joined}
 use Rattle.script_run.specs.inside.Ran.{AddsBy, EndsRan, EndsTold}
 use Rattle.script_run.proofs.ShownSteps.{all_heard, all_texts, safe_when_shown, shown_whole}
 
@@ -103,8 +110,8 @@ module _ {D W : Type 0} (g : Ghosts D) (w : WatcherGhosts W) (old disk : D) (lan
     Shown output = g.honest disk → (run : List TakenPiece) × (output.pieces_after ≡ run ++ output.pieces_before)
         × AreSafeWhenShown g Opens disk started.opening.commands closing.seen ran.answered (map told_text transcript.lines) run
 
-    run_of : (output : Stream) → Shown output → (Wrote : List ℕ → Type 0) (Replies : List Entry → List ℕ → Type 0)
-        → Wrote (run_text transcript.lines reports) → Replies closing.seen (dry_of transcript.lines)
+    run_of : (output : Stream) → Shown output → (Wrote : List (List ℕ) → List ℕ → Type 0) (Replies : List Entry → List ℕ → Type 0)
+        → Wrote (map told_text transcript.lines) (reports_text reports) → Replies closing.seen (dry_of transcript.lines)
         → IsRunOf g old disk lanes basis auditors output Wrote Replies
     run_of output shown Wrote Replies wrote replies = record {
       commands = started.opening.commands;
@@ -120,28 +127,34 @@ module _ {D W : Type 0} (g : Ghosts D) (w : WatcherGhosts W) (old disk : D) (lan
       lines = ran.lines;
       tells = subst (λ (n : ℕ). AllZip (IsLineText (opened_on started.opening.commands n) closing.seen basis (dry_of transcript.lines)) ran.answered (map told_text transcript.lines))
           started.faults all_told.tells;
-      wrote = subst (λ (front : List ℕ). Wrote (front ++ reports_text (reports_of auditors (accepted_of closing.seen)))) (sym (all_texts told_text transcript.lines))
-          (subst (λ (rs : List Report). Wrote (told_texts transcript.lines ++ reports_text rs)) (reports_from all_told.opening) wrote);
+      wrote = subst (λ (rs : List Report). Wrote (map told_text transcript.lines) (reports_text rs)) (reports_from all_told.opening) wrote;
       shown = shown;
       replies = replies;
       disk = left_from all_told.opening;
     }
 
+    -- the text of the lines is their texts, one after the other
+    joined_texts : (P : List ℕ → Type 0) → P (run_text transcript.lines reports) → P (texts_joined (map told_text transcript.lines) ++ reports_text reports)
+    joined_texts P is = subst (λ (front : List ℕ). P (front ++ reports_text reports)) (sym (all_texts told_text transcript.lines)) is
+
     ends_told : (output : Stream) (ending : Ending) → Shown output → EndsTold transcript.lines reports output ending
         → EndsScript g old disk lanes basis auditors output ending
     ends_told output Done shown ends =
-        run_of output shown (WroteAll output) AreAnswered ends.2 (all_told.answered ends.0 ends.1, all_told.none_dry ends.1)
-    ends_told output WriteFault shown ends = (ends.0, run_of output shown (AppendsPart output.before output.after) AreAny ends.1 tt)
+        run_of output shown (WroteWhole output) AreAnswered (joined_texts (WroteAll output) ends.2) (all_told.answered ends.0 ends.1, all_told.none_dry ends.1)
+    ends_told output WriteFault shown ends = (
+      ends.0,
+      run_of output shown (WroteFront output) AreAny (joined_texts (AppendsPart output.before output.after) ends.1) tt,
+    )
     ends_told output DiskFault shown ends =
         let fault = all_told.fault ends.0 in
         let left = left_from all_told.opening in
         let legal = subst (λ (n : ℕ). IsLegal (opened_on started.opening.commands n) closing.seen) started.faults all_told.history.legal in
         let rose = rose_in (opened_on started.opening.commands (g.faults old)) closing.seen fault.0 legal.due fault.1 in
-        (subst (Rose (g.faults old)) (sym left.faults) rose, inr (run_of output shown (WroteAll output) HaveAFault ends.1 fault))
+        (subst (Rose (g.faults old)) (sym left.faults) rose, inr (run_of output shown (WroteWhole output) HaveAFault (joined_texts (WroteAll output) ends.1) fault))
     ends_told output NoMemory shown (inl unwritten) =
-        inr (inl (run_of output shown (AppendsPart output.before output.after) AreAny unwritten tt))
+        inr (inl (run_of output shown (WroteUpTo output) AreAny unwritten tt))
     ends_told output NoMemory shown (inr short) =
-        inr (inr (run_of output shown (WroteAll output) LackMemory short.2 (all_told.unfaulted short.0, all_told.some_lacked short.1)))
+        inr (inr (run_of output shown (WroteWhole output) LackMemory (joined_texts (WroteAll output) short.2) (all_told.unfaulted short.0, all_told.some_lacked short.1)))
     ends_told output _ shown ends = absurd ends
 
     -- each moment that was heard is that of an accepted command, since which it is safe
@@ -202,11 +215,6 @@ module _ {D W : Type 0} (g : Ghosts D) (w : WatcherGhosts W) (old disk : D) (lan
       let left = untouched same in inl (ends, left.0, left.1)
   ends_ran (Err lack) output _ mid moments rest answered shown more split inlet paired same ends = absurd ends
 
--- a run for which there was no memory ends as one that read no script
-pub no_room : (input : Input) (output : Stream) (ending : Ending) → ending ≡ NoMemory → WroteLine output (codes "nomemory")
-    → EndsUnread input output ending
-no_room input output ending is says = subst (EndsUnread input output) (sym is) says
-
 -- what is known of an input that gave no script
 pub record StopsReading (input : Input) (unread : Unread) : Type 0 where
   pub too_long : unread ≡ TooLong → GaveTooMany input
@@ -238,10 +246,53 @@ ends_unread g disk name auditors input output shelf ShelfStays unread ending sta
     by OutOfMemory NoMemory is said = said
     by _ _ is said = absurd said
 
--- where the input failed, this is told
-pub failed_told : (unread : Unread) (output : Stream) (ending : Ending) → unread ≡ ReadFault → SaysUnread unread output ending → ending ≡ InputFault
-failed_told ReadFault output InputFault failed says = refl
-failed_told ReadFault output _ failed says = absurd says
-failed_told TooLong output ending failed says = cc
-failed_told (BadRow row field) output ending failed says = cc
-failed_told OutOfMemory output ending failed says = cc
+-- what is asked for, by a test of the lanes
+copied : (asks : Bool) (name : Bor (List ℕ)) → option_copied (then_some asks name) ≡ then_some asks name.now
+copied true name = refl
+copied false name = refl
+
+pub asked_by : (lanes given : List Lane) (asks : Bool) (name : Bor (List ℕ)) (asked : Option (Bor (List ℕ))) → asked ≡ then_some asks name
+    → asks ≡ asks_for_values given → given ≡ lanes → option_copied asked ≡ then_some (asks_for_values lanes) name.now
+asked_by lanes given asks name asked is so same =
+    ap option_copied (is ∙ ap (λ (b : Bool). then_some b name) (so ∙ ap asks_for_values same)) ∙ copied (asks_for_values lanes) name
+
+-- an office that was opened with one end of a new ring, and the other end beside it
+pub starts_heard : {D W : Type 0} (g : Ghosts D) (old : D) (watchers : W) (outlet : Option MomentRing) (inlet : Consumer ℕ Global AnyItems)
+    (pass : Holding (OfficeOpening D W)) → HasFirstPass g old watchers outlet pass → IsNewRing outlet inlet → StartsHeard g old watchers inlet pass
+starts_heard g old watchers outlet inlet pass first ring = record {
+  started = first.started;
+  ring = subst (λ (one : Option MomentRing). IsNewRing one inlet) (sym first.same) ring;
+}
+
+-- a run of lanes by the basis that they ask for
+module _ {D : Type 0} (g : Ghosts D) (old new : D) (lanes : List Lane) (name : List ℕ) (auditors : List Auditor) (shelf : Shelving)
+    (ShelfStays : Type 0) (output : Stream) (ending : Ending) (asked : Option (List ℕ)) (is : asked ≡ then_some (asks_for_values lanes) name) where
+  pub lanes_begun : (basis : List Dated) → IsAskedBasis asked shelf ShelfStays basis → EndsScript g old new lanes basis auditors output ending
+      → EndsLanes g old new lanes name auditors shelf output ShelfStays ending
+  lanes_begun basis of ends =
+      by (asks_for_values lanes) refl (subst (λ (a : Option (List ℕ)). IsAskedBasis a shelf ShelfStays basis) is of)
+    where
+      by : (asks : Bool) → asks_for_values lanes ≡ asks → IsAskedBasis (then_some asks name) shelf ShelfStays basis
+          → EndsLanes g old new lanes name auditors shelf output ShelfStays ending
+      by true asks by_name = inr (asks, inl (record { basis = basis; is = by_name; ends = ends }))
+      by false asks none =
+          inl (asks, none.0, subst (λ (rows : List Dated). EndsScript g old new lanes rows auditors output ending) none.1 ends)
+
+  -- and one that wasn't begun
+  pub lanes_not_begun : HasNotBegun g old new asked shelf ShelfStays output ending
+      → EndsLanes g old new lanes name auditors shelf output ShelfStays ending
+  lanes_not_begun not =
+      by (asks_for_values lanes) refl (subst (λ (a : Option (List ℕ)). HasNotBegun g old new a shelf ShelfStays output ending) is not)
+    where
+      unopened : (basis : List Dated) → IsUnopened g old new output ending → EndsScript g old new lanes basis auditors output ending
+      unopened basis why = ends_unopened g old new lanes basis auditors output why.cause ending why.refused why.says
+
+      by : (asks : Bool) → asks_for_values lanes ≡ asks → HasNotBegun g old new (then_some asks name) shelf ShelfStays output ending
+          → EndsLanes g old new lanes name auditors shelf output ShelfStays ending
+      by true asks no_name =
+          inr (
+            asks,
+            ends_not_begun g old new (λ (basis : List Dated). EndsScript g old new lanes basis auditors output ending) name shelf output
+                ending unopened no_name,
+          )
+      by false asks none = inl (asks, none.0, unopened [] none.1)

@@ -1,5 +1,5 @@
 -- How a run ends by what was written of the text of its lines
-use Rattle.std.proofs.Common.{◌≡◌, ℕ, ◌+◌, ◌≤◌, ◌<◌, List, ◌++◌, length, Option, Result, Ok, Err, refl, sym, ap, ◌∙◌, subst, inl, inr}
+use Rattle.std.proofs.Common.{◌≡◌, ℕ, ◌+◌, ◌≤◌, ◌<◌, List, [], ◌++◌, length, map, take, Option, Result, Ok, Err, refl, sym, ap, ◌∙◌, subst, inl, inr, append-nil, arith}
 use Rattle.std.specs.Prelude.{IfOk, OnErr}
 use Rattle.std.specs.Io.KnownBytes.{Appends}
 use Rattle.std.proofs.KnownBytes.{Appends-trans}
@@ -13,22 +13,26 @@ use Rattle.lane_runner.specs.declared.transcript.TranscriptLine.{TranscriptLine}
 use Rattle.lane_runner.specs.declared.wording.Unwritten.{Unwritten}
 use Rattle.lane_runner.specs.declared.wording.Unwritten.TheVariants.{WriteFault, NoMemory}
 use Rattle.lane_runner.specs.Written.{HasEnded}
-use Rattle.lane_runner.proofs.GatherSteps.{part_behind, part_more, part_whole}
+use Rattle.std.specs.List.{take-map}
+use Rattle.std.proofs.lemmas.List.{length-map}
+use Rattle.lane_runner.proofs.GatherSteps.{part_behind, part_more, part_whole, take_past}
 use Rattle.program_endings.specs.Writing.{Stream}
 use Rattle.program_endings.specs.declared.ending.Ending.TheVariants.{WriteFault as Failed, NoMemory as NoRoom}
 use Rattle.transcript_text.specs.Transcript.{reports_text}
-use Rattle.transcript_text.specs.Told.{run_text, told_texts}
+use Rattle.transcript_text.specs.Told.{run_text, told_text, told_texts}
+use Rattle.script_run.specs.Texts.{WroteFront, texts_joined}
 use Rattle.script_run.specs.inside.Ran.{EndsTold, IsWritten, output_until}
+use Rattle.script_run.proofs.ShownSteps.{all_texts}
 
 -- what was written of the lines' text, or nothing where they weren't run
 pub written_of : {K P D : Type 0} (Other : Type 0) (faults : K → ℕ) (written : K → Option (List ℕ)) (old new : K) (first closing : P) (ran : Result (Ran D) Lack) (output : Stream)
     → output.faults_before ≡ faults old → output.before ≡ written old → faults old ≤ faults new
-    → IfOk ran (λ (done : Ran D). HasEnded (faults old) (faults new) (written old) (written new) (told_texts done.transcript.lines) done.written)
+    → IfOk ran (λ (done : Ran D). HasEnded (faults old) (faults new) (written old) (written new) told_text done.transcript.lines done.written)
     → OnErr ran ((closing ≡ first) × (new ≡ old) × Other) → IsWritten output (faults new) (written new) ran
 written_of Other faults written old new first closing (Ok done) output count bytes passed wrote same = (
   subst (λ (n : ℕ). n ≤ faults new) (sym count) passed,
-  subst (λ (n : ℕ). HasEnded n (faults new) output.before (written new) (told_texts done.transcript.lines) done.written) (sym count)
-      (subst (λ (b : Option (List ℕ)). HasEnded (faults old) (faults new) b (written new) (told_texts done.transcript.lines) done.written) (sym bytes) wrote),
+  subst (λ (n : ℕ). HasEnded n (faults new) output.before (written new) told_text done.transcript.lines done.written) (sym count)
+      (subst (λ (b : Option (List ℕ)). HasEnded (faults old) (faults new) b (written new) told_text done.transcript.lines done.written) (sym bytes) wrote),
 )
 written_of Other faults written old new first closing (Err lack) output count bytes passed wrote same =
     (ap faults same.1 ∙ sym count, ap written same.1 ∙ sym bytes)
@@ -39,20 +43,41 @@ stays P Q S (Err lack) same = same.0
 
 module _ (lines : List TranscriptLine) (reports : List Report) (first : Stream) (faults later : ℕ) (mid last : Option (List ℕ))
     (pieces : List TakenPiece) where
+  -- the texts of the first lines
+  texts_of : (many : ℕ) → texts_joined (take many (map told_text lines)) ≡ told_texts (take many lines)
+  texts_of many = ap texts_joined (take-map told_text many lines) ∙ all_texts told_text (take many lines)
+
+  front : AppendsPart first.before mid (run_text lines reports) → WroteFront (output_until first faults mid pieces) (map told_text lines) (reports_text reports)
+  front part = subst (λ (all : List ℕ). AppendsPart first.before mid (all ++ reports_text reports)) (sym (all_texts told_text lines)) part
+
   -- the output failed in the lines
-  pub told_failed : HasEnded first.faults_before faults first.before mid (told_texts lines) (Err WriteFault)
+  pub told_failed : HasEnded first.faults_before faults first.before mid told_text lines (Err WriteFault)
       → EndsTold lines reports (output_until first faults mid pieces) Failed
   told_failed ended = (ended.0, part_more first.before mid (told_texts lines) (reports_text reports) ended.1)
 
   -- memory was wanting for a line
-  pub told_short : HasEnded first.faults_before faults first.before mid (told_texts lines) (Err NoMemory)
+  pub told_short : HasEnded first.faults_before faults first.before mid told_text lines (Err NoMemory)
       → EndsTold lines reports (output_until first faults mid pieces) NoRoom
-  told_short ended = inl (part_more first.before mid (told_texts lines) (reports_text reports) ended)
+  told_short ended = inl (record {
+    held = ended.held;
+    many = ended.many;
+    upto = omega (arith, ended.fewer, length-map lines told_text);
+    wrote = subst (Appends first.before mid) (sym (texts_of ended.many)) ended.wrote;
+    part = front (part_more first.before mid (told_texts lines) (reports_text reports) ended.part);
+  })
 
   -- or for the reports
-  pub reports_short : Appends first.before mid (told_texts lines) → 0 < length (reports_text reports)
+  pub reports_short : faults ≡ first.faults_before → Appends first.before mid (told_texts lines) → 0 < length (reports_text reports)
       → EndsTold lines reports (output_until first faults mid pieces) NoRoom
-  reports_short whole some = inl (part_whole first.before mid (told_texts lines) (reports_text reports) some whole)
+  reports_short held whole some = inl (record {
+    held = held;
+    many = length lines + 0;
+    upto = omega (arith, length-map lines told_text);
+    wrote = subst (Appends first.before mid)
+        (sym (texts_of (length lines + 0)
+        ∙ ap told_texts (ap (λ (l : List TranscriptLine). take (length lines + 0) l) (sym (append-nil lines)) ∙ take_past lines [] 0 ∙ append-nil lines))) whole;
+    part = front (part_whole first.before mid (told_texts lines) (reports_text reports) some whole);
+  })
 
   -- the output failed in them
   pub reports_failed : first.faults_before ≤ faults → Rose faults later → Appends first.before mid (told_texts lines)

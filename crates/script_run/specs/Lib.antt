@@ -1,5 +1,6 @@
 pub mod Script
 pub mod Shown
+pub mod Texts
 pub mod Outcome
 pub mod Running
 pub mod Worked

@@ -2,8 +2,8 @@
 use Rattle.std.specs.Prelude.{◌≡◌, ℕ, ◌⊎◌, List, ◌++◌, codes}
 use Rattle.basis_book.specs.Dated.{Dated}
 use Rattle.outside_io.specs.Faults.{Rose}
-use Rattle.std.specs.List.{AllZip, flat_map}
-use Rattle.outside_io.specs.Streams.{AppendsPart, TakenPiece}
+use Rattle.std.specs.List.{AllZip}
+use Rattle.outside_io.specs.Streams.{TakenPiece}
 use Rattle.outside_io.specs.declared.disks.Disk.{Ghosts}
 use Rattle.policy_types.specs.declared.command.Command.{Command}
 use Rattle.policy_types.specs.declared.entry.Entry.{Entry}
@@ -16,18 +16,19 @@ use Rattle.office_state.specs.Images.{IsLeftAlone, IsLeftBy}
 use Rattle.office_state.specs.Journals.{Opens}
 use Rattle.program_endings.specs.declared.ending.Ending.{Ending}
 use Rattle.program_endings.specs.declared.ending.Ending.TheVariants.{Done, BadJournal, WriteFault, DiskFault, NoMemory}
-use Rattle.program_endings.specs.Writing.{Stream, WroteAll, WroteLine}
+use Rattle.program_endings.specs.Writing.{Stream, WroteLine}
 use Rattle.program_endings.specs.Replies.{ArePins, AreAnswered, LackMemory, HaveAFault, AreAny}
 use Rattle.program_endings.specs.Refusals.{IsRefusedJournal}
 use Rattle.transcript_text.specs.Transcript.{IsLineText, reports_text}
 use Rattle.script_run.specs.Shown.{AreSafeWhenShown}
+use Rattle.script_run.specs.Texts.{WroteFront, WroteUpTo, WroteWhole}
 
 -- The office was opened on the commands of the disk's file. The lanes' lines are answered once, in order, by a legal
 -- history from there. The text is that of the answered lines, then the reports that the auditors give of what was accepted;
 -- and what is shown of it is safe by then. The disk holds what was accepted. The pins of the valuations that found no memory
 -- are dry.
 pub record IsRunOf {D : Type 0} (g : Ghosts D) (old new : D) (lanes : List Lane) (basis : List Dated)
-    (auditors : List Auditor) (output : Stream) (Wrote : List ℕ → Type 0) (Replies : List Entry → List ℕ → Type 0)
+    (auditors : List Auditor) (output : Stream) (Wrote : List (List ℕ) → List ℕ → Type 0) (Replies : List Entry → List ℕ → Type 0)
     : Type 0 where
   pub commands : List Command
   pub callers : List ℕ
@@ -41,27 +42,27 @@ pub record IsRunOf {D : Type 0} (g : Ghosts D) (old new : D) (lanes : List Lane)
   pub pins : ArePins history dry
   pub lines : AreLinesOf answered history lanes callers dry
   pub tells : AllZip (IsLineText (opened_on commands (g.faults old)) history basis dry) answered texts
-  pub wrote : Wrote (flat_map (λ (text : List ℕ). text) texts ++ reports_text (reports_of auditors (accepted_of history)))
+  pub wrote : Wrote texts (reports_text (reports_of auditors (accepted_of history)))
   pub shown : g.honest new → (run : List TakenPiece) × (output.pieces_after ≡ run ++ output.pieces_before)
       × AreSafeWhenShown g Opens new commands history answered texts run
   pub replies : Replies history dry
   pub disk : IsLeftBy g old new (opened_on commands (g.faults old)) history
 
 -- How a run ends that read its script, and has the basis that it needs. The text is written whole, but for the back of it
--- where the output failed, or where there was no memory for a text. Where no posting was made for want of memory, or no
+-- where the output failed, or from the first line on for whose text there was no memory. Where no posting was made for want of memory, or no
 -- office was opened, the disk is left alone.
 abbrev pub EndsScript : {D : Type 0} → Ghosts D → D → D → List Lane → List Dated → List Auditor → Stream → Ending → Type 0
-EndsScript g old new lanes basis auditors output Done = IsRunOf g old new lanes basis auditors output (WroteAll output) AreAnswered
+EndsScript g old new lanes basis auditors output Done = IsRunOf g old new lanes basis auditors output (WroteWhole output) AreAnswered
 EndsScript g old new lanes basis auditors output BadJournal = IsRefusedJournal g old new output
 EndsScript g old new lanes basis auditors output WriteFault =
     Rose output.faults_before output.faults_after
-    × IsRunOf g old new lanes basis auditors output (AppendsPart output.before output.after) AreAny
+    × IsRunOf g old new lanes basis auditors output (WroteFront output) AreAny
 EndsScript g old new lanes basis auditors output DiskFault =
     Rose (g.faults old) (g.faults new)
     × ((WroteLine output (codes "diskfault") × IsLeftAlone g old new)
-    ⊎ IsRunOf g old new lanes basis auditors output (WroteAll output) HaveAFault)
+    ⊎ IsRunOf g old new lanes basis auditors output (WroteWhole output) HaveAFault)
 EndsScript g old new lanes basis auditors output NoMemory =
     (WroteLine output (codes "nomemory") × IsLeftAlone g old new × (g.faults new ≡ g.faults old))
-    ⊎ IsRunOf g old new lanes basis auditors output (AppendsPart output.before output.after) AreAny
-    ⊎ IsRunOf g old new lanes basis auditors output (WroteAll output) LackMemory
+    ⊎ IsRunOf g old new lanes basis auditors output (WroteUpTo output) AreAny
+    ⊎ IsRunOf g old new lanes basis auditors output (WroteWhole output) LackMemory
 EndsScript g old new lanes basis auditors output _ = ⊥

@@ -6,31 +6,19 @@ use Rattle.policy_types.specs.declared.script.Lane.{Lane}
 use Rattle.watcher_set.specs.Noted.{Auditor}
 use Rattle.basis_book.specs.Dated.{Dated}
 use Rattle.basis_shelf.specs.Bases.{IsBasis}
-use Rattle.program_endings.specs.WithoutBasis.{EndsNoBasis}
+use Rattle.lone_office.specs.Beginning.{EndsOverBasis}
 use Rattle.program_endings.specs.Writing.{GaveAll, Input, Shelving, Stream}
 use Rattle.program_endings.specs.declared.ending.Ending.{Ending}
 use Rattle.script_run.specs.Outcome.{EndsScript}
 use Rattle.script_run.specs.Script.{EndsUnread, IsReadAs, asks_for_values}
-
--- whatever files agree with the shelf's answers make this basis under the name, and a script's run ended so by it
-pub record EndsScriptBy {D : Type 0} (g : Ghosts D) (old new : D) (lanes : List Lane) (name : List ℕ) (auditors : List Auditor)
-    (shelf : Shelving) (output : Stream) (ending : Ending) : Type 0 where
-  pub basis : List Dated
-  pub is : (files : Files) → shelf.Agrees files → IsBasis files name basis
-  pub ends : EndsScript g old new lanes basis auditors output ending
-
--- how a script's run ends that needs the basis of this name; where there is none, the disk isn't touched
-abbrev pub EndsByName : {D : Type 0} → Ghosts D → D → D → List Lane → List ℕ → List Auditor → Shelving → Stream → Ending
-    → Type 0
-EndsByName g old new lanes name auditors shelf output ending =
-    EndsScriptBy g old new lanes name auditors shelf output ending ⊎ ((new ≡ old) × EndsNoBasis name shelf output ending)
 
 -- How a script's run ends. Where no line asks for values, no basis is needed and the shelf stays.
 abbrev pub EndsLanes : {D : Type 0} → Ghosts D → D → D → List Lane → List ℕ → List Auditor → Shelving → Stream
     → (ShelfStays : Type 0) → Ending → Type 0
 EndsLanes g old new lanes name auditors shelf output ShelfStays ending =
     ((asks_for_values lanes ≡ false) × ShelfStays × EndsScript g old new lanes [] auditors output ending)
-    ⊎ ((asks_for_values lanes ≡ true) × EndsByName g old new lanes name auditors shelf output ending)
+    ⊎ ((asks_for_values lanes ≡ true)
+    × EndsOverBasis old new (λ basis. EndsScript g old new lanes basis auditors output ending) name shelf output ending)
 
 -- what the input gave up to its end was read as a script, whose run ended so
 pub record EndsRead {D : Type 0} (g : Ghosts D) (old new : D) (name : List ℕ) (auditors : List Auditor)

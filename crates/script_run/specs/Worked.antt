@@ -9,6 +9,7 @@ use Rattle.program_endings.specs.Writing.{Input}
 use Rattle.program_endings.specs.Worked.{output_with}
 use Rattle.script_run.specs.Script.{EndsUnread, GaveTooMany, asks_for_values, bad_row_text}
 use Rattle.script_run.specs.Shown.{IsAcceptedReply}
+use Rattle.script_run.specs.Texts.{WroteFront, WroteUpTo}
 
 -- a valuation in the second lane, and none
 abbrev pub AskedForValues : Type 0
@@ -50,3 +51,15 @@ FailedInput = EndsUnread (input_that_gave (codes "1,tr") ⊥ 1) (output_with 0 [
 abbrev pub ShownInOrder : Type 0
 ShownInOrder = IsAcceptedReply (Accepted 3) × (IsAcceptedReply (Faulted 1) → ⊥) × (IsAcceptedReply Blank → ⊥)
     × (taken_bytes ((record { bytes = codes "cd"; since = 7 }) ∷ (record { bytes = codes "ab"; since = 4 }) ∷ []) ≡ codes "abcd")
+
+abbrev pub two_texts : List (List ℕ)
+two_texts = codes "ab" ∷ codes "cd" ∷ []
+
+-- Of two lines and the reports the first line was written, as where memory lacked for the second. That isn't so where a part of
+-- the second stands there, or the output had a fault; but a front was written then too.
+abbrev pub StoppedShort : Type 0
+StoppedShort = WroteUpTo (output_with 0 [] (codes "ab")) two_texts (codes "e")
+    × WroteUpTo (output_with 0 [] (codes "abcd")) two_texts (codes "e")
+    × (WroteUpTo (output_with 0 [] (codes "abc")) two_texts (codes "e") → ⊥)
+    × (WroteUpTo (output_with 1 [] (codes "ab")) two_texts (codes "e") → ⊥)
+    × WroteFront (output_with 1 [] (codes "abc")) two_texts (codes "e")

@@ -6,29 +6,27 @@ ghost use Rattle.std.specs.Io.KnownBytes.{Appends};
 ghost use Rattle.lane_runner.specs.Lanes.{is_value};
 ghost use Rattle.lane_runner.specs.Written.{HasEnded};
 ghost use Rattle.shared_office.specs.Offices.{IsOfficeHistory};
-ghost use Rattle.moment_ring.specs.Ends.{IsNewRing};
 ghost use Rattle.turn_lock.specs.Passes.{PassFacts};
-ghost use Rattle.script_run.specs.Running.{EndsByName, EndsLanes, EndsRun};
+ghost use Rattle.script_run.specs.Running.{EndsRun};
 ghost use Rattle.script_run.specs.Outcome.{EndsScript};
 ghost use Rattle.script_run.specs.Script.{asks_for_values};
 ghost use Rattle.program_endings.specs.Writing.{Stream, between, input_between, shelf_between};
 ghost use Rattle.program_endings.specs.declared.ending.Ending.TheVariants.{ReadFault};
 ghost use Rattle.transcript_text.specs.Lanes.{AreScriptLanes};
 ghost use Rattle.script_run.specs.inside.Ran.{AddsBy, EndsRan, EndsTold, IsWritten, output_until};
-ghost use Rattle.script_run.specs.inside.Hearing.{EndsHeard, StartsHeard};
-ghost use Rattle.transcript_text.specs.Told.{told_texts};
+ghost use Rattle.script_run.specs.inside.Hearing.{StartsHeard};
+ghost use Rattle.transcript_text.specs.Told.{told_text, told_texts};
 
 use crate::intake::read_lanes;
 use crate::refusing::refuse;
-use basis_book::{Basis, BasisRows, Name};
-use basis_shelf::fetch_basis;
-use indexmap::IndexMap;
+use basis_book::Name;
 use lane_runner::{Ran, TranscriptLines, Unwritten, count_postings, run_lanes};
-use moment_ring::{MomentInlet, MomentOutlet, beside, moment_ring};
+use lone_office::{Begun, begin};
+use moment_ring::{MomentInlet, beside, moment_ring};
 use outside_io::{Disk, Gate, Moment, Shelf, Sink, Source, write_all_since};
 use policy_types::{Lane, Line, NoMemory, Report};
-use program_endings::{Ending, Finished, lack_memory, refuse_basis, refuse_journal};
-use shared_office::{Office, OfficePass, close, start_telling};
+use program_endings::{Ending, Finished, lack_memory};
+use shared_office::close;
 use std::alloc::Global;
 use std::sync::Wait;
 use std::thread::Threads;
@@ -66,162 +64,27 @@ pub fn run<
     ensures counted { H.faults shelf.old < H.faults shelf.new → result.ending ≡ ReadFault }
     ensures files { H.files shelf.new ≡ H.files shelf.old }
 {
-    match read_lanes(alloc, input) {
-        Ok(script) => {
-            let lanes = script.as_slice();
-            run_heard(rt, alloc, name, lanes, output, shelf, disk, watchers, gate)
+    let script = match read_lanes(alloc, input) {
+        Ok(script) => script,
+        Err(unread) => {
+            return Finished {
+                ending: refuse(alloc, unread, output),
+                disk,
+            };
         }
-        Err(unread) => Finished {
-            ending: refuse(alloc, unread, output),
-            disk,
-        },
-    }
-}
-
-// Makes the ring by which the writer hears since which moment each accepted line is safe, and runs the lanes.
-fn run_heard<
-    R: Threads + Wait + Sync,
-    D: Disk + Send,
-    K: Sink<Beside = D> + Send,
-    H: Shelf,
-    W: Watching + Send,
-    G: Gate + Sync,
->(
-    rt: &R,
-    alloc: Global,
-    name: &Name,
-    lanes: &[Lane],
-    output: &mut K,
-    shelf: &mut H,
-    disk: D,
-    watchers: W,
-    gate: &G,
-) -> Finished<D>
-    requires lanes { AreScriptLanes lanes.now }
-    requires told { (before : ℕ) → W.told watchers before [] }
-    ensures ends { EndsHeard D.Disk disk result.disk lanes.now name.now (W.handed watchers) (shelf_between H.faults H.agrees shelf.old shelf.new)
-        (between K.faults K.written K.pieces output.old output.new) (shelf.new ≡ shelf.old) result.ending }
-    ensures counted { H.faults shelf.old < H.faults shelf.new → result.ending ≡ ReadFault }
-    ensures files { H.files shelf.new ≡ H.files shelf.old }
-{
-    match moment_ring(alloc, count_postings(lanes)) {
-        Ok(ends) => run_script(
-            rt, alloc, name, lanes, ends, output, shelf, disk, watchers, gate,
-        ),
-        Err(_) => Finished {
+    };
+    let lanes = script.as_slice();
+    // By this ring the writer hears since which moment each accepted line is safe.
+    let Ok((outlet, moments)) = moment_ring(alloc, count_postings(lanes)) else {
+        return Finished {
             ending: lack_memory(output),
             disk,
-        },
-    }
-}
-
-// Runs the lanes of a script, with the basis that it needs.
-fn run_script<
-    R: Threads + Wait + Sync,
-    D: Disk + Send,
-    K: Sink<Beside = D> + Send,
-    H: Shelf,
-    W: Watching + Send,
-    G: Gate + Sync,
->(
-    rt: &R,
-    alloc: Global,
-    name: &Name,
-    lanes: &[Lane],
-    ends: (MomentOutlet<D>, MomentInlet<D>),
-    output: &mut K,
-    shelf: &mut H,
-    disk: D,
-    watchers: W,
-    gate: &G,
-) -> Finished<D>
-    requires lanes { AreScriptLanes lanes.now }
-    requires ring { IsNewRing ends.0.ring ends.1.ring }
-    requires told { (before : ℕ) → W.told watchers before [] }
-    ensures ends { EndsLanes D.Disk disk result.disk lanes.now name.now (W.handed watchers) (shelf_between H.faults H.agrees shelf.old shelf.new)
-        (between K.faults K.written K.pieces output.old output.new) (shelf.new ≡ shelf.old) result.ending }
-    ensures counted { H.faults shelf.old < H.faults shelf.new → result.ending ≡ ReadFault }
-    ensures files { H.files shelf.new ≡ H.files shelf.old }
-{
-    if needs_basis(lanes) {
-        return run_by_name(
-            rt, alloc, name, lanes, ends, output, shelf, disk, watchers, gate,
-        );
-    }
-    let basis = empty_basis(alloc);
-    run_by(rt, alloc, lanes, &basis, ends, output, disk, watchers, gate)
-}
-
-// Runs lanes by the basis of this name.
-fn run_by_name<
-    R: Threads + Wait + Sync,
-    D: Disk + Send,
-    K: Sink<Beside = D> + Send,
-    H: Shelf,
-    W: Watching + Send,
-    G: Gate + Sync,
->(
-    rt: &R,
-    alloc: Global,
-    name: &Name,
-    lanes: &[Lane],
-    ends: (MomentOutlet<D>, MomentInlet<D>),
-    output: &mut K,
-    shelf: &mut H,
-    disk: D,
-    watchers: W,
-    gate: &G,
-) -> Finished<D>
-    requires lanes { AreScriptLanes lanes.now }
-    requires ring { IsNewRing ends.0.ring ends.1.ring }
-    requires told { (before : ℕ) → W.told watchers before [] }
-    ensures ends { EndsByName D.Disk disk result.disk lanes.now name.now (W.handed watchers) (shelf_between H.faults H.agrees shelf.old shelf.new)
-        (between K.faults K.written K.pieces output.old output.new) result.ending }
-    ensures counted { H.faults shelf.old < H.faults shelf.new → result.ending ≡ ReadFault }
-    ensures files { H.files shelf.new ≡ H.files shelf.old }
-{
-    match fetch_basis(alloc, name, shelf) {
-        Ok(basis) => run_by(rt, alloc, lanes, &basis, ends, output, disk, watchers, gate),
-        Err(cause) => Finished {
-            ending: refuse_basis(alloc, cause, output),
-            disk,
-        },
-    }
-}
-
-// Runs lanes by a basis.
-fn run_by<
-    R: Threads + Wait + Sync,
-    D: Disk + Send,
-    K: Sink<Beside = D> + Send,
-    W: Watching + Send,
-    G: Gate + Sync,
->(
-    rt: &R,
-    alloc: Global,
-    lanes: &[Lane],
-    basis: &Basis,
-    ends: (MomentOutlet<D>, MomentInlet<D>),
-    output: &mut K,
-    disk: D,
-    watchers: W,
-    gate: &G,
-) -> Finished<D>
-    requires lanes { AreScriptLanes lanes.now }
-    requires ring { IsNewRing ends.0.ring ends.1.ring }
-    requires told { (before : ℕ) → W.told watchers before [] }
-    ensures ends { EndsScript D.Disk disk result.disk lanes.now basis.now (W.handed watchers)
-        (between K.faults K.written K.pieces output.old output.new) result.ending }
-{
-    let (outlet, moments) = ends;
-    match start_telling(alloc, disk, watchers, outlet) {
-        Ok((office, pass)) => run_office(
-            rt, alloc, lanes, basis, office, pass, moments, output, gate,
-        ),
-        Err(fault) => Finished {
-            ending: refuse_journal(alloc, fault.cause, output),
-            disk: fault.disk,
-        },
+        };
+    };
+    let asked = needs_basis(lanes).then_some(name);
+    match begin(alloc, asked, shelf, output, disk, watchers, outlet) {
+        Ok(begun) => run_office(rt, alloc, lanes, begun, moments, output, gate),
+        Err(finished) => finished,
     }
 }
 
@@ -236,22 +99,24 @@ fn run_office<
     rt: &R,
     alloc: Global,
     lanes: &[Lane],
-    basis: &Basis,
-    office: Office<D, W>,
-    pass: OfficePass<D, W>,
+    begun: Begun<D, W>,
     moments: MomentInlet<D>,
     output: &mut K,
     gate: &G,
 ) -> Finished<D>
     requires lanes { AreScriptLanes lanes.now }
-    requires ours { pass.turnstile ≡ office }
-    requires started { (old : D) × ((watchers : W) × StartsHeard D.Disk old watchers moments.ring pass) }
-    requires facts { PassFacts IsOfficeHistory pass }
-    ensures ends { (old : D) (watchers : W) → StartsHeard D.Disk old watchers moments.ring pass
-        → EndsScript D.Disk old result.disk lanes.now basis.now (W.handed watchers)
+    requires ours { begun.pass.turnstile ≡ begun.office }
+    requires started { (old : D) × ((watchers : W) × StartsHeard D.Disk old watchers moments.ring begun.pass) }
+    requires facts { PassFacts IsOfficeHistory begun.pass }
+    ensures ends { (old : D) (watchers : W) → StartsHeard D.Disk old watchers moments.ring begun.pass
+        → EndsScript D.Disk old result.disk lanes.now begun.basis (W.handed watchers)
         (between K.faults K.written K.pieces output.old output.new) result.ending }
 {
-    let mut pass = pass;
+    let Begun {
+        basis,
+        office,
+        mut pass,
+    } = begun;
     let mut moments = moments;
     let ran = run_lanes::<R, ScriptWords, D, K, W, G>(
         rt,
@@ -259,7 +124,7 @@ fn run_office<
         &office,
         &mut pass,
         lanes,
-        basis,
+        &basis,
         gate,
         &mut moments,
         output,
@@ -299,7 +164,7 @@ fn end_told<D: Disk, K: Sink<Beside = D>>(
     ensures later { K.faults output.old ≤ K.faults output.new }
     ensures ends { (first : Stream) → first.faults_before ≤ K.faults output.old
         → HasEnded first.faults_before (K.faults output.old) first.before (K.written output.old)
-        (told_texts ran.now.transcript.lines) ran.now.written
+        told_text ran.now.transcript.lines ran.now.written
         → EndsTold ran.now.transcript.lines reports.now
         (output_until first (K.faults output.new) (K.written output.new) (K.pieces output.new)) result }
     ensures pieces { AddsBy (K.pieces output.old) (K.pieces output.new) ran.now.latest }
@@ -321,7 +186,7 @@ fn write_reports<D: Disk, K: Sink<Beside = D>>(
 ) -> Ending
     requires few { length reports.now ≤ 16 }
     ensures later { K.faults output.old ≤ K.faults output.new }
-    ensures ends { (first : Stream) → first.faults_before ≤ K.faults output.old → Appends first.before (K.written output.old) (told_texts lines.now)
+    ensures ends { (first : Stream) → K.faults output.old ≡ first.faults_before → Appends first.before (K.written output.old) (told_texts lines.now)
         → EndsTold lines.now reports.now
         (output_until first (K.faults output.new) (K.written output.new) (K.pieces output.new)) result }
     ensures pieces { AddsBy (K.pieces output.old) (K.pieces output.new) latest.now }
@@ -346,15 +211,4 @@ fn has_value(lines: &[Line]) -> bool
     ensures { result ≡ list_any is_value lines.now }
 {
     lines.iter().any(|line| matches!(*line, Line::Value { .. }))
-}
-
-// A basis without rows.
-fn empty_basis(alloc: Global) -> Basis
-    ensures { result ≡ [] }
-{
-    let rows = BasisRows::new(Vec::new(alloc));
-    let Ok(basis) = Basis::of(rows, IndexMap::new(alloc)) else {
-        unreachable!()
-    };
-    basis
 }

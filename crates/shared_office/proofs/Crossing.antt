@@ -19,7 +19,7 @@ pub state_crosses : (D W : RattleType) (g : Ghosts D.Denot) (w : WatcherGhosts W
 state_crosses D W g w d s = search (accepted.the_send, ring.the_send, sendable, crosses) depth 100 fits 200000
 
 pub pass_crosses : (T O : RattleType) (g : StandsGhosts T.Denot O.Denot) → IsSend T → IsSend (pass.the_row T O g)
-pass_crosses T O g s = search (seat.the_send, sendable) depth 20
+pass_crosses T O g s = search (seat.the_send, sendable, crosses) depth 40
 
 pub office_crosses : (T O : RattleType) (g : StandsGhosts T.Denot O.Denot) → IsSend T → IsSync (turnstile.the_row T O g)
 office_crosses T O g s = search (table.the_sync, lease.the_sync, sendable, crosses) depth 30

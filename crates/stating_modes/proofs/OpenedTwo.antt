@@ -13,8 +13,11 @@ use Rattle.posting_journal.specs.declared.faults.JournalCause.{JournalCause}
 use Rattle.posting_journal.specs.declared.faults.JournalCause.TheVariants.{DiskFault as FaultyDisk, NotAJournal as IsNoJournal, BadRecord as IsBadRecord}
 use Rattle.posting_journal.specs.declared.journal.Journal.{Journal}
 use Rattle.posting_journal.proofs.Moments.{looks_none, looks_on}
-use Rattle.journal_replay.specs.Replays.{IsStoppedAt, StaysAs}
-use Rattle.checkpoint_store.specs.Reopening.{HasCauseOfTwo, IsFirstBadBody, IsReopened, IsSnapshotOfAll, IsTrueWhereUsed, KeepsAsBefore, Reopens, TakesSteps}
+use Rattle.journal_replay.specs.Replays.{HasReplayCause, IsStoppedAt, StaysAs, Stops, bodies_of}
+use Rattle.journal_replay.specs.declared.replaying.ReplayFault.{ReplayFault}
+use Rattle.journal_replay.specs.declared.replaying.ReplayFault.TheVariants as replay
+use Rattle.checkpoint_store.specs.Checkpoints.{IsSoundSnapshot}
+use Rattle.checkpoint_store.specs.Reopening.{AreDecided, HasCauseOfTwo, IsFirstBadBody, IsReopened, IsSnapshotOfAll, IsSnapshotRead, IsTrueWhereUsed, KeepsAsBefore, Reopens, TakesSteps}
 use Rattle.checkpoint_store.specs.Starts.{HasLookedAt}
 use Rattle.checkpoint_store.specs.Stores.{store_disk}
 use Rattle.checkpoint_store.specs.declared.faults.ReopenFault.{ReopenFault}
@@ -27,15 +30,16 @@ use Rattle.office_state.specs.declared.faults.StartCause.TheVariants.{DiskFault}
 use Rattle.office_state.specs.Images.{HoldsNow, HoldsOnce, IsLeftAlone, IsLeftBy}
 use Rattle.office_state.specs.Journals.{IsShown, Opens}
 use Rattle.office_state.specs.inside.Holding.{JournalHolds}
-use Rattle.office_state.specs.inside.Replays.{MakeJournal, as_cause}
+use Rattle.office_state.specs.Opening.{HasNotOpened}
+use Rattle.office_state.specs.inside.Replays.{MakeJournal, as_cause, as_replay_cause}
 use Rattle.office_state.proofs.ImageSteps.{holds_now}
 use Rattle.office_state.proofs.KeptSteps.{keeps_first, kept_now}
 use Rattle.office_state.proofs.OpeningSteps.{CountsNow, IsStarted, OnlyNow, ReadsImage, holds_once, looked_alone, looked_ever, not_started, opening_keeps, opens_commands, started_later, synced_images}
-use Rattle.office_state.proofs.OpenedSteps.{unfollowed}
+use Rattle.office_state.proofs.OpenedSteps.{no_office, unfollowed}
 use Rattle.stating_modes.specs.Stated.{ReadsFew}
 use Rattle.stating_modes.specs.TwoDisks.{AreBothQuiet, AreTrue, IsHeldWhereTrue, IsMadeSafe, IsOnlyRead, IsSnapshotHeld, TwoDisks}
 use Rattle.stating_modes.specs.declared.reopened.Reopened.{Reopened}
-use Rattle.stating_modes.specs.inside.Reopened.{HasJournalOn, HasNoSnapshot, HasReopened, HasStoreOn, TellsFaultOfOne, as_start_cause}
+use Rattle.stating_modes.specs.inside.Reopened.{AreBooksOn, HasJournalOn, HasNoSnapshot, HasReopened, HasStoreOn, TellsFaultOfOne, as_start_cause}
 
 started : {D : Type 0} {g : Ghosts D} {disk : D} {journal : Journal D g} → HasJournalOn disk journal → IsStarted disk journal
 started on = record { quiet = on.quiet; clean = on.clean; honesty = on.honesty; opened = on.opened; opens = on.opens }
@@ -55,6 +59,13 @@ stopped_at bodies n bad = record {
   front = bad.spelled;
   none = bad.none;
 }
+
+-- a journal that wasn't started on its only disk
+pub not_begun : {D : Type 0} (g : Ghosts D) → ReadsImage g → (old new : D) (cause : JournalCause) (why : StartCause) → why ≡ as_cause cause
+    → TellsCause (g.faults old) (g.faults new) cause → (g.honest new → g.honest old) → (g.honest new → ShowsCause (g.reads old) cause)
+    → (g.honest new → OpensOn g old new) → HasNotOpened g old new why
+not_begun g reads_image old new cause why same told honesty shows opening =
+    subst (HasNotOpened g old new) (sym same) (not_started g old reads_image new cause told honesty shows opening)
 
 module _ {D E : Type 0} (g : Ghosts D) (e : Ghosts E) (reads_image : ReadsImage g) where
   -- a journal that wasn't started: the second disk wasn't touched
@@ -100,69 +111,100 @@ module _ {D : Type 0} (g : Ghosts D) (reads_image : ReadsImage g) (counts_now : 
   opened_so : g.honest (disk_of now) → HasStarted disk journal
   opened_so honest = on.opened (stays.disk.honesty honest)
 
-  -- its disk holds the commands of which the bodies were read
-  module _ (only_now : OnlyNow g) (quiet : g.faults (disk_of now) ≡ g.faults disk) (here : g.honest (disk_of now)) (snapshot : Snapshot)
-      (all : IsSnapshotOfAll (opened_so here).bodies snapshot) where
-    abbrev commands : List Command
-    commands = all.commands
-
+  -- commands which the bodies spell, where the disk comes back honest: the disk holds them still
+  module _ (only_now : OnlyNow g) (quiet : g.faults (disk_of now) ≡ g.faults disk) (commands : List Command) (decided : AreDecided commands)
+      (spelled : g.honest (disk_of now) → (opened : HasStarted disk journal) × (opened.bodies ≡ bodies_of commands)) where
     abbrev opening : Opening
     opening = opened_on commands (g.faults disk)
 
-    opens : Opens (g.reads disk) commands
-    opens = opens_commands (g.reads disk) commands all.valid all.accepted
-        (subst (OpensToBodies (g.reads disk)) all.spelled (opened_so here).opened)
+    opens : g.honest (disk_of now) → Opens (g.reads disk) commands
+    opens honest =
+        let all = spelled honest in
+        opens_commands (g.reads disk) commands decided.0 decided.1 (subst (OpensToBodies (g.reads disk)) all.1 all.0.opened)
 
     clean : is_clean now ≡ false → ⊥
     clean unclean =
         let was : is_clean journal ≡ true = on.clean in
         let same : is_clean now ≡ is_clean journal = stays.clean in cc
 
-    holds : JournalHolds now opening []
-    holds =
-        let opened = opened_so here in
-        let stands : StandsFor now opened.bodies [] = stays.stands opened.bodies [] here opened.stands in
+    holds : g.honest (disk_of now) → JournalHolds now opening []
+    holds honest =
+        let all = spelled honest in
+        let stands : StandsFor now all.0.bodies [] = stays.stands all.0.bodies [] honest all.0.stands in
         record {
           last = [];
-          stands = simp append-nil (subst (λ (bodies : List (List ℕ)). StandsFor now bodies []) all.spelled stands);
+          stands = simp append-nil (subst (λ (bodies : List (List ℕ)). StandsFor now bodies []) all.1 stands);
           pending = λ (unclean : is_clean now ≡ false). absurd (clean unclean);
         }
 
-    images_now : (image : List ℕ) → g.may_leave (disk_of now) image → HoldsNow opening [] image
-    images_now = holds_now now opening [] (simp append-nil all.valid) (simp append-nil all.accepted) holds
+    images_now : g.honest (disk_of now) → (image : List ℕ) → g.may_leave (disk_of now) image → HoldsNow opening [] image
+    images_now honest = holds_now now opening [] (simp append-nil decided.0) (simp append-nil decided.1) (holds honest)
 
-    later : g.clock disk ≤ g.clock (disk_of now)
-    later =
-        let looks = stays.disk.looks here in
-        omega (arith, started_later g disk journal (started on) counts_now (stays.disk.honesty here), looks.time.later)
+    later : g.honest (disk_of now) → g.clock disk ≤ g.clock (disk_of now)
+    later honest =
+        let looks = stays.disk.looks honest in
+        omega (arith, started_later g disk journal (started on) counts_now (stays.disk.honesty honest), looks.time.later)
 
-    held : (image : List ℕ) → IsOpenedOn (g.reads disk) image → HoldsOnce opening [] image
-    held image in_opening = holds_once image commands (g.faults disk) (opening_keeps (g.reads disk) image commands opens in_opening)
+    held : g.honest (disk_of now) → (image : List ℕ) → IsOpenedOn (g.reads disk) image → HoldsOnce opening [] image
+    held honest image in_opening =
+        holds_once image commands (g.faults disk) (opening_keeps (g.reads disk) image commands (opens honest) in_opening)
 
     left_by : IsLeftBy g disk (disk_of now) opening []
     left_by = record {
       honesty = λ honest. on.honesty (stays.disk.honesty honest);
       faults = quiet;
-      opened = λ honest. opens;
-      now = λ honest. images_now;
+      opened = opens;
+      now = images_now;
       since = λ (honest : g.honest (disk_of now)) (image : List ℕ) (left : g.left_since (disk_of now) (g.clock disk) image).
           elim (looked_ever g disk journal (started on) counts_now (disk_of now) honest stays.disk image left) [
             | inl before ↦ inl before
-            | inr in_opening ↦ inr (held image in_opening)
+            | inr in_opening ↦ inr (held honest image in_opening)
           ];
       synced = λ (honest : g.honest (disk_of now)).
           let at = synced_images g disk journal (started on) counts_now (disk_of now) honest stays.disk in (
             at.0,
             at.1,
-            λ (image : List ℕ) (left : g.left_since (disk_of now) (g.clock at.0) image). held image (at.2 image left),
+            λ (image : List ℕ) (left : g.left_since (disk_of now) (g.clock at.0) image). held honest image (at.2 image left),
           );
       kept = λ (honest : g.honest (disk_of now)).
-          keeps_first g disk opening (disk_of now) (kept_now g disk opening (disk_of now) [] only_now honest later images_now);
+          keeps_first g disk opening (disk_of now) (kept_now g disk opening (disk_of now) [] only_now honest (later honest) (images_now honest));
       alone = λ still. first_alone;
     }
 
-    snapshot_held : IsSnapshotHeld g disk (disk_of now) snapshot
-    snapshot_held = record { commands = commands; opened = opens; leave = all.snapshot; disk = left_by }
+  module _ (only_now : OnlyNow g) (quiet : g.faults (disk_of now) ≡ g.faults disk) (snapshot : Snapshot) where
+    -- of an honest disk whose bodies are all decided
+    snapshot_held : (here : g.honest (disk_of now)) → IsSnapshotOfAll (opened_so here).bodies snapshot → IsSnapshotHeld g disk (disk_of now) snapshot
+    snapshot_held here all = record {
+      commands = all.commands;
+      opened = opens only_now quiet all.commands (all.valid, all.accepted) (λ honest. (opened_so here, all.spelled)) here;
+      leave = all.snapshot;
+      disk = left_by only_now quiet all.commands (all.valid, all.accepted) (λ honest. (opened_so here, all.spelled));
+    }
+
+    -- of any, whose records were all read with no store, by the name of the disk that is given back
+    pub books_on : IsSoundSnapshot snapshot → IsSnapshotRead journal (disk_of now) snapshot → (back : D) → back ≡ disk_of now
+        → AreBooksOn g disk back snapshot
+    books_on sound read back same = subst (λ (d : D). AreBooksOn g disk d snapshot) (sym same) (record {
+      sound = sound;
+      commands = read.commands;
+      leave = read.snapshot;
+      disk = left_by only_now quiet read.commands read.decided
+          (λ honest. (opened_so honest, read.bodies (opened_so honest).bodies [] honest (opened_so honest).stands));
+    })
+
+  -- no books were read, for this fault
+  pub no_books : (fault : ReplayFault) (cause : StartCause) → cause ≡ as_replay_cause fault → HasReplayCause {T = Snapshot} journal (disk_of now) (Err fault)
+      → Stops AreDecided (λ commands command. judge commands command ≡ None) journal (disk_of now) [] fault → (back : D) → back ≡ disk_of now
+      → HasNotOpened g disk back cause
+  no_books fault cause same told stops back is = subst (λ (d : D). HasNotOpened g disk d cause) (sym is)
+      (no_office g disk journal (started on) counts_now reads_image (disk_of now) cause
+      (record { looked = stays.disk; fault = fault; same = same; told = by fault told; stops = stops }))
+    where
+      by : (fault : ReplayFault) → HasReplayCause {T = Snapshot} journal (disk_of now) (Err fault)
+          → HasReplayCause {T = Unit {0}} journal (disk_of now) (Err fault)
+      by (replay.DiskFault count) told = told
+      by (replay.BadRecord n) told = told
+      by replay.NoMemory told = told
 
 -- the store behind it
 module _ {E : Type 0} (e : Ghosts E) (second : E) (store after : Store E e) (under : HasStoreOn second store) (keeps : KeepsAsBefore store after) where
@@ -222,7 +264,7 @@ module _ {D E : Type 0} (g : Ghosts D) (e : Ghosts E) (reads_image : ReadsImage 
       let quiet = both_quiet reopens.cause.0 reopens.cause.1 in
       let alone : IsLeftAlone g disk (disk_of now) = first_alone g reads_image counts_now disk journal now on stays in
       let held : IsHeldWhereTrue g e disks opened.books =
-      λ are. snapshot_held g reads_image counts_now disk journal now on stays only_now quiet.first are.first_honest opened.books
+      λ are. snapshot_held g reads_image counts_now disk journal now on stays only_now quiet.first opened.books are.first_honest
       (answered first last (Ok opened.books) reopens are) in
       by opened.journal opened.store same_journal same_store
       (record { sound = reopens.sound; quiet = quiet; alone = alone; safe = made_safe g reads_image counts_now disk journal now on stays; only_read = second_read e second store after under keeps; looked = looked e second store after under keeps; held = held })

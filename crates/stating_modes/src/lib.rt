@@ -3,7 +3,7 @@
 #![tactic(auto)]
 
 mod accounts;
-mod books;
+mod alone;
 mod checkpointing;
 mod finished;
 mod laws;
@@ -13,12 +13,11 @@ mod stating;
 mod worked;
 
 pub use accounts::account;
-pub use books::state;
 pub use checkpointing::checkpoint;
 pub use finished::FinishedKept;
 pub use laws::states_the_same;
 pub use rereading::Account;
-pub use stating::state_kept;
+pub use stating::{state, state_kept};
 pub use worked::{
     an_empty_file_is_kept, an_empty_file_is_stated, balances_are_added, no_journal_is_stated,
 };

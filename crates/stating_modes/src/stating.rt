@@ -5,19 +5,39 @@ ghost use Rattle.policy_machine.specs.Rules.{IsSound};
 ghost use Rattle.statements.specs.Statements.{policy_text};
 ghost use Rattle.checkpoint_store.specs.Checkpoints.{IsSoundSnapshot};
 ghost use Rattle.program_endings.specs.Writing.{between};
+ghost use Rattle.stating_modes.specs.Books.{books_text};
+ghost use Rattle.stating_modes.specs.Stating.{EndsState};
 ghost use Rattle.stating_modes.specs.Stated.{EndsStateKept, IsStateTold, ReadsFew, snapshot_text};
 ghost use Rattle.stating_modes.specs.TwoDisks.{disks_of};
 
+use crate::alone::read_alone;
 use crate::finished::FinishedKept;
 use crate::reopened::reopen_both;
 use checkpoint_store::Books;
 use outside_io::{Disk, Sink, Steps};
 use policy_types::{NoMemory, Policy};
-use program_endings::{add, refuse_journal, write_text};
+use program_endings::{Finished, add, refuse_journal, write_text};
 use statements::{PolicyLines, balance};
 use std::alloc::Global;
 use std::sync::ledger::Ledger;
 use text_lines::Text;
+
+/// Writes all policies in order of issue, and the balances.
+pub fn state<K: Sink, D: Disk>(alloc: Global, output: &mut K, disk: D) -> Finished<D>
+    ensures { EndsState D.Disk disk result.disk books_text
+        (between K.faults K.written K.pieces output.old output.new) result.ending }
+{
+    match read_alone(alloc, disk) {
+        Ok(read) => Finished {
+            ending: write_text(text_of(alloc, &read.books), output),
+            disk: read.disk,
+        },
+        Err(fault) => Finished {
+            ending: refuse_journal(alloc, fault.cause, output),
+            disk: fault.disk,
+        },
+    }
+}
 
 /// Writes all policies in order of issue, and the balances. The journal's records are decided anew from the position of
 /// the second disk's checkpoint on, where it has one that isn't above the journal's count, and else from the first on. The

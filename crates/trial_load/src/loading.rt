@@ -12,7 +12,7 @@ ghost use Rattle.trial_load.specs.inside.Loaded.{AreLoadLanes, EndsLine, EndsLoa
 ghost use Rattle.program_endings.specs.Blocks.{IsWritableBlock};
 ghost use Rattle.report_text.specs.Block.{AreSummable};
 
-use basis_book::{Basis, Name};
+use basis_book::Name;
 use itoa::Buffer;
 use lane_runner::{TranscriptLine, TranscriptLines, Wording, count_postings, run_lanes};
 use load_maker::make_lanes;
@@ -23,14 +23,14 @@ use policy_types::{At, Lane, NoMemory};
 use policy_value::{Measure, Rows};
 use program_endings::{Ending, Finished, lack_memory};
 use report_text::Totals;
-use shared_office::{Office, OfficePass, close};
+use shared_office::close;
 use snapshot_value::{Query, Valuation, ValueFault};
 use std::alloc::Global;
 use std::sync::Wait;
 use std::thread::Threads;
 use text_lines::{LineWriter, Text};
 use transcript_text::ending_of;
-use watcher_set::Watching;
+use watcher_set::{NoWatchers, Watching};
 
 /// 2020-12-31, in days since 1970-01-01.
 const LOAD_DAY: i32 = 18_627;
@@ -76,24 +76,15 @@ pub fn load<R: Threads + Wait + Sync, K: Sink, H: Shelf, D: Disk + Send, G: Gate
             disk,
         };
     };
-    let Ok((outlet, moments)) = moment_ring(alloc, count_postings(script.as_slice())) else {
+    let lanes = script.as_slice();
+    let Ok((outlet, moments)) = moment_ring(alloc, count_postings(lanes)) else {
         return Finished {
             ending: lack_memory(output),
             disk,
         };
     };
-    match begin(alloc, &name, shelf, output, disk, outlet) {
-        Ok(begun) => {
-            let Begun {
-                basis,
-                office,
-                pass,
-            } = begun;
-            let lanes = script.as_slice();
-            load_office(
-                rt, alloc, lanes, workers, &basis, office, pass, moments, output, gate,
-            )
-        }
+    match begin(alloc, Some(&name), shelf, output, disk, NoWatchers, outlet) {
+        Ok(begun) => load_office(rt, alloc, lanes, workers, begun, moments, output, gate),
         Err(finished) => finished,
     }
 }
@@ -134,9 +125,7 @@ fn load_office<
     alloc: Global,
     lanes: &[Lane],
     workers: u8,
-    basis: &Basis,
-    office: Office<D, W>,
-    pass: OfficePass<D, W>,
+    begun: Begun<D, W>,
     moments: MomentInlet<D>,
     output: &mut K,
     gate: &G,
@@ -144,14 +133,18 @@ fn load_office<
     requires lanes { AreLoadLanes lanes.now }
     requires unheard { received moments.ring ≡ [] }
     requires workers { (1 ≤ workers) × (workers ≤ 64) }
-    requires ours { pass.turnstile ≡ office }
-    requires started { (old : D) × ((watchers : W) × HasStartedOffice D.Disk old watchers pass) }
-    requires facts { PassFacts IsOfficeHistory pass }
-    ensures ends { (old : D) (watchers : W) → HasStartedOffice D.Disk old watchers pass
-        → EndsLoading D.Disk old result.disk lanes.now workers basis.now
+    requires ours { begun.pass.turnstile ≡ begun.office }
+    requires started { (old : D) × ((watchers : W) × HasStartedOffice D.Disk old watchers begun.pass) }
+    requires facts { PassFacts IsOfficeHistory begun.pass }
+    ensures ends { (old : D) (watchers : W) → HasStartedOffice D.Disk old watchers begun.pass
+        → EndsLoading D.Disk old result.disk lanes.now workers begun.basis
         (between K.faults K.written K.pieces output.old output.new) result.ending }
 {
-    let mut pass = pass;
+    let Begun {
+        basis,
+        office,
+        mut pass,
+    } = begun;
     let mut moments = moments;
     let mut nowhere = BytesSink::new(alloc, Vec::new(alloc));
     let ran = run_lanes::<R, NoWords, D, BytesSink<D>, W, G>(
@@ -160,7 +153,7 @@ fn load_office<
         &office,
         &mut pass,
         lanes,
-        basis,
+        &basis,
         gate,
         &mut moments,
         &mut nowhere,
@@ -173,7 +166,7 @@ fn load_office<
         };
     };
     let query = Query {
-        basis,
+        basis: &basis,
         on: LOAD_DAY,
         measure: Measure::Terminal,
         workers,

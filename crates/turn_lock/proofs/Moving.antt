@@ -9,26 +9,27 @@ use Rattle.std.specs.List.{AllByRecursion, Contains}
 use Rattle.atomic_table.specs.Table.{State}
 use Rattle.atomic_table.proofs.Lists.{at_set, set_here, set_else}
 use Rattle.policy_types.specs.declared.entry.Entry.{Entry}
+use Rattle.turn_lock.specs.declared.seats.Kept.{Kept}
 use Rattle.turn_lock.specs.declared.seats.View.{View}
 use Rattle.turn_lock.specs.inside.Seats.{IsLive, units, shares, pages, numbers}
-use Rattle.turn_lock.specs.inside.Rule.{ticket_at, SeatStands, SlotStands, LockRule}
+use Rattle.turn_lock.specs.inside.Rule.{SeatStands, SlotStands, LockRule}
 use Rattle.turn_lock.proofs.Totals.{has_place, total_set}
 use Rattle.turn_lock.proofs.Knowing.{IsFree, free_outside}
 
 module _ {T O : Type 0} (opens : T → O) (legal : O → List Entry → Type 0) (stands : T → List Entry → Type 0) (opening : O) where
-  abbrev Rule : State (Option T) (View O) → Type 0
+  abbrev Rule : State (Option (Kept T)) (View O) → Type 0
   Rule = LockRule opens legal stands opening
 
-  -- the slot stays as it is while another seat steps
-  pub lies_still : (h : List Entry) (vs : List (View O)) (id : ℕ) (v w : View O) (slot : maybe.Option (Option T)) → get_elem? vs id ≡ some v → IsFree v.stage
-      → SlotStands opens legal stands opening h vs slot → SlotStands opens legal stands opening h (set vs id w) slot
-  lies_still h vs id v w maybe.Option.none at free l =
-      let other : l.0 ≢ id = λ e. free_outside v.stage (length h) free (ap (λ (z : View O). z.stage) (some-injective v l.1 (sym at ∙ (ap (get_elem? vs) (sym e) ∙ l.2))) ∙ l.3) in
-      (l.0, l.1, set_else vs id l.0 w other ∙ l.2, l.3)
-  lies_still h vs id v w (maybe.Option.some None) at free l = l
-  lies_still h vs id v w (maybe.Option.some (Some x)) at free l = l
+  -- the slot stays as it is while a seat outside steps
+  pub lies_still : (h : List Entry) (lock holder : ℕ) (vs : List (View O)) (id : ℕ) (v w : View O) (slot : maybe.Option (Option (Kept T))) → get_elem? vs id ≡ some v → IsFree v.stage
+      → SlotStands opens legal stands opening h lock holder vs slot → SlotStands opens legal stands opening h lock holder (set vs id w) slot
+  lies_still h lock holder vs id v w maybe.Option.none at free l =
+      let other : holder ≢ id = λ e. free_outside v.stage free (ap (λ (z : View O). z.stage) (some-injective v l.0 (sym at ∙ (ap (get_elem? vs) (sym e) ∙ l.1))) ∙ l.2) in
+      (l.0, set_else vs id holder w other ∙ l.1, l.2)
+  lies_still h lock holder vs id v w (maybe.Option.some None) at free l = l
+  lies_still h lock holder vs id v w (maybe.Option.some (Some x)) at free l = l
 
-  module _ (s : State (Option T) (View O)) (r : Rule s) (id : ℕ) (v w : View O) (h' : List Entry) (t' m' : ℕ) (owner' holder' : ℕ → ℕ) (at : get_elem? s.views id ≡ some v) where
+  module _ (s : State (Option (Kept T)) (View O)) (r : Rule s) (id : ℕ) (v w : View O) (h' : List Entry) (lock' m' : ℕ) (owner' : ℕ → ℕ) (holder' : ℕ) (at : get_elem? s.views id ≡ some v) where
     abbrev vs' : List (View O)
     vs' = set s.views id w
 
@@ -41,37 +42,31 @@ module _ {T O : Type 0} (opens : T → O) (legal : O → List Entry → Type 0) 
     abbrev Name_here : ℕ → Type 0
     Name_here n = (u : View O) × (get_elem? vs' (owner' n) ≡ some u) × Contains (numbers (pages u)) n
 
-    abbrev Ticket_here : ℕ → Type 0
-    Ticket_here k = (u : View O) × (get_elem? vs' (holder' k) ≡ some u) × (ticket_at u.stage ≡ Some k)
-
     abbrev One_saw : Type 0
     One_saw = (seat : ℕ) × (u : View O) × (get_elem? vs' seat ≡ some u) × IsLive u.stage × (u.seen ≡ h')
 
-    pub moved : (words' : List ℕ) (homes' : List (maybe.Option (Option T))) (slot' : maybe.Option (Option T)) → IsLive v.stage → IsLive w.stage
-        → words' ≡ length h' ∷ t' ∷ m' ∷ [] → homes' ≡ slot' ∷ [] → length h' ≤ t' → 1 ≤ m' → SlotStands opens legal stands opening h' vs' slot' → AllByRecursion (λ e. e.caller < m') h'
-        → SeatStands legal opening h' m' t' owner' holder' id w
-        → ((j : ℕ) (d : View O) → j ≢ id → SeatStands legal opening r.history r.names r.tickets r.owner r.holder j d → SeatStands legal opening h' m' t' owner' holder' j d)
+    pub moved : (words' : List ℕ) (homes' : List (maybe.Option (Option (Kept T)))) (slot' : maybe.Option (Option (Kept T))) → IsLive w.stage
+        → words' ≡ lock' ∷ m' ∷ [] → homes' ≡ slot' ∷ [] → 1 ≤ m' → SlotStands opens legal stands opening h' lock' holder' vs' slot' → AllByRecursion (λ e. e.caller < m') h'
+        → SeatStands legal opening h' m' lock' owner' holder' id w
+        → ((j : ℕ) (d : View O) → j ≢ id → SeatStands legal opening r.history r.names r.lock r.owner r.holder j d → SeatStands legal opening h' m' lock' owner' holder' j d)
         → (w.seen ≡ h') ⊎ ((h' ≡ r.history) × (v.seen ≡ h' → w.seen ≡ h'))
         → ((n : ℕ) → n < m' → ((n < r.names) × (owner' n ≡ r.owner n)) ⊎ ((owner' n ≡ id) × Contains (numbers (pages w)) n))
         → ((n : ℕ) → Contains (numbers (pages v)) n → Contains (numbers (pages w)) n)
-        → ((k : ℕ) → length h' ≤ k → k < t' → ((length r.history ≤ k) × (k < r.tickets) × (holder' k ≡ r.holder k)) ⊎ ((holder' k ≡ id) × (ticket_at w.stage ≡ Some k)))
-        → ((k : ℕ) → length h' ≤ k → ticket_at v.stage ≡ Some k → ticket_at w.stage ≡ Some k)
-        → t' + (m' + units w) ≡ r.tickets + (r.names + units v) → shares w ≡ shares v
+        → length h' + (m' + units w) ≡ length r.history + (r.names + units v) → shares w ≡ shares v
         → Rule record { words = words'; homes = homes'; views = vs' }
-    moved words' homes' slot' was_live live words slot served begun lies theirs mine others saw names kept_names tickets kept_ticket allowance share = record {
+    moved words' homes' slot' live words slot begun lies theirs mine others saw names kept_names allowance share = record {
       history = h';
-      tickets = t';
+      lock = lock';
       names = m';
       owner = owner';
       holder = holder';
       slot = slot';
       words_are = words;
       slot_is = slot;
-      served = served;
       begun = begun;
       lies = lies;
       theirs = theirs;
-      each_seat = λ j d e l. ⊎_elim (λ (q : (j ≡ id) × (w ≡ d)). subst (λ (z : ℕ × View O). SeatStands legal opening h' m' t' owner' holder' z.0 z.1) (λ i. (sym q.0 i, q.1 i)) mine)
+      each_seat = λ j d e l. ⊎_elim (λ (q : (j ≡ id) × (w ≡ d)). subst (λ (z : ℕ × View O). SeatStands legal opening h' m' lock' owner' holder' z.0 z.1) (λ i. (sym q.0 i, q.1 i)) mine)
           (λ (q : (j ≢ id) × (get_elem? s.views j ≡ some d)). others j d q.0 (r.each_seat j d q.1 l)) (at_set s.views id j w d e);
       one_saw_all = ⊎_elim (λ (e : w.seen ≡ h'). let z : One_saw = (id, w, here, live, e) in z)
           (λ (q : (h' ≡ r.history) × (v.seen ≡ h' → w.seen ≡ h')). let o = r.one_saw_all in dite (ℕ_discrete o.0 id)
@@ -81,10 +76,6 @@ module _ {T O : Type 0} (opens : T → O) (legal : O → List Entry → Type 0) 
           (λ e. let z : Name_here n = (w, ap (get_elem? vs') (q.1 ∙ e) ∙ here, kept_names n (subst (λ (y : View O). Contains (numbers (pages y)) n) (is_v (r.owner n) o.0 e o.1) o.2)) in z)
           (λ ne. let z : Name_here n = (o.0, ap (get_elem? vs') q.1 ∙ (set_else s.views id (r.owner n) w ne ∙ o.1), o.2) in z))
           (λ (q : (owner' n ≡ id) × Contains (numbers (pages w)) n). let z : Name_here n = (w, ap (get_elem? vs') q.0 ∙ here, q.1) in z) (names n l);
-      each_ticket = λ k low high. ⊎_elim (λ (q : (length r.history ≤ k) × (k < r.tickets) × (holder' k ≡ r.holder k)). let o = r.each_ticket k q.0 q.1 in dite (ℕ_discrete (r.holder k) id)
-          (λ e. let z : Ticket_here k = (w, ap (get_elem? vs') (q.2 ∙ e) ∙ here, kept_ticket k low (ap (λ (y : View O). ticket_at y.stage) (sym (is_v (r.holder k) o.0 e o.1)) ∙ o.2)) in z)
-          (λ ne. let z : Ticket_here k = (o.0, ap (get_elem? vs') q.2 ∙ (set_else s.views id (r.holder k) w ne ∙ o.1), o.2) in z))
-          (λ (q : (holder' k ≡ id) × (ticket_at w.stage ≡ Some k)). let z : Ticket_here k = (w, ap (get_elem? vs') q.0 ∙ here, q.1) in z) (tickets k low high);
       units_left = let sum = total_set units s.views id v w at in let was = r.units_left in omega arith;
       shares_out = let sum = total_set shares s.views id v w at in let was = r.shares_out in omega arith;
     }

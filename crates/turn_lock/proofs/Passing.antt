@@ -4,6 +4,7 @@ use Rattle.atomic_table.specs.declared.shared.Seat.{Seat}
 use Rattle.atomic_table.specs.Seated.{TableId}
 use Rattle.policy_types.specs.declared.entry.Entry.{Entry}
 use Rattle.turn_lock.specs.Passes.{Holding, Page, all_turns, all_shares, PassFacts, Enters}
+use Rattle.turn_lock.specs.declared.seats.Kept.{Kept}
 use Rattle.turn_lock.specs.declared.seats.View.{View}
 use Rattle.turn_lock.specs.inside.Seats.{SeatFacts, own, first_view, kept_half, given_half, named}
 use Rattle.turn_lock.specs.inside.Steps.{Sat}
@@ -11,7 +12,7 @@ use Rattle.turn_lock.specs.inside.Places.{IsNow, IsPass, holding}
 use Rattle.turn_lock.proofs.Pages.{all_weaker, all_numbers, distinct_one}
 
 abbrev S : Type 0 → Type 0 → Type 0
-S T O = Seat (Option T) (View O)
+S T O = Seat (Option (Kept T)) (View O)
 
 module _ {T O : Type 0} (legal : O → List Entry → Type 0) where
   -- what contracts see, from the table and the view

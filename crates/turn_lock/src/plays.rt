@@ -1,6 +1,6 @@
 //! What each kind of step does and tells.
 
-use crate::seats::View;
+use crate::seats::{Kept, View};
 use crate::stands::Stands;
 use atomic_table::{Join, Play, Split};
 use policy_types::Entry;
@@ -33,30 +33,21 @@ pub(crate) struct Names<T> {
     value: PhantomData<T>,
 }
 
-impl<T: Stands> Play<Option<T>, View<T::Opening>> for Names<T> {
+impl<T: Stands> Play<Option<Kept<T>>, View<T::Opening>> for Names<T> {
     ghost use Rattle.turn_lock.specs.inside.Steps as steps;
 
     ghost then = { steps.Names T.legal };
 }
 
-/// A seat gets a ticket.
-pub(crate) struct Draws;
-
-impl<T, O> Play<Option<T>, View<O>> for Draws {
-    ghost use Rattle.turn_lock.specs.inside.Steps as steps;
-
-    ghost then = { steps.Draws };
-}
-
-/// A seat sees whether its ticket is due, and if so takes the value out.
-pub(crate) struct Looks<T> {
+/// A seat takes the lock, and with it the value, where it finds the word that it looks for.
+pub(crate) struct TakesLock<T> {
     value: PhantomData<T>,
 }
 
-impl<T: Stands> Play<Option<T>, View<T::Opening>> for Looks<T> {
+impl<T: Stands> Play<Option<Kept<T>>, View<T::Opening>> for TakesLock<T> {
     ghost use Rattle.turn_lock.specs.inside.Steps as steps;
 
-    ghost then = { steps.LooksAtTicket T.opening T.legal T.stands };
+    ghost then = { steps.TakesLock T.opening T.legal T.stands };
 }
 
 /// A seat sees that the lists of the last join are beginnings of one history.
@@ -64,7 +55,7 @@ pub(crate) struct Compares<T> {
     value: PhantomData<T>,
 }
 
-impl<T: Stands> Play<Option<T>, View<T::Opening>> for Compares<T> {
+impl<T: Stands> Play<Option<Kept<T>>, View<T::Opening>> for Compares<T> {
     ghost use Rattle.turn_lock.specs.inside.Steps as steps;
 
     ghost then = { steps.Compares T.legal };
@@ -89,7 +80,7 @@ pub(crate) struct HandsOn<T, E> {
     value: PhantomData<(T, E)>,
 }
 
-impl<T: Stands, E: Appended> Play<Option<T>, View<T::Opening>> for HandsOn<T, E> {
+impl<T: Stands, E: Appended> Play<Option<Kept<T>>, View<T::Opening>> for HandsOn<T, E> {
     ghost use Rattle.turn_lock.specs.inside.Steps as steps;
 
     ghost then = { steps.HandsOn T.legal E.appended };

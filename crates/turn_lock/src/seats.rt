@@ -15,10 +15,8 @@ pub enum Stage {
     /// It has no number yet, and a unit put by for one.
     Unnamed,
     Idle,
-    /// It waits with this ticket.
-    Queued(u64),
-    /// It has the value out, with this ticket.
-    Inside(u64),
+    /// It has the value out.
+    Inside,
 }
 
 /// What a seat knows, for contracts alone: no value of it is made.
@@ -38,12 +36,64 @@ pub struct View<O> {
     pub ended: LinkedList<(u64, LinkedList<Entry>)>,
 }
 
+/// What lies under the lock.
+pub struct Kept<T> {
+    pub value: T,
+    /// So many turns were taken.
+    pub turns: u64,
+    pub passed: Streaks,
+}
+
+impl<T> Kept<T> {
+    ghost use Rattle.std.specs.Prelude.{◌≡◌};
+
+    /// The value before any turn.
+    pub(crate) fn first(value: T) -> Kept<T>
+        ensures { (result.value ≡ value) × (result.turns ≡ 0) }
+    {
+        let none = Streak { first: 0, turns: 0 };
+        Kept {
+            value,
+            turns: 0,
+            passed: Streaks {
+                brief: none,
+                others: none,
+            },
+        }
+    }
+
+    pub(crate) fn into_value(self) -> T
+        ensures { result ≡ self.value }
+    {
+        let Kept {
+            value,
+            turns: _,
+            passed: _,
+        } = self;
+        value
+    }
+}
+
+/// Turns on end that passed who waits, of each line. No contract rests on it.
+#[derive(Clone, Copy, Drop)]
+pub struct Streaks {
+    pub brief: Streak,
+    pub others: Streak,
+}
+
+/// So many turns on end passed this number while it was the first of its line.
+#[derive(Clone, Copy, Drop)]
+pub struct Streak {
+    pub first: u64,
+    pub turns: u64,
+}
+
 /// The lock's rule, at the opening of the value that the table was made with.
 pub struct Law<T> {
     value: PhantomData<T>,
 }
 
-impl<T: Stands> TableRule<Option<T>, View<T::Opening>, Snapshot<T>> for Law<T> {
+impl<T: Stands> TableRule<Option<Kept<T>>, View<T::Opening>, Snapshot<T>> for Law<T> {
     ghost use Rattle.turn_lock.specs.inside.Seats.{first_view};
     ghost use Rattle.turn_lock.specs.inside.Rule.{LockRule};
 
@@ -52,9 +102,9 @@ impl<T: Stands> TableRule<Option<T>, View<T::Opening>, Snapshot<T>> for Law<T> {
     ghost first = { λ key. first_view (T.opening key.value) };
 }
 
-/// Word 0 counts the turns served, word 1 the tickets drawn, word 2 the names given. The one slot holds the value.
+/// Word 0 is the lock, word 1 counts the names given. The one slot holds the value.
 pub(crate) type Board<T> = Table<
-    Option<T>,
+    Option<Kept<T>>,
     View<<T as Stands>::Opening>,
     Snapshot<T>,
     Law<T>,
@@ -63,19 +113,21 @@ pub(crate) type Board<T> = Table<
 
 /// The table as threads see it.
 pub(crate) type SharedBoard<T> = Shared<
-    Option<T>,
+    Option<Kept<T>>,
     View<<T as Stands>::Opening>,
     Snapshot<T>,
     Law<T>,
 >;
 
-pub(crate) type CallerSeat<T> = Seat<Option<T>, View<<T as Stands>::Opening>>;
+pub(crate) type CallerSeat<T> = Seat<Option<Kept<T>>, View<<T as Stands>::Opening>>;
 
-/// The word of the turns served.
-pub(crate) const SERVED: usize = 0;
-/// The word of the tickets drawn.
-pub(crate) const TICKETS: usize = 1;
+/// The word of the lock: free, taken, or kept for one that waits.
+pub(crate) const LOCK: usize = 0;
 /// The word of the names given.
-pub(crate) const NAMES: usize = 2;
+pub(crate) const NAMES: usize = 1;
+/// The lock is anybody's.
+pub(crate) const FREE: u64 = 0;
+/// A seat is inside.
+pub(crate) const TAKEN: u64 = 1;
 /// The slot of the value.
 pub(crate) const VALUE: usize = 0;

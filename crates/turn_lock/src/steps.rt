@@ -1,13 +1,12 @@
 //! Each kind of step on the table, as a function with its own contract.
-ghost use Rattle.std.specs.Prelude.{◌≡◌, ℕ, ◌+◌, ◌≤◌, [], ◌∷◌, ◌++◌, length, Some, None, IfSome, IfNone};
-ghost use Rattle.policy_types.specs.declared.entry.Entry.{Entry};
+ghost use Rattle.std.specs.Prelude.{◌≡◌, ◌≢◌, ◌+◌, ◌≤◌, [], ◌∷◌, ◌++◌, length, Some, None, IfSome, IfNone};
 ghost use Rattle.turn_lock.specs.History.{StartsWith, longer};
-ghost use Rattle.turn_lock.specs.declared.seats.Stage.TheVariants.{Unnamed, Idle, Queued, Inside};
-ghost use Rattle.turn_lock.specs.inside.Seats.{SeatFacts, shorter, kept_half, given_half, joined, compared, named, queued, handed_on};
+ghost use Rattle.turn_lock.specs.declared.seats.Stage.TheVariants.{Unnamed, Idle, Inside};
+ghost use Rattle.turn_lock.specs.inside.Seats.{SeatFacts, shorter, kept_half, given_half, joined, compared, named, handed_on};
 ghost use Rattle.turn_lock.specs.inside.Places.{IsBoard, IsNow, TookOut};
 
-use crate::plays::{Appended, Compares, Draws, Halves, HandsOn, Joins, Looks, Names};
-use crate::seats::{CallerSeat, NAMES, SERVED, SharedBoard, TICKETS, VALUE};
+use crate::plays::{Appended, Compares, Halves, HandsOn, Joins, Names, TakesLock};
+use crate::seats::{CallerSeat, Kept, LOCK, NAMES, SharedBoard, TAKEN, VALUE};
 use crate::stands::Stands;
 use crate::turn::Turn;
 use std::snapshot::Snapshot;
@@ -33,56 +32,50 @@ pub(crate) fn name<T: Stands>(board: &SharedBoard<T>, place: &mut CallerSeat<T>)
     board.fetch_add::<Names<T>>(place, NAMES, 1)
 }
 
-/// Draw: a seat gets a ticket, which is given back.
-pub(crate) fn draw<T: Stands>(board: &SharedBoard<T>, place: &mut CallerSeat<T>) -> u64
-    requires ours { IsBoard board.now.table_id × (place.old.table_id ≡ board.now.table_id) }
-    requires idle { (place.old.me.0.stage ≡ Idle) × (1 ≤ place.old.me.0.left) }
-    ensures { IsNow place.old place.new (queued place.old.me.0 result, place.old.me.1) }
-{
-    board.fetch_add::<Draws>(place, TICKETS, 1)
-}
-
-/// Look: where the ticket is due the seat takes the value out; else nothing changes.
-pub(crate) fn look<T: Stands>(
+/// Take: where the lock's word is this one, the seat takes the value out; else nothing changes.
+pub(crate) fn take<T: Stands>(
     board: &SharedBoard<T>,
     place: &mut CallerSeat<T>,
-    ticket: u64,
-) -> Option<T>
+    word: u64,
+) -> Option<Kept<T>>
     requires ours { IsBoard board.now.table_id × (place.old.table_id ≡ board.now.table_id) }
-    requires queued { (place.old.me.0.stage ≡ Queued ticket) × (place.old.me.1 ≡ []) }
-    ensures due { IfSome result (λ value. TookOut T.opening T.legal T.stands place.old place.new ticket value) }
-    ensures early { IfNone result (IsNow place.old place.new place.old.me) }
+    requires idle { (place.old.me.0.stage ≡ Idle) × (1 ≤ place.old.me.0.left) × (place.old.me.1 ≡ []) }
+    requires word { word ≢ 1 }
+    ensures taken { IfSome result (λ kept. TookOut T.opening T.legal T.stands place.old place.new kept) }
+    ensures missed { IfNone result (IsNow place.old place.new place.old.me) }
 {
-    if board.load::<Looks<T>>(place, SERVED) == ticket {
+    if board.compare_exchange::<TakesLock<T>>(place, LOCK, word, TAKEN) == word {
         board.exchange(place, VALUE, None)
     } else {
         None
     }
 }
 
-/// Hand on: the value goes back into the slot, and the turn's entry is one more of the history. Gives the entry's place.
-pub(crate) fn hand_on<T: Stands, E: Appended, C: Turn<T>>(
+/// Give: the value goes back into the slot, the lock gets its next word, and the history has the turn's entry.
+pub(crate) fn give<T: Stands, E: Appended, C: Turn<T>>(
     board: &SharedBoard<T>,
     place: &mut CallerSeat<T>,
-    value: T,
+    kept: Kept<T>,
+    word: u64,
     asked: &Snapshot<C>,
     caller: u64,
     answer: &C::Answer,
-) -> u64
+)
     requires ours { IsBoard board.now.table_id × (place.old.table_id ≡ board.now.table_id) }
-    requires inside { (ticket : ℕ) × (place.old.me.0.stage ≡ Inside ticket) }
+    requires inside { (place.old.me.0.stage ≡ Inside) × (1 ≤ place.old.me.0.left) }
+    requires word { word ≢ 1 }
     requires carried { place.old.me.1 ≡ (0, None) ∷ [] }
     requires entry { (E.appended ≡ C.entry asked.now.value caller answer.now) × (caller ≡ place.old.me.0.number) }
-    requires stood { T.stands value (place.old.me.0.seen ++ E.appended ∷ []) × (place.old.me.0.opened ≡ Some (T.opening value)) }
+    requires stood { T.stands kept.value (place.old.me.0.seen ++ E.appended ∷ []) × (place.old.me.0.opened ≡ Some (T.opening kept.value)) }
+    requires turns { kept.turns ≡ length place.old.me.0.seen + 1 }
     ensures now { IsNow place.old place.new (handed_on place.old.me.0 (C.entry asked.now.value caller answer.now), []) }
-    ensures place { result ≡ length place.old.me.0.seen }
     ensures facts { SeatFacts T.legal place.new.me.0 }
 {
-    let emptied = board.exchange(place, VALUE, Some(value));
+    let emptied = board.exchange(place, VALUE, Some(kept));
     let None = emptied else {
         unreachable!();
     };
-    board.fetch_add::<HandsOn<T, E>>(place, SERVED, 1)
+    board.store::<HandsOn<T, E>>(place, LOCK, word);
 }
 
 /// Join: a seat takes another back, and looks whether the lists of both are beginnings of one history.
@@ -98,5 +91,5 @@ pub(crate) fn join<T: Stands>(
     ensures facts { SeatFacts T.legal place.new.me.0 }
 {
     board.join_seat::<Joins>(place, other);
-    board.load::<Compares<T>>(place, SERVED);
+    board.load::<Compares<T>>(place, LOCK);
 }

@@ -1,17 +1,17 @@
-ghost use Rattle.std.specs.Prelude.{◌≡◌, ℕ, ◌≤◌, List, [], ◌∷◌, length, take, Some, None, IfOk, IfErr};
+ghost use Rattle.std.specs.Prelude.{◌≡◌, ◌≤◌, List, [], ◌∷◌, length, take, Some, None, IfOk, IfErr};
 ghost use Rattle.policy_types.specs.declared.entry.Entry.{Entry};
 ghost use Rattle.turn_lock.specs.Passes.{IsLent};
 ghost use Rattle.turn_lock.specs.declared.seats.Stage.TheVariants.{Inside};
 ghost use Rattle.turn_lock.specs.inside.Seats.{SeatFacts, handed_on};
 ghost use Rattle.turn_lock.specs.inside.Places.{IsBoard, IsNow};
 
-use crate::door::Door;
+use crate::entering::enter;
 use crate::pass::Pass;
-use crate::seats::{Board, CallerSeat, SharedBoard, VALUE};
+use crate::queues::{Next, Queues};
+use crate::seats::{Board, CallerSeat, FREE, Kept, SharedBoard, VALUE};
 use crate::stands::Stands;
-use crate::steps::{draw, hand_on, join, name, split};
+use crate::steps::{give, join, name, split};
 use crate::turn::{Turn, Turned};
-use crate::waiting::wait;
 use atomic_table::{Refused, Table};
 use std::alloc::Global;
 use std::marker::{Brand, Model};
@@ -21,8 +21,8 @@ use std::sync::Wait;
 /// A lock round a value, whose turns are one history. Contracts see which turnstile it is.
 pub struct Turnstile<T: Stands> {
     board: Board<T>,
-    /// Who takes a turn is through the door: others sleep before it, and draw no ticket. No contract rests on it.
-    door: Door,
+    /// Those that wait.
+    queues: Queues,
 }
 
 impl<T: Stands> Model for Turnstile<T> {
@@ -52,16 +52,16 @@ impl<T: Stands> Turnstile<T> {
         ensures facts { IfOk result (λ made. PassFacts T.legal made.1) }
         ensures err { IfErr result (λ refused. refused.value ≡ value) }
     {
-        let door = Door::new();
+        let queues = Queues::new();
         let first = Snapshot::of(&value);
         let mut slots = Vec::new(alloc);
-        if let Err(failed) = slots.push(Some(value)) {
+        if let Err(failed) = slots.push(Some(Kept::first(value))) {
             slots.destroy_empty();
             return Err(NoRoom {
-                value: failed.value.unwrap(),
+                value: failed.value.unwrap().into_value(),
             });
         }
-        match Table::new(alloc, &[0, 0, 1], slots, &first) {
+        match Table::new(alloc, &[FREE, 1], slots, &first) {
             Ok((board, place)) => {
                 let pass = Pass {
                     place,
@@ -69,10 +69,10 @@ impl<T: Stands> Turnstile<T> {
                     left: 1 << 62,
                     shares: 1 << 32,
                 };
-                Ok((Turnstile { board, door }, pass))
+                Ok((Turnstile { board, queues }, pass))
             }
             Err(Refused { mut slots }) => {
-                let value = slots.pop().unwrap().unwrap();
+                let value = slots.pop().unwrap().unwrap().into_value();
                 slots.destroy_empty();
                 Err(NoRoom { value })
             }
@@ -130,11 +130,16 @@ impl<T: Stands> Turnstile<T> {
         ensures facts { PassFacts T.legal pass.new }
     {
         let shared = &self.board.shared;
-        self.door.enter(rt, call.is_brief());
-        let ticket = draw(shared, &mut pass.place);
-        let value = wait(rt, shared, &mut pass.place, ticket);
-        let turned = serve(shared, &mut pass.place, value, call, pass.caller);
-        self.door.leave();
+        let kept = enter(rt, &self.queues, shared, &mut pass.place, call.is_brief());
+        let (turned, next) = serve(
+            shared,
+            &self.queues,
+            &mut pass.place,
+            kept,
+            call,
+            pass.caller,
+        );
+        self.queues.ring(next);
         pass.left -= 1;
         turned
     }
@@ -149,34 +154,47 @@ impl<T: Stands> Turnstile<T> {
         ensures whole { OwnsAll pass }
         ensures facts { PassFacts T.legal pass }
     {
-        let Turnstile { board, door: _ } = self;
+        let Turnstile { board, queues: _ } = self;
         let mut closed = board.close_with(pass.into_place());
-        let value = closed.take(VALUE).unwrap();
+        let value = closed.take(VALUE).unwrap().into_value();
         closed.free();
         value
     }
 }
 
-/// Runs the call on the value that is out with the seat, and hands on.
+/// Runs the call on the value that is out with the seat, and hands on. Tells to whom.
 fn serve<T: Stands, C: Turn<T>>(
     board: &SharedBoard<T>,
+    queues: &Queues,
     place: &mut CallerSeat<T>,
-    mut value: T,
+    kept: Kept<T>,
     call: C,
     caller: u64,
-) -> Turned<C::Answer>
+) -> (Turned<C::Answer>, Next)
     requires ours { IsBoard board.now.table_id × (place.old.table_id ≡ board.now.table_id) }
-    requires inside { ((ticket : ℕ) × (place.old.me.0.stage ≡ Inside ticket)) × (place.old.me.1 ≡ (0, None) ∷ []) }
+    requires inside { (place.old.me.0.stage ≡ Inside) × (1 ≤ place.old.me.0.left) × (place.old.me.1 ≡ (0, None) ∷ []) }
     requires caller { caller ≡ place.old.me.0.number }
-    requires lent { (seen : List Entry) × IsLent T.stands (C.needs call) value caller place.old.me.0.seen seen place.old.me.0.made }
-    requires opened { place.old.me.0.opened ≡ Some (T.opening value) }
-    ensures now { IsNow place.old place.new (handed_on place.old.me.0 (C.entry call caller result.answer), []) }
-    ensures place { result.turn ≡ length place.old.me.0.seen }
-    ensures tells { C.tells call (T.opening value) place.old.me.0.seen result.answer }
+    requires lent { (seen : List Entry) × IsLent T.stands (C.needs call) kept.value caller place.old.me.0.seen seen place.old.me.0.made }
+    requires opened { place.old.me.0.opened ≡ Some (T.opening kept.value) }
+    requires turns { kept.turns ≡ length place.old.me.0.seen }
+    ensures now { IsNow place.old place.new (handed_on place.old.me.0 (C.entry call caller result.0.answer), []) }
+    ensures place { result.0.turn ≡ length place.old.me.0.seen }
+    ensures tells { C.tells call (T.opening kept.value) place.old.me.0.seen result.0.answer }
     ensures facts { SeatFacts T.legal place.new.me.0 }
 {
+    let Kept {
+        mut value,
+        turns: turn,
+        mut passed,
+    } = kept;
     let asked = Snapshot::of(&call);
     let answer = call.run(&mut value, caller);
-    let turn = hand_on::<T, Brand, C>(board, place, value, &asked, caller, &answer);
-    Turned { turn, answer }
+    let next = queues.next(&mut passed);
+    let kept = Kept {
+        value,
+        turns: turn + 1,
+        passed,
+    };
+    give::<T, Brand, C>(board, place, kept, next.word(), &asked, caller, &answer);
+    (Turned { turn, answer }, next)
 }

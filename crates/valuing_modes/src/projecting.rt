@@ -1,26 +1,23 @@
 // The projection of the policies from a day on, by the basis on the shelf.
 ghost use Rattle.std.specs.Prelude.{◌≡◌, ◌<◌, ◌≤◌, Ok};
 ghost use Rattle.life_dates.specs.Calendar.{IsDay};
-ghost use Rattle.shared_office.specs.Offices.{IsOfficeHistory};
-ghost use Rattle.shared_office.specs.Starting.{HasStartedOffice};
-ghost use Rattle.turn_lock.specs.Passes.{PassFacts};
 ghost use Rattle.program_endings.specs.Writing.{between, shelf_between};
 ghost use Rattle.program_endings.specs.declared.ending.Ending.TheVariants.{ReadFault};
-ghost use Rattle.valuing_modes.specs.Projecting.{EndsProject, EndsProjecting};
+ghost use Rattle.valuing_modes.specs.Projecting.{EndsProject};
 ghost use Rattle.valuing_modes.specs.inside.Projected.{EndsPrinted, IsLoneProjection, CanBePrinted};
 
-use basis_book::{Basis, Name};
+use basis_book::Name;
 use cash_projection::{Projection, print_projection};
 use lone_office::{Begun, begin};
 use moment_ring::MomentOutlet;
 use outside_io::{Disk, Gate, Shelf, Sink};
 use program_endings::{Ending, Finished, lack_memory, write_text};
-use shared_office::{Office, OfficePass, close};
+use shared_office::close;
 use snapshot_value::ValueFault;
 use std::alloc::Global;
 use std::sync::Wait;
 use std::thread::Threads;
-use watcher_set::Watching;
+use watcher_set::NoWatchers;
 
 /// Writes what the policies of the book are expected to pay and to be paid on a day, in days since 1970-01-01, in each of
 /// so many policy years from the current one. The basis is fetched before the disk is touched.
@@ -46,47 +43,18 @@ pub fn project<R: Threads + Wait + Sync, K: Sink, H: Shelf, D: Disk, G: Gate>(
     ensures counted { H.faults shelf.old < H.faults shelf.new → result.ending ≡ ReadFault }
     ensures files { H.files shelf.new ≡ H.files shelf.old }
 {
-    match begin(alloc, basis, shelf, output, disk, MomentOutlet::nowhere()) {
-        Ok(begun) => {
-            let Begun {
-                basis,
-                office,
-                pass,
-            } = begun;
-            project_office(
-                rt, alloc, on, years, workers, &basis, office, pass, output, gate,
-            )
-        }
-        Err(finished) => finished,
-    }
-}
-
-// Projects an office's policies, closes it, and writes the projection.
-fn project_office<R: Threads + Wait + Sync, K: Sink, D: Disk, W: Watching, G: Gate>(
-    rt: &R,
-    alloc: Global,
-    on: i32,
-    years: u8,
-    workers: u8,
-    basis: &Basis,
-    office: Office<D, W>,
-    pass: OfficePass<D, W>,
-    output: &mut K,
-    gate: &G,
-) -> Finished<D>
-    requires day { IsDay on }
-    requires years { (1 ≤ years) × (years ≤ 131) }
-    requires workers { (1 ≤ workers) × (workers ≤ 64) }
-    requires ours { pass.turnstile ≡ office }
-    requires started { (old : D) × ((watchers : W) × HasStartedOffice D.Disk old watchers pass) }
-    requires facts { PassFacts IsOfficeHistory pass }
-    ensures ends { (old : D) (watchers : W) → HasStartedOffice D.Disk old watchers pass
-        → EndsProjecting D.Disk old result.disk on years basis.now
-        (between K.faults K.written K.pieces output.old output.new) result.ending }
-{
-    let mut pass = pass;
+    let nowhere = MomentOutlet::nowhere();
+    let begun = match begin(alloc, Some(basis), shelf, output, disk, NoWatchers, nowhere) {
+        Ok(begun) => begun,
+        Err(finished) => return finished,
+    };
+    let Begun {
+        basis,
+        office,
+        mut pass,
+    } = begun;
     let projected = cash_projection::project(
-        rt, alloc, &office, &mut pass, basis, on, years, workers, gate,
+        rt, alloc, &office, &mut pass, &basis, on, years, workers, gate,
     );
     let (disk, _, _, _) = close(office, pass);
     let ending = write_answer(alloc, projected.answer, output);

@@ -1,16 +1,13 @@
 // The values of the policies on a day, by the basis on the shelf.
 ghost use Rattle.std.specs.Prelude.{◌≡◌, ◌<◌, ◌≤◌};
 ghost use Rattle.life_dates.specs.Calendar.{IsDay};
-ghost use Rattle.shared_office.specs.Offices.{IsOfficeHistory};
-ghost use Rattle.shared_office.specs.Starting.{HasStartedOffice};
-ghost use Rattle.turn_lock.specs.Passes.{PassFacts};
-ghost use Rattle.valuing_modes.specs.Valuing.{EndsValue, EndsValuing};
+ghost use Rattle.valuing_modes.specs.Valuing.{EndsValue};
 ghost use Rattle.program_endings.specs.Writing.{between, shelf_between};
 ghost use Rattle.program_endings.specs.declared.ending.Ending.TheVariants.{ReadFault};
 ghost use Rattle.program_endings.specs.Blocks.{IsWritableBlock};
 ghost use Rattle.valuing_modes.specs.inside.Valued.{EndsAnswer, IsLoneAnswer, SaysAhead};
 
-use basis_book::{Basis, Name};
+use basis_book::Name;
 use lone_office::{Begun, begin};
 use moment_ring::MomentOutlet;
 use outside_io::{Disk, Gate, Shelf, Sink};
@@ -18,12 +15,12 @@ use policy_types::{At, PinRefusal};
 use policy_value::Measure;
 use program_endings::{Ending, Finished, end, lack_memory, write_parts};
 use report_text::print_parts;
-use shared_office::{Office, OfficePass, close};
+use shared_office::close;
 use snapshot_value::{Query, Valuation, ValueFault};
 use std::alloc::Global;
 use std::sync::Wait;
 use std::thread::Threads;
-use watcher_set::Watching;
+use watcher_set::NoWatchers;
 
 /// A valuation that no lane of a script asks for.
 const NO_LANE: u8 = 0;
@@ -52,47 +49,18 @@ pub fn value<R: Threads + Wait + Sync, K: Sink, H: Shelf, D: Disk, G: Gate>(
     ensures counted { H.faults shelf.old < H.faults shelf.new → result.ending ≡ ReadFault }
     ensures files { H.files shelf.new ≡ H.files shelf.old }
 {
-    match begin(alloc, basis, shelf, output, disk, MomentOutlet::nowhere()) {
-        Ok(begun) => {
-            let Begun {
-                basis,
-                office,
-                pass,
-            } = begun;
-            value_office(
-                rt, alloc, on, at, measure, workers, &basis, office, pass, output, gate,
-            )
-        }
-        Err(finished) => finished,
-    }
-}
-
-// Values an office's policies, closes it, and writes the values.
-fn value_office<R: Threads + Wait + Sync, K: Sink, D: Disk, W: Watching, G: Gate>(
-    rt: &R,
-    alloc: Global,
-    on: i32,
-    at: At,
-    measure: Measure,
-    workers: u8,
-    basis: &Basis,
-    office: Office<D, W>,
-    pass: OfficePass<D, W>,
-    output: &mut K,
-    gate: &G,
-) -> Finished<D>
-    requires day { IsDay on }
-    requires workers { (1 ≤ workers) × (workers ≤ 64) }
-    requires ours { pass.turnstile ≡ office }
-    requires started { (old : D) × ((watchers : W) × HasStartedOffice D.Disk old watchers pass) }
-    requires facts { PassFacts IsOfficeHistory pass }
-    ensures ends { (old : D) (watchers : W) → HasStartedOffice D.Disk old watchers pass
-        → EndsValuing D.Disk old result.disk on at measure basis.now
-        (between K.faults K.written K.pieces output.old output.new) result.ending }
-{
-    let mut pass = pass;
-    let query = Query {
+    let nowhere = MomentOutlet::nowhere();
+    let begun = match begin(alloc, Some(basis), shelf, output, disk, NoWatchers, nowhere) {
+        Ok(begun) => begun,
+        Err(finished) => return finished,
+    };
+    let Begun {
         basis,
+        office,
+        mut pass,
+    } = begun;
+    let query = Query {
+        basis: &basis,
         on,
         measure,
         workers,

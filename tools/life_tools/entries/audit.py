@@ -14,20 +14,23 @@ import csv
 import os
 import sys
 from collections import Counter
+from typing import Iterable, Sequence
 
+from life_tools.class_bases import Bases, basis_arguments, bases_in, class_arguments
 from life_tools.copied_folder import JOURNAL
+from life_tools.drawn_samples import sample_of
 from life_tools.entries.report import write_text, written_whole
 from life_tools.entries.why import position_in
 from life_tools.flags import DAYS_LATE, FLAGS, Flag, flags_at
-from life_tools.formats import Wrong, day_in, money, number_of, remark
+from life_tools.formats import Wrong, day_in, demand, money, number_of, remark
 from life_tools.letters import HEADS, letters_of
 from life_tools.paper_pages import page
-from life_tools.papers import NotTheSample, papers_of
+from life_tools.papers import NotTheSample, Papers, papers_of
 from life_tools.printing import demand_printer, write_pdf
-from life_tools.samples import BY, MEASURED, sample_at, sample_of, text_of
-from life_tools.sampling import asked_in, seed_in
+from life_tools.samples import BY, MEASURED, Sample, asked_in, sample_at, seed_in, text_of
 
 MOST_DAYS = 36_500
+FLAG_HEADS = ("flag", "position", "policy", "kind", "day", "amount", "since", "why")
 
 
 def folder_arguments(parser: argparse.ArgumentParser) -> None:
@@ -36,13 +39,24 @@ def folder_arguments(parser: argparse.ArgumentParser) -> None:
 
 # --- flags ---
 
+def late_argument(parser: argparse._ActionsContainer, default: str | None) -> None:
+    parser.add_argument("--late", metavar="DAYS", default=default, help="flags: a maturity is told where it is more than so "
+                        f"many days behind the end ({DAYS_LATE})")
+
+
 def flags_arguments(parser: argparse.ArgumentParser) -> None:
     parser.add_argument("--after", metavar="P0", help="only postings behind this position, as that of the last year's end")
     parser.add_argument("--at", metavar="P", help="only the first P postings (all)")
-    parser.add_argument("--late", metavar="DAYS", default=str(DAYS_LATE), help="a maturity is told where it is more than so many "
-                        f"days behind the end ({DAYS_LATE})")
+    late_argument(parser, str(DAYS_LATE))
     folder_arguments(parser)
     parser.set_defaults(piece=run_flags)
+
+
+def late_in(text: str) -> int:
+    days = number_of(text, 0, MOST_DAYS)
+    if days is None:
+        raise Wrong(f"--late {text}: 0 to {MOST_DAYS} days are wanted")
+    return days
 
 
 def row_of(flag: Flag) -> list[str]:
@@ -50,20 +64,25 @@ def row_of(flag: Flag) -> list[str]:
     return [flag.flag, *numbers, flag.why]
 
 
-def run_flags(options: argparse.Namespace) -> int:
-    days = number_of(options.late, 0, MOST_DAYS)
-    if days is None:
-        raise Wrong(f"--late {options.late}: 0 to {MOST_DAYS} days are wanted")
-    after = position_in(options.after) or 0
-    flags = flags_at(os.path.join(options.folder, JOURNAL), position_in(options.at), days)
-    found = [each for each in flags if each.position > after]
+def write_rows(head: Sequence[str], rows: Iterable[Sequence[str]]) -> None:
     writer = csv.writer(sys.stdout, lineterminator="\n")
-    writer.writerow(["flag", "position", "policy", "kind", "day", "amount", "since", "why"])
-    writer.writerows(map(row_of, found))
+    writer.writerow(head)
+    writer.writerows(rows)
     sys.stdout.flush()
+
+
+def tell_flags(found: Sequence[Flag]) -> int:
     counts = Counter(each.flag for each in found)
     remark("; ".join(f"{flag}: {counts[flag]}" for flag in FLAGS))
     return 1 if found else 0
+
+
+def run_flags(options: argparse.Namespace) -> int:
+    days, after = late_in(options.late), position_in(options.after) or 0
+    flags = flags_at(os.path.join(options.folder, JOURNAL), position_in(options.at), days)
+    found = [each for each in flags if each.position > after]
+    write_rows(FLAG_HEADS, map(row_of, found))
+    return tell_flags(found)
 
 
 # --- a sample ---
@@ -75,7 +94,7 @@ def sample_arguments(parser: argparse.ArgumentParser) -> None:
     parser.add_argument("--at", metavar="P", help="the position (the newest)")
     parser.add_argument("--by", choices=BY, default="reserve", help="the size of a row: the amount insured on the day, or the "
                         "reserve's upper bound (reserve)")
-    parser.add_argument("--basis", metavar="NAME", default="basis.csv", help="the basis file in the folder (basis.csv)")
+    basis_arguments(parser)
     parser.add_argument("--mean", dest="measure", action="store_const", const=MEASURED[1], default=MEASURED[0],
                         help="by mean reserves")
     parser.add_argument("--life", metavar="PROGRAM", help="the program to ask")
@@ -86,8 +105,8 @@ def sample_arguments(parser: argparse.ArgumentParser) -> None:
 def run_sample(options: argparse.Namespace) -> int:
     """The status is 1 where rows have a word: they count for nothing by a reserve, though the policies are insured."""
     asked, seed, on = asked_in(options.count), seed_in(options.seed), day_in(options.on)
-    drawn = sample_of(options.folder, on, asked, seed, options.by, position_in(options.at), options.basis, options.measure,
-                      options.life)
+    bases, at = bases_in(options.basis, options.classes, options.bases), position_in(options.at)
+    drawn = sample_of(options.folder, on, asked, seed, options.by, bases, at, options.measure, options.life)
     sys.stdout.write(text_of(drawn.sample))
     sys.stdout.flush()
     for line in drawn.told():
@@ -97,31 +116,49 @@ def run_sample(options: argparse.Namespace) -> int:
 
 # --- papers and letters on a sample ---
 
+def paper_arguments(parser: argparse._ActionsContainer) -> None:
+    """The files that papers are."""
+    parser.add_argument("--html", metavar="FILE", help="one page, which needs no network")
+    parser.add_argument("--pdf", metavar="FILE", help="the page as PDF, by Chromium or LibreOffice, where one is there")
+
+
 def papers_arguments(parser: argparse.ArgumentParser) -> None:
     parser.add_argument("sample", metavar="SAMPLE", help="what audit sample printed")
-    files = parser.add_mutually_exclusive_group(required=True)
-    files.add_argument("--html", metavar="FILE", help="one page, which needs no network")
-    files.add_argument("--pdf", metavar="FILE", help="the page as PDF, by Chromium or LibreOffice, where one is there")
+    paper_arguments(parser.add_mutually_exclusive_group(required=True))
+    class_arguments(parser)
     parser.add_argument("--life", metavar="PROGRAM", help="the program to ask")
     folder_arguments(parser)
     parser.set_defaults(piece=run_papers)
 
 
-def run_papers(options: argparse.Namespace) -> int:
-    """Writes nothing where the seed draws other rows of this book; a row that isn't right is written, and told."""
-    sample = sample_at(options.sample)
-    if options.pdf:
-        demand_printer()
-    try:
-        papers = papers_of(sample, options.folder, options.life)
-    except NotTheSample as other:
-        remark(f"wrong: {options.sample}: {other}")
-        return 1
+def write_papers(papers: Papers, html: str | None, pdf: str | None) -> int:
+    """A row that isn't right is written, and told."""
     text = page(papers)
-    written_whole(options.pdf or options.html, lambda path: write_pdf(path, text) if options.pdf else write_text(path, text))
+    written_whole(pdf or html or "", lambda path: write_pdf(path, text) if pdf else write_text(path, text))
     for number in papers.wrong:
         remark(f"wrong: the printed row of policy {number} isn't what was worked out")
     return 1 if papers.wrong else 0
+
+
+def bases_of(sample: Sample, options: argparse.Namespace) -> Bases:
+    """Those of a sample, which names its one basis; of classes it names all."""
+    is_told = options.classes or len(sample.bases) == 1
+    demand(is_told, f"{options.sample} is by classes: --classes and --bases are wanted")
+    return bases_in(None if options.classes else sample.bases[0], options.classes, options.bases)
+
+
+def run_papers(options: argparse.Namespace) -> int:
+    """Writes nothing where the seed draws other rows of this book."""
+    sample = sample_at(options.sample)
+    bases = bases_of(sample, options)
+    if options.pdf:
+        demand_printer()
+    try:
+        papers = papers_of(sample, options.folder, bases, options.life)
+    except NotTheSample as other:
+        remark(f"wrong: {options.sample}: {other}")
+        return 1
+    return write_papers(papers, options.html, options.pdf)
 
 
 def letters_arguments(parser: argparse.ArgumentParser) -> None:
@@ -133,9 +170,7 @@ def letters_arguments(parser: argparse.ArgumentParser) -> None:
 def run_letters(options: argparse.Namespace) -> int:
     book = os.path.basename(os.path.realpath(options.folder))
     rows = letters_of(sample_at(options.sample), os.path.join(options.folder, JOURNAL), book)
-    writer = csv.writer(sys.stdout, lineterminator="\n")
-    writer.writerow(HEADS)
-    writer.writerows(rows)
+    write_rows(HEADS, rows)
     return 0
 
 

@@ -7,7 +7,10 @@
   books LIST report ON [--by KEYS].. [--rows FOLDER]         `report` of all together, with a table of the books
   books LIST movement|statement ON1 ON2 --from LIST1 --at LIST2   `movement` and `statement` of all together
   books LIST due DAY                                         what is due in each
+  books LIST flags [--from LIST1] [--at LIST2]               `audit flags` of each
   books LIST sample N --seed S --on DAY [--by amount]        `audit sample` of the rows of all books as one
+  books LIST papers SAMPLE --html FILE | --pdf FILE          `audit papers` of such a sample
+  books LIST letters SAMPLE                                  `audit letters` of such a sample
   books LIST position-on DAY [--last]                        the position of a day in each, for --at
   books headroom LIST                                        how many commands are left in each, as `headroom` tells it
   books split JOURNAL RULE.. FOLDER..                        a book divided, for each rule a new one in a new folder
@@ -36,17 +39,15 @@ from operator import itemgetter
 from typing import Iterator, Sequence
 
 from life_tools.book_lists import ALL, ListedBook, books_at, positions_at
-from life_tools.book_runs import OWN, Outcome, Parts, failure, named
+from life_tools.book_runs import OWN, Outcome, Parts, named
 from life_tools.book_totals import total_of
 from life_tools.book_work import Asked, processors, work
-from life_tools.day_columns import number_at, text_at
-from life_tools.entries import books_own, books_split
-from life_tools.entries.headroom import Wanted, add_arguments, room_at, told_of, wanted_of
+from life_tools.day_columns import number_at
+from life_tools.entries import books_audit, books_own, books_split
+from life_tools.entries.books_counts import run_headroom, run_position_on
+from life_tools.entries.headroom import add_arguments, wanted_of
 from life_tools.formats import MOST_WORKERS, MOST_YEARS, Wrong, day_in, demand, number_of, remark
-from life_tools.headroom import HEAD
-from life_tools.positions import on_day
 from life_tools.record_columns import columns_at
-from life_tools.wholeness import demand_undamaged, tell
 
 WORDS = ("value", "project", "state", "checkpoint", "position-on", "headroom", *OWN)
 MOST_TOLD = 10
@@ -72,24 +73,33 @@ def program_words(options: argparse.Namespace) -> tuple[str, ...]:
     return (word, *given, *measures, *(["--workers", options.workers] if options.workers else []))
 
 
+def processes_in(options: argparse.Namespace) -> int:
+    processes = number_of(options.processes, 1, MOST_WORKERS) if options.processes else processors()
+    if processes is None:
+        raise Wrong(f"--processes {options.processes}: 1 to {MOST_WORKERS} are wanted")
+    return processes
+
+
 def asked_of(options: argparse.Namespace, books: list[ListedBook]) -> Asked:
     is_own = options.words[0] in OWN
     words = books_own.words_of(options) if is_own else program_words(options)
     firsts = positions_at(options.opening, books) if options.opening else {}
     rows = books_own.rows_left(options.rows, books) if options.rows else {}
     positions = positions_at(options.at, books) if options.at else {}
+    drawn = books_audit.drawn_at(options, books) if is_own else {}
+    positions.update((name, part.position) for name, part in drawn.items())
     demand(not positions or words[0] != "checkpoint", "a checkpoint is of the whole journal")
     demand(not options.scheduler or words[0] != "checkpoint", "a checkpoint is made where the book is, and not on a cluster")
     demand(not options.send or options.scheduler, "--send belongs to --scheduler")
     demand(not options.sqlite or (options.parts and words[0] == "value"), "--sqlite is a form of the --parts of value")
-    processes = number_of(options.processes, 1, MOST_WORKERS) if options.processes else processors()
-    if processes is None:
-        raise Wrong(f"--processes {options.processes}: 1 to {MOST_WORKERS} are wanted")
+    processes = processes_in(options)
     parts = Parts(os.path.abspath(options.parts), "sqlite" if options.sqlite else "csv") if options.parts else None
     are_kept, wait = not (parts or options.totals or options.scheduler), number_of(options.wait, 0, MOST_WAIT)
     if wait is None:
         raise Wrong(f"--wait {options.wait}: seconds from 0 to {MOST_WAIT} are wanted")
-    return Asked(words, positions, processes, options.scheduler, options.send, parts, are_kept, wait, firsts, rows)
+    bases = books_own.bases_of(options) if is_own else ()
+    return Asked(words, positions, processes, options.scheduler, options.send, parts, are_kept, wait, firsts, rows, bases,
+                 drawn)
 
 
 # --- what is printed ---
@@ -190,39 +200,6 @@ def run_program(options: argparse.Namespace, books: list[ListedBook]) -> int:
     return failed[0] if failed else 1 if twice or any(outcome.doubt for outcome in outcomes) else status
 
 
-# --- positions and headroom ---
-
-def run_position_on(books: list[ListedBook], day: int, is_last: bool) -> int:
-    """The position of a day in each book, all of them or none; 1 where one lacks a command, or has one too many."""
-    lines, status = [], 0
-    for book in books:
-        columns, whole = columns_at(book.journal), tell(demand_undamaged(book.journal))
-        found = on_day(columns.days(), day, columns.upgrade())
-        if found.astray(is_last):
-            remark(f"{book.name}: {found.told(is_last, text_at(day))}")
-        status |= whole | bool(found.astray(is_last))
-        lines.append(f"{book.name},{found.at(is_last)}\n")
-    sys.stdout.writelines(lines)
-    return status
-
-
-def run_headroom(books: list[ListedBook], wanted: Wanted) -> int:
-    """The room of each book; one that can't be told is a line, and its status is the whole's."""
-    print(f"book,{HEAD}")
-    failed, told = 0, 0
-    for book in books:
-        try:
-            room, status = room_at(book.journal, book.name, wanted)
-            print(f"{book.name},{room.row()}")
-            told |= told_of(book.name, room, wanted) | status
-        except (Wrong, OSError) as wrong:
-            outcome = failure(book.name, wrong)
-            print_book(outcome)
-            remark(f"{book.name}: status {outcome.status}: {outcome.line}")
-            failed = failed or outcome.status
-    return failed or told
-
-
 def arguments(parser: argparse.ArgumentParser) -> None:
     parser.add_argument("list", metavar="LIST", help="the list of books")
     parser.add_argument("words", metavar="WORDS", nargs="+", help=" or ".join(WORDS))
@@ -255,8 +232,8 @@ def run(options: argparse.Namespace) -> int:
         books_own.demand_files(options)
     books = books_at(options.list)
     if word in ("position-on", "headroom"):
-        words = program_words(options)
+        words, processes = program_words(options), processes_in(options)
         if word == "headroom":
-            return run_headroom(books, wanted_of(options))
-        return run_position_on(books, number_at(day_in(words[1])), options.last)
+            return run_headroom(books, wanted_of(options), processes)
+        return run_position_on(books, number_at(day_in(words[1])), options.last, processes)
     return run_program(options, books)

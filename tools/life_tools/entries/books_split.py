@@ -12,7 +12,8 @@ from life_tools.columns import columns_in
 from life_tools.copied_folder import JOURNAL, basis_files, reading
 from life_tools.day_columns import day_at
 from life_tools.division_rules import is_rule, places_by, rules_in
-from life_tools.divisions import Division, Unlike, demand_alike, desk_for, run_parts
+from life_tools.desks import desk_for
+from life_tools.divisions import PREFIX, TIMES_THE_JOURNAL, Division, Unlike, demand_alike, run_parts
 from life_tools.formats import MOST_WORKERS, Wrong, bytes_of, day_in, demand, number_of, remark
 from life_tools.journal_columns import UPGRADE
 from life_tools.journals import gate_of
@@ -73,7 +74,7 @@ def divide(options: argparse.Namespace, journal: str, words: list[str], folders:
         demand(division.basis in names, f"there is no {os.path.join(division.folder, division.basis)}")
         demand_new_folders(folders, [JOURNAL, SEAL, *names])
         seal = seal_of(division.folder, division.book.count, [division.basis])
-        with desk_for(len(division.data)) as desk:
+        with desk_for(TIMES_THE_JOURNAL * len(division.data), PREFIX) as desk:
             run_parts(division, desk, life_command(), processes)
             demand_alike(division, desk)
             shared = {SEAL: text_of(seal).encode("ascii")}

@@ -16,18 +16,16 @@ from __future__ import annotations
 
 import argparse
 import datetime
-import os
 import sys
 
-from life_tools.columns import columns_in
-from life_tools.copied_folder import JOURNAL, dry_run, journal_bytes
 from life_tools.formats import MOST_COMMANDS, Wrong, day_in, demand, number_of, remark
 from life_tools.held_rows import Holding, divide, policies_in
-from life_tools.journals import count_of
+from life_tools.packages import stay
 from life_tools.program import life_command
 from life_tools.script_lines import Line, lanes_of, script_at
 from life_tools.script_warnings import Desk
 from life_tools.transcript_check import answers_in
+from life_tools.trials import Trial, trial_of
 from life_tools.wholeness import tell_doubt
 
 
@@ -61,23 +59,37 @@ def look_over(lines: list[Line], transcript: str, desk: Desk, holding: Holding) 
     return told
 
 
-def answered(options: argparse.Namespace, data: bytes | None) -> str:
+def answered(trial: Trial) -> str:
     """The transcript of the dry run, in which the program judges the journal."""
-    path = os.path.join(options.folder, JOURNAL)
-    status, transcript = dry_run(options.script, data, options.folder, options.basis, life_command(options.life))
+    status, transcript = trial.answer()
     if transcript.startswith("badjournal,"):
-        columns_in(data or b"", path)
+        from life_tools.columns import looked_at, taken
+
+        taken(looked_at(trial.copy)[0], trial.path)
     demand(status == 0, f"the dry run ended with {status}: {transcript[:200].strip()}")
     return transcript
 
 
+def tried(options: argparse.Namespace, lines: list[Line], desk: Desk) -> str:
+    """The transcript of the dry run; the desk gets what the policies of the lines have in the journal."""
+    with trial_of(options.script, options.folder, options.basis, life_command(options.life)) as trial:
+        tell_doubt(trial.path, trial.seen)
+        with trial.records() as (data, count):
+            # numpy takes a tenth of a second, in which the program is at work
+            from life_tools.journal_columns import places_in, upgrade_in
+
+            upgrade = upgrade_in(data, count)
+            places = places_in(data, count, {line.command.number for line in lines if line.command})
+            transcript = answered(trial)
+            desk.read(data, upgrade, places.tolist())
+    return transcript
+
+
 def run(options: argparse.Namespace) -> int:
+    stay()
     today = day_in(options.today) if options.today else datetime.date.today()
-    lines, data = script_at(options.script), journal_bytes(options.folder)
-    tell_doubt(os.path.join(options.folder, JOURNAL))
-    transcript, desk = answered(options, data), Desk(today)
-    if data:
-        desk.read(data, count_of(data, options.folder), {line.command.number for line in lines if line.command})
+    lines, desk = script_at(options.script), Desk(today)
+    transcript = tried(options, lines, desk)
     holding = Holding(policies_in(options.also_held))
     told = look_over(lines, transcript, desk, holding)
     if options.hold:

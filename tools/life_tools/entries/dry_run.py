@@ -10,12 +10,11 @@ its syncs, and a long script takes as long as it will take in earnest on such a 
 from __future__ import annotations
 
 import argparse
-import os
 import sys
 
-from life_tools.copied_folder import JOURNAL, dry_run, journal_bytes
 from life_tools.formats import remark
 from life_tools.program import life_command
+from life_tools.trials import trial_of
 from life_tools.wholeness import tell_doubt
 
 
@@ -27,9 +26,9 @@ def arguments(parser: argparse.ArgumentParser) -> None:
 
 
 def run(options: argparse.Namespace) -> int:
-    journal = journal_bytes(options.folder)
-    tell_doubt(os.path.join(options.folder, JOURNAL))
-    status, transcript = dry_run(options.script, journal, options.folder, options.basis, life_command(options.life))
+    with trial_of(options.script, options.folder, options.basis, life_command(options.life)) as trial:
+        tell_doubt(trial.path, trial.seen)
+        status, transcript = trial.answer()
     sys.stdout.write(transcript)
     sys.stdout.flush()
     accepted, refused = transcript.count(",accepted,"), transcript.count(",refused,")

@@ -18,8 +18,9 @@ import sys
 from typing import Iterator, NamedTuple
 
 from life_tools.arrays import Array, Cents, np
-from life_tools.columns import columns_at
+from life_tools.columns import looked_at, taken
 from life_tools.day_columns import LAST, NEVER, anniversaries, number_at, texts_at
+from life_tools.entries.why import position_in
 from life_tools.formats import Wrong, day_in, demand, money, number_of, remark
 from life_tools.policy_columns import LAPSED, TERM, Policies, is_insured, missed
 from life_tools.record_texts import moneys
@@ -124,6 +125,7 @@ def arguments(parser: argparse.ArgumentParser) -> None:
     parser.add_argument("day", metavar="DAY", help="YYYY-MM-DD")
     parser.add_argument("journal", metavar="JOURNAL", nargs="?", default="journal.life", help="else journal.life")
     parser.add_argument("--within", metavar="DAYS", default="0", help=f"also what falls due so many days later, 0 to {MOST_DAYS}")
+    parser.add_argument("--at", metavar="P", help="of the book as its first P postings left it (all)")
     parser.add_argument("--script", metavar="KINDS", help="the lines to send, sorted by day: lapse, mature, or lapse,mature")
 
 
@@ -132,8 +134,11 @@ def run(options: argparse.Namespace) -> int:
     within = number_of(options.within, 0, MOST_DAYS)
     if within is None:
         raise Wrong(f"--within {options.within}: a number of days from 0 to {MOST_DAYS} is wanted")
-    tell_doubt(options.journal)
-    items = Items(columns_at(options.journal).policies, number_at(day), within).find_all()
+    position = position_in(options.at)
+    demand(position is None or not kinds, "--at is of a list: lines are sent to the book as it is now")
+    judged, blocks = looked_at(options.journal)
+    tell_doubt(options.journal, blocks.seen)
+    items = Items(taken(judged, options.journal, position).policies, number_at(day), within).find_all()
     if kinds:
         chosen = np.isin(items.what, [WHATS.index(kind) for kind in kinds])
         items = Due(*(column[chosen] for column in items))

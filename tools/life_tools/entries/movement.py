@@ -30,6 +30,7 @@ from life_tools.provenance import provenance
 from life_tools.report_sheets import movement_sheet
 from life_tools.sheet_files import write_workbook
 from life_tools.sheet_pages import page
+from life_tools.sheets import BY_BOUNDS
 
 # so many policies are written at once
 AT_ONCE = 1 << 14
@@ -60,6 +61,10 @@ def bases_of(options: argparse.Namespace) -> list[Bases]:
         return [bases_in(name, None, None) for name in options.basis]
     name = options.basis[0] if options.basis else None
     return [bases_in(name, options.classes, path) for path in options.bases or [None]]
+
+
+TOLD = ("each column is a sum of the printed rows' bounds, of the lower or of the upper ones; a line is what that sum moved by",
+        "a policy counts on one line, that of its last posting; `statement` counts each posting")
 
 
 class Moment(NamedTuple):
@@ -107,7 +112,7 @@ def write_policies(path: str, changes: Changes) -> None:
 
 
 def shown(lines: list[Moved]) -> str:
-    rows = [("", "policies", "lower bounds", "upper bounds")]
+    rows = [("", "policies", *(column.name for column in BY_BOUNDS))]
     rows += [(it.name, str(it.policies), money(it.cents[0]), money(it.cents[1])) for it in lines]
     widths = [max(len(row[place]) for row in rows) for place in range(4)]
     return "\n".join("  ".join([row[0].ljust(widths[0]), *(row[k].rjust(widths[k]) for k in (1, 2, 3))]) for row in rows)
@@ -136,7 +141,7 @@ def moved_in(books: Books) -> tuple[Changes, list[Moved], Cash]:
 def notes_of(books: Books) -> list[str]:
     notes = [f"{valuation.words} policies of the {name} have a word in place of bounds, and are in no sum"
              for name, valuation in ((LINES[0], books.opening), (LINES[-1], books.closing)) if valuation.words]
-    return [*notes, "a policy counts on one line, that of its last posting; `statement` counts each posting"]
+    return [*notes, *TOLD]
 
 
 def run(options: argparse.Namespace) -> int:

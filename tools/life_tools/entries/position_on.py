@@ -10,7 +10,7 @@ from __future__ import annotations
 
 import argparse
 
-from life_tools.columns import Columns, columns_at
+from life_tools.columns import Columns, looked_at, taken
 from life_tools.commands import words_of
 from life_tools.day_columns import number_at
 from life_tools.formats import day_in, remark
@@ -36,8 +36,9 @@ def tell_astray(book: Columns, found: OnDay, is_last: bool, day: str) -> None:
 
 
 def run(options: argparse.Namespace) -> int:
-    day, book = day_in(options.day), columns_at(options.journal)
-    status = tell(demand_undamaged(options.journal))
+    day, (judged, blocks) = day_in(options.day), looked_at(options.journal)
+    book = taken(judged, options.journal)
+    status = tell(demand_undamaged(options.journal, blocks.seen))
     found = on_day(book.records.day, number_at(day), book.upgrade)
     print(found.at(options.last), flush=True)
     if not found.astray(options.last):

@@ -14,8 +14,8 @@ from __future__ import annotations
 import argparse
 import sys
 
-from life_tools.columns import Columns, judged
-from life_tools.formats import Wrong, bytes_of, money, remark
+from life_tools.columns import Columns, looked_at
+from life_tools.formats import Wrong, money, remark
 from life_tools.journals import Journal, is_unfinished_creation
 from life_tools.record_texts import lines_of, plain_template, transactions_of
 from life_tools.wholeness import demand_undamaged, tell
@@ -35,13 +35,12 @@ def print_balances(book: Columns) -> None:
 
 
 def run(options: argparse.Namespace) -> int:
-    data = bytes_of(options.journal)
-    book = judged(data)
+    book, blocks = looked_at(options.journal)
     if isinstance(book, Journal):
         print(book.refused, flush=True)
         raise Wrong(f"{options.journal}: {book.why}")
-    status = tell(demand_undamaged(options.journal))
-    if is_unfinished_creation(data):
+    status = tell(demand_undamaged(options.journal, blocks.seen))
+    if is_unfinished_creation(blocks.front):
         remark(f"{options.journal}: an unfinished creation, which the program makes a journal without records")
     if options.ledger:
         sys.stdout.writelines(transactions_of(book))

@@ -11,9 +11,7 @@ ages are those at issue.
 from __future__ import annotations
 
 import argparse
-import os
 import sys
-from typing import Callable
 
 from life_tools.class_bases import Bases, basis_arguments, bases_in
 from life_tools.class_columns import basis_rows, valued_columns
@@ -27,6 +25,7 @@ from life_tools.report_files import lines_of, write_csv
 from life_tools.report_pages import page
 from life_tools.report_sheets import sheet_of
 from life_tools.sheet_files import write_workbook
+from life_tools.written_files import write_text as write_text, written_whole as written_whole
 
 DEFAULT = ("plan", "status", "issue-year")
 HEADS = {2: ("lower bound", "upper bound"), 4: ("lower bound", "upper bound", "minimum, lower", "minimum, upper")}
@@ -60,19 +59,6 @@ def keys_in(given: list[str] | None) -> list[list[str]]:
             demand(key in KEYS, f"{key} is none of {', '.join(KEYS)}")
         demand(len(set(keys)) == len(keys), f"{','.join(keys)} has a key twice")
     return tables
-
-
-def written_whole(path: str, write: Callable[[str], None]) -> None:
-    """A file that is there whole or not at all."""
-    part = f"{path}.part"
-    try:
-        write(part)
-        os.replace(part, path)
-    except OSError as error:
-        raise Wrong(f"{path}: {error.strerror}") from error
-    finally:
-        if os.path.exists(part):
-            os.remove(part)
 
 
 def read_both(folder: str, position: int | None, life: str | None, on: str, bases: Bases, measure: str,
@@ -123,8 +109,3 @@ def run(options: argparse.Namespace) -> int:
         for keys, groups in tables:
             sys.stdout.write("\n" + "\n".join(lines_of(keys, groups, total, columns)) + "\n")
     return 0
-
-
-def write_text(path: str, text: str) -> None:
-    with open(path, "w", encoding="utf-8") as file:
-        file.write(text)

@@ -13,7 +13,6 @@ from __future__ import annotations
 import argparse
 import os
 
-from life_tools.entries.report import written_whole
 from life_tools.explanations import CURES, WANTED, line_and_column, shown
 from life_tools.foreign_tables import MOST_BYTES, document_at, document_of
 from life_tools.formats import Wrong, demand, read_whole, remark
@@ -23,6 +22,7 @@ from life_tools.table_remarks import kind_of, remarks_on, whose
 from life_tools.table_rounding import rounded_file
 from life_tools.tables import NotXml, read_table, root_of
 from life_tools.verdicts import STANDS_FOR, name_for, verdict_on
+from life_tools.written_files import written_whole
 
 
 def arguments(parser: argparse.ArgumentParser) -> None:

@@ -10,7 +10,7 @@ from fractions import Fraction
 from html import escape
 from typing import NamedTuple, Sequence
 
-from life_tools.entries.why import compared
+from life_tools.explained_rows import compared
 from life_tools.printed_books import ValuedRow
 from life_tools.report_pages import money
 from life_tools.reserves import InForce, Insured, PaidUp, Terms, exact_value, insured_on, is_insured, row_for, terms_of

@@ -133,5 +133,5 @@ def days_of(journal: str, count: int) -> tuple[Array, int]:
     if not count:
         return np.zeros(0, np.int32), 0
     records = np.memmap(journal, RECORD, "r", FIRST_GATE, count)
-    upgrades = np.flatnonzero(records["head"] >> 24 == UPGRADE)
+    upgrades = np.flatnonzero(records["kind"] == UPGRADE)
     return records["day"].astype(np.int32), int(upgrades[0]) + 1 if len(upgrades) else 0

@@ -11,6 +11,7 @@ from life_tools.positions import on_day
 from life_tools.provenance import provenance
 from life_tools.report_pages import apart, money
 from life_tools.revisions import revision
+from life_tools.sheets import BY_BOUNDS
 from life_tools.window import pictures
 from life_tools.window.asked import Asked, BadRequest
 from life_tools.window.downloads import csv_parts, workbook
@@ -181,7 +182,7 @@ def movement(book: LookedAt, asked: Asked, at: int) -> Answer:
     opening, *between, closing = rows
     most = max((abs(cents_of(row[3])) for row in between), default=0)
     moved = [[*cells(row), Cell("", picture=pictures.bar(cents_of(row[3]), most))] for row in between]
-    table = Table("What moved", [*heads(("line", "policies", "lower bounds", "upper bounds")), Head("", "bar")],
+    table = Table("What moved", [*heads(("line", "policies", *(column.name for column in BY_BOUNDS))), Head("", "bar")],
                   [[*cells(opening), Cell("")], *moved],
                   [[*cells(closing), Cell("")],
                    [Cell("printed by life"), *cells((valuation.policies, *map(money, valuation.total))), Cell("")]])
@@ -204,7 +205,7 @@ def cents_of(text: str) -> int:
 
 
 def movement_table(run: ToolRun) -> list[list[str]]:
-    return [["line", "policies", "lower bounds", "upper bounds"], *moved_rows(run)[0]]
+    return [["line", "policies", *(column.name for column in BY_BOUNDS)], *moved_rows(run)[0]]
 
 
 def movement_csv(book: LookedAt, asked: Asked, at: int) -> Answer:

@@ -1,20 +1,26 @@
 -- A text that is gathered before it is written
-use Rattle.std.specs.Prelude.{◌≡◌, ℕ, ◌≤◌, List, ◌++◌, Option, Some, None}
+use Rattle.std.specs.Prelude.{◌≡◌, ℕ, List, ◌++◌, Option, Some, None}
 use Rattle.std.specs.Io.KnownBytes.{Appends}
 use Rattle.outside_io.specs.Faults.{Rose}
 use Rattle.outside_io.specs.Streams.{AppendsPart}
+use Rattle.lane_runner.specs.declared.transcript.TranscriptLine.{TranscriptLine}
 use Rattle.lane_runner.specs.declared.wording.Unwritten.{Unwritten}
 use Rattle.lane_runner.specs.declared.wording.Unwritten.TheVariants.{WriteFault, NoMemory}
+use Rattle.lane_runner.specs.Written.{StopsShort, line_texts}
 
--- all of the text so far was written but what is gathered
+-- all of the text so far was written but what is gathered, and the output had no fault
 pub record IsGathering (faults faults_now : ℕ) (before now : Option (List ℕ)) (text gathered : List ℕ) : Type 0 where
-  pub passed : faults ≤ faults_now
+  pub held : faults_now ≡ faults
   pub out : List ℕ
   pub wrote : Appends before now out
   pub is : out ++ gathered ≡ text
 
--- Of the text so far all was written but what is gathered; or a front and not all of it, and no more will be.
-abbrev pub HasPutOut : (faults faults_now : ℕ) (before now : Option (List ℕ)) (text gathered : List ℕ) → Option Unwritten → Type 0
-HasPutOut faults faults_now before now text gathered None = IsGathering faults faults_now before now text gathered
-HasPutOut faults faults_now before now text gathered (Some WriteFault) = Rose faults faults_now × AppendsPart before now text
-HasPutOut faults faults_now before now text gathered (Some NoMemory) = AppendsPart before now text
+-- Of the text of the lines so far all was written but what is gathered; or a front and not all of it, since the output failed,
+-- or that of the lines before one for which memory was wanting; and no more will be.
+abbrev pub HasPutOut : (faults faults_now : ℕ) (before now : Option (List ℕ)) → (TranscriptLine → List ℕ) → List TranscriptLine
+    → (gathered : List ℕ) → Option Unwritten → Type 0
+HasPutOut faults faults_now before now text lines gathered None =
+    IsGathering faults faults_now before now (line_texts text lines) gathered
+HasPutOut faults faults_now before now text lines gathered (Some WriteFault) =
+    Rose faults faults_now × AppendsPart before now (line_texts text lines)
+HasPutOut faults faults_now before now text lines gathered (Some NoMemory) = StopsShort faults faults_now before now text lines

@@ -13,6 +13,15 @@ use Rattle.lane_runner.specs.declared.transcript.TranscriptLine.{TranscriptLine}
 abbrev pub HasNext : Inlet → Type 0
 HasNext inlet = 0 < inlet.left → 0 < length (known_items inlet.ring)
 
+-- lines are left, and the next one isn't known
+abbrev pub LacksNext : Inlet → Type 0
+LacksNext inlet = (0 < inlet.left) × (length (known_items inlet.ring) ≡ 0)
+
+-- one of the lanes has lines left, and hasn't told the next one
+abbrev pub IsWaitedFor : List Inlet → Type 0
+IsWaitedFor [] = ⊥
+IsWaitedFor (inlet ∷ inlets) = LacksNext inlet ⊎ IsWaitedFor inlets
+
 -- more may be known of what comes next
 pub record HasLooked (old new : Inlet) : Type 0 where
   pub ring : ConsumerLooked old.ring new.ring

@@ -26,6 +26,7 @@ use Rattle.program_endings.specs.Status.{status_of}
 use Rattle.program_endings.specs.Replies.{AreAnswered}
 use Rattle.program_endings.specs.Writing.{IsWholeInput, WroteAll}
 use Rattle.script_run.specs.Outcome.{IsRunOf}
+use Rattle.script_run.specs.Texts.{WroteWhole}
 use Rattle.script_run.specs.Running.{EndsLanes, EndsRead, EndsRun}
 use Rattle.transcript_text.specs.Transcript.{posting_text, reports_text}
 use Rattle.watcher_set.specs.Noted.{reports_of}
@@ -130,7 +131,7 @@ too_soon safe =
     opens_to_one cut_file (hand_issue ∷ []) ((hand_issue ∷ []) ++ hand_premium ∷ opens.0) (second_left.opened honest_last) opens.1 in
     absurd (let long = ap length same in omega (arith, long))
 
-ran : IsRunOf called cut_disk last_disk premium_lanes [] two_auditors (output_of premium_text) (WroteAll (output_of premium_text)) AreAnswered
+ran : IsRunOf called cut_disk last_disk premium_lanes [] two_auditors (output_of premium_text) (WroteWhole (output_of premium_text)) AreAnswered
 unfolding answered told digits only_piece
 ran = record {
   commands = hand_issue ∷ [];

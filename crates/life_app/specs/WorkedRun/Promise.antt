@@ -12,9 +12,10 @@ use Rattle.office_state.specs.Worked.{hand_issue, hand_premium, premium_turn}
 use Rattle.policy_types.specs.declared.entry.Reply.TheVariants.{Accepted}
 use Rattle.script_run.specs.Shown.{AreSafeWhenShown}
 use Rattle.program_endings.specs.Replies.{AreAnswered}
-use Rattle.program_endings.specs.Writing.{Input, IsWholeInput, Shelving, Stream, WroteAll}
+use Rattle.program_endings.specs.Writing.{Input, IsWholeInput, Shelving, Stream}
 use Rattle.program_endings.specs.declared.ending.Ending.TheVariants.{Done}
 use Rattle.script_run.specs.Outcome.{EndsScript, IsRunOf}
+use Rattle.script_run.specs.Texts.{WroteWhole}
 use Rattle.script_run.specs.Running.{EndsLanes, EndsRead, EndsRun}
 use Rattle.script_run.specs.Worked.{input_that_gave}
 use Rattle.watcher_set.specs.Noted.{Auditor}
@@ -70,7 +71,7 @@ GivenByHand = ((words : List (String Global)) → AreTyped words (codes "run" �
 
 -- the program obeyed them, over the file that the crash had cut, and nothing was asked of the shelf
 abbrev pub ObeyedByHand : Type 0
-ObeyedByHand = IsRunOf called cut_disk last_disk premium_lanes [] two_auditors (output_of premium_text) (WroteAll (output_of premium_text)) AreAnswered
+ObeyedByHand = IsRunOf called cut_disk last_disk premium_lanes [] two_auditors (output_of premium_text) (WroteWhole (output_of premium_text)) AreAnswered
     × EndsScript called cut_disk last_disk premium_lanes [] two_auditors (output_of premium_text) Done
     × EndsLanes called cut_disk last_disk premium_lanes (codes "basis.csv") two_auditors (shelf_that_told []) (output_of premium_text) (Unit {0}) Done
     × EndsRead called cut_disk last_disk (codes "basis.csv") two_auditors given_script (output_of premium_text) (shelf_that_told []) (Unit {0}) Done

@@ -1,5 +1,5 @@
 -- How a run ends by what was told of its lines
-use Rattle.std.specs.Prelude.{◌≡◌, ◌⊎◌, ℕ, ◌≤◌, ◌++◌, Option, true, false, List, codes, Result, Ok, Err}
+use Rattle.std.specs.Prelude.{◌≡◌, ◌⊎◌, ℕ, ◌≤◌, ◌++◌, Option, true, false, List, codes, map, Result, Ok, Err}
 use Rattle.outside_io.specs.Faults.{Rose}
 use Rattle.std.specs.List.{AllByRecursion}
 use Rattle.outside_io.specs.Streams.{AppendsPart, TakenPiece}
@@ -12,7 +12,9 @@ use Rattle.program_endings.specs.declared.ending.Ending.{Ending}
 use Rattle.program_endings.specs.declared.ending.Ending.TheVariants.{Done, WriteFault, DiskFault as DiskFailed, NoMemory as NoRoom}
 use Rattle.program_endings.specs.Writing.{Stream, WroteAll, WroteLine}
 use Rattle.lane_runner.specs.Tallies.{any_faulted, any_lacked}
-use Rattle.transcript_text.specs.Told.{run_text, told_texts}
+use Rattle.transcript_text.specs.Told.{run_text, told_text}
+use Rattle.transcript_text.specs.Transcript.{reports_text}
+use Rattle.script_run.specs.Texts.{WroteUpTo}
 
 -- How a run ends whose lines were answered: by what was written of its text, and then by whether the disk failed in one of
 -- them, or memory was lacking
@@ -23,7 +25,7 @@ EndsTold lines reports output DiskFailed = (any_faulted lines ≡ true) × Wrote
 EndsTold lines reports output WriteFault =
     Rose output.faults_before output.faults_after × AppendsPart output.before output.after (run_text lines reports)
 EndsTold lines reports output NoRoom =
-    AppendsPart output.before output.after (run_text lines reports)
+    WroteUpTo output (map told_text lines) (reports_text reports)
     ⊎ ((any_faulted lines ≡ false) × (any_lacked lines ≡ true) × WroteAll output (run_text lines reports))
 EndsTold lines reports output _ = ⊥
 
@@ -41,7 +43,7 @@ pub record AddsBy (before now : List TakenPiece) (since : ℕ) : Type 0 where
 -- since a first moment of the output the text of the answered lines was written, or a front of it
 abbrev pub IsWritten : {D : Type 0} → Stream → ℕ → Option (List ℕ) → Result (Ran D) Lack → Type 0
 IsWritten first faults after (Ok ran) =
-    (first.faults_before ≤ faults) × HasEnded first.faults_before faults first.before after (told_texts ran.transcript.lines) ran.written
+    (first.faults_before ≤ faults) × HasEnded first.faults_before faults first.before after told_text ran.transcript.lines ran.written
 IsWritten first faults after (Err lack) = (faults ≡ first.faults_before) × (after ≡ first.before)
 
 -- the lanes were run, or there was no memory to run them

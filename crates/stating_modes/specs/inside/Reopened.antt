@@ -1,17 +1,20 @@
 -- A journal and a store on the two disks, once the snapshot is read from them, or why there is none
-use Rattle.std.specs.Prelude.{◌≡◌, IsTrue}
+use Rattle.std.specs.Prelude.{◌≡◌, IsTrue, List, []}
 use Rattle.outside_io.specs.declared.disks.Disk.{Ghosts}
+use Rattle.policy_types.specs.declared.command.Command.{Command}
+use Rattle.policy_machine.specs.History.{opened_on}
 use Rattle.posting_journal.specs.Opening.{OpensOn}
 use Rattle.posting_journal.specs.Starting.{HasStarted}
 use Rattle.posting_journal.specs.States.{disk_of, is_clean}
 use Rattle.posting_journal.specs.declared.journal.Journal.{Journal}
-use Rattle.checkpoint_store.specs.Checkpoints.{IsSoundSnapshot}
+use Rattle.checkpoint_store.specs.Checkpoints.{IsSnapshotOf, IsSoundSnapshot}
 use Rattle.checkpoint_store.specs.Starts.{HasLookedAt}
 use Rattle.checkpoint_store.specs.Stores.{store_disk}
 use Rattle.checkpoint_store.specs.declared.faults.ReopenFault.{ReopenFault}
 use Rattle.checkpoint_store.specs.declared.faults.ReopenFault.TheVariants as fault
+use Rattle.checkpoint_store.specs.declared.snapshot.Snapshot.{Snapshot}
 use Rattle.checkpoint_store.specs.declared.store.Store.{Store}
-use Rattle.office_state.specs.Images.{IsLeftAlone}
+use Rattle.office_state.specs.Images.{IsLeftAlone, IsLeftBy}
 use Rattle.office_state.specs.Journals.{IsShown}
 use Rattle.office_state.specs.declared.faults.StartCause.{StartCause}
 use Rattle.office_state.specs.declared.faults.StartCause.TheVariants.{DiskFault, BadRecord, NoMemory}
@@ -31,6 +34,13 @@ pub record HasJournalOn {D : Type 0} {g : Ghosts D} (old : D) (journal : Journal
   pub honesty : g.honest (disk_of journal) → g.honest old
   pub opened : g.honest (disk_of journal) → HasStarted old journal
   pub opens : g.honest (disk_of journal) → OpensOn g old (disk_of journal)
+
+-- The books are those of commands, which the journal's disk holds still.
+pub record AreBooksOn {D : Type 0} (g : Ghosts D) (old new : D) (books : Snapshot) : Type 0 where
+  pub sound : IsSoundSnapshot books
+  pub commands : List Command
+  pub leave : IsSnapshotOf commands books
+  pub disk : IsLeftBy g old new (opened_on commands (g.faults old)) []
 
 -- the store was started on this disk
 pub record HasStoreOn {E : Type 0} {e : Ghosts E} (old : E) (store : Store E e) : Type 0 where

@@ -6,7 +6,7 @@ use Rattle.turn_lock.specs.History.{entries_of, longer}
 use Rattle.turn_lock.specs.Passes.{Page, all_turns, all_shares}
 use Rattle.turn_lock.specs.declared.seats.View.{View}
 use Rattle.turn_lock.specs.declared.seats.Stage.{Stage}
-use Rattle.turn_lock.specs.declared.seats.Stage.TheVariants.{Spent, Unnamed, Idle, Queued, Inside}
+use Rattle.turn_lock.specs.declared.seats.Stage.TheVariants.{Spent, Unnamed, Idle, Inside}
 
 -- every seat but one that was taken back
 abbrev pub IsLive : Stage → Type 0
@@ -81,15 +81,13 @@ module _ {O : Type 0} where
   abbrev pub named : View O → ℕ → View O
   named v n = record v { stage = Idle; number = n; names = n + 1; made = []; also = []; ended = [] }
 
-  abbrev pub queued : View O → ℕ → View O
-  queued v ticket = record v { stage = Queued ticket; left = v.left - 1 }
-
   -- the seat is inside, and has seen the whole history
-  abbrev pub inside : View O → ℕ → List Entry → View O
-  inside v ticket history = record v { stage = Inside ticket; seen = history }
+  abbrev pub inside : View O → List Entry → View O
+  inside v history = record v { stage = Inside; seen = history }
 
+  -- its turn is over, which was one of those left
   abbrev pub handed_on : View O → Entry → View O
-  handed_on v entry = record v { stage = Idle; seen = v.seen ++ entry ∷ []; made = v.made ++ entry ∷ [] }
+  handed_on v entry = record v { stage = Idle; left = v.left - 1; seen = v.seen ++ entry ∷ []; made = v.made ++ entry ∷ [] }
 
   abbrev pub compared : View O → View O
   compared v = record v { also = [] }

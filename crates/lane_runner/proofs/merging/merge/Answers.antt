@@ -1,7 +1,6 @@
 use Rattle.std.proofs.Common.{◌≡◌, List, length, refl, ap, sym, ◌∙◌, subst, arith}
 use Rattle.rtrb.specs.Ring.{received}
 use Rattle.lane_runner.specs.Tallies.{accepted_lines}
-use Rattle.lane_runner.specs.Written.{line_texts}
 use Rattle.lane_runner.specs.declared.transcript.TranscriptLine.{TranscriptLine}
 use Rattle.lane_runner.specs.inside.Gathering.{HasPutOut}
 use Rattle.lane_runner.specs.inside.Merging.{IsMerged}
@@ -19,9 +18,9 @@ loop-init g c = record {
   long = ap length c.requires.page.0;
   later = omega arith;
   put = subst (λ (lines : List TranscriptLine). HasPutOut (g.K.Sink.faults c.args.output.now) (g.K.Sink.faults c.args.output.now)
-      (g.K.Sink.written c.args.output.now) (g.K.Sink.written c.args.output.now) (line_texts g.X.Wording.text lines) c.args.page.now.bytes.items
+      (g.K.Sink.written c.args.output.now) (g.K.Sink.written c.args.output.now) g.X.Wording.text lines c.args.page.now.bytes.items
       c.args.page.now.stopped) (sym c.requires.page.0)
-      (put_none (g.K.Sink.faults c.args.output.now) (g.K.Sink.written c.args.output.now) c.args.page.now.bytes.items c.args.page.now.stopped
+      (put_none g.X.Wording.text (g.K.Sink.faults c.args.output.now) (g.K.Sink.written c.args.output.now) c.args.page.now.bytes.items c.args.page.now.stopped
       c.requires.page.1 c.requires.page.2);
   ring = ((refl, refl, refl, refl), refl);
   counted = ap length c.requires.none ∙ ap accepted_lines (sym c.requires.page.0);
@@ -60,8 +59,8 @@ returns g c =
       merged = subst (IsMerged c.loop.inlets) (sym same) c.loop.invariant.merged;
       later = omega (arith, c.flush.ensures.later, c.loop.invariant.later);
       put = subst (λ (lines : List TranscriptLine). HasPutOut (g.K.Sink.faults c.args.output.now) (g.K.Sink.faults c.flush.new.output)
-          (g.K.Sink.written c.args.output.now) (g.K.Sink.written c.flush.new.output) (line_texts g.X.Wording.text lines) c.flush.new.self.bytes.items
-          c.flush.new.self.stopped) (sym same) (c.flush.ensures.put _ _ _ c.loop.invariant.put);
+          (g.K.Sink.written c.args.output.now) (g.K.Sink.written c.flush.new.output) g.X.Wording.text lines c.flush.new.self.bytes.items
+          c.flush.new.self.stopped) (sym same) (c.flush.ensures.put _ _ g.X.Wording.text c.loop.page.lines c.loop.invariant.put);
       flushed = c.flush.ensures.empty;
       ring = c.loop.invariant.ring;
       counted = c.loop.invariant.counted ∙ ap accepted_lines (sym same);

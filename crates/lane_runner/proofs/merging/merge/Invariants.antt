@@ -2,7 +2,6 @@ use Rattle.std.proofs.Common.{◌≡◌, ◌+◌, ◌≤◌, length}
 use Rattle.std.specs.List.{AllZip}
 use Rattle.rtrb.specs.Ring.{SameConsumer, received}
 use Rattle.lane_runner.specs.Tallies.{accepted_lines}
-use Rattle.lane_runner.specs.Written.{line_texts}
 use Rattle.lane_runner.specs.inside.Gathering.{HasPutOut}
 use Rattle.lane_runner.specs.inside.Merging.{HasTakenLines, IsMerged, all_to_come}
 use Rattle.lane_runner.specs.inside.Showing.{IsShowing}
@@ -16,7 +15,7 @@ invariant-loop g l = record {
   long : length l.page.lines ≡ l.counter;
   later : g.K.Sink.faults l.initial.output ≤ g.K.Sink.faults l.output;
   put : HasPutOut (g.K.Sink.faults l.initial.output) (g.K.Sink.faults l.output) (g.K.Sink.written l.initial.output) (g.K.Sink.written l.output)
-      (line_texts g.X.Wording.text l.page.lines) l.page.bytes.items l.page.stopped;
+      g.X.Wording.text l.page.lines l.page.bytes.items l.page.stopped;
   ring : SameConsumer l.initial.moments.ring l.moments.ring;
   counted : length (received l.moments.ring) ≡ accepted_lines l.page.lines;
   shown : IsShowing g.X.Wording.text (g.K.Sink.pieces l.initial.output) (g.K.Sink.pieces l.output) l.page.lines (received l.moments.ring)

@@ -3,7 +3,6 @@ use Rattle.std.specs.List.{slice_set}
 use Rattle.std.proofs.lemmas.Option.{slice_get-get_or}
 use Rattle.rtrb.specs.Ring.{received}
 use Rattle.lane_runner.specs.declared.transcript.TranscriptLine.{TranscriptLine}
-use Rattle.lane_runner.specs.Written.{line_texts}
 use Rattle.lane_runner.specs.inside.Gathering.{HasPutOut}
 use Rattle.lane_runner.specs.inside.Merging.{IsMerged}
 use Rattle.lane_runner.specs.inside.Showing.{IsShowing}
@@ -48,9 +47,9 @@ returns-clause-merged g c =
 pub returns-clause-put : goal.returns-clause-put
 returns-clause-put g c = λ faults first put.
     c.put.ensures.put faults first (subst (λ (lines : List TranscriptLine). HasPutOut faults (g.K.Sink.faults c.wait_for_next-near.new.output) first
-    (g.K.Sink.written c.wait_for_next-near.new.output) (line_texts g.X.Wording.text lines) c.wait_for_next-near.new.page.bytes.items
+    (g.K.Sink.written c.wait_for_next-near.new.output) g.X.Wording.text lines c.wait_for_next-near.new.page.bytes.items
     c.wait_for_next-near.new.page.stopped) (sym c.wait_for_next-near.ensures.lines)
-    (c.wait_for_next-near.ensures.put faults first (line_texts g.X.Wording.text c.args.page.now.lines) put))
+    (c.wait_for_next-near.ensures.put faults first g.X.Wording.text c.args.page.now.lines put))
 
 pub returns-clause-shown : goal.returns-clause-shown
 returns-clause-shown g c = λ first is.

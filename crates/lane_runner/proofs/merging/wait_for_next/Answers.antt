@@ -7,7 +7,7 @@ loop-init g c = record {
   looked = looked_none c.args.inlets.now;
   lines = refl;
   later = omega arith;
-  put = λ faults first text put. put;
+  put = λ faults first text lines put. put;
   shown = λ text first lines moments is. is;
 }
 
@@ -16,7 +16,7 @@ loop-preserved g c = record {
   looked = looked_more c.args.inlets.now c.loop.inlets c.look.new.inlets c.loop.invariant.looked c.look.ensures.looked;
   lines = c.flush.ensures.lines ∙ c.loop.invariant.lines;
   later = omega (arith, c.flush.ensures.later, c.loop.invariant.later);
-  put = λ faults first text put. c.flush.ensures.put faults first text (c.loop.invariant.put faults first text put);
+  put = λ faults first text lines put. c.flush.ensures.put faults first text lines (c.loop.invariant.put faults first text lines put);
   shown = λ text first lines moments is. c.flush.ensures.shown text first lines moments (c.loop.invariant.shown text first lines moments is);
 }
 

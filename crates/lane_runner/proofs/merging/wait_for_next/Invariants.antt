@@ -12,9 +12,9 @@ invariant-loop g l = record {
   looked : AllZip HasLooked l.initial.inlets l.inlets;
   lines : l.page.lines ≡ l.initial.page.lines;
   later : g.K.Sink.faults l.initial.output ≤ g.K.Sink.faults l.output;
-  put : (faults : ℕ) (first : Option (List ℕ)) (text : List ℕ)
-      → HasPutOut faults (g.K.Sink.faults l.initial.output) first (g.K.Sink.written l.initial.output) text l.initial.page.bytes.items l.initial.page.stopped
-      → HasPutOut faults (g.K.Sink.faults l.output) first (g.K.Sink.written l.output) text l.page.bytes.items l.page.stopped;
+  put : (faults : ℕ) (first : Option (List ℕ)) (text : TranscriptLine → List ℕ) (lines : List TranscriptLine)
+      → HasPutOut faults (g.K.Sink.faults l.initial.output) first (g.K.Sink.written l.initial.output) text lines l.initial.page.bytes.items l.initial.page.stopped
+      → HasPutOut faults (g.K.Sink.faults l.output) first (g.K.Sink.written l.output) text lines l.page.bytes.items l.page.stopped;
   shown : (text : TranscriptLine → List ℕ) (first : List TakenPiece) (lines : List TranscriptLine) (moments : List ℕ)
       → IsShowing text first (g.K.Sink.pieces l.initial.output) lines moments l.initial.page.latest l.initial.page.bytes.items l.initial.page.stopped
       → IsShowing text first (g.K.Sink.pieces l.output) lines moments l.page.latest l.page.bytes.items l.page.stopped;

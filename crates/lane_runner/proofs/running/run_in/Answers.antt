@@ -54,7 +54,7 @@ returns-clause-answered g c =
     c.run_beside.ensures.moved c.run_beside.ensures.sorted c.new.result (c.new.ensures ∙ c.leave_all.ensures.callers)
 
 pub returns-clause-wrote : goal.returns-clause-wrote
-returns-clause-wrote g c = c.written-written.ensures.put _ _ _ _ _ c.run_beside.ensures.put
+returns-clause-wrote g c = c.written-written.ensures.put _ _ _ _ g.X.Wording.text c.run_beside.new.page.lines c.run_beside.ensures.put
 
 pub returns-clause-shown : goal.returns-clause-shown
 returns-clause-shown g c = c.written-written.ensures.shown _ _ _ _ _ c.run_beside.ensures.counted c.run_beside.ensures.shown

@@ -1,28 +1,8 @@
-use Rattle.std.proofs.Common.{ℕ, ◌≡◌, ◌∙◌, ap, inl, inr, refl, sym, Err}
+use Rattle.std.proofs.Common.{ℕ, ◌≡◌, ◌∙◌, ap, inl, refl, Err}
 use Rattle.script_run.specs.declared.intake.Unread.TheVariants.{TooLong, BadRow, ReadFault}
-use Rattle.script_run.proofs.RunSteps.{ends_unread, failed_told, no_room}
+use Rattle.script_run.proofs.RunSteps.{asked_by, ends_unread, lanes_begun, lanes_not_begun, starts_heard}
 use Rattle.script_run.proofs.ScriptSteps.{script_lanes}
-use Rattle.program_endings.specs.Writing.{between, input_between}
 use Rattle.script_run.proofs.running.run.Goals as goal
-
-pub run_heard-requires-clause-lanes : goal.run_heard-requires-clause-lanes
-run_heard-requires-clause-lanes g c κs within =
-    let read = c.in-Ok.ensures.ok in
-    rw c.as_slice-lanes.ensures (script_lanes read.0 _ read.1.1 read.1.0)
-
-pub returns-in-Ok-clause-ends : goal.returns-in-Ok-clause-ends
-returns-in-Ok-clause-ends g c =
-    let read = c.in-Ok.ensures.ok in
-    elim c.run_heard.ensures.ends [
-      | inl ends ↦ inl (record {
-        bytes = read.0;
-        gave = read.2;
-        lanes = c.in-Ok.script;
-        read = read.1;
-        ends = rw c.as_slice-lanes.ensures at ends;
-      })
-      | inr none ↦ inr (none.0, none.1, no_room (input_between g.S.Source.faults g.S.Source.left g.S.Source.given g.S.Source.ended c.args.input.now c.read_lanes.new.input) (between g.K.Sink.faults g.K.Sink.written g.K.Sink.pieces c.args.output.now c.run_heard.new.output) _ none.2 none.3)
-    ]
 
 pub returns-in-Err-clause-ends : goal.returns-in-Err-clause-ends
 returns-in-Err-clause-ends g c =
@@ -34,12 +14,46 @@ returns-in-Err-clause-ends g c =
     })
     c.refuse.ensures.says
 
-pub returns-in-Ok-clause-heard : goal.returns-in-Ok-clause-heard
-returns-in-Ok-clause-heard g c = λ rose.
-    let failed = c.read_lanes.ensures.counted rose in
-    let given = c.in-Ok.is in cc
+pub count_postings-requires : goal.count_postings-requires
+count_postings-requires g c =
+    let read = c.in-Ok.ensures.ok in
+    rw c.as_slice-lanes.ensures (script_lanes read.0 _ read.1.1 read.1.0).right.lines
 
-pub returns-in-Err-clause-heard : goal.returns-in-Err-clause-heard
-returns-in-Err-clause-heard g c = λ rose.
-    let same : Err c.in-Err.unread ≡ Err ReadFault = sym c.in-Err.is ∙ c.read_lanes.ensures.counted rose in
-    let failed : c.in-Err.unread ≡ ReadFault = cc in failed_told c.in-Err.unread _ c.refuse.result failed c.refuse.ensures.says
+pub run_office-requires-clause-lanes : goal.run_office-requires-clause-lanes
+run_office-requires-clause-lanes g c κs within =
+    let read = c.in-Ok.ensures.ok in
+    rw c.as_slice-lanes.ensures (script_lanes read.0 _ read.1.1 read.1.0)
+
+pub run_office-requires-clause-started : goal.run_office-requires-clause-started
+run_office-requires-clause-started g c κs within = (
+  c.args.disk,
+  (c.args.watchers, starts_heard g.D.Disk c.args.disk c.args.watchers _ _ _ c.in-Ok-begin.ensures.opened c.in-Ok-moment_ring.ensures.ends),
+)
+
+pub returns-in-Ok-begin-clause-ends : goal.returns-in-Ok-begin-clause-ends
+returns-in-Ok-begin-clause-ends g c =
+    let read = c.in-Ok.ensures.ok in
+    inl (record {
+      bytes = read.0;
+      gave = read.2;
+      lanes = c.in-Ok.script;
+      read = read.1;
+      ends = lanes_begun g.D.Disk c.args.disk c.run_office.result.disk c.in-Ok.script c.args.name.now (g.W.Watching.handed c.args.watchers) _ _ _ c.run_office.result.ending _
+          (asked_by c.in-Ok.script _ c.needs_basis.result c.args.name _ c.then_some-asked.ensures c.needs_basis.ensures c.as_slice-lanes.ensures)
+          c.in-Ok-begin.begun.basis c.in-Ok-begin.ensures.basis
+          (rw (c.as_slice-lanes.ensures, c.in-Ok-begin.ensures.silent) at (c.run_office.ensures.ends c.args.disk c.args.watchers
+          (starts_heard g.D.Disk c.args.disk c.args.watchers _ _ _ c.in-Ok-begin.ensures.opened c.in-Ok-moment_ring.ensures.ends)));
+    })
+
+pub returns-clause-ends : goal.returns-clause-ends
+returns-clause-ends g c =
+    let read = c.in-Ok.ensures.ok in
+    inl (record {
+      bytes = read.0;
+      gave = read.2;
+      lanes = c.in-Ok.script;
+      read = read.1;
+      ends = lanes_not_begun g.D.Disk c.args.disk c.in-Err-begin.finished.disk c.in-Ok.script c.args.name.now (g.W.Watching.handed c.args.watchers) _ _ _ c.in-Err-begin.finished.ending _
+          (asked_by c.in-Ok.script _ c.needs_basis.result c.args.name _ c.then_some-asked.ensures c.needs_basis.ensures c.as_slice-lanes.ensures)
+          c.in-Err-begin.ensures.ended;
+    })

@@ -12,7 +12,7 @@ beside-requires g c =
     let heard = c.requires.started.1.1 in
     record {
       pair = paired_on heard.started.outlet c.close-disk.result.3.ring c.args.moments.ring c.run_lanes-ran.new.moments.ring heard.ring.paired
-          (same_outlet g.D.Disk g.W.Watching old c.close-disk.result.0 c.args.lanes.now c.args.basis.now c.requires.started.1.0 c.args.pass c.run_lanes-ran.new.pass
+          (same_outlet g.D.Disk g.W.Watching old c.close-disk.result.0 c.args.lanes.now c.args.begun.basis c.requires.started.1.0 c.args.begun.pass c.run_lanes-ran.new.pass
           _ _ heard.started c.close-disk.ensures.facts c.close-disk.ensures.closed c.requires.lanes c.run_lanes-ran.result c.run_lanes-ran.ensures.answered
           (stays _ _ _ c.run_lanes-ran.result c.run_lanes-ran.ensures.refused))
           c.run_lanes-ran.ensures.ring;
@@ -23,10 +23,10 @@ returns g c = record {
   ends = λ old watchers heard.
       let ran = c.run_lanes-ran.result in
       let kept = stays _ _ _ ran c.run_lanes-ran.ensures.refused in
-      let outlet = same_outlet g.D.Disk g.W.Watching old c.close-disk.result.0 c.args.lanes.now c.args.basis.now watchers c.args.pass c.run_lanes-ran.new.pass
+      let outlet = same_outlet g.D.Disk g.W.Watching old c.close-disk.result.0 c.args.lanes.now c.args.begun.basis watchers c.args.begun.pass c.run_lanes-ran.new.pass
       _ _ heard.started c.close-disk.ensures.facts c.close-disk.ensures.closed c.requires.lanes ran c.run_lanes-ran.ensures.answered kept in
       let rest = known_items c.beside.new.inlet.ring in
-      ends_ran g.D.Disk g.W.Watching old c.close-disk.result.0 c.args.lanes.now c.args.basis.now watchers c.args.pass c.run_lanes-ran.new.pass
+      ends_ran g.D.Disk g.W.Watching old c.close-disk.result.0 c.args.lanes.now c.args.begun.basis watchers c.args.begun.pass c.run_lanes-ran.new.pass
       _ _ heard.started c.close-disk.ensures.facts c.close-disk.ensures.closed c.requires.lanes ran
       _ c.end_ran-ending.result _ (received c.run_lanes-ran.new.moments.ring) rest c.run_lanes-ran.ensures.answered c.run_lanes-ran.ensures.shown
       c.end_ran-ending.ensures.pieces
@@ -36,7 +36,7 @@ returns g c = record {
       kept
       (rw c.as_slice.ensures.value at (c.end_ran-ending.ensures.ends
       (between g.K.Sink.faults g.K.Sink.written g.K.Sink.pieces c.args.output.now c.args.output.now)
-      (written_of _ g.K.Sink.faults g.K.Sink.written c.args.output.now c.run_lanes-ran.new.output c.args.pass c.run_lanes-ran.new.pass
+      (written_of _ g.K.Sink.faults g.K.Sink.written c.args.output.now c.run_lanes-ran.new.output c.args.begun.pass c.run_lanes-ran.new.pass
       ran (between g.K.Sink.faults g.K.Sink.written g.K.Sink.pieces c.args.output.now c.args.output.now) refl refl
       c.run_lanes-ran.ensures.later c.run_lanes-ran.ensures.wrote c.run_lanes-ran.ensures.refused)));
 }

@@ -1,4 +1,4 @@
-use Rattle.std.proofs.Common.{◌∙◌, subst}
+use Rattle.std.proofs.Common.{◌∙◌, subst, arith}
 use Rattle.std.specs.Io.KnownBytes.{Appends}
 use Rattle.outside_io.specs.Streams.{AppendsPart}
 use Rattle.script_run.specs.inside.Ran.{output_until}
@@ -7,12 +7,12 @@ use Rattle.script_run.proofs.WrittenSteps.{reports_failed, reports_short, report
 use Rattle.script_run.proofs.running.write_reports.Goals as goal
 
 pub returns-in_default-clause-ends : goal.returns-in_default-clause-ends
-returns-in_default-clause-ends g c = λ first passed whole.
+returns-in_default-clause-ends g c = λ first held whole.
     reports_short c.args.lines.now c.args.reports.now first (g.K.Sink.faults c.args.output.now) (g.K.Sink.faults c.args.output.now)
-    (g.K.Sink.written c.args.output.now) (g.K.Sink.written c.args.output.now) (g.K.Sink.pieces c.args.output.now) whole c.in_default.ensures.some
+    (g.K.Sink.written c.args.output.now) (g.K.Sink.written c.args.output.now) (g.K.Sink.pieces c.args.output.now) held whole c.in_default.ensures.some
 
 pub returns-in-Ok-write_all_since-clause-ends : goal.returns-in-Ok-write_all_since-clause-ends
-returns-in-Ok-write_all_since-clause-ends g c = λ first passed whole.
+returns-in-Ok-write_all_since-clause-ends g c = λ first held whole.
     ends_as_told c.args.lines.now c.args.reports.now (output_until first (g.K.Sink.faults c.write_all_since.new.sink) (g.K.Sink.written c.write_all_since.new.sink) (g.K.Sink.pieces c.write_all_since.new.sink))
     c.ending_of.result c.ending_of.ensures
     (reports_whole c.args.lines.now c.args.reports.now first (g.K.Sink.faults c.args.output.now) (g.K.Sink.faults c.write_all_since.new.sink)
@@ -21,8 +21,8 @@ returns-in-Ok-write_all_since-clause-ends g c = λ first passed whole.
     c.in-Ok-write_all_since.ensures.whole))
 
 pub returns-clause-ends : goal.returns-clause-ends
-returns-clause-ends g c = λ first passed whole.
+returns-clause-ends g c = λ first held whole.
     reports_failed c.args.lines.now c.args.reports.now first (g.K.Sink.faults c.args.output.now) (g.K.Sink.faults c.write_all_since.new.sink)
-    (g.K.Sink.written c.args.output.now) (g.K.Sink.written c.write_all_since.new.sink) (g.K.Sink.pieces c.write_all_since.new.sink) passed c.in-Err.ensures.cause.failed whole
+    (g.K.Sink.written c.args.output.now) (g.K.Sink.written c.write_all_since.new.sink) (g.K.Sink.pieces c.write_all_since.new.sink) (omega (arith, held)) c.in-Err.ensures.cause.failed whole
     (subst (AppendsPart (g.K.Sink.written c.args.output.now) (g.K.Sink.written c.write_all_since.new.sink)) (c.as_slice.ensures.value ∙ c.in-Ok.ensures.text)
     c.in-Err.ensures.part)

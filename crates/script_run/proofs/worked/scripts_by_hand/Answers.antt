@@ -1,5 +1,8 @@
-use Rattle.std.proofs.Common.{◌≡◌, ◌≤◌, ℕ, List, length, ap, refl, inl, inr, codes, lit≤, arith}
+use Rattle.std.proofs.Common.{◌≡◌, ◌≤◌, ℕ, zero, suc, List, [], ◌∷◌, length, take, Some, ap, refl, inl, inr, codes, lit≤, arith}
 use Rattle.std.specs.Fmt.{digits}
+use Rattle.std.specs.Io.KnownBytes.{Appends}
+use Rattle.script_run.specs.Texts.{texts_joined}
+use Rattle.script_run.specs.Worked.{two_texts}
 use Rattle.script_run.proofs.worked.scripts_by_hand.Goals as goal
 
 pub returns-clause-values : goal.returns-clause-values
@@ -38,3 +41,19 @@ returns-clause-failed c = ((lit≤ tt, inl refl), (λ h. let no : 1 ≤ 0 = h.0 
 
 pub returns-clause-shown : goal.returns-clause-shown
 returns-clause-shown c = (tt, (λ is. is), (λ is. is), refl)
+
+-- no front of the two texts is of three bytes
+no_cut : (many : ℕ) → many ≤ 2 → Appends (Some []) (Some (codes "abc")) (texts_joined (take many two_texts)) → ⊥
+no_cut zero few is = let no : 3 ≡ 0 = ap length is in omega (arith, no)
+no_cut (suc zero) few is = let no : 3 ≡ 2 = ap length is in omega (arith, no)
+no_cut (suc (suc zero)) few is = let no : 3 ≡ 4 = ap length is in omega (arith, no)
+no_cut (suc (suc (suc many))) few is = omega (arith, few)
+
+pub returns-clause-short : goal.returns-clause-short
+returns-clause-short c = (
+  record { held = refl; many = 1; upto = lit≤ tt; wrote = refl; part = record { taken = 2; not_all = lit≤ tt; written = refl } },
+  record { held = refl; many = 2; upto = lit≤ tt; wrote = refl; part = record { taken = 4; not_all = lit≤ tt; written = refl } },
+  (λ cut. no_cut cut.many cut.upto cut.wrote),
+  (λ failed. let no : 4 ≡ 3 = failed.held in omega (arith, no)),
+  record { taken = 3; not_all = lit≤ tt; written = refl },
+)

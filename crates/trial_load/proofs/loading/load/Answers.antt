@@ -3,7 +3,7 @@ use Rattle.outside_io.specs.Shelves.{Files}
 use Rattle.policy_types.specs.declared.script.Lane.{Lane}
 use Rattle.load_maker.specs.GeneratedLanes.{generated_lanes}
 use Rattle.basis_shelf.specs.Bases.{IsBasis}
-use Rattle.lone_office.specs.Beginning.{HasNotBegun}
+use Rattle.lone_office.specs.Beginning.{EndsOverBasis, IsUnopened}
 use Rattle.lone_office.proofs.BeginningSteps.{ends_not_begun}
 use Rattle.program_endings.specs.Writing.{Shelving, Stream, between, shelf_between}
 use Rattle.trial_load.specs.Loading.{EndsLoading}
@@ -20,14 +20,13 @@ load_office-requires-clause-lanes g c κs within =
 pub returns-in-Ok-begin-clause-ends : goal.returns-in-Ok-begin-clause-ends
 returns-in-Ok-begin-clause-ends g c =
     let out : Stream = between g.K.Sink.faults g.K.Sink.written g.K.Sink.pieces c.begin.new.output c.load_office.new.output in
-    let begun = c.in-Ok-begin.ensures.begun in
     inl (record {
       basis = c.in-Ok-begin.begun.basis;
       is = λ (files : Files) (agrees : g.H.Shelf.agrees c.begin.new.shelf files).
-          subst (λ (name : List ℕ). IsBasis files name c.in-Ok-begin.begun.basis) c.in-Ok.ensures (begun.is files agrees);
+          subst (λ (name : List ℕ). IsBasis files name c.in-Ok-begin.begun.basis) c.in-Ok.ensures (c.in-Ok-begin.ensures.basis files agrees);
       ends = rw c.in-Ok-begin.ensures.silent at
           (subst (λ (lanes : List Lane). EndsLoading g.D.Disk c.args.disk c.load_office.result.disk lanes c.args.workers c.in-Ok-begin.begun.basis out c.load_office.result.ending)
-          (c.as_slice-lanes.ensures ∙ c.in-Ok-make_lanes.ensures.lanes) (c.load_office.ensures.ends c.args.disk begun.watchers begun.started));
+          (c.as_slice-lanes.ensures ∙ c.in-Ok-make_lanes.ensures.lanes) (c.load_office.ensures.ends c.args.disk _ c.in-Ok-begin.ensures.opened.started));
     })
 
 pub returns-clause-ends : goal.returns-clause-ends
@@ -39,4 +38,4 @@ returns-clause-ends g c =
     let lanes = generated_lanes c.args.seed c.args.lanes c.args.count in
     ends_not_begun g.D.Disk c.args.disk disk (λ basis. EndsLoading g.D.Disk c.args.disk disk lanes c.args.workers basis out ending) (codes "basis.csv") shelf out ending
     (λ basis why. ends_unbegun g.D.Disk c.args.disk disk lanes c.args.workers basis out why.cause ending why.refused why.says)
-    (subst (λ (name : List ℕ). HasNotBegun g.D.Disk c.args.disk disk name shelf out ending) c.in-Ok.ensures c.in-Err.ensures.ended)
+    (subst (λ (name : List ℕ). EndsOverBasis c.args.disk disk (λ basis. IsUnopened g.D.Disk c.args.disk disk out ending) name shelf out ending) c.in-Ok.ensures c.in-Err.ensures.ended)

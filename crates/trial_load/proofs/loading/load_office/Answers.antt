@@ -7,7 +7,7 @@ write_loaded-ending-requires g c =
     let started = c.requires.started.1 in
     record {
       answer = load_answer g.D.Disk g.W.Watching c.requires.started.0 c.close-disk-2.result.0 c.args.lanes.now c.args.workers c.value-valued.result.turn
-          c.args.basis.now started.0 c.args.pass c.run_lanes-ran.new.pass c.value-valued.new.pass _ _ c.in-Ok.ran.transcript c.value-valued.result.answer started.1
+          c.args.begun.basis started.0 c.args.begun.pass c.run_lanes-ran.new.pass c.value-valued.new.pass _ _ c.in-Ok.ran.transcript c.value-valued.result.answer started.1
           c.in-Ok.ensures.answered c.in-Ok.ensures.facts c.value-valued.ensures.valued c.close-disk-2.ensures.facts c.close-disk-2.ensures.closed c.requires.lanes;
     }
 
@@ -16,8 +16,8 @@ returns g c =
     let out : Stream = between g.K.Sink.faults g.K.Sink.written g.K.Sink.pieces c.args.output.now c.write_loaded-ending.new.output in
     record {
       ends = λ old watchers started.
-          ends_loaded g.D.Disk g.W.Watching old c.close-disk-2.result.0 c.args.lanes.now c.args.workers c.value-valued.result.turn c.args.basis.now watchers
-          c.args.pass c.run_lanes-ran.new.pass c.value-valued.new.pass _ _ c.in-Ok.ran.transcript c.value-valued.result.answer started c.in-Ok.ensures.answered
+          ends_loaded g.D.Disk g.W.Watching old c.close-disk-2.result.0 c.args.lanes.now c.args.workers c.value-valued.result.turn c.args.begun.basis watchers
+          c.args.begun.pass c.run_lanes-ran.new.pass c.value-valued.new.pass _ _ c.in-Ok.ran.transcript c.value-valued.result.answer started c.in-Ok.ensures.answered
           c.in-Ok.ensures.facts c.value-valued.ensures.valued c.close-disk-2.ensures.facts c.close-disk-2.ensures.closed c.requires.lanes
           out c.write_loaded-ending.result
           c.write_loaded-ending.ensures;

@@ -5,13 +5,13 @@ use Rattle.lane_runner.proofs.ShowSteps.{showing_failed, showing_out}
 use Rattle.lane_runner.proofs.page.Page.flush.Goals as goal
 
 pub returns-in-Ok-clause-put : goal.returns-in-Ok-clause-put
-returns-in-Ok-clause-put g c = λ faults first text put.
-    put_out faults _ _ first _ _ text _ _ _ (search rules) (search rules) (search rules) (search rules) put
+returns-in-Ok-clause-put g c = λ faults first text lines put.
+    put_out text faults _ _ first _ _ lines _ _ _ (search rules) (search rules) (search rules) (search rules) put
 
 pub returns-in-Err-clause-put : goal.returns-in-Err-clause-put
-returns-in-Err-clause-put g c = λ faults first text put.
-    put_failed faults (g.K.Sink.faults c.args.output.now) (g.K.Sink.faults c.write_all_since.new.sink) first (g.K.Sink.written c.args.output.now)
-    (g.K.Sink.written c.write_all_since.new.sink) text c.args.self.now.bytes.items c.args.self.now.bytes.items c.args.self.now.stopped (Some WriteFault)
+returns-in-Err-clause-put g c = λ faults first text lines put.
+    put_failed text faults (g.K.Sink.faults c.args.output.now) (g.K.Sink.faults c.write_all_since.new.sink) first (g.K.Sink.written c.args.output.now)
+    (g.K.Sink.written c.write_all_since.new.sink) lines c.args.self.now.bytes.items c.args.self.now.bytes.items c.args.self.now.stopped (Some WriteFault)
     (search rules) refl (search rules) (search rules) put
 
 pub returns-in-Ok-clause-shown : goal.returns-in-Ok-clause-shown

@@ -5,9 +5,9 @@ use Rattle.lane_runner.proofs.ShowSteps.{showing_kept, showing_same}
 use Rattle.lane_runner.proofs.page.Page.gather.Goals as goal
 
 pub returns-clause-put : goal.returns-clause-put
-returns-clause-put g c = λ faults first text put.
-    c.pass_on.ensures.put faults first text (c.flush.ensures.put faults first text
-    (put_same faults _ first _ text _ _ _ _ (search rules) (search rules) put))
+returns-clause-put g c = λ faults first text lines told words_are put.
+    c.pass_on.ensures.put faults first text lines told words_are (c.flush.ensures.put faults first text lines
+    (put_same text faults _ first _ lines _ _ _ _ (search rules) (search rules) put))
 
 pub returns-then-keep-clause-shown : goal.returns-then-keep-clause-shown
 returns-then-keep-clause-shown g c = λ text first lines moments told words_are enough is.

@@ -5,14 +5,14 @@ use Rattle.lane_runner.proofs.ShowSteps.{showing_lost, showing_past, showing_thr
 use Rattle.lane_runner.proofs.page.Page.pass_on.Goals as goal
 
 pub returns-in-Ok-clause-put : goal.returns-in-Ok-clause-put
-returns-in-Ok-clause-put g c = λ faults first text put.
-    put_through faults _ _ first _ _ text _ _ _ (search rules) (search rules) (search rules) (search rules) put
+returns-in-Ok-clause-put g c = λ faults first text lines told words_are put.
+    put_through text faults _ _ first _ _ lines told _ _ _ (search rules) (search rules) words_are put (search rules) (search rules)
 
 pub returns-in-Err-clause-put : goal.returns-in-Err-clause-put
-returns-in-Err-clause-put g c = λ faults first text put.
-    put_lost faults (g.K.Sink.faults c.args.output.now) (g.K.Sink.faults c.write_all_since.new.sink) first (g.K.Sink.written c.args.output.now)
-    (g.K.Sink.written c.write_all_since.new.sink) text c.args.words.now c.args.self.now.bytes.items c.args.self.now.stopped (Some WriteFault)
-    (search rules) (search rules) refl (search rules) (search rules) put
+returns-in-Err-clause-put g c = λ faults first text lines told words_are put.
+    put_lost text faults (g.K.Sink.faults c.args.output.now) (g.K.Sink.faults c.write_all_since.new.sink) first (g.K.Sink.written c.args.output.now)
+    (g.K.Sink.written c.write_all_since.new.sink) lines told c.args.words.now c.args.self.now.bytes.items c.args.self.now.stopped
+    (search rules) (search rules) words_are put (Some WriteFault) refl (search rules) (search rules)
 
 pub returns-then-is_some-clause-shown : goal.returns-then-is_some-clause-shown
 returns-then-is_some-clause-shown g c = λ text first lines moments told words_are enough is.

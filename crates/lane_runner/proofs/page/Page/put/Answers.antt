@@ -2,23 +2,20 @@ use Rattle.std.proofs.Common.{◌≡◌, [], ◌∷◌, ◌++◌, List, ℕ, ap,
 use Rattle.rtrb.specs.Ring.{received}
 use Rattle.lane_runner.specs.declared.transcript.TranscriptLine.{TranscriptLine}
 use Rattle.lane_runner.specs.Tallies.{accepted_lines}
-use Rattle.lane_runner.specs.Written.{line_texts}
 use Rattle.lane_runner.specs.inside.Gathering.{HasPutOut}
 use Rattle.lane_runner.specs.inside.Showing.{IsShowing}
 use Rattle.lane_runner.proofs.GatherSteps.{put_same}
 use Rattle.lane_runner.proofs.ShowSteps.{counted_more}
-use Rattle.lane_runner.proofs.TakeSteps.{texts_push}
 use Rattle.lane_runner.proofs.page.Page.put.Goals as goal
 
 pub returns-clause-put : goal.returns-clause-put
 returns-clause-put g c = λ faults first put.
-    let texts : line_texts g.X.Wording.text c.add.new.self ≡ line_texts g.X.Wording.text c.args.self.now.lines ++ g.X.Wording.text c.args.told
-    = ap (line_texts g.X.Wording.text) (c.add.ensures ∙ ap (λ lines. lines ++ c.args.told ∷ []) (c.put_text.ensures.lines ∙ c.await_moment.ensures.lines))
-    ∙ texts_push g.X.Wording.text c.args.self.now.lines c.args.told in
-    subst (λ (text : List ℕ). HasPutOut faults (g.K.Sink.faults c.put_text.new.output) first (g.K.Sink.written c.put_text.new.output) text
-    c.put_text.new.self.bytes.items c.put_text.new.self.stopped) (sym texts)
-    (c.put_text.ensures.put faults first (line_texts g.X.Wording.text c.args.self.now.lines)
-    (put_same faults (g.K.Sink.faults c.args.output.now) first (g.K.Sink.written c.args.output.now) (line_texts g.X.Wording.text c.args.self.now.lines)
+    let lines : c.add.new.self ≡ c.args.self.now.lines ++ c.args.told ∷ []
+    = c.add.ensures ∙ ap (λ lines. lines ++ c.args.told ∷ []) (c.put_text.ensures.lines ∙ c.await_moment.ensures.lines) in
+    subst (λ (lines : List TranscriptLine). HasPutOut faults (g.K.Sink.faults c.put_text.new.output) first (g.K.Sink.written c.put_text.new.output)
+    g.X.Wording.text lines c.put_text.new.self.bytes.items c.put_text.new.self.stopped) (sym lines)
+    (c.put_text.ensures.put faults first c.args.self.now.lines
+    (put_same g.X.Wording.text faults (g.K.Sink.faults c.args.output.now) first (g.K.Sink.written c.args.output.now) c.args.self.now.lines
     c.args.self.now.bytes.items c.await_moment.new.self.bytes.items c.args.self.now.stopped c.await_moment.new.self.stopped c.await_moment.ensures.bytes
     c.await_moment.ensures.stopped put))
 

@@ -1,15 +1,14 @@
 use Rattle.std.proofs.Common.{sym, ◌∙◌, rules}
-use Rattle.lane_runner.proofs.GatherSteps.{put_text}
 use Rattle.lane_runner.proofs.ShowSteps.{showing_past}
 use Rattle.lane_runner.proofs.page.Page.put_text.Goals as goal
 
 pub returns-in-Ok-clause-put : goal.returns-in-Ok-clause-put
-returns-in-Ok-clause-put g c = λ faults first text put.
-    put_text faults _ first _ text _ _ _ _ (search rules) (c.gather.ensures.put faults first text put)
+returns-in-Ok-clause-put g c = λ faults first lines put.
+    c.gather.ensures.put faults first g.X.Wording.text lines c.args.told.now (search rules) put
 
 pub returns-in-Err-clause-put : goal.returns-in-Err-clause-put
-returns-in-Err-clause-put g c = λ faults first text put.
-    c.stop_short.ensures.put faults first text (g.X.Wording.text c.args.told.now) (search rules) put
+returns-in-Err-clause-put g c = λ faults first lines put.
+    c.stop_short.ensures.put faults first g.X.Wording.text lines c.args.told.now (search rules) put
 
 pub returns-then-is_some-clause-shown : goal.returns-then-is_some-clause-shown
 returns-then-is_some-clause-shown g c = λ first lines moments enough is.

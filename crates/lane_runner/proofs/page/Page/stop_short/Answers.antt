@@ -6,13 +6,13 @@ use Rattle.lane_runner.proofs.ShowSteps.{showing_lacking, showing_past}
 use Rattle.lane_runner.proofs.page.Page.stop_short.Goals as goal
 
 pub returns-in-None-clause-put : goal.returns-in-None-clause-put
-returns-in-None-clause-put g c = λ faults first text more some put.
-    put_short faults (g.K.Sink.faults c.flush.new.output) first (g.K.Sink.written c.flush.new.output) text more c.flush.new.self.bytes.items
-    c.flush.new.self.stopped (Some NoMemory) c.in-None.is (c.flush.ensures.empty c.in-None.is) refl some (c.flush.ensures.put faults first text put)
+returns-in-None-clause-put g c = λ faults first text lines told some put.
+    put_short text faults (g.K.Sink.faults c.flush.new.output) first (g.K.Sink.written c.flush.new.output) lines told c.flush.new.self.bytes.items
+    c.flush.new.self.stopped (Some NoMemory) c.in-None.is (c.flush.ensures.empty c.in-None.is) refl some (c.flush.ensures.put faults first text lines put)
 
 pub returns-in-Some-clause-put : goal.returns-in-Some-clause-put
-returns-in-Some-clause-put g c = λ faults first text more some put.
-    put_held faults _ first _ text more _ _ _ c.in-Some.is (c.flush.ensures.put faults first text put)
+returns-in-Some-clause-put g c = λ faults first text lines told some put.
+    put_held text faults _ first _ lines told _ _ _ c.in-Some.is (c.flush.ensures.put faults first text lines put)
 
 pub returns-in-None-clause-shown : goal.returns-in-None-clause-shown
 returns-in-None-clause-shown g c = λ text first lines moments told some enough is.

@@ -10,14 +10,14 @@ ended : (g : _) (c : After-take g) → Ended g.T.Stands.opening g.T.Stands.legal
 ended g c = let T = g.T.Stands in
     ends T.opening T.legal T.stands _ c.into_place.result c.args.pass _ _ c.take.result c.into_place.ensures.same c.into_place.ensures.pass c.requires.all c.close_with-closed.ensures.values.2 c.take.ensures.value
 
-pub unwrap-value-requires : goal.unwrap-value-requires
-unwrap-value-requires g c = subst IsSome (sym (ended g c).is) refl
+pub unwrap-requires : goal.unwrap-requires
+unwrap-requires g c = subst IsSome (sym (ended g c).is) refl
 
 pub returns-clause-stood : goal.returns-clause-stood
-returns-clause-stood g c = let T = g.T.Stands in (is_value T.opening T.legal T.stands _ c.args.pass c.take.result c.unwrap-value.result (ended g (goal.at.returns-clause-stood g c).After-take) c.unwrap-value.ensures).0
+returns-clause-stood g c = let T = g.T.Stands in (is_value T.opening T.legal T.stands _ c.args.pass c.take.result c.unwrap.result c.into_value-value.result (ended g (goal.at.returns-clause-stood g c).After-take) c.unwrap.ensures c.into_value-value.ensures).0
 
 pub returns-clause-opened : goal.returns-clause-opened
-returns-clause-opened g c = let T = g.T.Stands in (is_value T.opening T.legal T.stands _ c.args.pass c.take.result c.unwrap-value.result (ended g (goal.at.returns-clause-opened g c).After-take) c.unwrap-value.ensures).1
+returns-clause-opened g c = let T = g.T.Stands in (is_value T.opening T.legal T.stands _ c.args.pass c.take.result c.unwrap.result c.into_value-value.result (ended g (goal.at.returns-clause-opened g c).After-take) c.unwrap.ensures c.into_value-value.ensures).1
 
 pub returns-clause-whole : goal.returns-clause-whole
 returns-clause-whole g c = (ended g (goal.at.returns-clause-whole g c).After-take).whole

@@ -1,4 +1,4 @@
-use Rattle.std.proofs.Common.{rules, ◌≡◌, ◌∷◌, [], sym, ap, subst, Some}
+use Rattle.std.proofs.Common.{rules, ◌≡◌, ◌∷◌, [], sym, ap, ◌∙◌, subst, Some}
 use Rattle.atomic_table.specs.Table.{opening}
 use Rattle.turn_lock.specs.Passes.{all_turns, all_shares}
 use Rattle.turn_lock.specs.inside.Seats.{first_view}
@@ -10,9 +10,9 @@ use Rattle.turn_lock.proofs.turnstile.Turnstile.new.Goals.{In-Ok}
 use Rattle.turn_lock.proofs.turnstile.Turnstile.new.Goals as goal
 
 pub new-requires : goal.new-requires
-new-requires g c = let T = g.T.Stands in let o = T.opening c.of-first.result.value in let items : c.push.new.self.items ≡ Some c.args.value ∷ [] = search rules in
-    subst (λ xs. LockRule T.opening T.legal T.stands o (opening (0 ∷ 0 ∷ 1 ∷ []) xs (first_view o))) (sym items)
-    (starts T.opening T.legal T.stands o T.is_legal c.args.value (ap T.opening (sym c.of-first.ensures)) c.requires)
+new-requires g c = let T = g.T.Stands in let o = T.opening c.of-first.result.value in let items : c.push.new.self.items ≡ Some c.first.result ∷ [] = search rules in
+    subst (λ xs. LockRule T.opening T.legal T.stands o (opening (0 ∷ 1 ∷ []) xs (first_view o))) (sym items)
+    (starts T.opening T.legal T.stands o T.is_legal c.first.result (ap T.opening (c.first.ensures.0 ∙ sym c.of-first.ensures)) (subst (λ x. T.stands x []) (sym c.first.ensures.0) c.requires) c.first.ensures.1)
 
 first : (g : _) (c : In-Ok g) → IsPass g.T.Stands.legal c.in-Ok.place.me 0 all_turns all_shares
 first g c = let T = g.T.Stands in let o = T.opening c.of-first.result.value in
