@@ -27,7 +27,8 @@ MILLION = 1000000
 TOOLS = os.path.join(timing.ROOT, "tools", "life-tools")
 DAY = "2023-01-01"
 NEW = (f"/1/policy?number=77777&on={DAY}", f"/1/report?on={DAY}&measure=mean", f"/1/day?day={DAY}",
-       "/1/movement?on1=2021-01-01&p1={half}&on2=2022-01-01&p2={most}", "/1/audit", "/1/stands")
+       "/1/audit", "/1/stands", "/1/movement?on1=2021-01-01&p1={half}&on2=2022-01-01&p2={most}",
+       "/1/statement?on1=2021-01-01&p1={half}&on2=2022-01-01&p2={most}", "/1/flags", f"/1/sample?on={DAY}&count=50")
 OTHERS = ("/1/", "/1/find", "/1/find?sort=amount&order=down", "/1/find?number=999&page=3", "/1/find?page=2500&sort=issued",
           "/1/find?plan=endowment&sort=age&order=down&page=2000", f"/1/policy?number=77777&on={DAY}",
           f"/1/report?on={DAY}&measure=mean",
@@ -129,7 +130,7 @@ def tell(window: Any, state: Any, commands: Any) -> None:
     for path in NEW:
         seconds, most = window.seconds(path.format(**half))
         longest.append(most)
-        print(f"  new: {path}: {seconds:.2f} s")
+        print(f"  new: {path}: {seconds:.2f} s; up to now {window.memory.most:.0f} MiB", flush=True)
     for path in OTHERS:
         seconds, most = min((window.seconds(path) for _ in range(3)), key=lambda each: float(each[0]))
         longest.append(most)
