@@ -15,6 +15,8 @@ from life_tools.sheets import CENTS, COUNT, TEXT, Cell, Column, Sheet, cell_text
 Facts = dict[str, str]
 # a text that begins so is a formula to a spreadsheet
 FORMULAS = ("=", "+", "-", "@", "\t", "\r")
+# among the facts, before a sheet's name
+NOTE_ON = "note on "
 FORMATS = {COUNT: "#,##0", CENTS: "#,##0.00"}
 
 
@@ -79,8 +81,10 @@ def write_folder(folder: str, write: Callable[[str], None]) -> None:
 
 
 def write_csvs(folder: str, facts: Facts, sheets: Sequence[Sheet]) -> None:
-    """A file for each sheet, and one of the facts."""
-    write_rows(os.path.join(folder, "facts.csv"), [["fact", "value"], *([name, harmless(text)] for name, text in facts.items())])
+    """A file for each sheet, and one of the facts and of what is to be said of the sheets."""
+    notes = [(f"{NOTE_ON}{sheet.name}", note) for sheet in sheets for note in sheet.notes]
+    told = ([name, harmless(text)] for name, text in (*facts.items(), *notes))
+    write_rows(os.path.join(folder, "facts.csv"), [["fact", "value"], *told])
     for sheet in sheets:
         write_rows(os.path.join(folder, f"{sheet.name}.csv"), csv_rows(sheet))
 

@@ -18,6 +18,7 @@ from life_tools.window.downloads import csv_parts, workbook
 from life_tools.window.lists import days_of, newest_day
 from life_tools.window.looked_at import LookedAt
 from life_tools.window.parts import Answer, Cell, File, Head, Page, Table, cells, heads, link
+from life_tools.window.policies import STATUSES as STATUS_WORDS
 from life_tools.window.policy_pages import MEASURE_WORDS
 from life_tools.window.tool_runs import ToolRun, tool_run
 from life_tools.window.valuations import Valuation, kept_valuation, words_of
@@ -70,8 +71,9 @@ def column_names(it: Valuation) -> list[str]:
 def group_table(it: Valuation, key: str) -> Table:
     groups = it.groups[key]
     most = max((each.bounds[-1] for each in groups.values()), default=0)
-    rows = [[Cell(", ".join(name)), *cells(sums.cells()), Cell("", picture=pictures.bar(sums.bounds[-1], most))]
-            for name, sums in groups.items()]
+    names = (", ".join(STATUS_WORDS.get(each, each) for each in name) for name in groups)
+    rows = [[Cell(name), *cells(sums.cells()), Cell("", picture=pictures.bar(sums.bounds[-1], most))]
+            for name, sums in zip(names, groups.values())]
     return Table(f"By {KEY_WORDS[key]}", [*heads((KEY_WORDS[key], *column_names(it))), Head("", "bar")], rows,
                  [[Cell("added up"), *cells(it.whole.cells()), Cell("")], printed_row(it)])
 
@@ -169,7 +171,7 @@ def moved_rows(run: ToolRun) -> tuple[list[list[str]], list[str]]:
         if parts:
             rows.append([parts[1].strip(), *parts.groups()[1:]])
         else:
-            said.append(line.strip())
+            said.append(line.strip().replace("`", ""))
     return rows, [AMOUNT.sub(lambda it: apart(it[0]), each) for each in said if each]
 
 
