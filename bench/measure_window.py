@@ -72,6 +72,13 @@ def own(process: Any) -> Any:
         return 0
 
 
+def spent(process: Any) -> float:
+    """The processor seconds of a process and of the children that it has waited for."""
+    with open(f"/proc/{process}/stat") as file:
+        fields = file.read().rsplit(")", 1)[1].split()
+    return sum(map(int, fields[11:15])) / os.sysconf("SC_CLK_TCK")
+
+
 class Window:
     """A window on a folder, as a browser talks to it."""
 
@@ -125,12 +132,15 @@ def tell(window: Any, state: Any, commands: Any) -> None:
     window.seconds("/1/")
     first = time.perf_counter() - window.begun
     half = {"half": commands // 2, "most": commands * 3 // 4}
-    print(f"{commands:,} commands: `state` {state:.2f} s; the first page {first:.1f} s, {window.memory.most:.0f} MiB")
+    print(f"{commands:,} commands: `state` {state:.2f} s; the first page {first:.1f} s, {spent(window.run.pid):.1f} of a "
+          f"processor, {window.memory.most:.0f} MiB", flush=True)
     longest: list[float] = []
     for path in NEW:
+        before = spent(window.run.pid)
         seconds, most = window.seconds(path.format(**half))
         longest.append(most)
-        print(f"  new: {path}: {seconds:.2f} s; up to now {window.memory.most:.0f} MiB", flush=True)
+        print(f"  new: {path}: {seconds:.2f} s, {spent(window.run.pid) - before:.2f} of a processor; up to now "
+              f"{window.memory.most:.0f} MiB", flush=True)
     for path in OTHERS:
         seconds, most = min((window.seconds(path) for _ in range(3)), key=lambda each: float(each[0]))
         longest.append(most)

@@ -205,9 +205,19 @@ class Browser:
     def keep(self, name: str) -> None:
         height = self.driver.execute_script("return document.documentElement.scrollHeight")
         self.measure(min(height, 6000))
-        self.driver.save_screenshot(os.path.join(self.shots, f"window-{name}-{self.size[0]}.png"))
+        self.shoot(os.path.join(self.shots, f"window-{name}-{self.size[0]}.png"))
         self.measure(self.size[1])
         self.kept += 1
+
+    def shoot(self, path: str) -> None:
+        """A picture; once more where a busy machine hasn't drawn it within the driver's ten seconds."""
+        for last in (False, False, True):
+            try:
+                self.driver.save_screenshot(path)
+                return
+            except Fault:
+                if last:
+                    raise
 
     def close(self) -> None:
         self.driver.quit()
