@@ -201,7 +201,9 @@ def reads_movement(browser: Any, book: Any, position: int) -> None:
         added = sum(signed(row[place]) for row in rows)
         demand(added == signed(closing[place]) == cents(book.total(YEAR_END, "--at", position)[place - 2]),
                f"the movement: {closing}")
-    browser.says("Checked: the lines add up to", "by lower bounds", "each column is a sum of the printed rows' bounds")
+    # on a phone each card has the heads, by its style
+    heads = () if browser.is_phone else ("by lower bounds", "by upper bounds")
+    browser.says("Checked: the lines add up to", "each column is a sum of the printed rows' bounds", *heads)
     browser.look("movement")
 
 
