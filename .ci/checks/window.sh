@@ -92,7 +92,7 @@ go_on "what can't be opened"
 refuses() {
     words=$1
     shift
-    timeout 20 "$work/bin/life-tools" browse "$@" >out 2>remarks
+    timeout 60 "$work/bin/life-tools" browse "$@" >out 2>remarks
     status=$?
     { [ "$status" = 2 ] && grep -q -e "$words" remarks && [ ! -s out ] && [ -z "$(ls -A "$TMPDIR")" ]; } ||
         complain "$*: status $status: $(cat out remarks)"
