@@ -42,6 +42,12 @@ needs_in_ci() {
     command -v "$1" >/dev/null || lacks "$1 isn't installed"
 }
 
+# a part of a check that can't be tried here; where CI is set, all of it has to be
+skips_part() {
+    echo "$check: skipped: $1"
+    [ -z "${CI:-}" ] || failed=1
+}
+
 # what takes too long over a preview, or is timed for a built program, isn't tried on one by `sh life test --all`
 needs_proved() {
     [ -z "${LIFE_PREVIEW:-}" ] || {

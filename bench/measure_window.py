@@ -27,7 +27,8 @@ MILLION = 1000000
 TOOLS = os.path.join(timing.ROOT, "tools", "life-tools")
 DAY = "2023-01-01"
 NEW = (f"/1/policy?number=77777&on={DAY}", f"/1/report?on={DAY}&measure=mean", f"/1/day?day={DAY}",
-       "/1/movement?on1=2021-01-01&p1={half}&on2=2022-01-01&p2={most}", "/1/audit", "/1/stands")
+       "/1/audit", "/1/stands", "/1/movement?on1=2021-01-01&p1={half}&on2=2022-01-01&p2={most}",
+       "/1/statement?on1=2021-01-01&p1={half}&on2=2022-01-01&p2={most}", "/1/flags", f"/1/sample?on={DAY}&count=50")
 OTHERS = ("/1/", "/1/find", "/1/find?sort=amount&order=down", "/1/find?number=999&page=3", "/1/find?page=2500&sort=issued",
           "/1/find?plan=endowment&sort=age&order=down&page=2000", f"/1/policy?number=77777&on={DAY}",
           f"/1/report?on={DAY}&measure=mean",
@@ -69,6 +70,13 @@ def own(process: Any) -> Any:
             return next(int(line.split()[1]) for line in file if line.startswith("Pss:")) / 1024
     except (OSError, StopIteration):
         return 0
+
+
+def spent(process: Any) -> float:
+    """The processor seconds of a process and of the children that it has waited for."""
+    with open(f"/proc/{process}/stat") as file:
+        fields = file.read().rsplit(")", 1)[1].split()
+    return sum(map(int, fields[11:15])) / os.sysconf("SC_CLK_TCK")
 
 
 class Window:
@@ -124,12 +132,15 @@ def tell(window: Any, state: Any, commands: Any) -> None:
     window.seconds("/1/")
     first = time.perf_counter() - window.begun
     half = {"half": commands // 2, "most": commands * 3 // 4}
-    print(f"{commands:,} commands: `state` {state:.2f} s; the first page {first:.1f} s, {window.memory.most:.0f} MiB")
+    print(f"{commands:,} commands: `state` {state:.2f} s; the first page {first:.1f} s, {spent(window.run.pid):.1f} of a "
+          f"processor, {window.memory.most:.0f} MiB", flush=True)
     longest: list[float] = []
     for path in NEW:
+        before = spent(window.run.pid)
         seconds, most = window.seconds(path.format(**half))
         longest.append(most)
-        print(f"  new: {path}: {seconds:.2f} s")
+        print(f"  new: {path}: {seconds:.2f} s, {spent(window.run.pid) - before:.2f} of a processor; up to now "
+              f"{window.memory.most:.0f} MiB", flush=True)
     for path in OTHERS:
         seconds, most = min((window.seconds(path) for _ in range(3)), key=lambda each: float(each[0]))
         longest.append(most)

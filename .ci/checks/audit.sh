@@ -110,7 +110,7 @@ if command -v chromium >/dev/null; then
         pdftotext -layout papers.pdf - | grep -q 'printed: 1418.85,1418.86: the same' || complain "the PDF lacks a row"
     fi
 else
-    echo "audit: pages in a browser are skipped: there is no chromium (apt-get install chromium)"
+    skips_part "pages in a browser: there is no chromium (apt-get install chromium)"
 fi
 # a sample whose rows another seed draws, a total that is off, and a place of the journal that is another
 sed 's/^sample,reserve,3,3,/sample,reserve,3,4,/' sample >other

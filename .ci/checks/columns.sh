@@ -37,9 +37,11 @@ rm full.life
 begin "without numpy"
 # a module of this name that can't be imported
 mkdir none && echo 'raise ImportError' >none/numpy.py
-PYTHONPATH=$PWD/none LIFE_TOOLS_ANEW=1 python3 "$tools/life-tools" position-on 2020-01-01 "$empty" >out 2>remarks
-[ $? = 2 ] && grep -q "life-tools position-on: Python's numpy is missing: apt-get install python3-numpy" remarks && [ ! -s out ] ||
-    complain "without numpy: $(cat out remarks)"
+for each in position-on movement statement report; do
+    PYTHONPATH=$PWD/none LIFE_TOOLS_ANEW=1 python3 "$tools/life-tools" $each 2020-01-01 "$empty" >out 2>remarks
+    [ $? = 2 ] && grep -q "life-tools $each: Python's numpy is missing: apt-get install python3-numpy" remarks && [ ! -s out ] ||
+        complain "$each without numpy: $(cat out remarks)"
+done
 # a Python that sees no packages, and Debian's that does: it is begun anew by that one
 python3 -S "$tools/life-tools" position-on 2020-01-01 "$empty" >out 2>remarks
 [ $? = 0 ] && [ "$(cat out)" = 0 ] && [ ! -s remarks ] || complain "begun anew: $(cat out remarks)"

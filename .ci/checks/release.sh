@@ -102,7 +102,7 @@ begin "the tar file, elsewhere"
 tar -xzf "$packed" || complain "it isn't whole"
 top=$PWD/life-$version
 cmp -s "$program" "$top/libexec/life/life-program" || complain "it has another program"
-mkdir bin && ln -s "$top/bin/life-tools" bin && "$top/bin/life" run <"$examples/first-issues.csv" >out
+mkdir bin && ln -s "$top/bin/life-tools" bin && "$top/bin/life" run <"$examples/first-issues.csv" >out 2>remarks
 judge $? 0 "$examples/first-issues.transcript"
 PATH=$PWD/bin:$PATH life-tools version >out 2>&1 || complain "the tools: $(cat out)"
 grep -qx "version: $version" out && grep -q "life-program has this sum$" out || complain "the tools: $(cat out)"

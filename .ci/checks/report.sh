@@ -95,7 +95,7 @@ if "$tools/life-tools" report 2022-12-31 --at 11 --title '=1+1' --xlsx book.xlsx
         # what is a number in the file, with two places, under heads that stay
         python3 "$root/.ci/tools/cells_of_workbook.py" || complain "the workbook's cells are otherwise"
     else
-        echo "report: workbooks as pictures are skipped: there is no soffice or pdftotext (apt-get install libreoffice-calc poppler-utils)"
+        skips_part "workbooks as pictures: there is no soffice or pdftotext (apt-get install libreoffice-calc poppler-utils)"
     fi
 else
     grep -q 'apt-get install python3-openpyxl' remarks || complain "$(cat remarks)"
@@ -113,13 +113,14 @@ if command -v chromium >/dev/null; then
     timeout 120 chromium --headless --no-sandbox --disable-gpu --dump-dom "file://$PWD/page.html" 2>browser | grep -q 'total' ||
         complain "the browser shows no total"
 else
-    echo "report: skipped: the page in a browser: there is no chromium (apt-get install chromium)"
+    skips_part "the page in a browser: there is no chromium (apt-get install chromium)"
 fi
 
 # policy 13 matures (2656.22), policy 14 is reduced from 15000.00 to 10000.00 and so from 1418.85 to 945.90, and then ages
 go_on "what moved in the small office"
 says movement 2022-12-31 11 2024-06-30 27 --policies parts.csv
 has <<'LINES'
+policies by lower bounds by upper bounds
 opening reserve 4 4075.07 4075.09
 maturities 2 -2656.22 -2656.23
 alterations 1 -472.95 -472.95

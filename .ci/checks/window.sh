@@ -54,7 +54,7 @@ printf '1900-01-01,g.xml,400\n2020-01-01,q.xml,0\n2020-02-01,g.xml,400\n' >basis
 cp journal.life backups/no.backup && echo 0 >log/2024-01-02T100000-tuesday/status
 cd ..
 open_window --folder book
-TMPDIR=$work/browser timeout 300 python3 "$root/.ci/window/ways.py" "$(cat address)" "$PWD/book" "$life" "$shots" >said 2>times || complain "$(cat said; tail -n 5 times)"
+TMPDIR=$work/browser timeout 900 python3 "$root/.ci/window/ways.py" "$(cat address)" "$PWD/book" "$life" "$shots" >said 2>times || complain "$(cat said; tail -n 5 times)"
 
 go_on "hostile requests"
 timeout 60 python3 "$root/.ci/window/hostile.py" "$(cat address)" book >said || complain "$(cat said)"
@@ -92,7 +92,7 @@ go_on "what can't be opened"
 refuses() {
     words=$1
     shift
-    timeout 20 "$work/bin/life-tools" browse "$@" >out 2>remarks
+    timeout 60 "$work/bin/life-tools" browse "$@" >out 2>remarks
     status=$?
     { [ "$status" = 2 ] && grep -q -e "$words" remarks && [ ! -s out ] && [ -z "$(ls -A "$TMPDIR")" ]; } ||
         complain "$*: status $status: $(cat out remarks)"

@@ -21,7 +21,7 @@ mkdir -p "$cache" && exec 9>"$tree.lock" && flock 9 || give_up "$cache can't be 
 room=$(mktemp -d "$cache/making.XXXXXX") || give_up "$cache can't be written"
 trap 'rm -rf "$room"' EXIT
 trap 'exit 143' HUP INT TERM
-timeout 600 debootstrap --variant=minbase --include="$packages" "$suite" "$room/tree" >"$room/log" 2>&1 ||
+timeout 1200 debootstrap --variant=minbase --include="$packages" "$suite" "$room/tree" >"$room/log" 2>&1 ||
     give_up "debootstrap can't make a fresh Debian: $(tail -n 1 "$room/log")"
 rm -rf "$room"/tree/var/cache/apt/archives/*.deb
 tar -C "$room/tree" -cf "$room/tar" . && mv "$room/tar" "$tree" || give_up "$cache can't be written"

@@ -207,6 +207,8 @@ def main() -> None:
         replays.FEW = draw.choice((0, 2, 24))
         slow = compare(draw, journal_of(draw), seed)
         met[slow.why.split(": ")[-1].split(",")[0] if "can't follow" in slow.why else slow.refused.split(",")[0] or "right"] += 1
+    # no policy is issued, and the numbers are great ones
+    compare(random.Random(0), file_of([Command("claim", MOST_NUMBER - at, FIRST_DAY) for at in range(3)]), "no issues")
     need(journals < 1000 or (WORDS <= set(met) and met["right"] > journals // 3), f"what was met is {dict(met)}")
     need(journals < 1000 or min(map(checkpoints.count, (True, False))) > 50,
          f"of {len(checkpoints)} checkpoints are {sum(checkpoints)}")

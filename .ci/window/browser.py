@@ -42,7 +42,11 @@ return [...document.querySelectorAll('tbody td')].filter(cell => cell.textConten
   getComputedStyle(cell, '::before').content.replaceAll('"', '') !== cell.dataset.head).map(cell => cell.textContent);
 """
 
-
+# tables that are wider than their place, so that they scroll sideways
+WIDE = """
+return [...document.querySelectorAll('.table')].filter(each => each.scrollWidth > each.clientWidth + 1)
+  .map(each => each.getAttribute('aria-label'));
+"""
 WAITS = ("return Boolean(window.isLeft) || document.readyState !== 'complete' || !document.querySelector('h1') || "
          "document.title.startsWith('One moment')")
 CELLS = """
@@ -183,6 +187,8 @@ class Browser:
         driver = self.driver
         width = driver.execute_script("return document.documentElement.scrollWidth")
         demand(width <= self.size[0], f"{name}: the page is {width} wide on {self.size[0]}")
+        wide = driver.execute_script(WIDE)
+        demand(not wide, f"{name}: these tables scroll sideways: {wide}")
         for words, colour, ground in driver.execute_script(COLOURS):
             demand(contrast(colour, ground) >= 4.5, f"{name}: {words!r} is hard to read: {colour} on {ground}")
         demand(len(driver.find_elements(By.TAG_NAME, "h1")) == 1, f"{name}: not one heading")
@@ -199,9 +205,19 @@ class Browser:
     def keep(self, name: str) -> None:
         height = self.driver.execute_script("return document.documentElement.scrollHeight")
         self.measure(min(height, 6000))
-        self.driver.save_screenshot(os.path.join(self.shots, f"window-{name}-{self.size[0]}.png"))
+        self.shoot(os.path.join(self.shots, f"window-{name}-{self.size[0]}.png"))
         self.measure(self.size[1])
         self.kept += 1
+
+    def shoot(self, path: str) -> None:
+        """A picture; once more where a busy machine hasn't drawn it within the driver's ten seconds."""
+        for last in (False, False, True):
+            try:
+                self.driver.save_screenshot(path)
+                return
+            except Fault:
+                if last:
+                    raise
 
     def close(self) -> None:
         self.driver.quit()

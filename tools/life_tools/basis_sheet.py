@@ -1,14 +1,13 @@
 """Reserves by valuation basis: table, interest, method and years of issue, with the minimum's excess beside them."""
 from __future__ import annotations
 
-from typing import Sequence
-
-from life_tools.periods import Moment, Period, demand_whole, is_insured
-from life_tools.printed_books import PrintedValuation
-from life_tools.reserves import row_for
-from life_tools.rules import Policy
+from life_tools.arrays import Array, np
+from life_tools.class_columns import PlacedRow, picked
+from life_tools.groups import added
+from life_tools.periods import Moment, Period, demand_whole
+from life_tools.policy_columns import MADE_PAIDUP, is_insured
+from life_tools.printed_columns import NO_WORDS, ColumnValuation
 from life_tools.sheets import COUNT, TEXT, Column, Sheet
-from life_tools.tables import BasisRow
 
 METHODS = {"terminal": "CRVM terminal", "mean": "CRVM mean"}
 PAID_UP_METHODS = {"terminal": "paid up terminal", "mean": "paid up mean"}
@@ -22,34 +21,45 @@ def percent(points: int) -> str:
     return f"{points // 100}.{points % 100:02}%"
 
 
-def key_of(policy: Policy, name: str, basis: Sequence[BasisRow], word: str, measure: str) -> Key:
-    """What a policy is valued by; where it has no value, the word."""
-    row = row_for(basis, policy.issued)
-    if word or row is None:
-        return name, "", f"no value: {word}", "", ""
-    place = list(basis).index(row)
-    last = str(basis[place + 1].day) if place + 1 < len(basis) else ""
-    method = (PAID_UP_METHODS if policy.status == "paidup" else METHODS)[measure]
-    return row.name, percent(row.points), method, str(row.day), f"before {last}" if last else ""
+def key_of(it: PlacedRow, is_paid_up: bool, measure: str) -> Key:
+    """What a policy of a basis row is valued by."""
+    method = (PAID_UP_METHODS if is_paid_up else METHODS)[measure]
+    return it.row.name, percent(it.row.points), method, str(it.row.day), f"before {it.until}" if it.until else ""
 
 
-def sums_by_basis(period: Period, moment: Moment, minimum: PrintedValuation) -> tuple[dict[Key, list[int]], dict[Key, list[int]]]:
+def sums_by(codes: Array, columns: list[Array]) -> dict[int, list[int]]:
+    """For each code that occurs how many there are, and the sums of the columns."""
+    found, code = np.unique(codes, return_inverse=True)
+    counts = np.bincount(code, minlength=len(found)).tolist()
+    sums = zip(counts, *(added(code, len(found), column) for column in columns))
+    return {each: list(its) for each, its in zip(found.tolist(), sums)}
+
+
+def put(sums: dict[Key, list[int]], key: Key, more: list[int]) -> None:
+    sums[key] = [one + other for one, other in zip(sums[key], more)] if key in sums else more
+
+
+def sums_by_basis(period: Period, moment: Moment, minimum: ColumnValuation) -> tuple[dict[Key, list[int]], dict[Key, list[int]]]:
     """The sums of those that are valued, and of those that have no value."""
-    valued: dict[Key, list[int]] = {}
+    of, rows, least = moment.policies, moment.valuation.rows, minimum.rows
+    # one that is issued later has bounds of 0, though the basis may have no row for it
+    has_row = (rows.word == 0) & (period.row > 0)
+    valued, without = is_insured(of) & has_row, is_insured(of) & ~has_row
+    columns = [of.amount, rows.bounds[:, 0], rows.bounds[:, 1], least.bounds[:, 3] - least.bounds[:, 1]]
+    found: dict[Key, list[int]] = {}
     others: dict[Key, list[int]] = {}
-    for policy, row, least in zip(moment.policies, moment.valuation.rows, minimum.rows):
-        if not is_insured(policy):
-            continue
-        name, basis = period.rows.of(policy.number)
-        key = key_of(policy, name, basis, row.word, period.asked.measure)
-        sums = (others if row.word else valued).setdefault(key, [0] * 5)
-        excess = 0 if row.word else least.bounds[3] - least.bounds[1]
-        for at, each in enumerate((1, policy.amount, *row.bounds[:2], excess)):
-            sums[at] += each
-    return valued, others
+    codes = 2 * period.row[valued] + (of.status[valued] == MADE_PAIDUP)
+    for code, sums in sums_by(codes, [column[valued] for column in columns]).items():
+        put(found, key_of(period.rows[code // 2 - 1], code % 2 == 1, period.asked.measure), sums)
+    file = picked(period.asked.bases, of.number[without])
+    codes = file * len(NO_WORDS) + rows.word[without]
+    for code, sums in sums_by(codes, [column[without] for column in columns]).items():
+        name, word = period.asked.bases.names[code // len(NO_WORDS)], NO_WORDS[code % len(NO_WORDS)]
+        put(others if word else found, (name, "", f"no value: {word}", "", ""), sums)
+    return found, others
 
 
-def demand_printed(moment: Moment, minimum: PrintedValuation, total: list[int], without: int) -> None:
+def demand_printed(moment: Moment, minimum: ColumnValuation, total: list[int], without: int) -> None:
     """Demands that the sums are the program's own."""
     printed = [*moment.valuation.total[:2], minimum.total[3] - minimum.total[1]]
     demand_whole(total[2:] == printed, f"reserves: the sums are {total[2:]} cents, and {printed} are printed")

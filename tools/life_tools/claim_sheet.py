@@ -1,11 +1,17 @@
 """Claims and maturities: outstanding at the beginning, reported, settled, outstanding at the end, and these by their age."""
 from __future__ import annotations
 
-import datetime
+from typing import Iterator
 
-from life_tools.formats import money
-from life_tools.periods import Moment, Period, Step, demand_whole
-from life_tools.rules import Policy
+from life_tools import journal_columns as kinds
+from life_tools import policy_columns as statuses
+from life_tools.arrays import Array, np
+from life_tools.day_columns import NEVER, texts_at
+from life_tools.formats import STATUSES, money
+from life_tools.groups import added
+from life_tools.periods import Moment, NotWhole, Period, demand_whole
+from life_tools.policy_columns import Policies
+from life_tools.posted_steps import Steps
 from life_tools.sheets import COUNT, TEXT, Column, Sheet
 
 BEGINNING, REPORTED, SETTLED, END = LINES = ("outstanding at the beginning", "reported", "settled", "outstanding at the end")
@@ -13,14 +19,15 @@ BEGINNING, REPORTED, SETTLED, END = LINES = ("outstanding at the beginning", "re
 AGES = ((-1, "reported after the day"), (30, "up to 30 days"), (90, "31 to 90 days"), (365, "91 to 365 days"),
         (10**6, "more than 365 days"))
 CLAIM, MATURITY = "claimed", "matured"
-KINDS = {"claim": CLAIM, "mature": MATURITY}
+CODES = {CLAIM: statuses.CLAIMED, MATURITY: statuses.MATURED}
+KINDS = ("claim", "mature")
 
 
 class Claims:
-    """Takes the postings one by one: of each line and kind the number, the amount and the postings."""
+    """Takes the postings: of each line and kind the number, the amount and the postings."""
 
     def __init__(self) -> None:
-        self.parts = {(line, status): [0, 0] for line in (*LINES, *(name for _, name in AGES)) for status in (CLAIM, MATURITY)}
+        self.parts = {(line, status): [0, 0] for line in (*LINES, *(name for _, name in AGES)) for status in CODES}
         self.payments = 0
 
     def put(self, line: str, status: str, count: int, amount: int) -> None:
@@ -28,13 +35,30 @@ class Claims:
         part[0] += count
         part[1] += amount
 
-    def take(self, step: Step) -> None:
-        command, before, after = step.command, step.before, step.after
-        if command.kind in KINDS and after.status in (CLAIM, MATURITY):
-            self.put(REPORTED, after.status, 1, after.amount)
-        elif command.kind == "settle" and before is not None:
-            self.payments += 1
-            self.put(SETTLED, before.status, -1 if after.status == "settled" else 0, -command.amount)
+    def take(self, steps: Steps) -> None:
+        for status, code in CODES.items():
+            if steps.kind in KINDS:
+                mine = steps.after.status == code
+                self.put(REPORTED, status, int(np.count_nonzero(mine)), int(steps.after.amount[mine].sum()))
+            elif steps.kind == "settle":
+                mine = steps.before.status == code
+                settled = np.count_nonzero(mine & (steps.after.status == statuses.SETTLED))
+                self.put(SETTLED, status, -int(settled), -int(steps.amount[mine].sum()))
+        self.payments += len(steps) if steps.kind == "settle" else 0
+
+    def take_outstanding(self, line: str, of: Policies) -> None:
+        for status, code in CODES.items():
+            mine = of.status == code
+            self.put(line, status, int(np.count_nonzero(mine)), int(of.outstanding[mine].sum()))
+
+    def take_ages(self, of: Policies, days: Array) -> None:
+        """What is outstanding, by the days since the report."""
+        ages = np.searchsorted([most for most, _ in AGES], days)
+        for status, code in CODES.items():
+            mine = of.status == code
+            counts = np.bincount(ages[mine], minlength=len(AGES)).tolist()
+            for (_, name), count, amount in zip(AGES, counts, added(ages[mine], len(AGES), of.outstanding[mine])):
+                self.put(name, status, count, amount)
 
     def sum_of(self, line: str, place: int) -> int:
         return self.parts[line, CLAIM][place] + self.parts[line, MATURITY][place]
@@ -44,51 +68,55 @@ class Claims:
         return [*pairs[0], *pairs[1], pairs[0][0] + pairs[1][0], pairs[0][1] + pairs[1][1]]
 
 
-def reported_on(period: Period, moment: Moment, policy: Policy) -> datetime.date:
-    """The day of the claim or the maturity of a policy of which something is outstanding."""
-    days = [command.on for command in period.posted(policy.number, moment.position) if command.kind in KINDS]
-    demand_whole(days, f"claims: policy {policy.number} has something outstanding without a claim or a maturity")
-    return days[-1]
+def reported_on(period: Period, places: Array) -> Array:
+    """The days of the claims or the maturities of some policies of the closing, of which something is outstanding."""
+    found = np.full(len(period.closing.policies), NEVER)
+    reports = np.flatnonzero(np.isin(period.records.kind, (kinds.CLAIM, kinds.MATURE)))
+    found[period.place[reports]] = period.records.day[reports]
+    missing = places[found[places] == NEVER]
+    if len(missing):
+        number = period.closing.policies.number[missing[0]]
+        raise NotWhole(f"claims: policy {number} has something outstanding without a claim or a maturity")
+    return found[places]
 
 
-def age_name(days: int) -> str:
-    return next(name for most, name in AGES if days <= most)
-
-
-def outstanding(moment: Moment) -> list[Policy]:
-    found = [policy for policy in moment.policies if policy.outstanding]
-    owed, payable = sum(policy.outstanding for policy in found), -moment.state.balances["payable"]
+def outstanding(moment: Moment) -> Array:
+    """The places of the policies of which something is outstanding."""
+    of = moment.policies
+    owed, payable = int(of.outstanding.sum()), -moment.balances["payable"]
     said = f"claims: {money(owed)} is outstanding on {moment.on}, and the account payable has {money(payable)}"
     demand_whole(owed == payable, said)
-    return found
+    return np.flatnonzero(of.outstanding)
 
 
 def demand_accounts(period: Period, claims: Claims) -> None:
     """Demands that the accounts moved by what was reported and settled."""
-    before, after = period.opening.state.balances, period.closing.state.balances
+    before, after = period.opening.balances, period.closing.balances
     incurred = after["incurred"] - before["incurred"]
     demand_whole(claims.sum_of(REPORTED, 1) == incurred, f"claims: the account incurred moved by {money(incurred)}")
     paid = -(after["cash"] - before["cash"]) - (after["premiums"] - before["premiums"])
     demand_whole(-claims.sum_of(SETTLED, 1) == paid, f"claims: the accounts cash and premiums moved by {money(paid)} paid out")
-    for status in (CLAIM, MATURITY):
+    for status in CODES:
         for place in (0, 1):
             moved = sum(claims.parts[line, status][place] for line in LINES[:3])
             demand_whole(moved == claims.parts[END, status][place], f"claims: the lines of those {status} don't balance")
+
+
+def policy_rows(of: Policies, reported: Array, days: Array) -> Iterator[list[str]]:
+    rows = zip(of.number.tolist(), of.status.tolist(), texts_at(reported), days.tolist(), of.outstanding.tolist())
+    return ([str(number), STATUSES[status - 1], day, str(since), money(cents)] for number, status, day, since, cents in rows)
 
 
 def claim_sheet(period: Period, claims: Claims) -> Sheet:
     columns = [Column(f"{name}: {what}", COUNT if what == "number" else "cents")
                for name in ("claims", "maturities", "total") for what in ("number", "amount")]
     sheet = Sheet("claims", "Claims and maturities", [Column("line", TEXT), *columns, Column("postings", COUNT)])
-    sheet.policy_head = ["policy", "status", "reported", "days", "outstanding"]
-    for policy in outstanding(period.opening):
-        claims.put(BEGINNING, policy.status, 1, policy.outstanding)
-    for policy in outstanding(period.closing):
-        day = reported_on(period, period.closing, policy)
-        days = (period.closing.on - day).days
-        claims.put(END, policy.status, 1, policy.outstanding)
-        claims.put(age_name(days), policy.status, 1, policy.outstanding)
-        sheet.policy_rows.append([str(policy.number), policy.status, str(day), str(days), money(policy.outstanding)])
+    claims.take_outstanding(BEGINNING, period.opening.policies.at(outstanding(period.opening)))
+    places = outstanding(period.closing)
+    of, reported = period.closing.policies.at(places), reported_on(period, places)
+    days = period.closing.day - reported
+    claims.take_outstanding(END, of)
+    claims.take_ages(of, days)
     demand_accounts(period, claims)
     for place, line in enumerate(LINES):
         count = {REPORTED: claims.sum_of(REPORTED, 0), SETTLED: claims.payments}.get(line)
@@ -98,4 +126,7 @@ def claim_sheet(period: Period, claims: Claims) -> Sheet:
     sheet.notes = [f"A payment of a part settles no claim or maturity. Ages are counted from the report to {period.closing.on}."]
     sheet.checks = ["What is outstanding is the printed balance of the account payable, at the beginning and at the end.",
                     "What was reported and settled is what the accounts incurred, cash and premiums moved by."]
+    if period.asked.are_parts_kept:
+        sheet.policy_head = ["policy", "status", "reported", "days", "outstanding"]
+        sheet.policy_rows = policy_rows(of, reported, days)
     return sheet

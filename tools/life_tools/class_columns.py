@@ -1,16 +1,28 @@
 """What `class_bases` says, in bulk: which basis values each policy, and the valuation of which each row is by its own."""
 from __future__ import annotations
 
+import datetime
 import os
-from typing import NamedTuple
+from dataclasses import fields
+from itertools import zip_longest
+from typing import Iterator, NamedTuple, Protocol
 
 from life_tools.arrays import Array, np
 from life_tools.class_bases import Bases, measure_words
 from life_tools.day_columns import number_at
 from life_tools.formats import Wrong, demand
-from life_tools.fronts import WORKERS, Front
+from life_tools.fronts import WORKERS
 from life_tools.printed_columns import ColumnValuation, Rows, sums_of, valuation_of
-from life_tools.tables import read_basis
+from life_tools.tables import BasisRow, read_basis
+
+
+class Streams(Protocol):
+    """What can be asked for a valuation: a copy of a book at a position."""
+
+    folder: str
+    position: int
+
+    def streams(self, *words: str) -> Iterator[bytes]: ...
 
 
 def picked(bases: Bases, numbers: Array) -> Array:
@@ -28,21 +40,42 @@ def picked(bases: Bases, numbers: Array) -> Array:
     return found
 
 
-def valued_columns(copy: Front, on: str, bases: Bases, measure: str) -> ColumnValuation:
+def valued_columns(copy: Streams, on: str, bases: Bases, measure: str) -> ColumnValuation:
     """The program's valuation of a copy; of several bases one for each, of which each policy's row is that of its own."""
     words = ["value", on, "--at", str(copy.position), *measure_words(measure), *WORKERS]
     made = [valuation_of(copy.streams(*words, "--basis", name)) for name in bases.names]
     first, place = made[0], picked(bases, made[0].rows.number)
     if len(made) == 1:
         return first
-    bounds, word, premium = first.rows.bounds.copy(), first.rows.word.copy(), first.rows.premium.copy()
+    rows = Rows(*(getattr(first.rows, column.name).copy() for column in fields(Rows)))
     for at, (name, other) in enumerate(zip(bases.names, made)):
-        same = np.array_equal(other.rows.number, first.rows.number) and np.array_equal(other.rows.status, first.rows.status)
+        same = np.array_equal(other.rows.number, rows.number) and np.array_equal(other.rows.status, rows.status)
         demand(same, f"the valuations by {name} and by {bases.names[0]} have other policies")
         mine = place == at
-        bounds[mine], word[mine], premium[mine] = other.rows.bounds[mine], other.rows.word[mine], other.rows.premium[mine]
-    rows = Rows(first.rows.number, first.rows.status, first.rows.year, word, bounds, premium)
-    return first._replace(rows=rows, total=tuple(sums_of(bounds)), words=int(np.count_nonzero(word)))
+        for column in fields(Rows):
+            getattr(rows, column.name)[mine] = getattr(other.rows, column.name)[mine]
+    return first._replace(rows=rows, total=tuple(sums_of(rows.bounds)), words=int(np.count_nonzero(rows.word)))
+
+
+class PlacedRow(NamedTuple):
+    """A row of a basis file, with the file's name, and the day of the row behind it, where there is one."""
+
+    file: str
+    row: BasisRow
+    until: datetime.date | None
+
+
+def placed_rows(folder: str, bases: Bases, numbers: Array, issued: Array) -> tuple[Array, list[PlacedRow]]:
+    """All rows, and of each policy the place of the one that values it, by its day of issue: from 1, or 0 where none does."""
+    of, place, found = picked(bases, numbers), np.zeros(len(numbers), np.int64), list[PlacedRow]()
+    for at, name in enumerate(bases.names):
+        rows = read_basis(os.path.join(folder, name))
+        days = np.array([number_at(row.day) for row in rows], np.int32)
+        row_place = np.searchsorted(days, issued, "right")
+        place = np.where((of == at) & (row_place > 0), row_place + len(found), place)
+        ends = [row.day for row in rows[1:]]
+        found += [PlacedRow(name, row, until) for row, until in zip_longest(rows, ends)]
+    return place, found
 
 
 class BasisColumn(NamedTuple):
@@ -54,13 +87,8 @@ class BasisColumn(NamedTuple):
 
 def basis_rows(folder: str, bases: Bases, numbers: Array, issued: Array) -> BasisColumn:
     """The rows that value policies, by their days of issue."""
-    of, place, names = picked(bases, numbers), np.zeros(len(numbers), np.int64), ["none"]
-    for at, name in enumerate(bases.names):
-        rows = read_basis(os.path.join(folder, name))
-        days = np.array([number_at(row.day) for row in rows], np.int32)
-        found = np.searchsorted(days, issued, "right")
-        place = np.where((of == at) & (found > 0), found + len(names) - 1, place)
-        # of several bases each row is named with its own
-        file = f"{name} " * (len(bases.names) > 1)
-        names += [f"{file}{row.day} {row.name} {row.points} bp" for row in rows]
-    return BasisColumn(place, names)
+    place, rows = placed_rows(folder, bases, numbers, issued)
+    # of several bases each row is named with its own
+    files = [f"{row.file} " * (len(bases.names) > 1) for row in rows]
+    return BasisColumn(place, ["none", *(f"{file}{it.row.day} {it.row.name} {it.row.points} bp"
+                                         for file, it in zip(files, rows))])

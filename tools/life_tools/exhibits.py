@@ -1,11 +1,13 @@
 """The exhibit of life insurance: number and amount in force at the beginning, what came and went, and in force at the end."""
 from __future__ import annotations
 
-from typing import Iterable
-
+from life_tools.arrays import Array, Cents, np
+from life_tools.commands import PLAN_CODES
 from life_tools.formats import PLANS
-from life_tools.periods import Moment, Period, Step, demand_whole, is_insured
-from life_tools.rules import Policy, end_of
+from life_tools.groups import added
+from life_tools.periods import Moment, Period, demand_whole
+from life_tools.policy_columns import EXPIRED, MADE_PAIDUP, Policies, is_insured
+from life_tools.posted_steps import Steps
 from life_tools.sheets import COUNT, TEXT, Column, Sheet
 
 PAID_UP = "paid up"
@@ -16,25 +18,29 @@ BEGINNING, ISSUED, REVIVED, DECREASED, MADE_PAID_UP, DEATH, MATURITY, EXPIRY, LA
     "in force at the end")
 LINE_OF = {"issue": ISSUED, "reinstate": REVIVED, "alter": DECREASED, "paidup": MADE_PAID_UP, "claim": DEATH,
            "mature": MATURITY, "lapse": LAPSE}
+# of each plan's code the place of its group
+GROUP_OF = np.array([0] + [GROUPS.index(plan) for plan in PLAN_CODES], np.uint8)
 Pair = tuple[int, int]
 
 
-def group_of(policy: Policy) -> str:
-    return PAID_UP if policy.status == "paidup" else policy.plan
+def groups_of(of: Policies) -> Array:
+    """The place of each policy's group."""
+    return np.where(of.status == MADE_PAIDUP, GROUPS.index(PAID_UP), GROUP_OF[of.plan])
 
 
-def in_force(policies: Iterable[Policy]) -> dict[str, Pair]:
+def in_force(of: Policies) -> dict[str, Pair]:
     """Number and amount of each group."""
-    found = dict.fromkeys(GROUPS, (0, 0))
-    for policy in policies:
-        if is_insured(policy):
-            count, amount = found[group_of(policy)]
-            found[group_of(policy)] = count + 1, amount + policy.amount
-    return found
+    insured = is_insured(of)
+    return sums_by_group(groups_of(of)[insured], of.amount[insured])
+
+
+def sums_by_group(groups: Array, amounts: Cents) -> dict[str, Pair]:
+    counts = np.bincount(groups, minlength=len(GROUPS)).tolist()
+    return {group: (count, amount) for group, count, amount in zip(GROUPS, counts, added(groups, len(GROUPS), amounts))}
 
 
 class LifeExhibit:
-    """Takes the postings one by one."""
+    """Takes the postings."""
 
     def __init__(self) -> None:
         self.parts = {(line, group): [0, 0] for line in LINES for group in GROUPS}
@@ -45,24 +51,35 @@ class LifeExhibit:
         part[0] += count
         part[1] += amount
 
-    def take(self, step: Step) -> None:
+    def put_each(self, line: str, groups: Array, sign: int, amounts: Cents) -> None:
+        """Puts so many policies into each group, or takes them out, or, by 0, only changes its amount."""
+        for group, (count, amount) in sums_by_group(groups, amounts).items():
+            self.put(line, group, sign * count, amount)
+
+    def take(self, steps: Steps) -> None:
         """A command counts once, on its own line."""
-        line = LINE_OF.get(step.command.kind)
+        line = LINE_OF.get(steps.kind)
         if line is None:
             return
-        before, after = step.before, step.after
-        line = EXPIRY if after.status == "expired" else line
-        self.postings[line] += 1
+        if line == MATURITY:
+            expired = steps.after.status == EXPIRED
+            self.take_line(EXPIRY, steps.some(expired))
+            steps = steps.some(~expired)
+        self.take_line(line, steps)
+
+    def take_line(self, line: str, steps: Steps) -> None:
+        before, after, groups = steps.before, steps.after, groups_of(steps.before)
+        self.postings[line] += len(steps)
         if line in (ISSUED, REVIVED):
-            self.put(line, group_of(after), 1, after.amount)
-        elif before is not None and line == DECREASED:
-            self.put(line, group_of(before), 0, after.amount - before.amount)
-        elif before is not None and line == MADE_PAID_UP:
-            self.put(line, group_of(before), -1, -after.amount)
-            self.put(line, PAID_UP, 1, after.amount)
-            self.put(DECREASED, group_of(before), 0, after.amount - before.amount)
-        elif before is not None:
-            self.put(line, group_of(before), -1, -before.amount)
+            self.put_each(line, groups_of(after), 1, after.amount)
+        elif line == DECREASED:
+            self.put_each(line, groups, 0, after.amount - before.amount)
+        elif line == MADE_PAID_UP:
+            self.put_each(line, groups, -1, -after.amount)
+            self.put_each(line, groups_of(after), 1, after.amount)
+            self.put_each(DECREASED, groups, 0, after.amount - before.amount)
+        else:
+            self.put_each(line, groups, -1, -before.amount)
 
     def demand_balanced(self, opening: dict[str, Pair], closing: dict[str, Pair]) -> None:
         """Demands that what was in force and what came and went is what the program prints at the end."""
@@ -79,8 +96,8 @@ class LifeExhibit:
 
 def remarks(moment: Moment) -> list[str]:
     """Policies that are in force by their status alone."""
-    ended = sum(is_insured(policy) and end_of(policy) <= moment.on for policy in moment.policies)
-    later = sum(is_insured(policy) and policy.issued > moment.on for policy in moment.policies)
+    of, insured = moment.policies, is_insured(moment.policies)
+    ended, later = (int(np.count_nonzero(insured & each)) for each in (of.end <= moment.day, of.issued > moment.day))
     return ([f"In force on {moment.on}, of which the cover has ended and no maturity is posted: {ended}"] if ended else []) + (
         [f"In force on {moment.on}, but issued after that day: {later}"] if later else [])
 

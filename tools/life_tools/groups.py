@@ -9,7 +9,7 @@ from life_tools.class_columns import BasisColumn
 from life_tools.day_columns import FIRST_YEAR, LAST_YEAR, years_at
 from life_tools.formats import PLANS, STATUSES, Wrong, demand, money
 from life_tools.policy_columns import CODE_OF_STATUS
-from life_tools.printed_columns import ColumnState, ColumnValuation, Rows, StatePolicies
+from life_tools.printed_columns import ColumnState, ColumnValuation, P, Rows, StatePolicies
 
 AGES_IN_A_BAND = 10
 # as many bits of cents, of 4,000,000 policies, as a float adds up without rounding
@@ -40,7 +40,7 @@ KEYS: dict[str, Callable[[Joined], tuple[Array, Sequence[str]]]] = {
 }
 
 
-def demand_same(valuation: ColumnValuation, state: ColumnState) -> None:
+def demand_same(valuation: ColumnValuation, state: ColumnState[P]) -> None:
     """Demands that each row is that of the policy that the state has in its place."""
     rows, policies = valuation.rows, state.policies
     demand(valuation.position == state.count, f"the valuation is of position {valuation.position}, the state of {state.count}")
@@ -53,7 +53,7 @@ def demand_same(valuation: ColumnValuation, state: ColumnState) -> None:
         raise Wrong(f"the row of policy {row.number}, {row.status}, stands where the state has {found}")
 
 
-def joined(valuation: ColumnValuation, state: ColumnState, basis: BasisColumn) -> Joined:
+def joined(valuation: ColumnValuation, state: ColumnState[StatePolicies], basis: BasisColumn) -> Joined:
     """Each row with its policy, which the state has in the same place."""
     demand_same(valuation, state)
     return Joined(valuation.rows, state.policies, *basis)

@@ -10,8 +10,8 @@ from typing import Iterable, Iterator
 
 from life_tools.commands import BODY_SIZE, LAST_AGE, OLDEST_AT_ISSUE, PLAN_CODES, Command
 from life_tools.day_columns import FIRST, LAST, day_at
-from life_tools.formats import FIELDS, KINDS, MOST_CENTS, MOST_REINSTATEMENT_CENTS, PLANS
-from life_tools.journals import FIRST_GATE, RECORD_SIZE
+from life_tools.formats import FIELDS, KINDS, MOST_CENTS, MOST_REINSTATEMENT_CENTS, PLANS, demand
+from life_tools.journals import FIRST_GATE, RECORD_SIZE, gate_of
 from life_tools.arrays import Array, Cents, np
 from life_tools.record_blocks import AT_ONCE, Blocks, Data, mapped
 
@@ -132,10 +132,10 @@ def has_idle_bytes(block: memoryview, raw: Array) -> Array:
     return found
 
 
-def records_of(blocks: Blocks) -> tuple[Records, bytes | None]:
-    """The columns of a journal's records up to the first one that spells no command, and that one's body, if there is one."""
-    records, count, misspelled = blank(blocks.room), 0, None
-    for part in blocks:
+def records_in(parts: Iterable[memoryview], room: int) -> tuple[Records, bytes | None]:
+    """The columns of records up to the first one that spells no command, and that one's body, if there is one."""
+    records, count, misspelled = blank(room), 0, None
+    for part in parts:
         if misspelled is not None or not part:
             continue
         raw = np.frombuffer(part, RECORD)
@@ -150,9 +150,25 @@ def records_of(blocks: Blocks) -> tuple[Records, bytes | None]:
     return records.front(count), misspelled
 
 
+def records_of(blocks: Blocks) -> tuple[Records, bytes | None]:
+    """Those of a journal."""
+    return records_in(blocks, blocks.room)
+
+
 def raw_records(data: Data, count: int) -> Array:
     """A file's first records as they stand in it."""
     return np.frombuffer(data, RECORD, count, FIRST_GATE) if count else np.empty(0, RECORD)
+
+
+def records_behind(path: str, first: int, last: int) -> Records:
+    """The columns of a copy's records behind one position, up to another; none but these are read."""
+    with open(path, "rb") as file:
+        file.seek(gate_of(first))
+        ends = range(first + AT_ONCE, last + AT_ONCE, AT_ONCE)
+        parts = (memoryview(file.read(RECORD_SIZE * (min(end, last) - (end - AT_ONCE)))) for end in ends)
+        records, misspelled = records_in(parts, last - first)
+    demand(misspelled is None, f"{path}: record {first + len(records) + 1} spells no command")
+    return records
 
 
 # --- some policies alone, of a file whose records aren't judged ---

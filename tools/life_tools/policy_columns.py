@@ -7,7 +7,7 @@ from __future__ import annotations
 
 from dataclasses import dataclass, fields
 from functools import cached_property
-from typing import Union
+from typing import NamedTuple, Sequence, Union
 
 from life_tools.commands import LAST_AGE, PLAN_CODES
 from life_tools.day_columns import NEVER, anniversaries, completed_years, day_at, number_at
@@ -91,15 +91,48 @@ def due_of(of: Some) -> Array:
     return np.where(none, NEVER, anniversaries(of.issued, np.where(none, 0, of.paid)))
 
 
-def issued_by(records: Records, places: Array) -> Policies:
-    """The policies as these issues leave them."""
-    plan, age, years, issued = (column[places] for column in (records.plan, records.age, records.years, records.day))
+class IssueTerms(NamedTuple):
+    """What an issue says of policies, and what follows of it: the years of cover, the yearly premiums, the end of the cover."""
+
+    plan: Array
+    age: Array
+    years: Array
+    issued: Array
+    cover: Array
+    payments: Array
+    end: Array
+
+
+def issue_terms(plan: Array, age: Array, years: Array, issued: Array) -> IssueTerms:
     years_to_end = LAST_AGE - age.astype(np.int16)
     cover = np.where((plan == TERM) | (plan == ENDOWMENT), years, years_to_end)
+    return IssueTerms(plan, age, years, issued, cover, np.where(plan == WHOLE, years_to_end, years), anniversaries(issued, cover))
+
+
+def issued_by(records: Records, places: Array) -> Policies:
+    """The policies as these issues leave them."""
+    terms = issue_terms(*(column[places] for column in (records.plan, records.age, records.years, records.day)))
     count = len(places)
-    return Policies(records.number[places], plan, age, years, issued, cover, np.where(plan == WHOLE, years_to_end, years),
-                    anniversaries(issued, cover), records.amount[places], records.premium[places], issued.copy(),
+    return Policies(records.number[places], *terms, records.amount[places], records.premium[places], terms.issued.copy(),
                     np.full(count, INFORCE, np.uint8), np.zeros(count, np.int16), np.zeros(count, np.int64))
+
+
+def policies_in(of: Sequence[Policy]) -> Policies:
+    """Policies that are there as objects."""
+    def column(name: str, kind: type) -> Array:
+        return np.array([getattr(policy, name) for policy in of], kind)
+
+    plan = np.array([PLAN_CODES[policy.plan] for policy in of], np.uint8)
+    issued, last = (np.array([number_at(getattr(policy, name)) for policy in of], np.int32) for name in ("issued", "last"))
+    status = np.array([CODE_OF_STATUS[policy.status] for policy in of], np.uint8)
+    return Policies(column("number", np.uint32), *issue_terms(plan, column("age", np.uint8), column("years", np.uint8), issued),
+                    column("amount", np.int64), column("premium", np.int64), last, status, column("paid", np.int16),
+                    column("outstanding", np.int64))
+
+
+def together(one: Policies, other: Policies) -> Policies:
+    """The policies of both, one behind the other."""
+    return Policies(*(np.concatenate([getattr(one, column.name), getattr(other, column.name)]) for column in fields(one)))
 
 
 # --- the rules, of policies and of a command on each ---

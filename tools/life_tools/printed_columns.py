@@ -12,13 +12,14 @@ from concurrent.futures import Future, ThreadPoolExecutor
 from dataclasses import dataclass, fields
 from functools import partial
 from itertools import chain
-from typing import Callable, Iterable, Iterator, NamedTuple, Sequence, TypeVar
+from typing import Callable, Generic, Iterable, Iterator, NamedTuple, Sequence, TypeVar
 
 from life_tools.arrays import Array, Cents, np
 from life_tools.commands import EPOCH, OLDEST_AT_ISSUE
 from life_tools.day_columns import FIRST, LAST
 from life_tools.formats import (MOST_NUMBER, MOST_YEARS, PLANS, STATUSES, Wrong, day_in, demand, measure_of, money, number_of,
                                 printed_cents)
+from life_tools.policy_columns import Policies, issue_terms
 from life_tools.printed_books import ValuedRow
 from life_tools.rules import ACCOUNTS
 from life_tools.worked_rows import WORDS
@@ -367,33 +368,49 @@ class StatePolicies:
 
 
 @dataclass(frozen=True)
-class ColumnState:
+class WholePolicies(StatePolicies):
+    """All that `state` prints of policies."""
+
+    years: Array
+    premium: Cents
+    paid: Array
+    outstanding: Cents
+
+
+P = TypeVar("P", bound=StatePolicies)
+# of each column the field of a policy's line, and how it is read
+READ: dict[str, Callable[[Fields], Array]] = {
+    "number": lambda each: each.whole(1, MOST_NUMBER).astype(np.uint32), "status": lambda each: each.codes(2, STATUSES) + 1,
+    "plan": lambda each: each.codes(3, tuple(PLANS.values())) + 1,
+    "age": lambda each: each.whole(4, OLDEST_AT_ISSUE).astype(np.uint8),
+    "years": lambda each: each.whole(5, MOST_YEARS).astype(np.uint8), "amount": lambda each: each.cents(6),
+    "premium": lambda each: each.cents(7), "issued": lambda each: each.days(8),
+    "paid": lambda each: each.whole(9, MOST_YEARS).astype(np.int16), "outstanding": lambda each: each.cents(10)}
+
+
+@dataclass(frozen=True)
+class ColumnState(Generic[P]):
     """The policies, the balances of the accounts in cents, and the number of postings."""
 
-    policies: StatePolicies
+    policies: P
     balances: dict[str, int]
     count: int
 
 
-def policies_in(block: bytes) -> StatePolicies:
+def policies_in(block: bytes, of: type[P]) -> P:
     """The policies of a block, which has nothing else."""
     found = fields_in(block)
     each = found.get(11)
     demand(len(found) == 1 and each, f"{block[:80]!r} begins no policies of a state")
     assert each is not None
     each.wrong(each.codes(0, ("policy",)) == 0)
-    # what no group is made by is looked at alone
-    for field in (5, 9):
-        each.whole(field, MOST_YEARS)
-    for field in (7, 10):
-        each.cents(field)
-    return StatePolicies(each.whole(1, MOST_NUMBER).astype(np.uint32), each.codes(2, STATUSES) + 1,
-                         each.codes(3, tuple(PLANS.values())) + 1, each.whole(4, OLDEST_AT_ISSUE).astype(np.uint8), each.days(8),
-                         each.cents(6))
+    # also what isn't asked for has to be right
+    columns = {name: read(each) for name, read in READ.items()}
+    return of(**{column.name: columns[column.name] for column in fields(of)})
 
 
-def state_of(parts: Iterable[bytes]) -> ColumnState:
-    """The book that a run of `state` printed."""
+def read_state(parts: Iterable[bytes], of: type[P]) -> ColumnState[P]:
+    """What a run of `state` printed."""
     rest = [b""]
 
     def policies() -> Iterator[bytes]:
@@ -405,10 +422,29 @@ def state_of(parts: Iterable[bytes]) -> ColumnState:
             if at:
                 yield block[:at]
 
-    found = list(read_in_threads(policies_in, policies()))
+    found = list(read_in_threads(partial(policies_in, of=of), policies()))
     balances, count = balances_in(rest[0])
-    made = joined_columns(StatePolicies, found) if found else [np.empty(0, np.int64) for _ in fields(StatePolicies)]
-    return ColumnState(StatePolicies(*made), balances, count)
+    made = joined_columns(of, found) if found else [np.empty(0, np.int64) for _ in fields(of)]
+    return ColumnState(of(*made), balances, count)
+
+
+def state_of(parts: Iterable[bytes]) -> ColumnState[StatePolicies]:
+    """The book that a run of `state` printed, as far as groups are made by it."""
+    return read_state(parts, StatePolicies)
+
+
+def whole_state_of(parts: Iterable[bytes]) -> ColumnState[WholePolicies]:
+    """The same, with all that it printed of each policy."""
+    return read_state(parts, WholePolicies)
+
+
+def printed_policies(of: WholePolicies) -> Policies:
+    """The policies that a state tells, which has no day of a last posting: the day of issue stands for it."""
+    # without a policy the columns have a type of no use
+    plan, age, years, issued = (column.astype(kind) for column, kind in zip((of.plan, of.age, of.years, of.issued),
+                                                                            (np.uint8, np.uint8, np.uint8, np.int32)))
+    return Policies(of.number, *issue_terms(plan, age, years, issued), of.amount, of.premium, issued.copy(), of.status, of.paid,
+                    of.outstanding)
 
 
 def balances_in(text: bytes) -> tuple[dict[str, int], int]:

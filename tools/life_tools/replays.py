@@ -5,6 +5,8 @@ and so on; of the few policies that are left in the end each command is decided 
 """
 from __future__ import annotations
 
+from typing import Iterator
+
 from life_tools.journal_columns import CLAIM, ISSUE, MATURE, PAIDUP, PREMIUM, REINSTATE, SETTLE, UPGRADE, Records
 from life_tools.arrays import Array, Cents, np
 from life_tools.policy_columns import RIGHT, TERM, Chosen, Policies, change, is_accepted, issued_by
@@ -16,6 +18,38 @@ SPREAD, LEAST_TABLE = 8, 1 << 20
 AT_ONCE = 1 << 15
 # so few policies that their commands are decided one after the other
 FEW = 24
+
+
+class Rounds:
+    """What is left of policies' commands, in rounds: the first of each policy, then the second, and so on.
+
+    `order` has the commands policy by policy, and of each policy it begins and ends at a place. Those with most commands left
+    stand first; what few policies have left in the end is given of one policy after the other.
+    """
+
+    def __init__(self, order: Array, begins: Array, ends: Array) -> None:
+        self.order, self.begins, self.ends = order, begins, ends
+        left = ends - begins
+        mine = np.flatnonzero(left)
+        self.mine = mine[np.argsort(-left[mine], kind="stable")]
+        self.rising = left[self.mine][::-1]
+        self.done = 0
+
+    @property
+    def active(self) -> int:
+        return len(self.mine) - int(np.searchsorted(self.rising, self.done, "right"))
+
+    def rounds(self) -> Iterator[tuple[Array, Array]]:
+        """A command of each of some policies, and the policies."""
+        while (active := self.active) > FEW:
+            mine = self.mine[:active]
+            yield self.order[self.begins[mine] + self.done], mine
+            self.done += 1
+
+    def alone(self) -> Iterator[tuple[int, Array]]:
+        """A policy, and all commands that it has left behind the rounds."""
+        for place in self.mine[:self.active].tolist():
+            yield place, self.order[self.begins[place] + self.done:self.ends[place]]
 
 
 class Replay:
@@ -95,16 +129,11 @@ class Replay:
         order = stable_order(places)
         where, places = where[order], places[order]
         starts = np.flatnonzero(np.diff(places, prepend=-2))
-        left = np.diff(starts, append=len(places))
-        most = np.argsort(-left, kind="stable")
-        starts, left = starts[most], left[most]
-        done = 0
-        while (active := int(np.searchsorted(-left, -done))) > FEW:
-            first = starts[:active]
-            self.judge_round(where[first + done], places[first])
-            done += 1
-        for start, end in zip(starts[:active].tolist(), (starts + left)[:active].tolist()):
-            self.judge_alone(int(places[start]), where[start + done:end])
+        left, mine = Rounds(where, starts, np.append(starts[1:], len(where))), places[starts]
+        for now, of in left.rounds():
+            self.judge_round(now, mine[of])
+        for one, rest in left.alone():
+            self.judge_alone(int(mine[one]), rest)
 
     def judge_round(self, where: Array, places: Array) -> None:
         """A command of each of some policies."""
@@ -173,7 +202,7 @@ class Numbers:
     """Finds the policies of numbers: the first place of each among those that are known, or -1."""
 
     def __init__(self, known: Array, asked: Array) -> None:
-        most = int(asked.max(initial=0))
+        most = int(max(known.max(initial=0), asked.max(initial=0)))
         self.table = self.order = np.empty(0, np.int32)
         self.known = known
         if most <= SPREAD * len(asked) + LEAST_TABLE:
@@ -187,5 +216,12 @@ class Numbers:
     def places(self, numbers: Array) -> Array:
         if len(self.table):
             return self.table[numbers]
+        if not len(self.known):
+            return np.full(len(numbers), -1, np.int32)
         at = np.minimum(np.searchsorted(self.known, numbers), len(self.known) - 1)
         return np.where(self.known[at] == numbers, self.order[at], np.int32(-1))
+
+
+def places_of(numbers: Array, known: Array) -> Array:
+    """The first place of each number among those that are known, or -1."""
+    return Numbers(known, numbers).places(numbers)

@@ -6,7 +6,7 @@ from typing import Sequence
 from life_tools.changes import CLOSING, OPENING, Cash, Moved
 from life_tools.formats import money
 from life_tools.groups import Groups, Sums
-from life_tools.sheets import COUNT, TEXT, Column, Sheet
+from life_tools.sheets import BY_BOUNDS, COUNT, TEXT, Column, Sheet
 
 # columns of counts; all others but the first are of amounts
 COUNTED = ("policies", "insured", "words")
@@ -31,7 +31,7 @@ def sheet_of(keys: Sequence[str], groups: Groups, total: Sums, columns: Sequence
 
 def movement_sheet(title: str, lines: Sequence[Moved], cash: Cash, notes: Sequence[str]) -> Sheet:
     """The lines of an analysis of change."""
-    heads = [Column("line", TEXT), Column("policies", COUNT), Column("lower bounds"), Column("upper bounds")]
+    heads = [Column("line", TEXT), Column("policies", COUNT), *BY_BOUNDS]
     sheet = Sheet("movement", title, heads,
                   notes=[f"premiums received {money(cash.premiums)}, settlements paid {money(cash.settlements)}", *notes],
                   checks=["The lines add up to the closing reserve, and both reserves are the printed totals.",

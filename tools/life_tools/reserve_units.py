@@ -6,15 +6,13 @@ the last ones is no part of a cent in millions of policies.
 """
 from __future__ import annotations
 
-import datetime
 from dataclasses import dataclass
 from fractions import Fraction
 from typing import Sequence
 
 from life_tools.periods import demand_whole
-from life_tools.reserves import Cover, InForce, Insured, insured_by, terms_of
-from life_tools.rules import Policy, completed
-from life_tools.tables import FINEST, BasisRow, Table
+from life_tools.reserves import Cover, InForce, Insured
+from life_tools.tables import FINEST, Table
 
 ONE, FINE = 10**30, 10**40
 # the errors of forty decimals come to less than this in thirty
@@ -22,18 +20,20 @@ NOISE = 10**5
 
 
 class Column(Cover):
-    """A cover of which the values of all years are made at once, from its end back to its beginning."""
+    """A cover of which the values of all years are made at once, from its end back to its beginning, in units of 10^-40."""
 
     def __init__(self, table: Table, age: int, years: int, payments: int, matures: bool, discount: Fraction) -> None:
         super().__init__(table, age, years, payments, matures, discount)
-        benefits, annuity = FINE if matures else 0, 0
+        self.benefits, self.annuities = [0] * years + [FINE if matures else 0], [0] * (years + 1)
         by, parts = discount.numerator, discount.denominator * FINEST
-        self.known[years] = Fraction(benefits, FINE), Fraction(annuity, FINE)
         for year in range(years - 1, -1, -1):
             dying = finest(self.rates[year])
-            benefits = by * (dying * FINE + (FINEST - dying) * benefits) // parts
-            annuity = (FINE if year < payments else 0) + by * (FINEST - dying) * annuity // parts
-            self.known[year] = Fraction(benefits, FINE), Fraction(annuity, FINE)
+            self.benefits[year] = by * (dying * FINE + (FINEST - dying) * self.benefits[year + 1]) // parts
+            due = FINE if year < payments else 0
+            self.annuities[year] = due + by * (FINEST - dying) * self.annuities[year + 1] // parts
+
+    def values_at(self, year: int) -> tuple[Fraction, Fraction]:
+        return Fraction(self.benefits[year], FINE), Fraction(self.annuities[year], FINE)
 
 
 def finest(rate: Fraction) -> int:
@@ -71,23 +71,27 @@ class Years:
 
     def __init__(self, insured: Insured) -> None:
         cover = insured.cover
+        assert isinstance(cover, Column)
         years, a_year = range(cover.years), 1 / cover.discount - 1
-        self.terminal = [whole(insured.terminal(year)) for year in range(cover.years + 1)]
+        values, parts = values_of(insured, cover)
+        self.terminal = [max(value, 0) * ONE // parts for value in values]
         self.net = [whole(insured.net_premium(year)) for year in years]
         self.interest = [(self.terminal[year] + self.net[year]) * a_year.numerator // a_year.denominator for year in years]
         self.cost = [finest(cover.rates[year]) * (ONE - self.terminal[year + 1]) // FINEST for year in years]
         self.held = [self.terminal[year + 1] - self.terminal[year] - self.net[year] - self.interest[year] + self.cost[year]
                      for year in years]
-        is_low = [year > 0 and reserve == 0 and isinstance(insured, InForce) and below_0(insured, year)
-                  for year, reserve in enumerate(self.terminal)]
+        is_low = [year > 0 and value < 0 for year, value in enumerate(values)]
         for year in years:
             is_right = is_low[year] or is_low[year + 1] or abs(self.held[year]) < NOISE
             demand_whole(is_right, f"year {year}: net premium, interest and cost don't lead from one reserve to the next")
 
 
-def below_0(insured: InForce, year: int) -> bool:
-    benefits, annuity = insured.cover.values_at(year)
-    return benefits < insured.modified * annuity
+def values_of(insured: Insured, cover: Column) -> tuple[list[int], int]:
+    """At each year benefits less the net premiums to come, below 0 too, and in how many parts of 1 they are counted."""
+    modified = insured.modified if isinstance(insured, InForce) else Fraction(0)
+    values = [benefits * modified.denominator - modified.numerator * annuity
+              for benefits, annuity in zip(cover.benefits, cover.annuities)]
+    return values, FINE * modified.denominator
 
 
 def summed(steps: Sequence[int]) -> list[int]:
@@ -118,23 +122,6 @@ def units_of(insured: Insured, measure: str) -> Units:
     return Units([each + shift for each in reserve], premiums, interest, cost, held, years.net)
 
 
-class Worth:
-    """The units of policies; those of the same terms are made once."""
-
-    def __init__(self, measure: str) -> None:
-        self.measure = measure
-        self.known: dict[tuple[str, datetime.date, str, int, int, bool], Units] = {}
-
-    def units(self, policy: Policy, name: str, basis: Sequence[BasisRow], is_paid_up: bool) -> Units | None:
-        """Those of a policy by a basis of this name; none where it has no value."""
-        terms = terms_of(policy, basis)
-        if isinstance(terms, str):
-            return None
-        case = name, terms.row.day, policy.plan, policy.age, policy.years, is_paid_up
-        if case not in self.known:
-            self.known[case] = units_of(insured_by(terms, policy.age, is_paid_up, Column), self.measure)
-        return self.known[case]
-
-
-def year_of(policy: Policy, on: datetime.date, units: Units) -> int:
-    return min(completed(policy.issued, on), units.years)
+def cents(scaled: int) -> int:
+    """An amount in 10^-30 cents to the nearest cent."""
+    return (2 * scaled + ONE) // (2 * ONE)

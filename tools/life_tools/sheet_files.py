@@ -4,7 +4,8 @@ from __future__ import annotations
 import csv
 import os
 import shutil
-from typing import Any, Callable, Sequence
+from itertools import chain
+from typing import Any, Callable, Iterable, Sequence
 
 from life_tools.formats import Wrong, demand
 from life_tools.packages import package
@@ -14,6 +15,8 @@ from life_tools.sheets import CENTS, COUNT, TEXT, Cell, Column, Sheet, cell_text
 Facts = dict[str, str]
 # a text that begins so is a formula to a spreadsheet
 FORMULAS = ("=", "+", "-", "@", "\t", "\r")
+# among the facts, before a sheet's name
+NOTE_ON = "note on "
 FORMATS = {COUNT: "#,##0", CENTS: "#,##0.00"}
 
 
@@ -50,7 +53,7 @@ def csv_rows(sheet: Sheet) -> list[list[str]]:
     return [head, *([harmless(cell) if kind == TEXT else cell for cell, kind in zip(row, kinds)] for row in rows)]
 
 
-def write_rows(path: str, rows: Sequence[Sequence[str]]) -> None:
+def write_rows(path: str, rows: Iterable[Sequence[str]]) -> None:
     with open(path, "x", newline="", encoding="utf-8") as file:
         csv.writer(file, lineterminator="\n").writerows(rows)
 
@@ -78,8 +81,10 @@ def write_folder(folder: str, write: Callable[[str], None]) -> None:
 
 
 def write_csvs(folder: str, facts: Facts, sheets: Sequence[Sheet]) -> None:
-    """A file for each sheet, and one of the facts."""
-    write_rows(os.path.join(folder, "facts.csv"), [["fact", "value"], *([name, harmless(text)] for name, text in facts.items())])
+    """A file for each sheet, and one of the facts and of what is to be said of the sheets."""
+    notes = [(f"{NOTE_ON}{sheet.name}", note) for sheet in sheets for note in sheet.notes]
+    told = ([name, harmless(text)] for name, text in (*facts.items(), *notes))
+    write_rows(os.path.join(folder, "facts.csv"), [["fact", "value"], *told])
     for sheet in sheets:
         write_rows(os.path.join(folder, f"{sheet.name}.csv"), csv_rows(sheet))
 
@@ -88,7 +93,7 @@ def write_policies(folder: str, sheets: Sequence[Sheet]) -> None:
     """A file for each sheet that tells each policy's part."""
     for sheet in sheets:
         if sheet.policy_head:
-            write_rows(os.path.join(folder, f"{sheet.name}.csv"), [sheet.policy_head, *sheet.policy_rows])
+            write_rows(os.path.join(folder, f"{sheet.name}.csv"), chain([sheet.policy_head], sheet.policy_rows))
 
 
 # --- a workbook ---

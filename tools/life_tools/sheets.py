@@ -2,7 +2,7 @@
 from __future__ import annotations
 
 from dataclasses import dataclass, field
-from typing import Any, NamedTuple, Sequence, Union
+from typing import Any, Iterable, NamedTuple, Sequence, Union
 
 from life_tools.formats import demand, money
 
@@ -15,6 +15,10 @@ class Column(NamedTuple):
 
     name: str
     kind: str = CENTS
+
+
+# of amounts that are added up twice, from the lower and from the upper bounds of printed rows
+BY_BOUNDS = (Column("by lower bounds"), Column("by upper bounds"))
 
 
 class Row(NamedTuple):
@@ -37,7 +41,7 @@ class Sheet:
     checks: list[str] = field(default_factory=list)
     # each policy's part, where that was asked for: a head, and rows as they are written
     policy_head: list[str] = field(default_factory=list)
-    policy_rows: list[list[str]] = field(default_factory=list)
+    policy_rows: Iterable[list[str]] = ()
     # what exact sums the rows were rounded from, where several books' are added before they are rounded
     exact: Any = None
 

@@ -4,13 +4,17 @@ from __future__ import annotations
 from dataclasses import dataclass
 from typing import Sequence
 
+from life_tools.arrays import np
 from life_tools.basis_sheet import basis_sheet
 from life_tools.claim_sheet import Claims, claim_sheet
 from life_tools.exhibits import LifeExhibit, exhibit_sheet
 from life_tools.formats import demand
 from life_tools.increase_sheet import Increase, increase_sheet, increases_added
-from life_tools.periods import Asked, Period, period_of, steps_of
-from life_tools.premium_sheet import Collected, premium_sheet
+from life_tools.periods import Asked, Period, period_of
+from life_tools.posted_steps import steps_of
+from life_tools.premium_sheet import Collected, Uncollected, premium_sheet
+from life_tools.progress import Progress
+from life_tools.reserve_cases import Cases, cases_of
 from life_tools.sheets import Sheet, added
 
 
@@ -29,14 +33,30 @@ def facts_of(asked: Asked) -> dict[str, str]:
 
 def sheets_of(period: Period) -> list[Sheet]:
     """All sheets; raises NotWhole where a sum isn't what the program printed."""
-    exhibit, increase, claims, collected = LifeExhibit(), Increase(period), Claims(), Collected()
-    for step in steps_of(period):
-        exhibit.take(step)
-        increase.take(step)
-        claims.take(step)
-        collected.take(step)
-    return [exhibit_sheet(period, exhibit), basis_sheet(period), premium_sheet(period, collected, increase.worth),
+    cases = cases_of(period.closing.policies, period.row, period.rows)
+    exhibit, increase, claims, collected = LifeExhibit(), Increase(period, cases), Claims(), Collected()
+    for steps in steps_of(period):
+        exhibit.take(steps)
+        increase.take(steps)
+        claims.take(steps)
+        collected.take(steps)
+    increase.close()
+    uncollected = Uncollected(period, cases)
+    price(cases, period.asked.measure, increase, uncollected)
+    return [exhibit_sheet(period, exhibit), basis_sheet(period), premium_sheet(period, collected, uncollected),
             increase_sheet(period, increase), claim_sheet(period, claims)]
+
+
+def price(cases: Cases, measure: str, *priced: Increase | Uncollected) -> None:
+    """Works out what 1 of each case is worth, as far as it is wanted, once for all."""
+    wanted = np.unique(np.concatenate([each.cases for each in priced])).tolist()
+    progress = Progress("reserves", len(wanted))
+    for place, case in enumerate(wanted):
+        units = cases.units(case, measure)
+        for each in priced:
+            each.price(case, units)
+        progress.at(place)
+    progress.end()
 
 
 def statement_of(asked: Asked) -> Statement:

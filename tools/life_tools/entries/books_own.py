@@ -16,7 +16,7 @@ from life_tools.class_bases import Bases, bases_in
 from life_tools.entries import books_audit
 from life_tools.entries.audit import late_argument, paper_arguments
 from life_tools.entries.due import MOST_DAYS, Due, listed, tell_sums
-from life_tools.entries.movement import ONE_LINE
+from life_tools.entries.movement import TOLD
 from life_tools.entries.report import HEADS, keys_in, write_text, written_whole
 from life_tools.formats import MEASURES, bytes_of, day_in, demand, number_of, remark, rows_in
 from life_tools.groups import Groups
@@ -147,7 +147,7 @@ def movement_sheets(options: argparse.Namespace, outcomes: Sequence[Outcome]) ->
     notes = [f"{words} policies of the {name} have a word in place of bounds, and are in no sum"
              for name, words in zip((OPENING, CLOSING), found.words) if words]
     title = f"from {options.words[1]} to {options.words[2]}"
-    return [movement_sheet(title, found.lines, found.cash, [*notes, ONE_LINE])]
+    return [movement_sheet(title, found.lines, found.cash, [*notes, *TOLD])]
 
 
 def statement_sheets(options: argparse.Namespace, outcomes: Sequence[Outcome]) -> list[Sheet]:

@@ -13,22 +13,27 @@ from __future__ import annotations
 import argparse
 import csv
 import os
-from typing import NamedTuple
+from typing import Iterator, NamedTuple
 
-from life_tools.changes import LINES, Cash, Change, Moved, analysis, cash_of, changes_of, demand_booked, lines_by_policy
-from life_tools.class_bases import Bases, bases_in, valued
-from life_tools.commands import Command, command_in
+from life_tools.changes import LINES, Cash, Changes, Moved, analysis, cash_of, changes_of, demand_booked
+from life_tools.class_bases import Bases, bases_in
+from life_tools.class_columns import valued_columns
+from life_tools.copied_folder import JOURNAL
 from life_tools.entries.report import add_title, write_text, written_whole
 from life_tools.entries.why import measure_arguments, position_in
 from life_tools.formats import Wrong, day_in, demand, money, remark
-from life_tools.fronts import Front, front
-from life_tools.journals import gate_of
-from life_tools.printed_books import PrintedState, state_in
+from life_tools.fronts import front
+from life_tools.journal_columns import records_behind
+from life_tools.printed_columns import state_of
 from life_tools.printed_valuations import SHOWN
 from life_tools.provenance import provenance
 from life_tools.report_sheets import movement_sheet
 from life_tools.sheet_files import write_workbook
 from life_tools.sheet_pages import page
+from life_tools.sheets import BY_BOUNDS
+
+# so many policies are written at once
+AT_ONCE = 1 << 14
 
 
 def arguments(parser: argparse.ArgumentParser) -> None:
@@ -58,15 +63,8 @@ def bases_of(options: argparse.Namespace) -> list[Bases]:
     return [bases_in(name, options.classes, path) for path in options.bases or [None]]
 
 
-def commands_between(copy: Front, first: int) -> list[Command]:
-    """The commands behind the first so many, to the copy's position."""
-    with open(os.path.join(copy.folder, "journal.life"), "rb") as file:
-        file.seek(gate_of(first))
-        data = file.read()
-    return [command_in(data[at + 1:at + 65]) for at in range(0, len(data) - 1, 65)]
-
-
-ONE_LINE = "a policy counts on one line, that of its last posting; `statement` counts each posting"
+TOLD = ("each column is a sum of the printed rows' bounds, of the lower or of the upper ones; a line is what that sum moved by",
+        "a policy counts on one line, that of its last posting; `statement` counts each posting")
 
 
 class Moment(NamedTuple):
@@ -85,28 +83,36 @@ class Books:
         basis, changed = bases[0], bases[-1]
         names = list(dict.fromkeys(name for each in bases for name in each.names))
         with front(folder, first, names, life) as copy:
-            self.opening = valued(copy, on1, basis, measure)
-            self.before: PrintedState = state_in(copy.asks("state"))
+            self.opening = valued_columns(copy, on1, basis, measure)
+            self.before = state_of(copy.streams("state")).balances
         with front(folder, last, names, life) as copy:
-            self.later_book = valued(copy, on1, basis, measure)
-            self.later_day = valued(copy, on2, basis, measure)
-            self.closing = valued(copy, on2, changed, measure) if changed != basis else self.later_day
-            self.after: PrintedState = state_in(copy.asks("state"))
-            self.commands = commands_between(copy, first)
+            self.later_book = valued_columns(copy, on1, basis, measure)
+            self.later_day = valued_columns(copy, on2, basis, measure)
+            self.closing = valued_columns(copy, on2, changed, measure) if changed != basis else self.later_day
+            self.after = state_of(copy.streams("state")).balances
+            self.records = records_behind(os.path.join(copy.folder, JOURNAL), first, last)
 
 
-def write_policies(path: str, changes: list[Change]) -> None:
+def rows_of(changes: Changes) -> Iterator[list[str]]:
+    """Each policy's part as it is written, made of so many at once."""
+    for start in range(0, len(changes), AT_ONCE):
+        some = slice(start, start + AT_ONCE)
+        parts = (changes.opening, changes.posted, changes.time, changes.basis, changes.closing)
+        amounts = (map(money, column) for part in parts for column in part[some].T.tolist())
+        names = (LINES[place] if place else "" for place in changes.line[some].tolist())
+        yield from map(list, zip(map(str, changes.number[some].tolist()), names, *amounts))
+
+
+def write_policies(path: str, changes: Changes) -> None:
     with open(path, "w", newline="", encoding="utf-8") as file:
         writer = csv.writer(file, lineterminator="\n")
         parts = ("opening", "posted", "time", "basis", "closing")
         writer.writerow(["policy", "line", *(f"{part} {bound}" for part in parts for bound in ("lower", "upper"))])
-        for it in changes:
-            pairs = (it.opening, it.posted, it.time, it.basis, it.closing)
-            writer.writerow([it.number, it.line, *(money(cents) for pair in pairs for cents in pair)])
+        writer.writerows(rows_of(changes))
 
 
 def shown(lines: list[Moved]) -> str:
-    rows = [("", "policies", "lower bounds", "upper bounds")]
+    rows = [("", "policies", *(column.name for column in BY_BOUNDS))]
     rows += [(it.name, str(it.policies), money(it.cents[0]), money(it.cents[1])) for it in lines]
     widths = [max(len(row[place]) for row in rows) for place in range(4)]
     return "\n".join("  ".join([row[0].ljust(widths[0]), *(row[k].rjust(widths[k]) for k in (1, 2, 3))]) for row in rows)
@@ -124,18 +130,18 @@ def write_files(options: argparse.Namespace, lines: list[Moved], cash: Cash, not
         written_whole(options.html, lambda path: write_text(path, page(whole, told, sheets)))
 
 
-def moved_in(books: Books) -> tuple[list[Change], list[Moved], Cash]:
+def moved_in(books: Books) -> tuple[Changes, list[Moved], Cash]:
     """The changes of the policies, the lines, and the cash, which add up to what was printed."""
-    changes = changes_of(books.opening, books.later_book, books.later_day, books.closing, lines_by_policy(books.commands))
-    lines, cash = analysis(changes, books.opening, books.closing), cash_of(books.commands)
-    demand_booked(cash, books.before.balances, books.after.balances)
+    changes = changes_of(books.opening, books.later_book, books.later_day, books.closing, books.records)
+    lines, cash = analysis(changes, books.opening, books.closing), cash_of(books.records)
+    demand_booked(cash, books.before, books.after)
     return changes, lines, cash
 
 
 def notes_of(books: Books) -> list[str]:
     notes = [f"{valuation.words} policies of the {name} have a word in place of bounds, and are in no sum"
              for name, valuation in ((LINES[0], books.opening), (LINES[-1], books.closing)) if valuation.words]
-    return [*notes, ONE_LINE]
+    return [*notes, *TOLD]
 
 
 def run(options: argparse.Namespace) -> int:

@@ -13,6 +13,7 @@ from life_tools.window.find_pages import policy_cell
 from life_tools.window.lists import newest_day
 from life_tools.window.looked_at import LookedAt
 from life_tools.window.parts import RIGHT, Answer, Cell, File, Head, Page, Table, cells, heads, link
+from life_tools.window.policies import STATUSES as STATUS_WORDS
 from life_tools.window.tool_runs import ToolRun, tool_run
 
 SIZES = ("reserve", "amount")
@@ -110,7 +111,8 @@ def sample(book: LookedAt, asked: Asked, at: int) -> Answer:
     run, words = drawn(book, asked, at)
     rows = sample_rows(run)
     table = Table("The drawn rows", [Head("policy", RIGHT), Head("status"), *heads(("year", "lower bound", "upper bound"), 0)],
-                  [[policy_link(book, row[0], at, words), Cell(row[1]), *cells(row[2:])] for row in rows[:MOST_SHOWN]])
+                  [[policy_link(book, row[0], at, words), Cell(STATUS_WORDS[row[1]]), *cells(row[2:])]
+                   for row in rows[:MOST_SHOWN]])
     files = [(says, link(book.number, name, at, **words)) for says, name in (
         ("The sample", "sample.txt"), ("Papers to print", "papers.html"), ("Letters as CSV", "letters.csv"))]
     values = {"table": table, "count": len(rows), "shown": min(len(rows), MOST_SHOWN), "remarks": run.remarks, "words": words,

@@ -66,7 +66,8 @@ def find(book: LookedAt, asked: Asked, at: int) -> Answer:
     values = {"table": table, "sought": sought, "exact": exact, "count": found.count, "page": page, "pages": found.pages,
               "turns": turns(book.number, "find", at, sought.words(), page, found.pages),
               "first": first + 1 if found.count else 0, "last": first + len(found.rows), "plans": list(PLANS.values()),
-              "statuses": [(each, STATUS_WORDS[each]) for each in STATUSES]}
+              "statuses": [(each, STATUS_WORDS[each]) for each in STATUSES],
+              "sorts": [(name, says) for name, says, _ in COLUMNS]}
     return Page("find.html", "Find a policy", values)
 
 

@@ -11,12 +11,14 @@ from life_tools.positions import on_day
 from life_tools.provenance import provenance
 from life_tools.report_pages import apart, money
 from life_tools.revisions import revision
+from life_tools.sheets import BY_BOUNDS
 from life_tools.window import pictures
 from life_tools.window.asked import Asked, BadRequest
 from life_tools.window.downloads import csv_parts, workbook
 from life_tools.window.lists import days_of, newest_day
 from life_tools.window.looked_at import LookedAt
 from life_tools.window.parts import Answer, Cell, File, Head, Page, Table, cells, heads, link
+from life_tools.window.policies import STATUSES as STATUS_WORDS
 from life_tools.window.policy_pages import MEASURE_WORDS
 from life_tools.window.tool_runs import ToolRun, tool_run
 from life_tools.window.valuations import Valuation, kept_valuation, words_of
@@ -69,8 +71,9 @@ def column_names(it: Valuation) -> list[str]:
 def group_table(it: Valuation, key: str) -> Table:
     groups = it.groups[key]
     most = max((each.bounds[-1] for each in groups.values()), default=0)
-    rows = [[Cell(", ".join(name)), *cells(sums.cells()), Cell("", picture=pictures.bar(sums.bounds[-1], most))]
-            for name, sums in groups.items()]
+    names = (", ".join(STATUS_WORDS.get(each, each) for each in name) for name in groups)
+    rows = [[Cell(name), *cells(sums.cells()), Cell("", picture=pictures.bar(sums.bounds[-1], most))]
+            for name, sums in zip(names, groups.values())]
     return Table(f"By {KEY_WORDS[key]}", [*heads((KEY_WORDS[key], *column_names(it))), Head("", "bar")], rows,
                  [[Cell("added up"), *cells(it.whole.cells()), Cell("")], printed_row(it)])
 
@@ -168,7 +171,7 @@ def moved_rows(run: ToolRun) -> tuple[list[list[str]], list[str]]:
         if parts:
             rows.append([parts[1].strip(), *parts.groups()[1:]])
         else:
-            said.append(line.strip())
+            said.append(line.strip().replace("`", ""))
     return rows, [AMOUNT.sub(lambda it: apart(it[0]), each) for each in said if each]
 
 
@@ -181,7 +184,7 @@ def movement(book: LookedAt, asked: Asked, at: int) -> Answer:
     opening, *between, closing = rows
     most = max((abs(cents_of(row[3])) for row in between), default=0)
     moved = [[*cells(row), Cell("", picture=pictures.bar(cents_of(row[3]), most))] for row in between]
-    table = Table("What moved", [*heads(("line", "policies", "lower bounds", "upper bounds")), Head("", "bar")],
+    table = Table("What moved", [*heads(("line", "policies", *(column.name for column in BY_BOUNDS))), Head("", "bar")],
                   [[*cells(opening), Cell("")], *moved],
                   [[*cells(closing), Cell("")],
                    [Cell("printed by life"), *cells((valuation.policies, *map(money, valuation.total))), Cell("")]])
@@ -204,7 +207,7 @@ def cents_of(text: str) -> int:
 
 
 def movement_table(run: ToolRun) -> list[list[str]]:
-    return [["line", "policies", "lower bounds", "upper bounds"], *moved_rows(run)[0]]
+    return [["line", "policies", *(column.name for column in BY_BOUNDS)], *moved_rows(run)[0]]
 
 
 def movement_csv(book: LookedAt, asked: Asked, at: int) -> Answer:

@@ -5,7 +5,7 @@ from html import escape
 from typing import Sequence
 
 from life_tools.drawing import unit_for
-from life_tools.report_pages import money
+from life_tools.report_pages import apart, money
 
 WIDTH, HEIGHT = 720, 300
 LEFT, RIGHT, TOP, BOTTOM = 128, 24, 16, 46
@@ -49,7 +49,7 @@ class Curve:
         for cents in range(0, self.top + 1, self.step):
             y = self.up(cents)
             parts.append(f'<line class="grid" x1="{LEFT}" x2="{WIDTH - RIGHT}" y1="{y:.1f}" y2="{y:.1f}"/>')
-            parts.append(text(LEFT - 10, y + 5, self.unit.told(cents), "left"))
+            parts.append(text(LEFT - 10, y + 5, apart(self.unit.told(cents)), "left"))
         every = max(step_of(self.years), 1)
         for year in range(0, self.years + 1, every):
             parts.append(text(self.across(year), HEIGHT - BOTTOM + 22, str(year), "middle"))

@@ -16,7 +16,7 @@ from life_tools.window.due_lists import of_policy
 from life_tools.window.formulas import Explained, explained
 from life_tools.window.looked_at import LookedAt
 from life_tools.window.parts import RIGHT, Answer, Cell, Head, Page, Table, cells, heads, link
-from life_tools.window.policies import Known, curve_of, due_words, policy_at, standing_of, terms_of
+from life_tools.window.policies import STATUSES, Known, curve_of, due_words, policy_at, standing_of, terms_of
 from life_tools.window.valuations import kept_valuation, row_of
 
 WORDS = ("at", "number", "on", "day", "measure")
@@ -76,7 +76,7 @@ def reserve_of(book: LookedAt, known: Known, at: int, on: datetime.date, measure
     assert isinstance(worked, Explained)
     rates = Table("Rates of death", heads(("year", "age", "rate"), 0), [cells((it[0] + 1, *it[1:])) for it in worked.rates])
     bounds = [(name, money(cents)) for name, cents in zip(names, row.bounds)]
-    return {"row": row, "bounds": bounds, "worked": worked, "rates": rates}
+    return {"row": row, "status": STATUSES[row.status], "bounds": bounds, "worked": worked, "rates": rates}
 
 
 def picture_of(book: LookedAt, known: Known, at: int, on: datetime.date | None) -> dict[str, Any]:

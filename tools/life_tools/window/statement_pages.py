@@ -5,6 +5,7 @@ import csv
 import os
 
 from life_tools.report_pages import apart, money
+from life_tools.sheet_files import NOTE_ON
 from life_tools.window.asked import Asked, BadRequest
 from life_tools.window.downloads import csv_parts, is_number
 from life_tools.window.looked_at import LookedAt
@@ -52,8 +53,15 @@ def sheet_table(name: str, rows: list[list[str]]) -> Table:
     """A sheet as a table: amounts on the right, and what is a sum of the lines above marked by its style."""
     names, lines = rows[0], rows[1:]
     numeric = [all(is_number(row[place]) or not row[place] for row in lines) and place > 0 for place in range(len(names))]
-    heads = [Head(text.replace(": ", ", "), RIGHT if right else "") for text, right in zip(names, numeric)]
+    kinds = ["says", *(RIGHT if right else "" for right in numeric[1:])]
+    heads = [Head(text.replace(": ", ", "), kind) for text, kind in zip(names, kinds)]
     return Table(TITLES[name], heads, [cells(row) for row in lines], is_sum=[row[0] in TOTALS for row in lines])
+
+
+def told_of(rows: list[list[str]]) -> tuple[list[list[str]], dict[str, list[str]]]:
+    """The facts, and what is to be said of each sheet."""
+    notes = {name: [says for fact, says in rows if fact == NOTE_ON + name] for name in TITLES}
+    return [row for row in rows if not row[0].startswith(NOTE_ON)], notes
 
 
 def closing_row(rows: list[list[str]]) -> list[str]:
@@ -68,12 +76,13 @@ def statement(book: LookedAt, asked: Asked, at: int) -> Answer:
     valuation: Valuation = kept_valuation(book, on2, int(words["p2"]), words["measure"])
     run = written(book, words, "--csv", "sheets")
     sheets = {name: sheet_in(run, name) for name in TITLES}
+    facts, notes = told_of(sheet_in(run, "facts")[1:])
     closing, printed = [*map(apart, closing_row(sheets["increase"]))], [*map(money, valuation.total)]
     told: dict[str, object] = dict(words)
     values = {"tables": [(name, sheet_table(name, rows), link(book.number, "statement.csv", at, **told, sheet=name))
                          for name, rows in sheets.items()],
               "closing": closing, "printed": printed, "is_equal": closing == printed,
-              "facts": sheet_in(run, "facts")[1:], "words": words, "xlsx": link(book.number, "statement.xlsx", at, **told),
+              "facts": facts, "notes": notes, "words": words, "xlsx": link(book.number, "statement.xlsx", at, **told),
               "report": link(book.number, "report", at, on=words["on2"], p=words["p2"], measure=words["measure"]),
               "balances": cells(money(cents) for cents in valuation.balances.values())}
     return Page("statement.html", f"Statement to {words['on2']}", values)
