@@ -282,8 +282,13 @@ class Walk:
         said = office.tool("check-values", "../closing.life", "basis.csv", f"../sample-{by}")
         need(f"{len(found)} of {len(sizes)} rows are right" in said, said)
         office.tool("audit", "papers", f"../sample-{by}", "--html", f"../papers-{by}.html")
-        need(office.text(f"papers-{by}.html").count(": the same</pre>") == len(found), "the papers aren't of the drawn policies")
+        self.papers(f"papers-{by}.html", len(found))
         self.letters(office.tool("audit", "letters", f"../sample-{by}"), found)
+
+    def papers(self, name: str, drawn: int) -> None:
+        """Each drawn policy has a row that holds its exact value."""
+        held = re.findall(r"^printed: .*: (?:the same|it holds the exact value.*)</pre>", self.office.text(name), re.MULTILINE)
+        need(len(held) == drawn, f"{name}: {len(held)} rows are worked out, and {drawn} were drawn")
 
     def letters(self, text: str, drawn: list[int]) -> None:
         found = [[row["policy"], row["status"], row["amount"], row["premium a year"], row["premiums paid"], row["outstanding"],
@@ -319,9 +324,10 @@ class Walk:
         self.divide(books)
         office.tool("books", "headroom", "books.csv", "--today", TODAY, where="")
         for on, position, name in ((ON1, self.year.p1, "p1"), (ON2, self.year.p2, "p2")):
-            text = office.keep(office.tool("books", "books.csv", "position-on", on, where=""), f"{name}.csv")
-            rows = csv_rows(text)
-            office.same(f"positions of {on}", sum(row[0] for row in rows.values()) - self.upgrades(on), position)
+            text = office.tool("books", "books.csv", "position-on", on, where="")
+            office.keep(text, f"{name}.csv")
+            found = sum(int(line.split(",")[1]) for line in text.splitlines())
+            office.same(f"positions of {on}", found - self.upgrades(on), position)
         printed = office.tool("books", "books.csv", "value", ON2, "--at", "p2.csv", "--totals", where="").splitlines()[-1]
         self.sums.take_worths("terminal")
         low, high, words = self.sums.total(3)
@@ -381,7 +387,7 @@ class Walk:
         need(sample.splitlines()[0].split(",")[5:7] == office.text("sample-reserve").splitlines()[1].split(",")[4:6],
              "the sample of all is of another total or start")
         office.tool("books", "books.csv", "papers", "sample-all", "--html", "papers-all.html", where="")
-        need(office.text("papers-all.html").count(": the same</pre>") == len(drawn), "the papers of all aren't of the drawn ones")
+        self.papers("papers-all.html", len(drawn))
         text = office.tool("books", "books.csv", "letters", "sample-all", where="")
         self.letters(text, [int(row[2]) for row in drawn])
 
