@@ -182,7 +182,7 @@ ends 2 "is of the books low, high, and the list of low" books one.csv letters dr
 ends 2 "and not of --at" books books.csv letters drawn --at p2.csv
 ends 2 "papers want --html or --pdf" books books.csv papers drawn
 [ ! -e no.html ] || complain "papers of another sample were written"
-tool books books.csv sample 12 --seed 5 --on 2019-12-31 --at p2.csv --by amount
+tool books books.csv audit sample 12 --seed 5 --on 2019-12-31 --at p2.csv --by amount
 grep -q "^all,sample,amount,12,5,$(python3 "$tools/life-tools" audit sample 12 --seed 5 --on 2019-12-31 --folder main --at "$p2" --by amount 2>remarks | sed -n '2s/^sample,amount,12,5,\([0-9]*,[0-9]*\),.*/\1/p'),2019" out || complain "$(cat out)"
 
 go_on "files"
