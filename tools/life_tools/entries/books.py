@@ -6,7 +6,7 @@
   books LIST checkpoint                                      a checkpoint of each
   books LIST report ON [--by KEYS].. [--rows FOLDER]         `report` of all together, with a table of the books
   books LIST movement|statement ON1 ON2 --from LIST1 --at LIST2   `movement` and `statement` of all together
-  books LIST due DAY                                         what is due in each
+  books LIST due DAY [--within DAYS]                         what is due in each
   books LIST [audit] flags [--from LIST1] [--at LIST2]       `audit flags` of each
   books LIST [audit] sample N --seed S --on DAY [--by amount]  `audit sample` of the rows of all books as one
   books LIST [audit] papers SAMPLE --html FILE | --pdf FILE  `audit papers` of such a sample
@@ -232,10 +232,11 @@ def word_in(options: argparse.Namespace) -> str:
 
 def run(options: argparse.Namespace) -> int:
     if options.list == "split":
+        books_own.demand_options(options, "split")
         return books_split.run(options)
     word = word_in(options)
     demand(word in WORDS, f"{word} is none of {', '.join(WORDS)}")
-    books_own.demand_options(options)
+    books_own.demand_options(options, word)
     if word in OWN:
         books_own.demand_files(options)
     books = books_at(options.list)
