@@ -61,7 +61,11 @@ class Took(NamedTuple):
     loop: float
 
     def __str__(self) -> str:
-        return f"{self.clock:.1f} s ({self.processor:.0f} processor seconds; {self.clock / self.loop:.1f} times the loop)"
+        return f"{self.clock:.1f} s ({self.beside})"
+
+    @property
+    def beside(self) -> str:
+        return f"{self.processor:.0f} processor seconds; {self.clock / self.loop:.1f} times the loop"
 
 
 def count_up(steps: int) -> None:
@@ -162,11 +166,12 @@ class MonthEnd(NamedTuple):
 
     @property
     def seconds(self) -> float:
-        return sum(each.clock for each in self)
+        return self.whole.clock
 
     @property
-    def processor(self) -> float:
-        return sum(each.processor for each in self)
+    def whole(self) -> Took:
+        """All four together; the loop is the mean of those around them."""
+        return Took(sum(each.clock for each in self), sum(each.processor for each in self), sum(each.loop for each in self) / 4)
 
 
 def month_end(folder: str) -> MonthEnd:
@@ -209,22 +214,23 @@ def split_in_four(folder: str, name: str, first: int, policies: int) -> Took:
     return took
 
 
-def divide_smaller(folder: str, asked: argparse.Namespace) -> None:
-    """The book of --divided commands, in a folder of its own."""
+def divide_smaller(folder: str, asked: argparse.Namespace) -> str:
+    """Divides the book of --divided commands, in a folder of its own; the row of FIGURES."""
     policies = asked.divided // asked.commands
     alone = os.path.join(folder, "smaller")
     os.mkdir(alone)
     write_book(alone, 0, policies, asked.commands)
     took = split_in_four(alone, "book1", 1, policies)
-    print(f"a book of {policies * asked.commands:,} commands divided in four: {took}", flush=True)
     shutil.rmtree(alone)
+    what = f"`books split` of {policies * asked.commands:,} commands in four"
+    return f"| {what} | {took.clock:.0f} s | {took.beside}; wanted 60 s | "
 
 
 def measure(folder: str, asked: argparse.Namespace) -> None:
     print(f"{PROCESSORS} processors; load {', '.join(f'{each:.1f}' for each in os.getloadavg())}; the loop takes "
           f"{loop_alone():.2f} s alone", flush=True)
-    if asked.divided:
-        divide_smaller(folder, asked)
+    divided = divide_smaller(folder, asked) if asked.divided else ""
+    print(divided, flush=True)
     few = min(asked.books, max(PROCESSORS, LEAST_BOOKS))
     books = books_that_fit(folder, asked, few)
     write_books(folder, few, books, asked)
@@ -239,6 +245,9 @@ def measure(folder: str, asked: argparse.Namespace) -> None:
         print(f"{name}: {took}")
     print(f"one book of {commands:,} commands divided in four: {split}")
     tell_company(asked, books, size, taken, split)
+    whole = taken.whole
+    what = f"a month-end of {books} books of {asked.policies:,} policies"
+    print(f"{divided}\n| {what} | {whole.clock / 60:.1f} min | {whole.beside} | ")
 
 
 def tell_company(asked: argparse.Namespace, books: int, size: int, taken: MonthEnd, split: Took) -> None:
@@ -251,7 +260,7 @@ def tell_company(asked: argparse.Namespace, books: int, size: int, taken: MonthE
             (f"machines like this one, {books} books each", f"{math.ceil(wanted / books)}"),
             ("a month-end: positions, total, rows, a report on these", f"{taken.seconds / 60:.1f} minutes"),
             ("the same on one machine", f"{one:.1f} minutes"),
-            ("processor minutes of it, of all books", f"{taken.processor / 60 * wanted / books:.0f}"),
+            ("processor minutes of it, of all books", f"{taken.whole.processor / 60 * wanted / books:.0f}"),
             ("a book divided in four", f"{split.clock:.0f} s"))
     for what, how_much in rows:
         print(f"| {what} | {how_much} |")
