@@ -69,8 +69,8 @@ def add_arguments(parser: argparse.ArgumentParser) -> None:
     """What `books headroom` takes, too; None where it isn't told."""
     parser.add_argument("--today", metavar="DAY", help="headroom: the day from which it is counted (that of this machine)")
     parser.add_argument("--least", metavar="N", help="headroom: 1 where fewer commands are left")
-    parser.add_argument("--within", metavar="DAYS", help=f"headroom: 1 where a book is full within so many ({AHEAD}); due, of a "
-                        "list: as there")
+    parser.add_argument("--within", metavar="DAYS", help=f"headroom: 1 where a book is full within so many ({AHEAD}); "
+                        "books LIST due: also what falls due so many days later")
     parser.add_argument("--recorded", metavar="FILE", action="append",
                         help="headroom: a list of positions of an earlier month-end, with its day in the file's name")
 
