@@ -46,7 +46,7 @@ FIRST_ISSUE, DAYS_OF_ISSUE = 9000, 3650
 LEAST_BOOKS = 3
 # what a row takes that is kept, and what stays free of the disk
 ROW_BYTES, DISK_LEFT = 64, 4 * 10**9
-# of the minutes, beside a first month-end of a few books and the division
+# of the minutes that are left, beside the division
 SHARE = 0.8
 TOOL = [sys.executable, os.path.join(ROOT, "tools", "life-tools"), "books"]
 PROCESSORS = len(os.sched_getaffinity(0))
@@ -186,17 +186,17 @@ def month_end(folder: str) -> MonthEnd:
     return MonthEnd(positions, total, rows, report)
 
 
-def books_that_fit(folder: str, asked: argparse.Namespace, few: int) -> int:
-    """How many books can be measured in the minutes and on the disk, by the month-end of a few."""
+def books_that_fit(folder: str, asked: argparse.Namespace, few: int, ends: float) -> int:
+    """How many books can be measured until the minutes end and on the disk, by the month-end of a few."""
     begun = time.monotonic()
     write_books(folder, 0, few, asked)
     written, taken = time.monotonic() - begun, month_end(folder)
     # they are written, taken, and valued once more
     each = (written + taken.seconds + taken.total.clock) / few
     size = os.path.getsize(os.path.join(folder, "book1", "journal.life")) + ROW_BYTES * asked.policies
-    in_time, on_disk = int(SHARE * asked.minutes * 60 / each), few + (shutil.disk_usage(folder).free - DISK_LEFT) // size
-    print(f"{few} books: {each:.1f} s a book; so {in_time} books are done in {asked.minutes} minutes, and {on_disk} find room",
-          flush=True)
+    left, on_disk = ends - time.monotonic(), few + (shutil.disk_usage(folder).free - DISK_LEFT) // size
+    in_time = int(SHARE * left / each)
+    print(f"{few} books: {each:.1f} s a book; so {in_time} are done in {left / 60:.1f} minutes, and {on_disk} find room", flush=True)
     found: int = max(few, min(asked.books, in_time, on_disk))
     if found < asked.books:
         print(f"measured are {found} books, and not {asked.books}")
@@ -214,8 +214,8 @@ def split_in_four(folder: str, name: str, first: int, policies: int) -> Took:
     return took
 
 
-def divide_smaller(folder: str, asked: argparse.Namespace) -> str:
-    """Divides the book of --divided commands, in a folder of its own; the row of FIGURES."""
+def divide_smaller(folder: str, asked: argparse.Namespace) -> Took:
+    """Divides the book of --divided commands, in a folder of its own, and prints the row of FIGURES."""
     policies = asked.divided // asked.commands
     alone = os.path.join(folder, "smaller")
     os.mkdir(alone)
@@ -223,34 +223,47 @@ def divide_smaller(folder: str, asked: argparse.Namespace) -> str:
     took = split_in_four(alone, "book1", 1, policies)
     shutil.rmtree(alone)
     what = f"`books split` of {policies * asked.commands:,} commands in four"
-    return f"| {what} | {took.clock:.0f} s | {took.beside}; wanted 60 s | "
+    print(f"| {what} | {took.clock:.0f} s | {took.beside}; wanted 60 s | ", flush=True)
+    return took
+
+
+def divide_listed(folder: str, asked: argparse.Namespace, smaller: Took | None, ends: float) -> float:
+    """The seconds that the division of a book of the list takes; where these wouldn't be over in time, as the smaller one's
+    tell them."""
+    commands = asked.policies * asked.commands
+    carried: float = smaller.clock * commands / asked.divided if smaller else 0
+    if time.monotonic() + carried > ends:
+        print(f"no book of {commands:,} commands is divided any more: carried on from the smaller one")
+        return carried
+    took = split_in_four(folder, "book1", 1, asked.policies)
+    print(f"one book of {commands:,} commands divided in four: {took}")
+    return took.clock
 
 
 def measure(folder: str, asked: argparse.Namespace) -> None:
     print(f"{PROCESSORS} processors; load {', '.join(f'{each:.1f}' for each in os.getloadavg())}; the loop takes "
           f"{loop_alone():.2f} s alone", flush=True)
-    divided = divide_smaller(folder, asked) if asked.divided else ""
-    print(divided, flush=True)
+    ends = time.monotonic() + asked.minutes * 60
+    smaller = divide_smaller(folder, asked) if asked.divided else None
     few = min(asked.books, max(PROCESSORS, LEAST_BOOKS))
-    books = books_that_fit(folder, asked, few)
+    books = books_that_fit(folder, asked, few, ends)
     write_books(folder, few, books, asked)
     taken = month_end(folder)
     if books >= LEAST_BOOKS:
         try_held(folder)
-    split = split_in_four(folder, "book1", 1, asked.policies)
-    size, commands = os.path.getsize(os.path.join(folder, "book1", "journal.life")), asked.policies * asked.commands
+    split = divide_listed(folder, asked, smaller, ends)
+    size = os.path.getsize(os.path.join(folder, "book1", "journal.life"))
     print(f"{books} books of {asked.policies:,} policies, {asked.commands} commands each: {books * size / 1e9:.1f} GB; load "
           f"{', '.join(f'{each:.1f}' for each in os.getloadavg())}")
     for name, took in taken._asdict().items():
         print(f"{name}: {took}")
-    print(f"one book of {commands:,} commands divided in four: {split}")
     tell_company(asked, books, size, taken, split)
     whole = taken.whole
     what = f"a month-end of {books} books of {asked.policies:,} policies"
-    print(f"{divided}\n| {what} | {whole.clock / 60:.1f} min | {whole.beside} | ")
+    print(f"| {what} | {whole.clock / 60:.1f} min | {whole.beside} | ")
 
 
-def tell_company(asked: argparse.Namespace, books: int, size: int, taken: MonthEnd, split: Took) -> None:
+def tell_company(asked: argparse.Namespace, books: int, size: int, taken: MonthEnd, split: float) -> None:
     """The rows of the page, carried on by plain proportion."""
     wanted = math.ceil(asked.company / asked.policies)
     one = taken.seconds / 60 * wanted / books
@@ -261,7 +274,7 @@ def tell_company(asked: argparse.Namespace, books: int, size: int, taken: MonthE
             ("a month-end: positions, total, rows, a report on these", f"{taken.seconds / 60:.1f} minutes"),
             ("the same on one machine", f"{one:.1f} minutes"),
             ("processor minutes of it, of all books", f"{taken.whole.processor / 60 * wanted / books:.0f}"),
-            ("a book divided in four", f"{split.clock:.0f} s"))
+            ("a book divided in four", f"{split:.0f} s"))
     for what, how_much in rows:
         print(f"| {what} | {how_much} |")
 
