@@ -196,7 +196,7 @@ def books_that_fit(folder: str, asked: argparse.Namespace, few: int, ends: float
     size = os.path.getsize(os.path.join(folder, "book1", "journal.life")) + ROW_BYTES * asked.policies
     left, on_disk = ends - time.monotonic(), few + (shutil.disk_usage(folder).free - DISK_LEFT) // size
     in_time = int(SHARE * left / each)
-    print(f"{few} books: {each:.1f} s a book; so {in_time} are done in {left / 60:.1f} minutes, and {on_disk} find room", flush=True)
+    print(f"{few} books: {each:.1f} s a book; so {in_time} are done in {left / 60:.1f} minutes, {on_disk} find room", flush=True)
     found: int = max(few, min(asked.books, in_time, on_disk))
     if found < asked.books:
         print(f"measured are {found} books, and not {asked.books}")
