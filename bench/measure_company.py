@@ -3,13 +3,17 @@
 are carried on to so many policies.
 
 usage: LIFE_PROGRAM=PROGRAM python3 bench/measure_company.py [--books 40] [--policies 250000] [--commands 16]
-       [--company 40000000] [--minutes 20] [--folder FOLDER]
+       [--divided 1000000] [--company 40000000] [--minutes 20] [--folder FOLDER]
 
 A book has whole life policies, each with its issue and premiums on its anniversaries, and so 65 bytes for each command. Forty
 books of 250,000 policies with 16 commands take 10.4 GB. A month-end is taken of as many books first as there are processors;
 where so many more wouldn't be done in the minutes, or find no room on the disk, the largest number that does is taken, and it
 says so. From there all is carried on by plain proportion. One book of the list has a basis of another name, and one is held by
-somebody else while the list is valued once more: its line and the status are looked at.
+somebody else while the list is valued once more: its line and the status are looked at. First a smaller book is divided, of so
+many commands (0: none), and at last one of the list.
+
+Beside each time stand the processor seconds, and the time of a plain loop on all processors, taken before and after: where others
+use the machine, the loop is slower by as much.
 """
 from __future__ import annotations
 
@@ -17,11 +21,13 @@ import argparse
 import fcntl
 import math
 import os
+import resource
 import shutil
 import subprocess
 import sys
 import tempfile
 import time
+from concurrent.futures import ProcessPoolExecutor
 from typing import NamedTuple
 
 ROOT = os.path.dirname(os.path.dirname(os.path.abspath(__file__)))
@@ -40,9 +46,49 @@ FIRST_ISSUE, DAYS_OF_ISSUE = 9000, 3650
 LEAST_BOOKS = 3
 # what a row takes that is kept, and what stays free of the disk
 ROW_BYTES, DISK_LEFT = 64, 4 * 10**9
-# of the minutes, beside a first month-end of a few books and the division
+# of the minutes that are left, beside the division
 SHARE = 0.8
 TOOL = [sys.executable, os.path.join(ROOT, "tools", "life-tools"), "books"]
+PROCESSORS = len(os.sched_getaffinity(0))
+STEPS = 3 * 10**6
+
+
+class Took(NamedTuple):
+    """Seconds by the clock and of the processors; and those by the clock of the plain loop around it."""
+
+    clock: float
+    processor: float
+    loop: float
+
+    def __str__(self) -> str:
+        return f"{self.clock:.1f} s ({self.beside})"
+
+    @property
+    def beside(self) -> str:
+        return f"{self.processor:.0f} processor seconds; {self.clock / self.loop:.1f} times the loop"
+
+
+def count_up(steps: int) -> None:
+    total = 0
+    for step in range(steps):
+        total += step
+
+
+def loop_seconds() -> float:
+    """How long the plain loop takes where each processor has one."""
+    with ProcessPoolExecutor(PROCESSORS) as pool:
+        # which begins the processes
+        list(pool.map(count_up, [1] * PROCESSORS))
+        begun = time.monotonic()
+        list(pool.map(count_up, [STEPS] * PROCESSORS))
+        return time.monotonic() - begun
+
+
+def loop_alone() -> float:
+    """The processor seconds of one such loop, which is what it takes where nobody else wants the machine."""
+    begun = time.process_time()
+    count_up(STEPS)
+    return time.process_time() - begun
 
 
 def journal(place: int, policies: int, commands: int) -> bytes:
@@ -81,13 +127,23 @@ def write_books(folder: str, first: int, last: int, asked: argparse.Namespace) -
     os.sync()
 
 
-def timed(folder: str, *words: str, status: int = 0) -> tuple[float, str]:
-    """The seconds that words take, and what was printed; they have to end with this status."""
-    begun = time.monotonic()
+def processor_seconds() -> float:
+    """Those of all processes that were begun from here and have ended."""
+    used = resource.getrusage(resource.RUSAGE_CHILDREN)
+    return used.ru_utime + used.ru_stime
+
+
+def timed(folder: str, *words: str, status: int = 0) -> tuple[Took, str]:
+    """What words take, and what was printed; they have to end with this status."""
+    before = loop_seconds()
+    begun, used = time.monotonic(), processor_seconds()
     ran = subprocess.run([*TOOL, *words], cwd=folder, capture_output=True, text=True)
     if ran.returncode != status:
         sys.exit(f"{' '.join(words)}: status {ran.returncode}: {ran.stderr[-500:]}")
-    return time.monotonic() - begun, ran.stdout
+    clock, processor = time.monotonic() - begun, processor_seconds() - used
+    took = Took(clock, processor, (before + loop_seconds()) / 2)
+    print(f"{took}: {' '.join(words)}", flush=True)
+    return took, ran.stdout
 
 
 def try_held(folder: str) -> None:
@@ -101,16 +157,21 @@ def try_held(folder: str) -> None:
 
 
 class MonthEnd(NamedTuple):
-    """The seconds of a month-end: positions, a total, rows that are kept, and a report by these."""
+    """What a month-end takes: positions, a total, rows that are kept, and a report by these."""
 
-    positions: float
-    total: float
-    rows: float
-    report: float
+    positions: Took
+    total: Took
+    rows: Took
+    report: Took
 
     @property
     def seconds(self) -> float:
-        return sum(self)
+        return self.whole.clock
+
+    @property
+    def whole(self) -> Took:
+        """All four together; the loop is the mean of those around them."""
+        return Took(sum(each.clock for each in self), sum(each.processor for each in self), sum(each.loop for each in self) / 4)
 
 
 def month_end(folder: str) -> MonthEnd:
@@ -125,43 +186,81 @@ def month_end(folder: str) -> MonthEnd:
     return MonthEnd(positions, total, rows, report)
 
 
-def books_that_fit(folder: str, asked: argparse.Namespace, few: int) -> int:
-    """How many books can be measured in the minutes and on the disk, by the month-end of a few."""
+def books_that_fit(folder: str, asked: argparse.Namespace, few: int, ends: float) -> int:
+    """How many books can be measured until the minutes end and on the disk, by the month-end of a few."""
     begun = time.monotonic()
     write_books(folder, 0, few, asked)
     written, taken = time.monotonic() - begun, month_end(folder)
     # they are written, taken, and valued once more
-    each = (written + taken.seconds + taken.total) / few
+    each = (written + taken.seconds + taken.total.clock) / few
     size = os.path.getsize(os.path.join(folder, "book1", "journal.life")) + ROW_BYTES * asked.policies
-    in_time, on_disk = int(SHARE * asked.minutes * 60 / each), few + (shutil.disk_usage(folder).free - DISK_LEFT) // size
-    print(f"{few} books: {each:.1f} s a book; so {in_time} books are done in {asked.minutes} minutes, and {on_disk} find room")
+    left, on_disk = ends - time.monotonic(), few + (shutil.disk_usage(folder).free - DISK_LEFT) // size
+    in_time = int(SHARE * left / each)
+    print(f"{few} books: {each:.1f} s a book; so {in_time} are done in {left / 60:.1f} minutes, {on_disk} find room", flush=True)
     found: int = max(few, min(asked.books, in_time, on_disk))
     if found < asked.books:
         print(f"measured are {found} books, and not {asked.books}")
     return found
 
 
-def split_in_four(folder: str, policies: int) -> float:
-    last = policies // 4
-    rules = [*(f"numbers={1 + last * place}-{last * (place + 1)}" for place in range(3)), "others"]
-    return timed(folder, "split", "book1/journal.life", *rules, "part1", "part2", "part3", "part4")[0]
+def split_in_four(folder: str, name: str, first: int, policies: int) -> Took:
+    """Divides a book whose policies are numbered from the first one on, and removes the parts."""
+    quarter = policies // 4
+    rules = [*(f"numbers={first + quarter * place}-{first + quarter * (place + 1) - 1}" for place in range(3)), "others"]
+    parts = [f"{name}-part{place}" for place in range(4)]
+    took, _ = timed(folder, "split", f"{name}/journal.life", *rules, *parts)
+    for part in parts:
+        shutil.rmtree(os.path.join(folder, part))
+    return took
+
+
+def divide_smaller(folder: str, asked: argparse.Namespace) -> Took:
+    """Divides the book of --divided commands, in a folder of its own, and prints the row of FIGURES."""
+    policies = asked.divided // asked.commands
+    alone = os.path.join(folder, "smaller")
+    os.mkdir(alone)
+    write_book(alone, 0, policies, asked.commands)
+    took = split_in_four(alone, "book1", 1, policies)
+    shutil.rmtree(alone)
+    what = f"`books split` of {policies * asked.commands:,} commands in four"
+    print(f"| {what} | {took.clock:.0f} s | {took.beside}; wanted 60 s | ", flush=True)
+    return took
+
+
+def divide_listed(folder: str, asked: argparse.Namespace, smaller: Took | None, ends: float) -> float:
+    """The seconds that the division of a book of the list takes; where these wouldn't be over in time, as the smaller one's
+    tell them."""
+    commands = asked.policies * asked.commands
+    carried: float = smaller.clock * commands / asked.divided if smaller else 0
+    if time.monotonic() + carried > ends:
+        print(f"no book of {commands:,} commands is divided any more: carried on from the smaller one")
+        return carried
+    took = split_in_four(folder, "book1", 1, asked.policies)
+    print(f"one book of {commands:,} commands divided in four: {took}")
+    return took.clock
 
 
 def measure(folder: str, asked: argparse.Namespace) -> None:
-    processors = len(os.sched_getaffinity(0))
-    few = min(asked.books, max(processors, LEAST_BOOKS))
-    books = books_that_fit(folder, asked, few)
+    print(f"{PROCESSORS} processors; load {', '.join(f'{each:.1f}' for each in os.getloadavg())}; the loop takes "
+          f"{loop_alone():.2f} s alone", flush=True)
+    ends = time.monotonic() + asked.minutes * 60
+    smaller = divide_smaller(folder, asked) if asked.divided else None
+    few = min(asked.books, max(PROCESSORS, LEAST_BOOKS))
+    books = books_that_fit(folder, asked, few, ends)
     write_books(folder, few, books, asked)
     taken = month_end(folder)
-    try_held(folder)
-    split = split_in_four(folder, asked.policies)
-    size, commands = os.path.getsize(os.path.join(folder, "book1", "journal.life")), asked.policies * asked.commands
-    print(f"{books} books of {asked.policies:,} policies, {asked.commands} commands each: {books * size / 1e9:.1f} GB; "
-          f"{processors} processors")
-    print(f"positions in {taken.positions:.1f} s, valued in {taken.total:.1f} s, with rows kept in {taken.rows:.1f} s; reported "
-          f"by these rows in {taken.report:.1f} s")
-    print(f"one book of {commands:,} commands divided in four in {split:.1f} s, {split / commands * 1e6:.1f} s for 1,000,000")
+    if books >= LEAST_BOOKS:
+        try_held(folder)
+    split = divide_listed(folder, asked, smaller, ends)
+    size = os.path.getsize(os.path.join(folder, "book1", "journal.life"))
+    print(f"{books} books of {asked.policies:,} policies, {asked.commands} commands each: {books * size / 1e9:.1f} GB; load "
+          f"{', '.join(f'{each:.1f}' for each in os.getloadavg())}")
+    for name, took in taken._asdict().items():
+        print(f"{name}: {took}")
     tell_company(asked, books, size, taken, split)
+    whole = taken.whole
+    what = f"a month-end of {books} books of {asked.policies:,} policies"
+    print(f"| {what} | {whole.clock / 60:.1f} min | {whole.beside} | ")
 
 
 def tell_company(asked: argparse.Namespace, books: int, size: int, taken: MonthEnd, split: float) -> None:
@@ -173,7 +272,9 @@ def tell_company(asked: argparse.Namespace, books: int, size: int, taken: MonthE
             ("journals", f"{wanted * size / 1e9:.0f} GB"),
             (f"machines like this one, {books} books each", f"{math.ceil(wanted / books)}"),
             ("a month-end: positions, total, rows, a report on these", f"{taken.seconds / 60:.1f} minutes"),
-            ("the same on one machine", f"{one:.1f} minutes"), ("a book divided in four", f"{split:.0f} s"))
+            ("the same on one machine", f"{one:.1f} minutes"),
+            ("processor minutes of it, of all books", f"{taken.whole.processor / 60 * wanted / books:.0f}"),
+            ("a book divided in four", f"{split:.0f} s"))
     for what, how_much in rows:
         print(f"| {what} | {how_much} |")
 
@@ -183,6 +284,7 @@ def main() -> None:
     parser.add_argument("--books", type=int, default=40)
     parser.add_argument("--policies", type=int, default=250_000)
     parser.add_argument("--commands", type=int, default=16)
+    parser.add_argument("--divided", type=int, default=1_000_000)
     parser.add_argument("--company", type=int, default=40_000_000)
     parser.add_argument("--minutes", type=float, default=20)
     parser.add_argument("--folder", help="where the books are made (a folder for a while)")

@@ -59,7 +59,7 @@ def main() -> None:
         walk.classes()
         walk.auditor()
         walk.many(asked.books)
-        office.tell()
+        office.tell(f"a year-end of {asked.policies:,} policies, and of them in {asked.books} books")
         need(office.compared > 0, "nothing was compared")
 
 

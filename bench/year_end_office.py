@@ -69,12 +69,14 @@ class Office:
             found, wanted = ({key: each.get(key) for key in keys[:5]} for each in (found, wanted))
         need(False, f"{what}: {str(found)[:2000]}, and by SQLite {str(wanted)[:2000]}")
 
-    def tell(self) -> None:
-        """What the commands took together, and how much was compared."""
+    def tell(self, what: str) -> None:
+        """What the commands took together, and how much was compared: the row of FIGURES."""
         total = sum(seconds for _, seconds in self.taken)
         longest = max(self.taken, key=lambda each: each[1])
-        print(f"{len(self.taken)} commands in {total:.0f} s, the longest {longest[1]:.1f} s: {longest[0]}")
-        print(f"{self.compared} sheets, lists and rows are what SQLite comes to")
+        print(f"the longest: {longest[0]}")
+        took = f"{total / 60:.1f} min, the longest {longest[1]:.0f} s"
+        beside = f"{self.compared} sheets, lists and rows as by SQLite"
+        print(f"| {what}, {len(self.taken)} commands | {took} | {beside} | `year_end.py` |")
 
 
 def moved_lines(text: str) -> dict[str, list[int]]:

@@ -282,8 +282,13 @@ class Walk:
         said = office.tool("check-values", "../closing.life", "basis.csv", f"../sample-{by}")
         need(f"{len(found)} of {len(sizes)} rows are right" in said, said)
         office.tool("audit", "papers", f"../sample-{by}", "--html", f"../papers-{by}.html")
-        need(office.text(f"papers-{by}.html").count(": the same</pre>") == len(found), "the papers aren't of the drawn policies")
+        self.papers(f"papers-{by}.html", len(found))
         self.letters(office.tool("audit", "letters", f"../sample-{by}"), found)
+
+    def papers(self, name: str, drawn: int) -> None:
+        """Each drawn policy has a row that holds its exact value."""
+        held = re.findall(r"^printed: .*: (?:the same|it holds the exact value.*)</pre>", self.office.text(name), re.MULTILINE)
+        need(len(held) == drawn, f"{name}: {len(held)} rows are worked out, and {drawn} were drawn")
 
     def letters(self, text: str, drawn: list[int]) -> None:
         found = [[row["policy"], row["status"], row["amount"], row["premium a year"], row["premiums paid"], row["outstanding"],
@@ -319,15 +324,20 @@ class Walk:
         self.divide(books)
         office.tool("books", "headroom", "books.csv", "--today", TODAY, where="")
         for on, position, name in ((ON1, self.year.p1, "p1"), (ON2, self.year.p2, "p2")):
-            text = office.keep(office.tool("books", "books.csv", "position-on", on, where=""), f"{name}.csv")
-            rows = csv_rows(text)
-            office.same(f"positions of {on}", sum(row[0] for row in rows.values()) - self.upgrades(on), position)
-        printed = office.tool("books", "books.csv", "value", ON2, "--at", "p2.csv", "--totals", where="").splitlines()[-1]
+            text = self.listed("position-on", on)
+            office.keep(text, f"{name}.csv")
+            found = sum(int(line.split(",")[1]) for line in text.splitlines())
+            office.same(f"positions of {on}", found - self.upgrades(on), position)
+        printed = self.listed("value", ON2, "--at", "p2.csv", "--totals").splitlines()[-1]
         self.sums.take_worths("terminal")
         low, high, words = self.sums.total(3)
         office.same("value of all books", [value_of(cell) for cell in printed.split(",")[2:]], [low, high, words, books, books])
         self.sheets_of_all()
         self.lists_of_all()
+
+    def listed(self, *words: Any, status: int = 0) -> str:
+        """What is printed of the list of books."""
+        return self.office.tool("books", "books.csv", *words, where="", status=status)
 
     def divide(self, books: int) -> None:
         whole = sqlite3.connect(self.office.path("whole.db"))
@@ -350,16 +360,16 @@ class Walk:
         moment = [ON1, ON2, "--from", "p1.csv", *at]
         by_class: dict[str, list[str]] = {"class": ["--classes", "classes.csv", "--bases", "bases.csv"]}
         for measure, words in (MEASURES | by_class).items():
-            report = ["books", "books.csv", "report", ON2, *at, "--by", "plan", *words]
-            office.tool(*report, "--csv", f"all-report-{measure}", where="")
+            report = ["report", ON2, *at, "--by", "plan", *words]
+            self.listed(*report, "--csv", f"all-report-{measure}")
             groups = {name: [*cells[:3], *cells[-3:]] for name, cells in
                       csv_rows(office.path(f"all-report-{measure}", "plan.csv")).items() if name != "total"}
             self.sums.take_worths(measure)
             office.same(f"report of all, {measure}", groups, self.sums.report("plan"))
-            text = office.tool("books", "books.csv", "movement", *moment, *words, where="")
+            text = self.listed("movement", *moment, *words)
             office.same(f"movement of all, {measure}", moved_lines(text), moved_lines(self.sheets[f"movement-{measure}"]))
             if measure != "deficiency":
-                office.tool("books", "books.csv", "statement", *moment, *words, "--csv", f"all-{measure}", where="")
+                self.listed("statement", *moment, *words, "--csv", f"all-{measure}")
                 for sheet in SHEETS:
                     one, other = (office.text(folder, f"{sheet}.csv") for folder in (f"all-{measure}", f"statement-{measure}"))
                     office.same(f"{sheet} of all, {measure}", one, other)
@@ -367,22 +377,22 @@ class Walk:
     def lists_of_all(self) -> None:
         """What is due, flags, a sample, its papers and letters."""
         office = self.office
-        text = office.tool("books", "books.csv", "due", ON2, WITHIN, "--at", "p2.csv", where="")
+        text = self.listed("due", ON2, "--within", WITHIN, "--at", "p2.csv")
         rows = list(csv.reader(io.StringIO(text)))[1:]
         found = sorted((what, int(number), day, until, cents(amount)) for _, what, number, day, until, amount in rows)
         office.same("due of all", found, self.sums.due(WITHIN))
-        text = office.tool("books", "books.csv", "flags", "--from", "p1.csv", "--at", "p2.csv", "--late", 10, where="", status=1)
+        text = self.listed("audit", "flags", "--from", "p1.csv", "--at", "p2.csv", "--late", 10, status=1)
         one = office.tool("audit", "flags", "--after", self.year.p1, "--at", self.year.p2, "--late", 10, status=1)
         office.same("flags of all", sorted(line.split(",", 3)[3] for line in text.splitlines()[1:]),
                     sorted(line.split(",", 2)[2] for line in one.splitlines()[1:]))
-        sample = office.tool("books", "books.csv", "sample", DRAWN, "--seed", SEED, "--on", ON2, "--at", "p2.csv", where="")
+        sample = self.listed("audit", "sample", DRAWN, "--seed", SEED, "--on", ON2, "--at", "p2.csv")
         office.keep(sample, "sample-all")
         drawn = [line.split(",") for line in sample.splitlines() if ",row," in line]
         need(sample.splitlines()[0].split(",")[5:7] == office.text("sample-reserve").splitlines()[1].split(",")[4:6],
              "the sample of all is of another total or start")
-        office.tool("books", "books.csv", "papers", "sample-all", "--html", "papers-all.html", where="")
-        need(office.text("papers-all.html").count(": the same</pre>") == len(drawn), "the papers of all aren't of the drawn ones")
-        text = office.tool("books", "books.csv", "letters", "sample-all", where="")
+        self.listed("audit", "papers", "sample-all", "--html", "papers-all.html")
+        self.papers("papers-all.html", len(drawn))
+        text = self.listed("audit", "letters", "sample-all")
         self.letters(text, [int(row[2]) for row in drawn])
 
 

@@ -136,7 +136,7 @@ sed 's/^book,flag/flag/;s/^low,//;s/^high,//' out | cut -d , -f 1,3- | sort | cm
 go_on "what is due"
 tool due 2024-12-31 main/journal.life --within 40 && tail -n +2 out | sort >single || complain "$(cat remarks)"
 grep -v '^life' remarks >sums
-tool books books.csv due 2024-12-31 40 && head -n 1 out | grep -qx book,what,policy,day,until,amount || complain "$(cat remarks)"
+tool books books.csv due 2024-12-31 --within 40 && head -n 1 out | grep -qx book,what,policy,day,until,amount || complain "$(cat remarks)"
 tail -n +2 out | cut -d , -f 2- | sort | cmp -s single - || complain "other items are due"
 grep -v '^life' remarks | cmp -s sums - || complain "other sums are due: $(cat remarks)"
 
@@ -182,7 +182,7 @@ ends 2 "is of the books low, high, and the list of low" books one.csv letters dr
 ends 2 "and not of --at" books books.csv letters drawn --at p2.csv
 ends 2 "papers want --html or --pdf" books books.csv papers drawn
 [ ! -e no.html ] || complain "papers of another sample were written"
-tool books books.csv sample 12 --seed 5 --on 2019-12-31 --at p2.csv --by amount
+tool books books.csv audit sample 12 --seed 5 --on 2019-12-31 --at p2.csv --by amount
 grep -q "^all,sample,amount,12,5,$(python3 "$tools/life-tools" audit sample 12 --seed 5 --on 2019-12-31 --folder main --at "$p2" --by amount 2>remarks | sed -n '2s/^sample,amount,12,5,\([0-9]*,[0-9]*\),.*/\1/p'),2019" out || complain "$(cat out)"
 
 go_on "files"
@@ -216,6 +216,7 @@ cp main/journal.life low/other.life
 printf 'low,low,basis.csv\nmain,main,basis.csv\n' >twice.csv
 ends 1 "^policy [0-9]* stands in low, main$" books twice.csv report 2019-12-31
 
+# an option that was passed over would give another list than the one that was asked for
 go_on "wrong words"
 refused <<'ROWS'
 wants --from and --at | books books.csv statement 2015-12-31 2019-12-31
@@ -225,6 +226,11 @@ by plan: sample takes|--by plan | books books.csv sample 3 --seed 1 --on 2019-12
 sample wants --on and --seed | books books.csv sample 3
 --seed belongs to sample | books books.csv report 2019-12-31 --seed 4
 --from belongs to | books books.csv report 2019-12-31 --from p1.csv
+--within belongs to headroom and due | books books.csv report 2019-12-31 --within 31
+31 31: a number of days | books books.csv due 2019-12-31 31 --within 31
+--at doesn't belong to position-on | books books.csv position-on 2019-12-31 --at p2.csv
+--basis belongs to split | books books.csv value 2019-12-31 --basis other.csv
+--at doesn't belong to split | books split main/journal.life others new --at p2.csv
 doesn't belong to statement | books books.csv statement 2015-12-31 2019-12-31 --from p1.csv --at p2.csv --deficiency
 is there already | books books.csv report 2019-12-31 --csv new-rows
 ROWS

@@ -1,6 +1,6 @@
 #!/bin/sh
 # Reports, movements and single rows worked out: over the small office by amounts worked out by hand (docs/VALUATION.md),
-# over a drawn book by sums of another program, movements of 40 drawn pairs (more take minutes), and on wrong input.
+# over a drawn book by sums of another program, movements of a hundred drawn pairs, and on wrong input.
 . "$(dirname "$0")/../common.sh"
 export LIFE_PROGRAM="$program"
 
@@ -156,11 +156,15 @@ echo 'printed: nobasis: the same' | has
 
 begin "a drawn book of all plans, statuses and words"
 python3 "$root/.ci/tools/drawn_book.py" "$root" 7 300 6 >policies || failed=1
-python3 "$root/.ci/tools/movements.py" "$root" "$program" 40 7 >said || complain "$(cat said)"
 says report 2017-06-30 --by plan,status --by basis-row --by age-band --deficiency --csv report.csv
 "$life" value 2017-06-30 --deficiency </dev/null >valuation
 # the sums of the groups by another program
 python3 "$root/.ci/tools/sums_by_sqlite.py" || complain "SQLite adds the groups up to something else"
+
+# a small book with every kind of posting, so that a pair takes less than a second
+begin "a hundred pairs of positions"
+python3 "$root/.ci/tools/drawn_book.py" "$root" 7 20 6 >policies || failed=1
+python3 "$root/.ci/tools/movements.py" "$root" "$program" 100 7 >said 2>&1 || complain "$(tail -n 1 said)"
 
 begin_with_examples "wrong input"
 "$life" run <"$examples/small-office.csv" >transcript
@@ -177,4 +181,4 @@ refuses 2 'record 1: it is cut short' report 2022-12-31 --csv written
 refuses 2 'record 1: it is cut short' movement 2022-12-31 1 2024-06-30 1 --policies written
 head -c 64 /dev/zero >journal.life
 refuses 2 'notajournal' why 14 2022-12-31
-end "reports add up, movements of 40 drawn pairs too, rows are worked out, wrong input is refused"
+end "reports add up, movements of 100 drawn pairs too, rows are worked out, wrong input is refused"

@@ -1,7 +1,7 @@
 #!/bin/sh
-# `statement`: over a small book its sheets are worked out by hand; of forty drawn pairs of positions (more take minutes)
-# each is what SQLite over `export`, exact values and `read` come to; classes are what a book for each class has; a program
-# whose prints don't add up is found; and files are read as a person reads them.
+# `statement`: over a small book its sheets are worked out by hand; of a hundred drawn pairs of positions each is what SQLite
+# over `export`, exact values and `read` come to; classes are what a book for each class has; a program whose prints don't add
+# up is found; and files are read as a person reads them.
 . "$(dirname "$0")/../common.sh"
 export LIFE_PROGRAM="$program"
 
@@ -208,10 +208,14 @@ echo 'late.csv no value: nobasis 2 200.00' | has
 says movement 2019-12-31 0 2021-12-31 16 --classes classes.csv --bases bases.csv --deficiency
 echo 'closing reserve 6 391.56 391.57' | has
 
-begin "a drawn book"
-python3 "$root/.ci/tools/drawn_book.py" "$root" 7 300 6 >policies || failed=1
+# a small book with every kind of posting, so that a pair takes less than a second
+begin "a hundred pairs of positions"
+python3 "$root/.ci/tools/drawn_book.py" "$root" 7 20 6 >policies || failed=1
 says export sqlite journal.life book.db
-python3 "$root/.ci/tools/statements.py" "$root" "$program" 40 11 12 >said 2>&1 || complain "$(tail -n 1 said)"
+python3 "$root/.ci/tools/statements.py" "$root" "$program" 100 11 12 >said 2>&1 || complain "$(tail -n 1 said)"
+
+begin "classes of a drawn book"
+python3 "$root/.ci/tools/drawn_book.py" "$root" 7 300 6 >policies || failed=1
 printf '1990-01-01,g.xml,300\n2011-01-01,select.xml,100\n' >other.csv
 python3 "$root/.ci/tools/classes_apart.py" "$root" "$program" 4 >said 2>&1 || complain "$(tail -n 1 said)"
-end "sheets by hand, of 40 drawn pairs and of classes add up, forged prints are found, wrong input is refused"
+end "sheets by hand, of 100 drawn pairs and of classes add up, forged prints are found, wrong input is refused"

@@ -13,6 +13,7 @@ import io
 import os
 import random
 import sqlite3
+import subprocess
 import sys
 from collections import Counter
 from fractions import Fraction
@@ -110,18 +111,19 @@ def judge_money(base: Any, sheets: Any, first: Any, last: Any) -> None:
              "claims don't balance")
 
 
-def printed_total(words: list[str]) -> Any:
-    out = io.StringIO()
-    with contextlib.redirect_stdout(out):
-        need(main(["at", *words]) == 0, f"at {words}")
-    return [int(field.replace(".", "")) for field in out.getvalue().splitlines()[-1].split(",")[1:]]
+def printed_total(on: datetime.date, position: int, measure: list[str]) -> list[int]:
+    """The sums of the last line of a valuation, and how many rows have a word: of the program, by itself."""
+    ran = subprocess.run([PROGRAM, "value", str(on), "--at", str(position), *measure], stdin=subprocess.DEVNULL,
+                         capture_output=True, text=True)
+    need(ran.returncode == 0, f"value {on} --at {position}: status {ran.returncode}")
+    return [int(field.replace(".", "")) for field in ran.stdout.splitlines()[-1].split(",")[1:]]
 
 
 def judge_reserves(sheets: Any, asked: Any) -> None:
     """The sums are those of the last line that the program prints of both positions."""
     measure = [] if asked.measure == "terminal" else ["--mean"]
-    opening = printed_total([str(asked.first), "value", str(asked.on1), *measure])
-    closing = printed_total([str(asked.last), "value", str(asked.on2), *measure])
+    opening = printed_total(asked.on1, asked.first, measure)
+    closing = printed_total(asked.on2, asked.last, measure)
     increase = [row.cells for row in sheets["increase"].rows]
     need(list(increase[0][2:]) == opening[:2] and list(increase[-1][2:]) == closing[:2],
          f"increase: {increase}, {opening}, {closing}")

@@ -6,11 +6,11 @@
   books LIST checkpoint                                      a checkpoint of each
   books LIST report ON [--by KEYS].. [--rows FOLDER]         `report` of all together, with a table of the books
   books LIST movement|statement ON1 ON2 --from LIST1 --at LIST2   `movement` and `statement` of all together
-  books LIST due DAY                                         what is due in each
-  books LIST flags [--from LIST1] [--at LIST2]               `audit flags` of each
-  books LIST sample N --seed S --on DAY [--by amount]        `audit sample` of the rows of all books as one
-  books LIST papers SAMPLE --html FILE | --pdf FILE          `audit papers` of such a sample
-  books LIST letters SAMPLE                                  `audit letters` of such a sample
+  books LIST due DAY [--within DAYS]                         what is due in each
+  books LIST [audit] flags [--from LIST1] [--at LIST2]       `audit flags` of each
+  books LIST [audit] sample N --seed S --on DAY [--by amount]  `audit sample` of the rows of all books as one
+  books LIST [audit] papers SAMPLE --html FILE | --pdf FILE  `audit papers` of such a sample
+  books LIST [audit] letters SAMPLE                          `audit letters` of such a sample
   books LIST position-on DAY [--last]                        the position of a day in each, for --at
   books headroom LIST                                        how many commands are left in each, as `headroom` tells it
   books split JOURNAL RULE.. FOLDER..                        a book divided, for each rule a new one in a new folder
@@ -220,14 +220,23 @@ def arguments(parser: argparse.ArgumentParser) -> None:
     parser.add_argument("--totals", action="store_true", help="the lines of policies aren't printed")
 
 
-def run(options: argparse.Namespace) -> int:
-    if options.list == "split":
-        return books_split.run(options)
+def word_in(options: argparse.Namespace) -> str:
+    """The word that the list is asked for. `headroom` may stand in front of the list, and `audit` before the words that it has
+    of one book."""
     if options.list == "headroom":
         options.list, options.words = options.words[0], ["headroom", *options.words[1:]]
-    word = options.words[0]
+    if options.words[0] == "audit" and set(options.words[1:2]) & set(books_audit.WORDS):
+        del options.words[0]
+    return str(options.words[0])
+
+
+def run(options: argparse.Namespace) -> int:
+    if options.list == "split":
+        books_own.demand_options(options, "split")
+        return books_split.run(options)
+    word = word_in(options)
     demand(word in WORDS, f"{word} is none of {', '.join(WORDS)}")
-    books_own.demand_options(options)
+    books_own.demand_options(options, word)
     if word in OWN:
         books_own.demand_files(options)
     books = books_at(options.list)

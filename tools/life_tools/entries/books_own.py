@@ -37,8 +37,12 @@ FROM_ROWS = ("report", "sample")
 OPTIONS = {"by": FROM_ROWS, "seed": ("sample",), "on": ("sample", "split"), "late": ("flags",), "rows": FROM_ROWS,
            "opening": ("movement", "statement", "flags"), "csv": WITH_SHEETS, "xlsx": WITH_SHEETS,
            "html": (*WITH_SHEETS, "papers"), "pdf": ("papers",), "title": (*WITH_SHEETS, "papers"),
-           "bases": (*WITH_SHEETS, "sample", "papers"), "classes": (*WITH_SHEETS, "sample", "papers", "split")}
+           "bases": (*WITH_SHEETS, "sample", "papers"), "classes": (*WITH_SHEETS, "sample", "papers", "split"),
+           "within": ("headroom", "due"), "today": ("headroom",), "least": ("headroom",), "recorded": ("headroom",),
+           "at": ("value", "project", "state", "checkpoint", *TAKES), "basis": ("split",)}
 TOLD_AS = {"opening": "from"}
+# so many words and more aren't told
+MOST_TOLD = 8
 # how many files of bases are told at most
 MOST_BASES = {"movement": 2}
 
@@ -60,11 +64,11 @@ def add_arguments(parser: argparse.ArgumentParser) -> None:
     own.add_argument("--title", metavar="WORDS", help="the company, for a page or a workbook (the list's name)")
 
 
-def demand_options(options: argparse.Namespace) -> None:
-    word = options.words[0]
+def demand_options(options: argparse.Namespace, word: str) -> None:
+    """Demands that no option is told that the word would pass over."""
     for name, words in OPTIONS.items():
-        belongs = f"--{TOLD_AS.get(name, name)} belongs to {' and '.join(words)}"
-        demand(getattr(options, name) is None or word in words, belongs)
+        belongs = f"belongs to {' and '.join(words)}" if len(words) < MOST_TOLD else f"doesn't belong to {word}"
+        demand(getattr(options, name) is None or word in words, f"--{TOLD_AS.get(name, name)} {belongs}")
 
 
 def measure_in(options: argparse.Namespace) -> str:
@@ -94,8 +98,9 @@ def words_of(options: argparse.Namespace) -> tuple[str, ...]:
     if word == "report":
         return (word, *given, measure, *(",".join(keys) for keys in keys_in(options.by)))
     if word == "due":
-        within = number_of(given[1] if len(given) == 2 else "0", 0, MOST_DAYS)
-        demand(within is not None, f"{given[-1]}: a number of days from 0 to {MOST_DAYS} is wanted")
+        asked = [*given[1:], *([options.within] if options.within else [])] or ["0"]
+        within = number_of(asked[0], 0, MOST_DAYS) if len(asked) == 1 else None
+        demand(within is not None, f"{' '.join(asked)}: a number of days from 0 to {MOST_DAYS} is wanted")
         return (word, given[0], str(within))
     if word in books_audit.WORDS:
         return (word, *books_audit.words_of(options, measure))

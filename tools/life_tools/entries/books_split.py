@@ -31,7 +31,7 @@ def add_arguments(parser: argparse.ArgumentParser) -> None:
     split.add_argument("--on", metavar="DAY",
                        help="the day of the valuations that are compared (of the newest posting); also a "
                        "sample's day")
-    split.add_argument("--basis", metavar="NAME", default="basis.csv", help="the basis file beside the journal (basis.csv)")
+    split.add_argument("--basis", metavar="NAME", help="the basis file beside the journal (basis.csv)")
 
 
 def words_in(words: list[str]) -> tuple[str, list[str], list[str]]:
@@ -46,7 +46,7 @@ def words_in(words: list[str]) -> tuple[str, list[str], list[str]]:
     return journal, rules, folders
 
 
-def division_of(options: argparse.Namespace, journal: str, words: list[str]) -> Division:
+def division_of(options: argparse.Namespace, journal: str, basis: str, words: list[str]) -> Division:
     rules = rules_in(words, ranges_at(options.classes) if options.classes else None)
     data = bytes_of(journal)
     book = columns_in(data, journal)
@@ -54,7 +54,7 @@ def division_of(options: argparse.Namespace, journal: str, words: list[str]) -> 
     records = book.records
     on = day_in(options.on) if options.on else day_at(int(records.day[records.kind != UPGRADE].max()))
     front, places = data[:gate_of(book.count)] + bytes(1), places_by(rules, book.policies)
-    return Division(front, book, places, len(rules), os.path.dirname(journal) or ".", options.basis, str(on))
+    return Division(front, book, places, len(rules), os.path.dirname(journal) or ".", basis, str(on))
 
 
 def tell_done(division: Division, journal: str, sum_told: str) -> None:
@@ -66,10 +66,10 @@ def tell_done(division: Division, journal: str, sum_told: str) -> None:
     remark(f"its seal is {SEAL} in each new folder: {sum_told}. Keep one elsewhere; `life-tools seal --check` compares it")
 
 
-def divide(options: argparse.Namespace, journal: str, words: list[str], folders: list[str], processes: int) -> int:
+def divide(options: argparse.Namespace, journal: str, basis: str, words: list[str], folders: list[str], processes: int) -> int:
     whole = tell(demand_undamaged(journal))
     with reading(journal):
-        division = division_of(options, journal, words)
+        division = division_of(options, journal, basis, words)
         names = basis_files(division.folder, division.basis)
         demand(division.basis in names, f"there is no {os.path.join(division.folder, division.basis)}")
         demand_new_folders(folders, [JOURNAL, SEAL, *names])
@@ -94,9 +94,10 @@ def demand_still(division: Division, journal: str) -> None:
 
 def run(options: argparse.Namespace) -> int:
     journal, words, folders = words_in(options.words)
-    demand(NAME.fullmatch(options.basis), f"{options.basis} is no name of a basis file")
+    basis = options.basis or "basis.csv"
+    demand(NAME.fullmatch(basis), f"{basis} is no name of a basis file")
     processes = number_of(options.processes, 1, MOST_WORKERS) if options.processes else processors()
     if processes is None:
         raise Wrong(f"--processes {options.processes}: 1 to {MOST_WORKERS} are wanted")
     demand_as_installed()
-    return divide(options, journal, words, folders, processes)
+    return divide(options, journal, basis, words, folders, processes)

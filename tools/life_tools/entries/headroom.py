@@ -38,11 +38,12 @@ class Wanted(NamedTuple):
 
 def wanted_of(options: argparse.Namespace) -> Wanted:
     today = day_in(options.today) if options.today else datetime.date.today()
-    least, within = number_of(options.least, 0, MOST_COMMANDS), number_of(options.within, 0, MOST_DAYS)
+    asked = options.least or "0", options.within or str(AHEAD)
+    least, within = number_of(asked[0], 0, MOST_COMMANDS), number_of(asked[1], 0, MOST_DAYS)
     if least is None or within is None:
         wanted = f"numbers up to {MOST_COMMANDS} and {MOST_DAYS} are wanted"
-        raise Wrong(f"--least {options.least}, --within {options.within}: {wanted}")
-    return Wanted(number_at(today), least, within, tuple(map(recorded_at, options.recorded)))
+        raise Wrong(f"--least {asked[0]}, --within {asked[1]}: {wanted}")
+    return Wanted(number_at(today), least, within, tuple(map(recorded_at, options.recorded or ())))
 
 
 def room_at(path: str, name: str, wanted: Wanted) -> tuple[Room, int]:
@@ -65,12 +66,12 @@ def told_of(name: str, room: Room, wanted: Wanted) -> int:
 
 
 def add_arguments(parser: argparse.ArgumentParser) -> None:
-    """What `books headroom` takes, too."""
+    """What `books headroom` takes, too; None where it isn't told."""
     parser.add_argument("--today", metavar="DAY", help="headroom: the day from which it is counted (that of this machine)")
-    parser.add_argument("--least", metavar="N", default="0", help="headroom: 1 where fewer commands are left")
-    parser.add_argument("--within", metavar="DAYS", default=str(AHEAD),
-                        help=f"headroom: 1 where a book is full within so many ({AHEAD})")
-    parser.add_argument("--recorded", metavar="FILE", action="append", default=[],
+    parser.add_argument("--least", metavar="N", help="headroom: 1 where fewer commands are left")
+    parser.add_argument("--within", metavar="DAYS", help=f"headroom: 1 where a book is full within so many ({AHEAD}); "
+                        "books LIST due: also what falls due so many days later")
+    parser.add_argument("--recorded", metavar="FILE", action="append",
                         help="headroom: a list of positions of an earlier month-end, with its day in the file's name")
 
 
