@@ -38,7 +38,7 @@ EXCEPTIONS = {
         "trial_load.specs.Loading.IsLoadOf",
     "The devices of a contract, as one value.": """
         program_endings.specs.Writing.between program_endings.specs.Writing.input_between
-        program_endings.specs.Writing.shelf_between life_app.specs.inside.Over.ended_disks""",
+        program_endings.specs.Writing.shelf_between""",
     "Says nothing.": "program_endings.specs.Replies.AreAny",
 }
 
@@ -131,7 +131,7 @@ def held_by(texts: Texts, cases: set[str], built: set[str]) -> set[str]:
     named = set().union(*(known.named_in(texts.definitions[key].lines, texts.definitions[key].place,
                                          texts.imports[texts.definitions[key].place], texts.definitions) for key in whole))
     asked = set().union(*(texts.side(key, "asked") for key in whole))
-    plain = {case for case in cases if not case.startswith(HOME) or ".Worked." in case or ".WorkedKept." in case}
+    plain = {case for case in cases if not case.startswith(HOME) or ".Worked." in case}
     return texts.under(plain, OF_A_DISK) | built | (named - asked)
 
 

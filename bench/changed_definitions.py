@@ -101,8 +101,8 @@ CHANGES = [
     ("no run is one over both disks", "life_app/specs/KeptRuns.antt",
      ["  pub before : e.honest second\n", "  pub before : e.honest second\n  pub never : ⊥\n"],
      "life_app", "worked_run::both_disks_by_hand"),
-    ("no two disks are good", "life_app/specs/DueKept.antt",
-     ["  pub none_failed : ¬ HasOneFailed g e disks\n", "  pub none_failed : ¬ HasOneFailed g e disks\n  pub never : ⊥\n"],
+    ("no two disks are trusted", "life_app/specs/Needs.antt",
+     ["second.Honest × TellsTruth second.before disk.before\n", "second.Honest × TellsTruth second.before disk.before × ⊥\n"],
      "life_app", "worked_run::both_disks_by_hand"),
 ]
 

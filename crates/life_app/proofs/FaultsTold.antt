@@ -1,5 +1,5 @@
--- Where the disk's count of faults rose and the output didn't fail, the ending tells it, but for want of memory
-use Rattle.std.proofs.Common.{◌≡◌, ◌<◌, ◌⊎◌, ℕ, ℤ, List, [], ◌∷◌, ◌++◌, refl, ap, ◌∙◌, inl, inr, None, Some, String, Global, arith}
+-- Where the count of faults of one of the disks rose and the output didn't fail, the ending tells it, but for want of memory
+use Rattle.std.proofs.Common.{◌≡◌, ◌<◌, ◌⊎◌, ℕ, ℤ, List, [], ◌∷◌, ◌++◌, refl, ap, ◌∙◌, inl, inr, Option, None, Some, String, Global, arith}
 use Rattle.std.specs.List.{AllByRecursion, cons_option, filter_map, last_or}
 use Rattle.std.specs.Option.{unwrap_or}
 use Rattle.outside_io.specs.declared.disks.Disk.{Ghosts}
@@ -30,7 +30,10 @@ use Rattle.stating_modes.specs.Stating.{EndsState, IsStated}
 use Rattle.valuing_modes.specs.Valuing.{EndsValue, IsValued}
 use Rattle.valuing_modes.specs.Projecting.{EndsProject, IsProjected}
 use Rattle.trial_load.specs.Loading.{EndsLoad, EndsLoading}
-use Rattle.life_app.specs.Obeys.{Does, EndsMode}
+use Rattle.life_app.specs.Needs.{HasNewFault, filing_between}
+use Rattle.life_app.specs.Obeys.{Does, EndsBooks, EndsMode, EndsSave}
+use Rattle.life_app.proofs.BooksSteps as both
+use Rattle.life_app.proofs.BooksSteps.{second_between, two_disks}
 
 -- the numbers of the faults that were answered
 abbrev faults_met : List Entry → List ℕ
@@ -52,11 +55,12 @@ none_met [] answered = refl
 none_met (entry ∷ history) answered =
     ap (λ first. cons_option first (faults_met history)) (no_fault entry.reply answered.0) ∙ none_met history answered.1
 
-module _ {D : Type 0} (g : Ghosts D) (old new : D) (output : Stream) (rose : g.faults old < g.faults new)
-    (held : Rose output.faults_before output.faults_after → ⊥) where
-  abbrev IsTold : Ending → Type 0
-  IsTold ending = (status_of ending ≡ 8) ⊎ (status_of ending ≡ 9)
+abbrev IsTold : Ending → Type 0
+IsTold ending = (status_of ending ≡ 8) ⊎ (status_of ending ≡ 9)
 
+-- the journal's disk alone
+module _ {D : Type 0} (g : Ghosts D) (old new : D) (output : Stream) (held : Rose output.faults_before output.faults_after → ⊥)
+    (rose : g.faults old < g.faults new) where
   stood : g.faults new ≡ g.faults old → ⊥
   stood same = omega (arith, rose, same)
 
@@ -140,25 +144,55 @@ module _ {D : Type 0} (g : Ghosts D) (old new : D) (output : Stream) (rose : g.f
     | inr none ↦ absurd (untouched none.0)
   ]
 
-  mode_told : (mode : Mode) (auditors : List Auditor) (input : Input) (shelf : Shelving) (InputStays ShelfStays : Type 0) (ending : Ending)
-      → EndsMode g old new mode auditors input output shelf InputStays ShelfStays ending → IsTold ending
-  mode_told (Run name) auditors input shelf InputStays ShelfStays ending ends = run_told name auditors input shelf ShelfStays ending ends
-  mode_told (Value on at workers name measure) auditors input shelf InputStays ShelfStays ending ends =
-      value_told on at measure name shelf ending ends.1
-  mode_told (Project on years workers name) auditors input shelf InputStays ShelfStays ending ends =
-      project_told on years name shelf ending ends.1
-  mode_told (State None) auditors input shelf InputStays ShelfStays ending ends = state_told books_text ending ends.2
-  mode_told (State (Some id)) auditors input shelf InputStays ShelfStays ending ends = state_told (policy_account id) ending ends.2
-  mode_told Checkpoint auditors input shelf InputStays ShelfStays ending ends = absurd (untouched ends.2)
-  mode_told (Generate seed count lanes) auditors input shelf InputStays ShelfStays ending ends = absurd (untouched ends.2)
-  mode_told (Load seed count lanes workers) auditors input shelf InputStays ShelfStays ending ends =
-      load_told seed count lanes workers shelf ending ends.1
+-- whatever the second disk
+module _ {D E : Type 0} (g : Ghosts D) (e : Ghosts E) (old new : D) (output : Stream) (held : Rose output.faults_before output.faults_after → ⊥) where
+  abbrev OneRose : (second kept : Option E) → Type 0
+  OneRose second kept = HasNewFault (filing_between g old new) (second_between e second kept)
 
-  -- whatever the program does
-  pub fault_told : (words : List (String Global)) (auditors : List Auditor) (input : Input) (shelf : Shelving)
-      (InputStays ShelfStays : Type 0) (ending : Ending)
-      → Does g old new words auditors input output shelf InputStays ShelfStays ending → (status_of ending ≡ 8) ⊎ (status_of ending ≡ 9)
-  fault_told words auditors input shelf InputStays ShelfStays ending does = elim does [
-    | inl (mode, asked, ends) ↦ mode_told mode auditors input shelf InputStays ShelfStays ending ends
-    | inr unasked ↦ absurd (untouched unasked.disk)
-  ]
+  -- of a mode that leaves the second disk the journal's did
+  first_rose : (second kept : Option E) → OneRose second kept → kept ≡ second → g.faults old < g.faults new
+  first_rose None kept rose same = rose
+  first_rose (Some second) None rose same = rose
+  first_rose (Some second) (Some kept) (inl first) same = first
+  first_rose (Some second) (Some kept) (inr other) same =
+      let here : kept ≡ second = cc in
+      let still : e.faults kept ≡ e.faults second = ap (λ (d : E). e.faults d) here in
+      absurd (omega (arith, other, still))
+
+  books_told : (second kept : Option E) (ending : Ending) → OneRose second kept → EndsBooks g e old new second kept output ending → IsTold ending
+  books_told None None ending rose ends = state_told g old new output held rose books_text ending ends
+  books_told (Some second) (Some kept) ending rose ends =
+      both.told g e (two_disks old new second kept) output ending rose held (both.stated g e (two_disks old new second kept) output ending ends)
+  books_told _ _ ending rose ends = absurd ends
+
+  save_told : (second kept : Option E) (ending : Ending) → OneRose second kept → EndsSave g e old new second kept output ending → IsTold ending
+  save_told None None ending rose ends = absurd (untouched g old new output held rose ends.0)
+  save_told (Some second) (Some kept) ending rose ends =
+      both.told g e (two_disks old new second kept) output ending rose held (both.saved g e (two_disks old new second kept) output ending ends)
+  save_told _ _ ending rose ends = absurd ends
+
+  module _ (second kept : Option E) (rose : OneRose second kept) (auditors : List Auditor) (input : Input) (shelf : Shelving) (InputStays ShelfStays : Type 0)
+      (ending : Ending) where
+    mode_told : (mode : Mode) → EndsMode g e old new second kept mode auditors input output shelf InputStays ShelfStays ending → IsTold ending
+    mode_told (State None) ends = books_told second kept ending rose ends.2
+    mode_told Checkpoint ends = save_told second kept ending rose ends.2
+    mode_told (Run name) ends =
+        run_told g old new output held (first_rose second kept rose ends.0) name auditors input shelf ShelfStays ending ends.1
+    mode_told (Value on at workers name measure) ends =
+        value_told g old new output held (first_rose second kept rose ends.0) on at measure name shelf ending ends.2
+    mode_told (Project on years workers name) ends =
+        project_told g old new output held (first_rose second kept rose ends.0) on years name shelf ending ends.2
+    mode_told (State (Some id)) ends =
+        state_told g old new output held (first_rose second kept rose ends.0) (policy_account id) ending ends.3
+    mode_told (Generate seed count lanes) ends =
+        absurd (untouched g old new output held (first_rose second kept rose ends.0) ends.3)
+    mode_told (Load seed count lanes workers) ends =
+        load_told g old new output held (first_rose second kept rose ends.0) seed count lanes workers shelf ending ends.2
+
+    -- whatever the program does
+    pub fault_told : (words : List (String Global)) → Does g e old new second kept words auditors input output shelf InputStays ShelfStays ending
+        → (status_of ending ≡ 8) ⊎ (status_of ending ≡ 9)
+    fault_told words does = elim does [
+      | inl (mode, asked, ends) ↦ mode_told mode ends
+      | inr unasked ↦ absurd (untouched g old new output held (first_rose second kept rose unasked.other) unasked.disk)
+    ]

@@ -1,5 +1,5 @@
 -- What is promised of a script's run follows from what the program does
-use Rattle.std.proofs.Common.{◌≡◌, ℕ, ℤ, ◌⊎◌, List, [], ◌∷◌, ◌++◌, map, string_bytes, refl, ap, sym, ◌∙◌, subst, inl, inr, append-nil, Result, Ok, Err, String, Global}
+use Rattle.std.proofs.Common.{◌≡◌, ℕ, ℤ, ◌⊎◌, List, [], ◌∷◌, ◌++◌, map, string_bytes, refl, ap, sym, ◌∙◌, subst, inl, inr, append-nil, Option, Result, Ok, Err, String, Global}
 use Rattle.std.specs.Prelude.{take}
 use Rattle.std.specs.List.{AllZip}
 use Rattle.std.proofs.lemmas.Bool.{false≢true}
@@ -285,23 +285,24 @@ module _ {D : Type 0} (g : Ghosts D) (old new : D) (output : Stream) where
       unasked_run words NoMemory asked same says = unrun_untouched NoMemory says same only_now
       unasked_run words _ asked same says = absurd says
 
-      -- what the words ask for, and how it ended
-      by_words : (lanes : List Lane) (basis : List Dated) (auditors : List Auditor) (bytes : List ℕ) (words : List (String Global))
-          (InputStays ShelfStays : Type 0) (ending : Ending) → AskForRun words name
-          → IsWholeInput input bytes → Reads bytes lanes → IsGivenBasis IsBasis lanes name shelf basis
-          → Does g old new words auditors input output shelf InputStays ShelfStays ending → Told lanes basis auditors (status_of ending)
-      by_words lanes basis auditors bytes words InputStays ShelfStays ending asked whole reads given (inl (mode, for, ends)) =
-          by_script lanes basis auditors bytes ShelfStays ending whole reads given
-          (subst (λ (m : Mode). EndsMode g old new m auditors input output shelf InputStays ShelfStays ending)
-          (ask_once (map string_bytes words) mode (Run name) for asked) ends)
-      by_words lanes basis auditors bytes words InputStays ShelfStays ending asked whole reads given (inr unasked) =
-          inr (unasked_run words ending asked unasked.disk unasked.says)
+      -- what the words ask for, and how it ended, whatever the second disk
+      module _ {E : Type 0} (e : Ghosts E) (second kept : Option E) (lanes : List Lane) (basis : List Dated) (auditors : List Auditor)
+          (bytes : List ℕ) (words : List (String Global)) (InputStays ShelfStays : Type 0) where
+        by_words : (ending : Ending) → AskForRun words name
+            → IsWholeInput input bytes → Reads bytes lanes → IsGivenBasis IsBasis lanes name shelf basis
+            → Does g e old new second kept words auditors input output shelf InputStays ShelfStays ending
+            → Told lanes basis auditors (status_of ending)
+        by_words ending asked whole reads given (inl (mode, for, ends)) =
+            let run : EndsMode g e old new second kept (Run name) auditors input output shelf InputStays ShelfStays ending =
+            subst (λ (m : Mode). EndsMode g e old new second kept m auditors input output shelf InputStays ShelfStays ending)
+            (ask_once (map string_bytes words) mode (Run name) for asked) ends in
+            by_script lanes basis auditors bytes ShelfStays ending whole reads given run.1
+        by_words ending asked whole reads given (inr unasked) =
+            inr (unasked_run words ending asked unasked.disk unasked.says)
 
-      pub headline : (lanes : List Lane) (basis : List Dated) (auditors : List Auditor) (bytes : List ℕ) (words : List (String Global))
-          (InputStays ShelfStays : Type 0) (status : ℕ)
-          → Obeys g old new words auditors input output shelf InputStays ShelfStays status → AskForRun words name
-          → IsWholeInput input bytes → Reads bytes lanes → IsGivenBasis IsBasis lanes name shelf basis
-          → Told lanes basis auditors status
-      headline lanes basis auditors bytes words InputStays ShelfStays status obeys asked whole reads given =
-          subst (λ (s : ℕ). Told lanes basis auditors s) (sym obeys.exits)
-          (by_words lanes basis auditors bytes words InputStays ShelfStays obeys.ending asked whole reads given obeys.does)
+        pub headline : (status : ℕ)
+            → Obeys g e old new second kept words auditors input output shelf InputStays ShelfStays status → AskForRun words name
+            → IsWholeInput input bytes → Reads bytes lanes → IsGivenBasis IsBasis lanes name shelf basis
+            → Told lanes basis auditors status
+        headline status obeys asked whole reads given =
+            subst (λ (s : ℕ). Told lanes basis auditors s) (sym obeys.exits) (by_words obeys.ending asked whole reads given obeys.does)

@@ -1,5 +1,5 @@
 -- What runs over both disks leave: each checkpoint on the second disk tells the truth of the journal
-use Rattle.std.proofs.Common.{◌≡◌, ℕ, List, [], ◌∷◌, ◌++◌, map, take, refl, ap, sym, ◌∙◌, subst, inl, inr, append-nil, append_assoc}
+use Rattle.std.proofs.Common.{◌≡◌, ◌⊎◌, ℕ, List, [], ◌∷◌, ◌++◌, map, take, refl, ap, sym, ◌∙◌, subst, inl, inr, append-nil, append_assoc, None, Some}
 use Rattle.std.proofs.lemmas.List.{length-map, map-append, take_at}
 use Rattle.outside_io.specs.declared.disks.Disk.{Ghosts}
 use Rattle.policy_types.specs.declared.command.Command.{Command}
@@ -11,24 +11,22 @@ use Rattle.checkpoint_store.specs.Checkpoints.{IsSnapshotOf}
 use Rattle.checkpoint_store.specs.declared.snapshot.Snapshot.{Snapshot}
 use Rattle.checkpoint_store.proofs.OneSnapshot.{one_snapshot}
 use Rattle.journal_replay.specs.Replays.{bodies_of}
-use Rattle.office_state.specs.Images.{IsLeftAlone}
 use Rattle.office_state.specs.Journals.{Opens}
 use Rattle.office_state.proofs.JournalLaws.{opens_to_one, to_bodies}
 use Rattle.office_state.proofs.OpeningSteps.{opening_keeps}
-use Rattle.stating_modes.specs.Saved.{IsNoneOrEarlierOrHeld}
+use Rattle.stating_modes.specs.Saved.{EndsCheckpoint, IsNoneOrEarlierOrHeld}
 use Rattle.stating_modes.specs.TwoDisks.{AreTrue, IsOnlyRead, TellsTruth, TwoDisks}
 use Rattle.std.specs.Global.{Global}
 use Rattle.std.specs.Prelude.{String}
-use Rattle.policy_types.specs.declared.entry.Entry.{Entry}
-use Rattle.policy_machine.specs.History.{Opening, opened_on}
 use Rattle.posting_journal.proofs.Moments.{leaves, looks_none}
 use Rattle.watcher_set.specs.Noted.{Auditor}
+use Rattle.life_args.specs.declared.mode.Mode.{Mode}
+use Rattle.life_args.specs.declared.mode.Mode.TheVariants.{Run, Value, Project, State, Checkpoint, Generate, Load}
 use Rattle.program_endings.specs.Writing.{Input, Shelving, Stream}
 use Rattle.program_endings.specs.declared.ending.Ending.{Ending}
-use Rattle.life_app.specs.ObeysKept.{EndsByBoth, ObeysKept}
+use Rattle.life_app.specs.Obeys.{EndsMode, Obeys}
 use Rattle.life_app.proofs.LeftLaws.{left_so}
-use Rattle.life_app.specs.Runs.{IsLeftSo}
-use Rattle.life_app.specs.KeptRuns.{AreRunsOfTwo, IsLeftByCall, IsRunOfTwo, LeavesSecond, IsSnapshotOfFirst, KeepsSecond, OneRunOfTwo, SavedOfFirst, SavesBooks, run_disks}
+use Rattle.life_app.specs.KeptRuns.{AreRunsOfTwo, IsLeftByCall, IsRunOfTwo, LeavesSaved, LeavesSecond, IsSnapshotOfFirst, KeepsSecond, OneRunOfTwo, SavedOfFirst, SavesBooks, run_disks}
 use Rattle.life_app.proofs.RunLaws.{Facts, Grown, Starts, one_more_run}
 
 -- what is saved of the first of some commands is so of those and more
@@ -226,27 +224,37 @@ module _ {D E : Type 0} (g : Ghosts D) (e : Ghosts E) (second_facts : Facts e) (
       read_leaves (subst (λ (d : E). IsOnlyRead e disks.second d) (sym same)
       (record { honesty = λ h. h; looks = λ h. looks_none e disks.second }))
 
-  alone_left : IsLeftAlone g disks.old disks.new → (opening : Opening) × ((history : List Entry) × IsLeftSo g disks.old disks.new opening history)
-  alone_left alone = (opened_on [] 0, ([], inr (inl (refl, alone))))
+  by_saving : (output : Stream) (ending : Ending) → EndsCheckpoint g e disks output ending
+      → LeavesSecond e disks.second disks.kept ⊎ LeavesSaved g e disks
+  by_saving output ending ends = elim (ends.order honest kept_honest) [
+    | inl read ↦ inl (read_leaves read)
+    | inr safe ↦ inr (record { alone = ends.first; safe = safe; since = ends.since kept_honest; now = ends.now kept_honest })
+  ]
 
-  both_left : (words : List (String Global)) (output : Stream) (ending : Ending) → EndsByBoth g e disks words output ending → IsLeftByCall g e disks
-  both_left words output ending (inl stated) = (alone_left stated.1.first, inl (read_leaves stated.1.second))
-  both_left words output ending (inr saved) =
-      let ends = saved.1 in (
-        alone_left ends.first,
-        elim (ends.order honest kept_honest) [
-          | inl read ↦ inl (read_leaves read)
-          | inr safe ↦ inr (record { alone = ends.first; safe = safe; since = ends.since kept_honest; now = ends.now kept_honest })
-        ],
-      )
+  module _ (words : List (String Global)) (auditors : List Auditor) (input : Input) (output : Stream) (shelf : Shelving)
+      (InputStays ShelfStays : Type 0) where
+    left_alone : Some disks.kept ≡ Some disks.second → LeavesSecond e disks.second disks.kept ⊎ LeavesSaved g e disks
+    left_alone same = inl (untouched (cc))
 
-  pub left_by_call : (words : List (String Global)) (auditors : List Auditor) (input : Input) (output : Stream) (shelf : Shelving)
-      (InputStays ShelfStays : Type 0) (status : ℕ) → ObeysKept g e disks words auditors input output shelf InputStays ShelfStays status
-      → IsLeftByCall g e disks
-  left_by_call words auditors input output shelf InputStays ShelfStays status (inl both) = both_left words output both.ending both.ends
-  left_by_call words auditors input output shelf InputStays ShelfStays status (inr (inl one)) = (
-    left_so g disks.old disks.new auditors input output shelf InputStays ShelfStays words one.obeys.ending one.obeys.does,
-    inl (untouched one.second),
-  )
-  left_by_call words auditors input output shelf InputStays ShelfStays status (inr (inr none)) =
-      ((opened_on [] 0, ([], inr (inr (refl, none.unasked.disk)))), inl (untouched none.second))
+    by_mode : (mode : Mode) (ending : Ending)
+        → EndsMode g e disks.old disks.new (Some disks.second) (Some disks.kept) mode auditors input output shelf InputStays ShelfStays ending
+        → LeavesSecond e disks.second disks.kept ⊎ LeavesSaved g e disks
+    by_mode (State None) ending ends = (let stated = ends.2 in inl (read_leaves stated.second))
+    by_mode Checkpoint ending ends = by_saving output ending ends.2
+    by_mode (State (Some id)) ending ends = left_alone ends.0
+    by_mode (Run basis) ending ends = left_alone ends.0
+    by_mode (Value on at workers basis measure) ending ends = left_alone ends.0
+    by_mode (Project on years workers basis) ending ends = left_alone ends.0
+    by_mode (Generate seed count lanes) ending ends = left_alone ends.0
+    by_mode (Load seed count lanes workers) ending ends = left_alone ends.0
+
+    pub left_by_call : (status : ℕ)
+        → Obeys g e disks.old disks.new (Some disks.second) (Some disks.kept) words auditors input output shelf InputStays ShelfStays status
+        → IsLeftByCall g e disks
+    left_by_call status obeys = (
+      left_so g disks.old disks.new e (Some disks.second) (Some disks.kept) auditors input output shelf InputStays ShelfStays words obeys.ending obeys.does,
+      elim obeys.does [
+        | inl (mode, asked, ends) ↦ by_mode mode obeys.ending ends
+        | inr none ↦ left_alone none.other
+      ],
+    )

@@ -1,6 +1,7 @@
 -- How each mode leaves the disk: by the turns of an office, alone, or untouched
-use Rattle.std.proofs.Common.{◌≡◌, ℕ, ℤ, List, [], refl, inl, inr, None, Some, String, Global}
+use Rattle.std.proofs.Common.{◌≡◌, ℕ, ℤ, List, [], refl, inl, inr, Option, None, Some, String, Global}
 use Rattle.outside_io.specs.declared.disks.Disk.{Ghosts}
+use Rattle.policy_types.specs.declared.command.Command.{Command}
 use Rattle.policy_types.specs.declared.entry.At.{At}
 use Rattle.policy_types.specs.declared.entry.Entry.{Entry}
 use Rattle.policy_types.specs.declared.script.Lane.{Lane}
@@ -18,11 +19,11 @@ use Rattle.program_endings.specs.Writing.{Input, Shelving, Stream}
 use Rattle.script_run.specs.Outcome.{EndsScript, IsRunOf}
 use Rattle.script_run.specs.Running.{EndsLanes, EndsRun}
 use Rattle.stating_modes.specs.Books.{books_text, policy_account}
-use Rattle.stating_modes.specs.Stating.{IsStated}
+use Rattle.stating_modes.specs.Stating.{EndsState, IsStated}
 use Rattle.valuing_modes.specs.Valuing.{EndsValue, IsValued}
 use Rattle.valuing_modes.specs.Projecting.{EndsProject, IsProjected}
 use Rattle.trial_load.specs.Loading.{EndsLoad, EndsLoading, IsLoadOf}
-use Rattle.life_app.specs.Obeys.{Does, EndsMode}
+use Rattle.life_app.specs.Obeys.{Does, EndsBooks, EndsMode, EndsSave}
 use Rattle.life_app.specs.Runs.{IsLeftSo}
 
 module _ {D : Type 0} (g : Ghosts D) (old new : D) where
@@ -128,21 +129,39 @@ module _ {D : Type 0} (g : Ghosts D) (old new : D) where
     | inr none ↦ untouched none.0
   ]
 
-  module _ (auditors : List Auditor) (input : Input) (output : Stream) (shelf : Shelving) (InputStays ShelfStays : Type 0) where
-    mode_left : (mode : Mode) (ending : Ending) → EndsMode g old new mode auditors input output shelf InputStays ShelfStays ending → Left
-    mode_left (Run name) ending ends = run_left name auditors input output shelf ShelfStays ending ends
-    mode_left (Value on at workers name measure) ending ends = value_left on at measure name shelf output ending ends.1
-    mode_left (Project on years workers name) ending ends = project_left on years name shelf output ending ends.1
-    mode_left (State None) ending ends =
-        read_only (IsStated g old new books_text) output ending (λ Wrote is. by_turns (opened_on is.commands (g.faults old)) [] is.disk) ends.2
-    mode_left (State (Some id)) ending ends =
-        read_only (IsStated g old new (policy_account id)) output ending (λ Wrote is. by_turns (opened_on is.commands (g.faults old)) [] is.disk) ends.2
-    mode_left Checkpoint ending ends = untouched ends.2
-    mode_left (Generate seed count lanes) ending ends = untouched ends.2
-    mode_left (Load seed count lanes workers) ending ends = load_left seed count lanes workers shelf output ending ends.1
+  state_left : (text_of : List Command → List ℕ) (output : Stream) (ending : Ending) → EndsState g old new text_of output ending → Left
+  state_left text_of output ending ends =
+      read_only (IsStated g old new text_of) output ending (λ Wrote is. by_turns (opened_on is.commands (g.faults old)) [] is.disk) ends
+
+  -- both disks leave the journal's alone
+  books_left : {E : Type 0} (e : Ghosts E) (second kept : Option E) (output : Stream) (ending : Ending)
+      → EndsBooks g e old new second kept output ending → Left
+  books_left e None None output ending ends = state_left books_text output ending ends
+  books_left e (Some second) (Some kept) output ending ends = all_alone ends.first
+  books_left e _ _ output ending ends = absurd ends
+
+  save_left : {E : Type 0} (e : Ghosts E) (second kept : Option E) (output : Stream) (ending : Ending)
+      → EndsSave g e old new second kept output ending → Left
+  save_left e None None output ending ends = untouched ends.0
+  save_left e (Some second) (Some kept) output ending ends = all_alone ends.first
+  save_left e _ _ output ending ends = absurd ends
+
+  module _ {E : Type 0} (e : Ghosts E) (second kept : Option E) (auditors : List Auditor) (input : Input) (output : Stream) (shelf : Shelving)
+      (InputStays ShelfStays : Type 0) where
+    mode_left : (mode : Mode) (ending : Ending)
+        → EndsMode g e old new second kept mode auditors input output shelf InputStays ShelfStays ending → Left
+    mode_left (Run name) ending ends = run_left name auditors input output shelf ShelfStays ending ends.1
+    mode_left (Value on at workers name measure) ending ends = value_left on at measure name shelf output ending ends.2
+    mode_left (Project on years workers name) ending ends = project_left on years name shelf output ending ends.2
+    mode_left (State None) ending ends = books_left e second kept output ending ends.2
+    mode_left (State (Some id)) ending ends = state_left (policy_account id) output ending ends.3
+    mode_left Checkpoint ending ends = save_left e second kept output ending ends.2
+    mode_left (Generate seed count lanes) ending ends = untouched ends.3
+    mode_left (Load seed count lanes workers) ending ends = load_left seed count lanes workers shelf output ending ends.2
 
     -- the program leaves the disk so
-    pub left_so : (words : List (String Global)) (ending : Ending) → Does g old new words auditors input output shelf InputStays ShelfStays ending
+    pub left_so : (words : List (String Global)) (ending : Ending)
+        → Does g e old new second kept words auditors input output shelf InputStays ShelfStays ending
         → (opening : Opening) × ((history : List Entry) × IsLeftSo g old new opening history)
     left_so words ending does = elim does [
       | inl (mode, asked, ends) ↦ mode_left mode ending ends

@@ -1,5 +1,5 @@
 -- What the exit status tells of the words, the script, the basis and the file
-use Rattle.std.proofs.Common.{◌≡◌, ℕ, ◌≤◌, ◌<◌, ◌⊎◌, ℤ, List, length, map, string_bytes, ⊎_elim, refl, ap, subst, inl, inr, None, Some, String, Global, codes}
+use Rattle.std.proofs.Common.{◌≡◌, ℕ, ◌≤◌, ◌<◌, ◌⊎◌, ℤ, List, length, map, string_bytes, ⊎_elim, refl, ap, subst, inl, inr, Option, None, Some, String, Global, codes}
 use Rattle.std.specs.Prelude.{true}
 use Rattle.outside_io.specs.declared.disks.Disk.{Ghosts}
 use Rattle.outside_io.specs.Faults.{Rose}
@@ -20,6 +20,8 @@ use Rattle.life_args.proofs.Answering.{ask_once}
 use Rattle.life_args.specs.Words.{AskFor, AskForNothing}
 use Rattle.life_args.specs.declared.mode.Mode.{Mode}
 use Rattle.life_args.specs.declared.mode.Mode.TheVariants.{Run, Value, Project, State, Checkpoint, Generate, Load}
+use Rattle.office_state.proofs.OpeningSteps.{finished}
+use Rattle.office_state.specs.Images.{IsLeftAlone}
 use Rattle.office_state.specs.Journals.{Opens, OpensToNone}
 use Rattle.program_endings.specs.declared.ending.Ending.{Ending}
 use Rattle.program_endings.specs.declared.ending.Ending.TheVariants.{Done, Usage, BadScript, BadBasis, BadJournal, ReadFault, DiskFault, NoMemory, Ahead}
@@ -36,11 +38,13 @@ use Rattle.valuing_modes.proofs.ValueStatus.{value_as_before, value_beyond, valu
 use Rattle.valuing_modes.specs.Projecting.{EndsProject}
 use Rattle.valuing_modes.proofs.ProjectStatus.{project_as_before, project_refused, project_to_end, project_unfit}
 use Rattle.trial_load.proofs.LoadStatus.{generate_to_end, load_as_before, load_refused, load_to_end, load_unfit}
-use Rattle.life_app.specs.Needs.{filing_between}
+use Rattle.life_app.specs.Needs.{Filing, HasSecond, Second, Without, filing_between, seen_by}
+use Rattle.life_app.proofs.BooksSteps as both
+use Rattle.life_app.proofs.BooksSteps.{second_between, two_disks}
 use Rattle.life_app.proofs.FaultsTold.{fault_told}
 use Rattle.life_app.specs.Due.{HasBasis, HasItsJournal, HasItsNeeds, HasJournal, HasNoBasis, HasNoJournal, HasNoScript, IsDueEnding, IsHeld, LacksItsBasis, LacksItsJournal}
-use Rattle.life_app.specs.Obeys.{Does, EndsMode, SaysUnasked}
-use Rattle.life_app.specs.Words.{AskForGenerate, AskForLoad, AskForProject, AskForRun, AskForState, AskForValue}
+use Rattle.life_app.specs.Obeys.{Does, EndsBooks, EndsMode, EndsSave, SaysUnasked}
+use Rattle.life_app.specs.Words.{AskForCheckpoint, AskForGenerate, AskForLoad, AskForProject, AskForRun, AskForValue}
 
 -- a bad file gives 4, and its line besides
 said : {status : ℕ} (output : Stream) (bad : ABadBasis) → SaysBadFile bad output status ⊎ (status ≡ 9) → (status ≡ 4) ⊎ (status ≡ 9)
@@ -54,7 +58,7 @@ module _ {shelf : Shelving} (lanes : List Lane) (name : List ℕ) (has : asks_fo
   held_for : asks_for_values lanes ≡ true → Rose shelf.faults_before shelf.faults_after → ⊥
   held_for asks = (has asks).held
 
-module _ {D : Type 0} (g : Ghosts D) (old new : D) (auditors : List Auditor) where
+module _ {D E : Type 0} (g : Ghosts D) (e : Ghosts E) (old new : D) (second kept : Option E) (auditors : List Auditor) where
   module _ (words : List (String Global)) (input : Input) (output : Stream) (shelf : Shelving) (InputStays ShelfStays : Type 0) where
     unasked : (ending : Ending) → SaysUnasked words output ending → (mode : Mode) → AskFor words mode → status_of ending ≡ 9
     unasked Usage says mode asked = absurd (says.0 mode asked)
@@ -62,19 +66,19 @@ module _ {D : Type 0} (g : Ghosts D) (old new : D) (auditors : List Auditor) whe
     unasked _ says mode asked = absurd says
 
     -- the mode that the words ask for ended so, or there was no memory to read them
-    pub as_asked : (ending : Ending) → Does g old new words auditors input output shelf InputStays ShelfStays ending
+    pub as_asked : (ending : Ending) → Does g e old new second kept words auditors input output shelf InputStays ShelfStays ending
         → (mode : Mode) → AskFor words mode
-        → EndsMode g old new mode auditors input output shelf InputStays ShelfStays ending ⊎ (status_of ending ≡ 9)
+        → EndsMode g e old new second kept mode auditors input output shelf InputStays ShelfStays ending ⊎ (status_of ending ≡ 9)
     as_asked ending does mode asked = elim does [
       | inl (other, asked_too, ends) ↦ inl (
-          subst (λ (m : Mode). EndsMode g old new m auditors input output shelf InputStays ShelfStays ending)
+          subst (λ (m : Mode). EndsMode g e old new second kept m auditors input output shelf InputStays ShelfStays ending)
           (ask_once (map string_bytes words) other mode asked_too asked) ends
           )
       | inr none ↦ inr (unasked ending none.says mode asked)
     ]
 
     -- words that ask for nothing
-    pub as_nothing : (ending : Ending) → Does g old new words auditors input output shelf InputStays ShelfStays ending
+    pub as_nothing : (ending : Ending) → Does g e old new second kept words auditors input output shelf InputStays ShelfStays ending
         → AskForNothing words → (status_of ending ≡ 2) ⊎ (status_of ending ≡ 9)
     as_nothing ending does nothing = elim does [
       | inl (mode, asked, ends) ↦ absurd (nothing mode asked)
@@ -87,37 +91,92 @@ module _ {D : Type 0} (g : Ghosts D) (old new : D) (auditors : List Auditor) whe
         said _ says = absurd says
 
     -- how a mode leaves a file that opens to none
-    mode_as_before : (mode : Mode) (ending : Ending) → EndsMode g old new mode auditors input output shelf InputStays ShelfStays ending
+    alone_as_before : IsLeftAlone g old new → g.honest new → OpensToNone (g.reads old) → g.reads new ≡ g.reads old
+    alone_as_before alone honest none = (alone.unwritten honest (finished (g.reads old) none)).facts.reads
+
+    books_as_before : (second kept : Option E) (ending : Ending) → EndsBooks g e old new second kept output ending
         → g.honest new → OpensToNone (g.reads old) → g.reads new ≡ g.reads old
-    mode_as_before (Run name) ending ends honest none = run_as_before g old new auditors name input output shelf ShelfStays ending ends honest none
+    books_as_before None None ending ends honest none = state_as_before g old new books_text output ending ends honest none
+    books_as_before (Some second) (Some kept) ending ends honest none = alone_as_before ends.first honest none
+    books_as_before _ _ ending ends honest none = absurd ends
+
+    save_as_before : (second kept : Option E) (ending : Ending) → EndsSave g e old new second kept output ending
+        → g.honest new → OpensToNone (g.reads old) → g.reads new ≡ g.reads old
+    save_as_before None None ending ends honest none = ap g.reads ends.0
+    save_as_before (Some second) (Some kept) ending ends honest none = alone_as_before ends.first honest none
+    save_as_before _ _ ending ends honest none = absurd ends
+
+    mode_as_before : (mode : Mode) (ending : Ending)
+        → EndsMode g e old new second kept mode auditors input output shelf InputStays ShelfStays ending
+        → g.honest new → OpensToNone (g.reads old) → g.reads new ≡ g.reads old
+    mode_as_before (Run name) ending ends honest none = run_as_before g old new auditors name input output shelf ShelfStays ending ends.1 honest none
     mode_as_before (Value on at workers name measure) ending ends honest none =
-        value_as_before g old new on at measure output name shelf ending ends.1 honest none
+        value_as_before g old new on at measure output name shelf ending ends.2 honest none
     mode_as_before (Project on years workers name) ending ends honest none =
-        project_as_before g old new on years output name shelf ending ends.1 honest none
-    mode_as_before (State None) ending ends honest none =
-        state_as_before g old new books_text output ending ends.2 honest none
+        project_as_before g old new on years output name shelf ending ends.2 honest none
+    mode_as_before (State None) ending ends honest none = books_as_before second kept ending ends.2 honest none
     mode_as_before (State (Some id)) ending ends honest none =
-        state_as_before g old new (policy_account id) output ending ends.2 honest none
-    mode_as_before Checkpoint ending ends honest none = ap g.reads ends.2
-    mode_as_before (Generate seed count lanes) ending ends honest none = ap g.reads ends.2
+        state_as_before g old new (policy_account id) output ending ends.3 honest none
+    mode_as_before Checkpoint ending ends honest none = save_as_before second kept ending ends.2 honest none
+    mode_as_before (Generate seed count lanes) ending ends honest none = ap g.reads ends.3
     mode_as_before (Load seed count lanes workers) ending ends honest none =
-        load_as_before g old new seed count lanes workers shelf output ending ends.1 honest none
+        load_as_before g old new seed count lanes workers shelf output ending ends.2 honest none
 
-    module _ (ending : Ending) (does : Does g old new words auditors input output shelf InputStays ShelfStays ending) where
+    pub unopened : (ending : Ending) → Does g e old new second kept words auditors input output shelf InputStays ShelfStays ending
+        → g.honest new → OpensToNone (g.reads old) → g.reads new ≡ g.reads old
+    unopened ending does honest none = elim does [
+      | inl (mode, asked, ends) ↦ mode_as_before mode ending ends honest none
+      | inr unasked ↦ ap g.reads unasked.disk
+    ]
+
+    abbrev filing : Filing
+    filing = filing_between g old new
+
+    abbrev other : Second
+    other = second_between e second kept
+
+    -- both disks are opened for `state` of all policies and `checkpoint`, where there is a second one
+    books_done : (second kept : Option E) (commands : List Command) (ending : Ending) → HasJournal filing (second_between e second kept) commands
+        → (Rose output.faults_before output.faults_after → ⊥) → EndsBooks g e old new second kept output ending
+        → (status_of ending ≡ 0) ⊎ (status_of ending ≡ 9)
+    books_done None None commands ending file held ends = state_to_end g old new books_text output ending ends commands file.trusted file.opens held file.held
+    books_done (Some second) (Some kept) commands ending file held ends =
+        both.done g e (two_disks old new second kept) output commands ending file held (both.stated g e (two_disks old new second kept) output ending ends)
+    books_done _ _ commands ending file held ends = absurd ends
+
+    books_refused : (second kept : Option E) (ending : Ending) → HasNoJournal filing (second_between e second kept)
+        → EndsBooks g e old new second kept output ending → (status_of ending ≡ 5) ⊎ (status_of ending ≡ 9)
+    books_refused None None ending none ends = state_refused g old new books_text output ending ends none.trusted none.none none.held
+    books_refused (Some second) (Some kept) ending none ends =
+        both.refused g e (two_disks old new second kept) output ending none (both.stated g e (two_disks old new second kept) output ending ends)
+    books_refused _ _ ending none ends = absurd ends
+
+    save_done : (second kept : Option E) (commands : List Command) (ending : Ending) → HasSecond (second_between e second kept)
+        → HasJournal filing (second_between e second kept) commands → (Rose output.faults_before output.faults_after → ⊥)
+        → EndsSave g e old new second kept output ending → (status_of ending ≡ 0) ⊎ (status_of ending ≡ 9)
+    save_done (Some second) (Some kept) commands ending there file held ends =
+        both.done g e (two_disks old new second kept) output commands ending file held (both.saved g e (two_disks old new second kept) output ending ends)
+    save_done _ _ commands ending there file held ends = absurd there
+
+    save_refused : (second kept : Option E) (ending : Ending) → HasSecond (second_between e second kept)
+        → HasNoJournal filing (second_between e second kept) → EndsSave g e old new second kept output ending
+        → (status_of ending ≡ 5) ⊎ (status_of ending ≡ 9)
+    save_refused (Some second) (Some kept) ending there none ends =
+        both.refused g e (two_disks old new second kept) output ending none (both.saved g e (two_disks old new second kept) output ending ends)
+    save_refused _ _ ending there none ends = absurd there
+
+    module _ (ending : Ending) (does : Does g e old new second kept words auditors input output shelf InputStays ShelfStays ending) where
       ran : (name : List ℕ) → AskForRun words name → EndsRun g old new name auditors input output shelf ShelfStays ending ⊎ (status_of ending ≡ 9)
-      ran name asked = as_asked ending does (Run name) asked
-
-      pub unopened : g.honest new → OpensToNone (g.reads old) → g.reads new ≡ g.reads old
-      unopened honest none = elim does [
-        | inl (mode, asked, ends) ↦ mode_as_before mode ending ends honest none
-        | inr unasked ↦ ap g.reads unasked.disk
+      ran name asked = elim (as_asked ending does (Run name) asked) [
+        | inl ends ↦ inl ends.1
+        | inr none ↦ inr none
       ]
 
       -- the words ask for a valuation, which ended so, or there was no memory to read them
       valued_so : (on : ℤ) (at : At) (name : List ℕ) → AskForValue words on at name
           → ((measure : Measure) × EndsValue g old new on at measure name shelf output ending) ⊎ (status_of ending ≡ 9)
       valued_so on at name asked = elim (as_asked ending does (Value on at asked.0 name asked.1.0) asked.1.1) [
-        | inl ends ↦ inl (asked.1.0, ends.1)
+        | inl ends ↦ inl (asked.1.0, ends.2)
         | inr none ↦ inr none
       ]
 
@@ -167,7 +226,7 @@ module _ {D : Type 0} (g : Ghosts D) (old new : D) (auditors : List Auditor) whe
       projected_so : (on : ℤ) (years : ℕ) (name : List ℕ) → AskForProject words on years name
           → EndsProject g old new on years name shelf output ending ⊎ (status_of ending ≡ 9)
       projected_so on years name asked = elim (as_asked ending does (Project on years asked.0 name) asked.1) [
-        | inl ends ↦ inl ends.1
+        | inl ends ↦ inl ends.2
         | inr none ↦ inr none
       ]
 
@@ -179,48 +238,60 @@ module _ {D : Type 0} (g : Ghosts D) (old new : D) (auditors : List Auditor) whe
       ]
 
       projected : (on : ℤ) (years : ℕ) (name : List ℕ) (has : HasBasis shelf name) (commands : List Command)
-          → AskForProject words on years name → HasJournal (filing_between g old new) commands
+          → AskForProject words on years name → HasJournal filing Without commands
           → (Rose output.faults_before output.faults_after → ⊥) → (status_of ending ≡ 0) ⊎ (status_of ending ≡ 9)
       projected on years name has commands asked file output_held = elim (projected_so on years name asked) [
-        | inl ends ↦ project_to_end g old new on years output name shelf has.files has.agree has.basis has.is has.held file.honest file.held ending commands
+        | inl ends ↦ project_to_end g old new on years output name shelf has.files has.agree has.basis has.is has.held file.trusted file.held ending commands
             ends file.opens output_held
         | inr none ↦ inr none
       ]
 
       unprojected : (on : ℤ) (years : ℕ) (name : List ℕ) (has : HasBasis shelf name) → AskForProject words on years name
-          → HasNoJournal (filing_between g old new) → (status_of ending ≡ 5) ⊎ (status_of ending ≡ 9)
+          → HasNoJournal filing Without → (status_of ending ≡ 5) ⊎ (status_of ending ≡ 9)
       unprojected on years name has asked none = elim (projected_so on years name asked) [
-        | inl ends ↦ project_refused g old new on years output name shelf has.files has.agree has.basis has.is has.held none.honest none.held ending ends none.none
+        | inl ends ↦ project_refused g old new on years output name shelf has.files has.agree has.basis has.is has.held none.trusted none.held ending ends none.none
         | inr without ↦ inr without
       ]
 
-      pub stated : (commands : List Command) → AskForState words → g.honest new → Opens (g.reads old) commands
-          → (Rose output.faults_before output.faults_after → ⊥) → (Rose (g.faults old) (g.faults new) → ⊥)
-          → (status_of ending ≡ 0) ⊎ (status_of ending ≡ 9)
-      stated commands (None, asked) honest opens output_held disk_held = elim (as_asked ending does (State None) asked) [
-        | inl ends ↦ state_to_end g old new books_text output ending ends.2 commands honest opens output_held disk_held
+      stated : (id : Option ℕ) (commands : List Command) → AskFor words (State id) → HasJournal filing (seen_by (State id) other) commands
+          → (Rose output.faults_before output.faults_after → ⊥) → (status_of ending ≡ 0) ⊎ (status_of ending ≡ 9)
+      stated None commands asked file held = elim (as_asked ending does (State None) asked) [
+        | inl ends ↦ books_done second kept commands ending file held ends.2
         | inr none ↦ inr none
       ]
-      stated commands (Some id, asked) honest opens output_held disk_held = elim (as_asked ending does (State (Some id)) asked) [
-        | inl ends ↦ state_to_end g old new (policy_account id) output ending ends.2 commands honest opens output_held disk_held
+      stated (Some id) commands asked file held = elim (as_asked ending does (State (Some id)) asked) [
+        | inl ends ↦ state_to_end g old new (policy_account id) output ending ends.3 commands file.trusted file.opens held file.held
         | inr none ↦ inr none
       ]
 
-      pub unstated : AskForState words → g.honest new → OpensToNone (g.reads old)
-          → (Rose (g.faults old) (g.faults new) → ⊥) → (status_of ending ≡ 5) ⊎ (status_of ending ≡ 9)
-      unstated (None, asked) honest none disk_held = elim (as_asked ending does (State None) asked) [
-        | inl ends ↦ state_refused g old new books_text output ending ends.2 honest none disk_held
+      unstated : (id : Option ℕ) → AskFor words (State id) → HasNoJournal filing (seen_by (State id) other)
+          → (status_of ending ≡ 5) ⊎ (status_of ending ≡ 9)
+      unstated None asked none = elim (as_asked ending does (State None) asked) [
+        | inl ends ↦ books_refused second kept ending none ends.2
         | inr without ↦ inr without
       ]
-      unstated (Some id, asked) honest none disk_held = elim (as_asked ending does (State (Some id)) asked) [
-        | inl ends ↦ state_refused g old new (policy_account id) output ending ends.2 honest none disk_held
+      unstated (Some id) asked none = elim (as_asked ending does (State (Some id)) asked) [
+        | inl ends ↦ state_refused g old new (policy_account id) output ending ends.3 none.trusted none.none none.held
+        | inr without ↦ inr without
+      ]
+
+      saved : (commands : List Command) → AskForCheckpoint words → HasSecond other → HasJournal filing other commands
+          → (Rose output.faults_before output.faults_after → ⊥) → (status_of ending ≡ 0) ⊎ (status_of ending ≡ 9)
+      saved commands asked there file held = elim (as_asked ending does Checkpoint asked) [
+        | inl ends ↦ save_done second kept commands ending there file held ends.2
+        | inr none ↦ inr none
+      ]
+
+      unsaved : AskForCheckpoint words → HasSecond other → HasNoJournal filing other → (status_of ending ≡ 5) ⊎ (status_of ending ≡ 9)
+      unsaved asked there none = elim (as_asked ending does Checkpoint asked) [
+        | inl ends ↦ save_refused second kept ending there none ends.2
         | inr without ↦ inr without
       ]
 
       pub generated : AskForGenerate words → (Rose output.faults_before output.faults_after → ⊥)
           → (status_of ending ≡ 0) ⊎ (status_of ending ≡ 9)
       generated (seed, (count, (lanes, asked))) output_held = elim (as_asked ending does (Generate seed count lanes) asked) [
-        | inl ends ↦ generate_to_end seed count lanes output ending ends.3 output_held
+        | inl ends ↦ generate_to_end seed count lanes output ending ends.4 output_held
         | inr none ↦ inr none
       ]
 
@@ -230,7 +301,7 @@ module _ {D : Type 0} (g : Ghosts D) (old new : D) (auditors : List Auditor) whe
           → (Rose (g.faults old) (g.faults new) → ⊥) → (status_of ending ≡ 0) ⊎ (status_of ending ≡ 9)
       loaded files basis commands (seed, (count, (lanes, (workers, asked)))) told is honest opens shelf_held output_held disk_held =
           elim (as_asked ending does (Load seed count lanes workers) asked) [
-            | inl ends ↦ load_to_end g old new seed count lanes workers shelf output files told ending basis commands ends.1 is honest opens
+            | inl ends ↦ load_to_end g old new seed count lanes workers shelf output files told ending basis commands ends.2 is honest opens
                 shelf_held output_held disk_held
             | inr none ↦ inr none
           ]
@@ -241,7 +312,7 @@ module _ {D : Type 0} (g : Ghosts D) (old new : D) (auditors : List Auditor) whe
           → (status_of ending ≡ 5) ⊎ (status_of ending ≡ 9)
       unloaded files basis (seed, (count, (lanes, (workers, asked)))) told is honest none shelf_held disk_held =
           elim (as_asked ending does (Load seed count lanes workers) asked) [
-            | inl ends ↦ load_refused g old new seed count lanes workers shelf output files told ending basis ends.1 is honest none shelf_held disk_held
+            | inl ends ↦ load_refused g old new seed count lanes workers shelf output files told ending basis ends.2 is honest none shelf_held disk_held
             | inr without ↦ inr without
           ]
 
@@ -250,7 +321,7 @@ module _ {D : Type 0} (g : Ghosts D) (old new : D) (auditors : List Auditor) whe
           → SaysBadFile bad output (status_of ending) ⊎ (status_of ending ≡ 9)
       unfit_load bad files (seed, (count, (lanes, (workers, asked)))) told first shelf_held =
           elim (as_asked ending does (Load seed count lanes workers) asked) [
-            | inl ends ↦ load_unfit g old new seed count lanes workers shelf output files told ending bad ends.1 first shelf_held
+            | inl ends ↦ load_unfit g old new seed count lanes workers shelf output files told ending bad ends.2 first shelf_held
             | inr none ↦ inr none
           ]
 
@@ -325,41 +396,41 @@ module _ {D : Type 0} (g : Ghosts D) (old new : D) (auditors : List Auditor) whe
           said output none.bad (unfit_load none.bad none.files (seed, (count, (lanes, (workers, asked)))) none.agree none.first none.held)
       bad_basis _ asked lacks = absurd lacks
 
-      bad_journal : (mode : Mode) → AskFor words mode → HasItsNeeds mode input shelf → LacksItsJournal mode (filing_between g old new)
+      bad_journal : (mode : Mode) → AskFor words mode → HasItsNeeds mode input shelf other → LacksItsJournal mode filing other
           → (status_of ending ≡ 5) ⊎ (status_of ending ≡ 9)
       bad_journal (Run name) asked has none =
           let script = has.1 in
           refused_exactly script.bytes name has.0 asked script.whole script.read.0 script.read.1 (basis_for has.0 name has.2) (held_for has.0 name has.2)
-          none.honest none.none script.held none.held
+          none.trusted none.none script.held none.held
       bad_journal (Value on at workers name measure) asked has none =
-          unvalued on at name has.files has.basis (workers, (measure, asked)) has.agree has.is none.honest none.none has.held none.held
+          unvalued on at name has.files has.basis (workers, (measure, asked)) has.agree has.is none.trusted none.none has.held none.held
       bad_journal (Project on years workers name) asked has none = unprojected on years name has (workers, asked) none
-      bad_journal (State id) asked has none = unstated (id, asked) none.honest none.none none.held
+      bad_journal (State id) asked has none = unstated id asked none
       bad_journal (Load seed count lanes workers) asked has none =
-          unloaded has.files has.basis (seed, (count, (lanes, (workers, asked)))) has.agree has.is none.honest none.none has.held none.held
-      bad_journal Checkpoint asked has none = absurd has
+          unloaded has.files has.basis (seed, (count, (lanes, (workers, asked)))) has.agree has.is none.trusted none.none has.held none.held
+      bad_journal Checkpoint asked has none = unsaved asked has none
       bad_journal (Generate seed count lanes) asked has none = absurd none
 
-      done : (mode : Mode) → AskFor words mode → HasItsNeeds mode input shelf → HasItsJournal mode (filing_between g old new)
+      done : (mode : Mode) → AskFor words mode → HasItsNeeds mode input shelf other → HasItsJournal mode filing other
           → IsHeld output.faults_before output.faults_after → (status_of ending ≡ 0) ⊎ (status_of ending ≡ 9)
       done (Run name) asked has journal output_held =
           let script = has.1 in
           let file = journal.1 in
           complete script.bytes name has.0 journal.0 asked script.whole script.read.0 script.read.1 (basis_for has.0 name has.2)
-          (held_for has.0 name has.2) file.honest file.opens script.held output_held file.held
+          (held_for has.0 name has.2) file.trusted file.opens script.held output_held file.held
       done (Value on at workers name measure) asked has journal output_held =
           let file = journal.1 in
-          valued on at name has.files has.basis journal.0 (workers, (measure, asked)) has.agree has.is file.honest file.opens journal.2 has.held output_held file.held
+          valued on at name has.files has.basis journal.0 (workers, (measure, asked)) has.agree has.is file.trusted file.opens journal.2 has.held output_held file.held
       done (Project on years workers name) asked has journal output_held = projected on years name has journal.0 (workers, asked) journal.1 output_held
-      done (State id) asked has journal output_held = (let file = journal.1 in stated journal.0 (id, asked) file.honest file.opens output_held file.held)
-      done Checkpoint asked has journal output_held = absurd has
+      done (State id) asked has file output_held = stated id file.0 asked file.1 output_held
+      done Checkpoint asked has file output_held = saved file.0 asked has file.1 output_held
       done (Generate seed count lanes) asked has journal output_held = generated (seed, (count, (lanes, asked))) output_held
       done (Load seed count lanes workers) asked has journal output_held =
           let file = journal.1 in
-          loaded has.files has.basis journal.0 (seed, (count, (lanes, (workers, asked)))) has.agree has.is file.honest file.opens has.held output_held file.held
+          loaded has.files has.basis journal.0 (seed, (count, (lanes, (workers, asked)))) has.agree has.is file.trusted file.opens has.held output_held file.held
 
       pub due : (shelf.faults_before < shelf.faults_after → ending ≡ ReadFault)
-          → (input.faults_before < input.faults_after → ending ≡ ReadFault) → (wanted : Ending) → IsDueEnding words input output shelf (filing_between g old new) wanted
+          → (input.faults_before < input.faults_after → ending ≡ ReadFault) → (wanted : Ending) → IsDueEnding words input output shelf (filing_between g old new) (second_between e second kept) wanted
           → (status_of ending ≡ status_of wanted) ⊎ (status_of ending ≡ 9)
       due counted heard Usage is = as_nothing ending does is
       due counted heard BadScript is = unscript is.0 is.1 is.2
@@ -367,8 +438,8 @@ module _ {D : Type 0} (g : Ghosts D) (old new : D) (auditors : List Auditor) whe
       due counted heard BadJournal is = bad_journal is.0 is.1 is.2 is.3
       due counted heard Done is = done is.0 is.1 is.2 is.3 is.4
       due counted heard Ahead (on, (p, (name, asked, has, (commands, file, past)))) =
-          ahead on p name has.files has.basis commands asked has.agree has.is file.honest file.opens past has.held file.held
+          ahead on p name has.files has.basis commands asked has.agree has.is file.trusted file.opens past has.held file.held
       due counted heard ReadFault (inl rose) = inl (ap (λ (e : Ending). status_of e) (counted rose))
       due counted heard ReadFault (inr rose) = inl (ap (λ (e : Ending). status_of e) (heard rose))
-      due counted heard DiskFault is = fault_told g old new output is.0 is.1 words auditors input shelf InputStays ShelfStays ending does
+      due counted heard DiskFault is = fault_told g e old new output is.1 second kept is.0 auditors input shelf InputStays ShelfStays ending words does
       due counted heard _ is = absurd is

@@ -1,6 +1,7 @@
 -- Each ending of a mode has its reason
-use Rattle.std.proofs.Common.{◌≡◌, ℕ, ℤ, List, refl, sym, subst, inl, inr, None, Some, String, Global, codes, arith}
+use Rattle.std.proofs.Common.{◌≡◌, ℕ, ℤ, List, refl, sym, subst, inl, inr, Option, None, Some, String, Global, codes, arith}
 use Rattle.std.specs.Prelude.{true}
+use Rattle.outside_io.specs.Faults.{Rose}
 use Rattle.outside_io.specs.declared.disks.Disk.{Ghosts}
 use Rattle.policy_types.specs.declared.entry.At.{At}
 use Rattle.policy_types.specs.declared.entry.At.TheVariants.{Now, Position}
@@ -26,67 +27,82 @@ use Rattle.valuing_modes.specs.Valuing.{EndsValue, IsAhead, IsValued}
 use Rattle.valuing_modes.specs.Projecting.{EndsProject, IsProjected}
 use Rattle.trial_load.specs.Generating.{EndsGenerate}
 use Rattle.trial_load.specs.Loading.{EndsLoad, EndsLoading}
-use Rattle.life_app.specs.Needs.{IsPastTheEnd, NeedBasis, filing_between}
-use Rattle.life_app.specs.Obeys.{Does, EndsMode, SaysUnasked}
+use Rattle.life_app.specs.Needs.{AreTrusted, Filing, HasDiskFault, IsPastTheEnd, NeedBasis, Second, With, Without, filing_between, seen_by}
+use Rattle.life_app.specs.Obeys.{Does, EndsBooks, EndsMode, EndsSave, SaysUnasked}
 use Rattle.life_app.specs.Reasons.{HasReason}
 use Rattle.life_app.specs.Words.{AskForRun, AskForValue}
+use Rattle.life_app.proofs.BooksSteps as both
+use Rattle.life_app.proofs.BooksSteps.{second_between, two_disks}
 
-module _ {D : Type 0} (g : Ghosts D) (old new : D) (words : List (String Global)) (input : Input) (output : Stream) (shelf : Shelving) where
+-- of the journal's disk as much is known beside a second one
+trusted_alone : (disk : Filing) (second : Second) → AreTrusted disk second → disk.Honest
+trusted_alone disk Without trusted = trusted
+trusted_alone disk (With second) trusted = trusted.0
+
+failed_alone : (disk : Filing) (second : Second) → Rose disk.faults_before disk.faults_after → HasDiskFault disk second
+failed_alone disk Without rose = rose
+failed_alone disk (With second) rose = inl rose
+
+module _ {D : Type 0} (g : Ghosts D) (old new : D) (words : List (String Global)) (input : Input) (output : Stream) (shelf : Shelving) (other : Second) where
   abbrev Reason : Ending → Type 0
-  Reason ending = HasReason words input output shelf (filing_between g old new) ending
+  Reason ending = HasReason words input output shelf (filing_between g old new) other ending
 
-  refused : IsRefusedJournal g old new output → Reason BadJournal
-  refused journal = (journal.cause, journal.line, journal.shown)
+  module _ (mode : Mode) (asked : AskFor words mode) where
+    refused : IsRefusedJournal g old new output → Reason BadJournal
+    refused journal = (mode, asked, (journal.cause, journal.line, λ trusted. journal.shown (trusted_alone (filing_between g old new) (seen_by mode other) trusted)))
+
+    failed : Rose (g.faults old) (g.faults new) → Reason DiskFault
+    failed rose = (mode, asked, failed_alone (filing_between g old new) (seen_by mode other) rose)
 
   -- without the basis of a name
   no_basis : (name : List ℕ) (ending : Ending) → NeedBasis words input name → EndsNoBasis name shelf output ending → Reason ending
   no_basis name BadBasis need ends = (name, (ends.0, need, ends.1, ends.2))
-  no_basis name ReadFault need ends = inr ends.0
+  no_basis name ReadFault need ends = inr (name, need, ends.0)
   no_basis name NoMemory need ends = tt
   no_basis name _ need ends = absurd ends
 
   -- a script's run
-  script : (lanes : List Lane) (basis : List Dated) (auditors : List Auditor) (ending : Ending)
+  script : (mode : Mode) → AskFor words mode → (lanes : List Lane) (basis : List Dated) (auditors : List Auditor) (ending : Ending)
       → EndsScript g old new lanes basis auditors output ending → Reason ending
-  script lanes basis auditors Done ends = tt
-  script lanes basis auditors BadJournal ends = refused ends
-  script lanes basis auditors WriteFault ends = ends.0
-  script lanes basis auditors DiskFault ends = ends.0
-  script lanes basis auditors NoMemory ends = tt
-  script lanes basis auditors _ ends = absurd ends
+  script mode asked lanes basis auditors Done ends = tt
+  script mode asked lanes basis auditors BadJournal ends = refused mode asked ends
+  script mode asked lanes basis auditors WriteFault ends = ends.0
+  script mode asked lanes basis auditors DiskFault ends = failed mode asked ends.0
+  script mode asked lanes basis auditors NoMemory ends = tt
+  script mode asked lanes basis auditors _ ends = absurd ends
 
   unread : (name : List ℕ) (ending : Ending) → AskForRun words name → EndsUnread input output ending → Reason ending
   unread name BadScript asked ends = (name, asked, ends)
-  unread name ReadFault asked ends = inl ends.0
+  unread name ReadFault asked ends = inl (name, asked, ends.0)
   unread name NoMemory asked ends = tt
   unread name _ asked ends = absurd ends
 
-  run_lanes : (lanes : List Lane) (name : List ℕ) (auditors : List Auditor) (ShelfStays : Type 0) (ending : Ending)
+  run_lanes : (lanes : List Lane) (name : List ℕ) (auditors : List Auditor) (ShelfStays : Type 0) (ending : Ending) → AskForRun words name
       → (asks_for_values lanes ≡ true → NeedBasis words input name)
       → EndsLanes g old new lanes name auditors shelf output ShelfStays ending → Reason ending
-  run_lanes lanes name auditors ShelfStays ending need ends = elim ends [
-    | inl without ↦ script lanes _ auditors ending without.2
-    | inr (asks, inl by) ↦ script lanes by.basis auditors ending by.ends
+  run_lanes lanes name auditors ShelfStays ending asked need ends = elim ends [
+    | inl without ↦ script (Run name) asked lanes _ auditors ending without.2
+    | inr (asks, inl by) ↦ script (Run name) asked lanes by.basis auditors ending by.ends
     | inr (asks, inr none) ↦ no_basis name ending (need asks) none.1
   ]
 
   run_reason : (name : List ℕ) (auditors : List Auditor) (ShelfStays : Type 0) (ending : Ending) → AskForRun words name
       → EndsRun g old new name auditors input output shelf ShelfStays ending → Reason ending
   run_reason name auditors ShelfStays ending asked ends = elim ends [
-    | inl read ↦ run_lanes read.lanes name auditors ShelfStays ending
+    | inl read ↦ run_lanes read.lanes name auditors ShelfStays ending asked
         (λ asks. inr (inl (asked, record { bytes = read.bytes; gave = read.gave; lanes = read.lanes; read = read.read; asks = asks })))
         read.ends
     | inr none ↦ unread name ending asked none.2
   ]
 
   -- a mode that only reads
-  read_only : (Tells : (List ℕ → Type 0) → Type 0) (ending : Ending) → EndsReadOnly g old new Tells output ending → Reason ending
-  read_only Tells Done ends = tt
-  read_only Tells BadJournal ends = refused ends
-  read_only Tells WriteFault ends = ends.0
-  read_only Tells DiskFault ends = ends.0
-  read_only Tells NoMemory ends = tt
-  read_only Tells _ ends = absurd ends
+  read_only : (mode : Mode) → AskFor words mode → (Tells : (List ℕ → Type 0) → Type 0) (ending : Ending) → EndsReadOnly g old new Tells output ending → Reason ending
+  read_only mode asked Tells Done ends = tt
+  read_only mode asked Tells BadJournal ends = refused mode asked ends
+  read_only mode asked Tells WriteFault ends = ends.0
+  read_only mode asked Tells DiskFault ends = failed mode asked ends.0
+  read_only mode asked Tells NoMemory ends = tt
+  read_only mode asked Tells _ ends = absurd ends
 
   -- 10 comes of a position above the count
   past_the_end : (on : ℤ) (at : At) (name : List ℕ) → AskForValue words on at name → IsAhead g old new at output
@@ -99,7 +115,7 @@ module _ {D : Type 0} (g : Ghosts D) (old new : D) (words : List (String Global)
       → EndsValue g old new on at measure name shelf output ending → Reason ending
   value_reason on at workers name measure ending asked ends = elim ends [
     | inl by ↦ elim by.ends [
-      | inl valued ↦ read_only (IsValued g old new on at measure by.basis) ending valued
+      | inl valued ↦ read_only (Value on at workers name measure) asked (IsValued g old new on at measure by.basis) ending valued
       | inr (same, ahead) ↦ subst (λ (e : Ending). Reason e) (sym same) (past_the_end on at name (workers, (measure, asked)) ahead)
     ]
     | inr none ↦ no_basis name ending (inl (on, (at, (workers, (measure, asked))))) none.1
@@ -108,7 +124,7 @@ module _ {D : Type 0} (g : Ghosts D) (old new : D) (words : List (String Global)
   project_reason : (on : ℤ) (years workers : ℕ) (name : List ℕ) (ending : Ending) → AskFor words (Project on years workers name)
       → EndsProject g old new on years name shelf output ending → Reason ending
   project_reason on years workers name ending asked ends = elim ends [
-    | inl by ↦ read_only (IsProjected g old new on years by.basis) ending by.ends
+    | inl by ↦ read_only (Project on years workers name) asked (IsProjected g old new on years by.basis) ending by.ends
     | inr none ↦ no_basis name ending (inr (inr (inr (on, (years, (workers, asked)))))) none.1
   ]
 
@@ -118,43 +134,70 @@ module _ {D : Type 0} (g : Ghosts D) (old new : D) (words : List (String Global)
   generate_reason seed count lanes NoMemory ends = tt
   generate_reason seed count lanes _ ends = absurd ends
 
-  loading : (lanes : List Lane) (workers : ℕ) (basis : List Dated) (ending : Ending) → EndsLoading g old new lanes workers basis output ending
+  loading : (mode : Mode) → AskFor words mode → (lanes : List Lane) (workers : ℕ) (basis : List Dated) (ending : Ending) → EndsLoading g old new lanes workers basis output ending
       → Reason ending
-  loading lanes workers basis Done ends = tt
-  loading lanes workers basis BadJournal ends = refused ends
-  loading lanes workers basis WriteFault ends = ends.0
-  loading lanes workers basis DiskFault ends = ends.0
-  loading lanes workers basis NoMemory ends = tt
-  loading lanes workers basis _ ends = absurd ends
+  loading mode asked lanes workers basis Done ends = tt
+  loading mode asked lanes workers basis BadJournal ends = refused mode asked ends
+  loading mode asked lanes workers basis WriteFault ends = ends.0
+  loading mode asked lanes workers basis DiskFault ends = failed mode asked ends.0
+  loading mode asked lanes workers basis NoMemory ends = tt
+  loading mode asked lanes workers basis _ ends = absurd ends
 
   load_reason : (seed count lanes workers : ℕ) (ending : Ending) → AskFor words (Load seed count lanes workers)
       → EndsLoad g old new seed count lanes workers shelf output ending → Reason ending
   load_reason seed count lanes workers ending asked ends = elim ends [
-    | inl by ↦ loading _ workers by.basis ending by.ends
+    | inl by ↦ loading (Load seed count lanes workers) asked _ workers by.basis ending by.ends
     | inr none ↦ no_basis (codes "basis.csv") ending (inr (inr (inl ((seed, (count, (lanes, (workers, asked)))), refl)))) none.1
   ]
-
-  mode_reason : (mode : Mode) (auditors : List Auditor) (InputStays ShelfStays : Type 0) (ending : Ending) → AskFor words mode
-      → EndsMode g old new mode auditors input output shelf InputStays ShelfStays ending → Reason ending
-  mode_reason (Run name) auditors InputStays ShelfStays ending asked ends = run_reason name auditors ShelfStays ending asked ends
-  mode_reason (Value on at workers name measure) auditors InputStays ShelfStays ending asked ends = value_reason on at workers name measure ending asked ends.1
-  mode_reason (Project on years workers name) auditors InputStays ShelfStays ending asked ends = project_reason on years workers name ending asked ends.1
-  mode_reason (State None) auditors InputStays ShelfStays ending asked ends = read_only (IsStated g old new books_text) ending ends.2
-  mode_reason (State (Some id)) auditors InputStays ShelfStays ending asked ends = read_only (IsStated g old new (policy_account id)) ending ends.2
-  mode_reason Checkpoint auditors InputStays ShelfStays ending asked ends = subst (λ (e : Ending). Reason e) (sym ends.3) (inr asked)
-  mode_reason (Generate seed count lanes) auditors InputStays ShelfStays ending asked ends = generate_reason seed count lanes ending ends.3
-  mode_reason (Load seed count lanes workers) auditors InputStays ShelfStays ending asked ends = load_reason seed count lanes workers ending asked ends.1
 
   says_reason : (ending : Ending) → SaysUnasked words output ending → Reason ending
   says_reason Usage says = inl says.0
   says_reason NoMemory says = tt
   says_reason _ says = absurd says
 
-  -- whatever the program does
-  pub reason : (auditors : List Auditor) (InputStays ShelfStays : Type 0) (ending : Ending)
-      → Does g old new words auditors input output shelf InputStays ShelfStays ending
-      → HasReason words input output shelf (filing_between g old new) ending
-  reason auditors InputStays ShelfStays ending does = elim does [
-    | inl (mode, asked, ends) ↦ mode_reason mode auditors InputStays ShelfStays ending asked ends
-    | inr none ↦ says_reason ending none.says
-  ]
+module _ {D E : Type 0} (g : Ghosts D) (e : Ghosts E) (old new : D) (words : List (String Global)) (input : Input) (output : Stream) (shelf : Shelving) where
+  abbrev OverBoth : (second kept : Option E) → Ending → Type 0
+  OverBoth second kept ending = HasReason words input output shelf (filing_between g old new) (second_between e second kept) ending
+
+  books_reason : (second kept : Option E) (ending : Ending) → AskFor words (State None) → EndsBooks g e old new second kept output ending
+      → OverBoth second kept ending
+  books_reason None None ending asked ends = read_only g old new words input output shelf Without (State None) asked (IsStated g old new books_text) ending ends
+  books_reason (Some second) (Some kept) ending asked ends =
+      both.reason g e (two_disks old new second kept) output words input shelf (State None) asked (λ t. t) (λ f. f) ending
+      (both.stated g e (two_disks old new second kept) output ending ends)
+  books_reason _ _ ending asked ends = absurd ends
+
+  save_reason : (second kept : Option E) (ending : Ending) → AskFor words Checkpoint → EndsSave g e old new second kept output ending
+      → OverBoth second kept ending
+  save_reason None None ending asked ends = subst (λ (e : Ending). HasReason words input output shelf (filing_between g old new) Without e) (sym ends.1) (inr (asked, λ no. no))
+  save_reason (Some second) (Some kept) ending asked ends =
+      both.reason g e (two_disks old new second kept) output words input shelf Checkpoint asked (λ t. t) (λ f. f) ending
+      (both.saved g e (two_disks old new second kept) output ending ends)
+  save_reason _ _ ending asked ends = absurd ends
+
+  module _ (second kept : Option E) (auditors : List Auditor) (InputStays ShelfStays : Type 0) (ending : Ending) where
+    abbrev other : Second
+    other = second_between e second kept
+
+    mode_reason : (mode : Mode) → AskFor words mode
+        → EndsMode g e old new second kept mode auditors input output shelf InputStays ShelfStays ending → OverBoth second kept ending
+    mode_reason (Run name) asked ends = run_reason g old new words input output shelf other name auditors ShelfStays ending asked ends.1
+    mode_reason (Value on at workers name measure) asked ends =
+        value_reason g old new words input output shelf other on at workers name measure ending asked ends.2
+    mode_reason (Project on years workers name) asked ends =
+        project_reason g old new words input output shelf other on years workers name ending asked ends.2
+    mode_reason (State None) asked ends = books_reason second kept ending asked ends.2
+    mode_reason (State (Some id)) asked ends =
+        read_only g old new words input output shelf other (State (Some id)) asked (IsStated g old new (policy_account id)) ending ends.3
+    mode_reason Checkpoint asked ends = save_reason second kept ending asked ends.2
+    mode_reason (Generate seed count lanes) asked ends = generate_reason g old new words input output shelf other seed count lanes ending ends.4
+    mode_reason (Load seed count lanes workers) asked ends =
+        load_reason g old new words input output shelf other seed count lanes workers ending asked ends.2
+
+    -- whatever the program does
+    pub reason : Does g e old new second kept words auditors input output shelf InputStays ShelfStays ending
+        → HasReason words input output shelf (filing_between g old new) (second_between e second kept) ending
+    reason does = elim does [
+      | inl (mode, asked, ends) ↦ mode_reason mode asked ends
+      | inr none ↦ says_reason g old new words input output shelf other ending none.says
+    ]

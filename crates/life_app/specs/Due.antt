@@ -20,7 +20,7 @@ use Rattle.program_endings.specs.declared.ending.Ending.{Ending}
 use Rattle.program_endings.specs.declared.ending.Ending.TheVariants.{Done, Usage, BadScript, BadBasis, BadJournal, ReadFault, DiskFault, Ahead}
 use Rattle.script_run.specs.Script.{IsReadAs, IsUnreadable, asks_for_values, most_script_bytes}
 use Rattle.valuing_modes.specs.Valuing.{position_of}
-use Rattle.life_app.specs.Needs.{Filing}
+use Rattle.life_app.specs.Needs.{AreTrusted, Filing, HasDiskFault, HasNewFault, HasSecond, Second, Without, seen_by}
 use Rattle.life_app.specs.Words.{AskForRun, AskForValue}
 
 -- the count of faults didn't rise
@@ -56,28 +56,28 @@ pub record HasNoBasis (shelf : Shelving) (name : List ℕ) : Type 0 where
   pub first : IsFirstBadFile files name bad
   pub held : IsHeld shelf.faults_before shelf.faults_after
 
--- the disk's file opens to these commands, and the disk didn't fail
-pub record HasJournal (disk : Filing) (commands : List Command) : Type 0 where
-  pub honest : disk.Honest
+-- the journal's file opens to these commands; and it and the second one, where there is one, are trusted, and didn't fail
+pub record HasJournal (disk : Filing) (second : Second) (commands : List Command) : Type 0 where
+  pub trusted : AreTrusted disk second
   pub opens : Opens disk.before commands
-  pub held : IsHeld disk.faults_before disk.faults_after
+  pub held : ¬ HasDiskFault disk second
 
--- it opens to none, and the disk didn't fail
-pub record HasNoJournal (disk : Filing) : Type 0 where
-  pub honest : disk.Honest
+-- it opens to none, and they are trusted, and didn't fail
+pub record HasNoJournal (disk : Filing) (second : Second) : Type 0 where
+  pub trusted : AreTrusted disk second
   pub none : OpensToNone disk.before
-  pub held : IsHeld disk.faults_before disk.faults_after
+  pub held : ¬ HasDiskFault disk second
 
--- the mode has the script and the basis that it needs; `checkpoint` lacks a second disk
-abbrev pub HasItsNeeds : Mode → Input → Shelving → Type 0
-HasItsNeeds (Run name) input shelf =
+-- the mode has the script and the basis that it needs; `checkpoint` needs a second disk
+abbrev pub HasItsNeeds : Mode → Input → Shelving → Second → Type 0
+HasItsNeeds (Run name) input shelf second =
     (lanes : List Lane) × HasScript input lanes × (asks_for_values lanes ≡ true → HasBasis shelf name)
-HasItsNeeds (Value on at workers name measure) input shelf = HasBasis shelf name
-HasItsNeeds (Project on years workers name) input shelf = HasBasis shelf name
-HasItsNeeds (State id) input shelf = Unit {0}
-HasItsNeeds Checkpoint input shelf = ⊥
-HasItsNeeds (Generate seed count lanes) input shelf = Unit {0}
-HasItsNeeds (Load seed count lanes workers) input shelf = HasBasis shelf (codes "basis.csv")
+HasItsNeeds (Value on at workers name measure) input shelf second = HasBasis shelf name
+HasItsNeeds (Project on years workers name) input shelf second = HasBasis shelf name
+HasItsNeeds (State id) input shelf second = Unit {0}
+HasItsNeeds Checkpoint input shelf second = HasSecond second
+HasItsNeeds (Generate seed count lanes) input shelf second = Unit {0}
+HasItsNeeds (Load seed count lanes workers) input shelf second = HasBasis shelf (codes "basis.csv")
 
 -- it needs a basis, of which a file is bad
 abbrev pub LacksItsBasis : Mode → Input → Shelving → Type 0
@@ -89,38 +89,34 @@ LacksItsBasis (Load seed count lanes workers) input shelf = HasNoBasis shelf (co
 LacksItsBasis _ _ _ = ⊥
 
 -- it has the journal that it needs, with as many commands as are asked for; `generate` needs none
-abbrev pub HasItsJournal : Mode → Filing → Type 0
-HasItsJournal (Run name) disk = (commands : List Command) × HasJournal disk commands
-HasItsJournal (Value on at workers name measure) disk =
-    (commands : List Command) × HasJournal disk commands × (position_of at (length commands) ≤ length commands)
-HasItsJournal (Project on years workers name) disk = (commands : List Command) × HasJournal disk commands
-HasItsJournal (State id) disk = (commands : List Command) × HasJournal disk commands
-HasItsJournal Checkpoint disk = ⊥
-HasItsJournal (Generate seed count lanes) disk = Unit {0}
-HasItsJournal (Load seed count lanes workers) disk = (commands : List Command) × HasJournal disk commands
+abbrev pub HasItsJournal : Mode → Filing → Second → Type 0
+HasItsJournal (Value on at workers name measure) disk second =
+    (commands : List Command) × HasJournal disk Without commands × (position_of at (length commands) ≤ length commands)
+HasItsJournal (Generate seed count lanes) disk second = Unit {0}
+HasItsJournal mode disk second = (commands : List Command) × HasJournal disk (seen_by mode second) commands
 
 -- it needs a journal, and has none
-abbrev pub LacksItsJournal : Mode → Filing → Type 0
-LacksItsJournal (Generate seed count lanes) disk = ⊥
-LacksItsJournal _ disk = HasNoJournal disk
+abbrev pub LacksItsJournal : Mode → Filing → Second → Type 0
+LacksItsJournal (Generate seed count lanes) disk second = ⊥
+LacksItsJournal mode disk second = HasNoJournal disk (seen_by mode second)
 
 -- The ending that is due: by the words; by the script; by the basis; by the journal, and how many commands it has; where
 -- nothing is lacking, and the output doesn't fail, the work is done; and where the count of the shelf or of the input rises,
--- or that of the disk while the output doesn't fail, that is told.
-abbrev pub IsDueEnding : List (String Global) → Input → Stream → Shelving → Filing → Ending → Type 0
-IsDueEnding words input output shelf disk Usage = AskForNothing words
-IsDueEnding words input output shelf disk BadScript = (name : List ℕ) × AskForRun words name × HasNoScript input
-IsDueEnding words input output shelf disk BadBasis = (mode : Mode) × AskFor words mode × LacksItsBasis mode input shelf
-IsDueEnding words input output shelf disk BadJournal =
-    (mode : Mode) × AskFor words mode × HasItsNeeds mode input shelf × LacksItsJournal mode disk
-IsDueEnding words input output shelf disk Ahead =
+-- or that of a disk while the output doesn't fail, that is told.
+abbrev pub IsDueEnding : List (String Global) → Input → Stream → Shelving → Filing → Second → Ending → Type 0
+IsDueEnding words input output shelf disk second Usage = AskForNothing words
+IsDueEnding words input output shelf disk second BadScript = (name : List ℕ) × AskForRun words name × HasNoScript input
+IsDueEnding words input output shelf disk second BadBasis = (mode : Mode) × AskFor words mode × LacksItsBasis mode input shelf
+IsDueEnding words input output shelf disk second BadJournal =
+    (mode : Mode) × AskFor words mode × HasItsNeeds mode input shelf second × LacksItsJournal mode disk second
+IsDueEnding words input output shelf disk second Ahead =
     (on : ℤ) × ((p : ℕ) × ((name : List ℕ) × AskForValue words on (Position p) name
-    × HasBasis shelf name × ((commands : List Command) × HasJournal disk commands × (length commands < p))))
-IsDueEnding words input output shelf disk Done =
-    (mode : Mode) × AskFor words mode × HasItsNeeds mode input shelf × HasItsJournal mode disk
+    × HasBasis shelf name × ((commands : List Command) × HasJournal disk Without commands × (length commands < p))))
+IsDueEnding words input output shelf disk second Done =
+    (mode : Mode) × AskFor words mode × HasItsNeeds mode input shelf second × HasItsJournal mode disk second
     × IsHeld output.faults_before output.faults_after
-IsDueEnding words input output shelf disk ReadFault =
+IsDueEnding words input output shelf disk second ReadFault =
     (shelf.faults_before < shelf.faults_after) ⊎ (input.faults_before < input.faults_after)
-IsDueEnding words input output shelf disk DiskFault =
-    (disk.faults_before < disk.faults_after) × IsHeld output.faults_before output.faults_after
-IsDueEnding _ _ _ _ _ _ = ⊥
+IsDueEnding words input output shelf disk second DiskFault =
+    HasNewFault disk second × IsHeld output.faults_before output.faults_after
+IsDueEnding _ _ _ _ _ _ _ = ⊥

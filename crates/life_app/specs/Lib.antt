@@ -3,13 +3,10 @@ pub mod Needs
 pub mod Reasons
 pub mod Due
 pub mod Obeys
-pub mod ObeysKept
-pub mod DueKept
 pub mod Crashes
 pub mod Headline
 pub mod Runs
 pub mod KeptRuns
 pub mod Worked
-pub mod WorkedKept
 pub mod WorkedRun
 pub mod inside

@@ -1,6 +1,7 @@
--- What the words need of the basis and the disk
-use Rattle.std.specs.Prelude.{◌≡◌, ℕ, ◌<◌, ◌⊎◌, ℤ, List, length, codes, String}
+-- What the words need of the basis and the disks
+use Rattle.std.specs.Prelude.{◌≡◌, ℕ, ◌<◌, ◌⊎◌, ℤ, List, None, length, codes, String}
 use Rattle.std.specs.Global.{Global}
+use Rattle.outside_io.specs.Faults.{Rose}
 use Rattle.outside_io.specs.Shelves.{Files}
 use Rattle.outside_io.specs.declared.disks.Disk.{Ghosts}
 use Rattle.policy_types.specs.declared.command.Command.{Command}
@@ -9,9 +10,12 @@ use Rattle.policy_types.specs.declared.entry.At.TheVariants.{Position}
 use Rattle.basis_shelf.specs.FirstBad.{IsFirstBadFile}
 use Rattle.basis_shelf.specs.Lines.{bad_basis_text}
 use Rattle.basis_shelf.specs.declared.fault.BadBasis.{BadBasis}
+use Rattle.life_args.specs.declared.mode.Mode.{Mode}
+use Rattle.life_args.specs.declared.mode.Mode.TheVariants.{State, Checkpoint}
 use Rattle.office_state.specs.Journals.{Opens}
 use Rattle.program_endings.specs.Writing.{Input, Shelving, Stream, WroteOrFailed}
 use Rattle.script_run.specs.Running.{ReadsForValues}
+use Rattle.stating_modes.specs.TwoDisks.{TellsTruth}
 use Rattle.life_app.specs.Words.{AskForLoad, AskForProject, AskForRun, AskForValue}
 
 -- the words need the basis of this name: they ask for values, or to run a script of which a line does, or to run a
@@ -46,6 +50,38 @@ filing_between g old new = record {
   faults_before = g.faults old;
   faults_after = g.faults new;
 }
+
+-- the file of the second disk, where there is one
+pub data Second : Type 1 where
+  Without : Second
+  With : Filing → Second
+
+-- there is one
+abbrev pub HasSecond : Second → Type 0
+HasSecond Without = ⊥
+HasSecond (With file) = Unit {0}
+
+-- a mode sees what it opens of it: `state` of all policies and `checkpoint` do
+abbrev pub seen_by : Mode → Second → Second
+seen_by (State None) second = second
+seen_by Checkpoint second = second
+seen_by mode second = Without
+
+-- The journal's disk comes back honest; and so does the second one, and a checkpoint in its file tells the truth of the
+-- journal.
+abbrev pub AreTrusted : Filing → Second → Type 0
+AreTrusted disk Without = disk.Honest
+AreTrusted disk (With second) = disk.Honest × second.Honest × TellsTruth second.before disk.before
+
+-- one of them failed
+abbrev pub HasDiskFault : Filing → Second → Type 0
+HasDiskFault disk Without = Rose disk.faults_before disk.faults_after
+HasDiskFault disk (With second) = Rose disk.faults_before disk.faults_after ⊎ Rose second.faults_before second.faults_after
+
+-- the count of one of them rose
+abbrev pub HasNewFault : Filing → Second → Type 0
+HasNewFault disk Without = disk.faults_before < disk.faults_after
+HasNewFault disk (With second) = (disk.faults_before < disk.faults_after) ⊎ (second.faults_before < second.faults_after)
 
 -- the words ask for values after more commands than the disk's file opens to
 abbrev pub IsPastTheEnd : List (String Global) → Filing → Type 0

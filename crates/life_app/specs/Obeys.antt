@@ -1,5 +1,5 @@
--- What the program does at its words, over its devices, and the status with which it ends
-use Rattle.std.specs.Prelude.{◌≡◌, ℕ, ◌⊎◌, List, codes, Some, None, String}
+-- What the program does at its words, over the journal's disk and a second one, or none, and the status with which it ends
+use Rattle.std.specs.Prelude.{◌≡◌, ℕ, ◌⊎◌, List, codes, Option, Some, None, String}
 use Rattle.std.specs.Global.{Global}
 use Rattle.outside_io.specs.declared.disks.Disk.{Ghosts}
 use Rattle.watcher_set.specs.Noted.{Auditor}
@@ -12,32 +12,48 @@ use Rattle.program_endings.specs.declared.ending.Ending.{Ending}
 use Rattle.program_endings.specs.declared.ending.Ending.TheVariants.{Usage, NoMemory}
 use Rattle.script_run.specs.Running.{EndsRun}
 use Rattle.stating_modes.specs.Books.{books_text, policy_account}
+use Rattle.stating_modes.specs.Saved.{EndsCheckpoint}
+use Rattle.stating_modes.specs.Stated.{EndsStateKept}
 use Rattle.stating_modes.specs.Stating.{EndsState}
 use Rattle.valuing_modes.specs.Valuing.{EndsValue}
 use Rattle.valuing_modes.specs.Projecting.{EndsProject}
 use Rattle.trial_load.specs.Generating.{EndsGenerate}
 use Rattle.trial_load.specs.Loading.{EndsLoad}
 
--- how each mode ends; `run` alone reads the input and has the auditors told, `state` leaves the shelf, and `generate` the
--- disk too; `checkpoint` needs a second disk, so over one alone its words aren't obeyed
-abbrev pub EndsMode : {D : Type 0} → Ghosts D → D → D → Mode → List Auditor → Input → Stream → Shelving
-    → (InputStays ShelfStays : Type 0) → Ending → Type 0
-EndsMode g old new (Run basis) auditors input output shelf InputStays ShelfStays ending =
-    EndsRun g old new basis auditors input output shelf ShelfStays ending
-EndsMode g old new (Value on at workers basis measure) auditors input output shelf InputStays ShelfStays ending =
-    InputStays × EndsValue g old new on at measure basis shelf output ending
-EndsMode g old new (Project on years workers basis) auditors input output shelf InputStays ShelfStays ending =
-    InputStays × EndsProject g old new on years basis shelf output ending
-EndsMode g old new (State None) auditors input output shelf InputStays ShelfStays ending =
-    InputStays × ShelfStays × EndsState g old new books_text output ending
-EndsMode g old new (State (Some id)) auditors input output shelf InputStays ShelfStays ending =
-    InputStays × ShelfStays × EndsState g old new (policy_account id) output ending
-EndsMode g old new Checkpoint auditors input output shelf InputStays ShelfStays ending =
-    InputStays × ShelfStays × (new ≡ old) × (ending ≡ Usage) × WroteLine output (codes "usage")
-EndsMode g old new (Generate seed count lanes) auditors input output shelf InputStays ShelfStays ending =
-    InputStays × ShelfStays × (new ≡ old) × EndsGenerate seed count lanes output ending
-EndsMode g old new (Load seed count lanes workers) auditors input output shelf InputStays ShelfStays ending =
-    InputStays × EndsLoad g old new seed count lanes workers shelf output ending
+-- how `state` of all policies ends: by the journal alone, or by both disks
+abbrev pub EndsBooks : {D E : Type 0} → Ghosts D → Ghosts E → (old new : D) → (second kept : Option E) → Stream → Ending → Type 0
+EndsBooks g e old new None None output ending = EndsState g old new books_text output ending
+EndsBooks g e old new (Some second) (Some kept) output ending =
+    EndsStateKept g e (record { old = old; new = new; second = second; kept = kept }) output ending
+EndsBooks _ _ _ _ _ _ _ _ = ⊥
+
+-- how `checkpoint` ends: without a second disk its words aren't obeyed
+abbrev pub EndsSave : {D E : Type 0} → Ghosts D → Ghosts E → (old new : D) → (second kept : Option E) → Stream → Ending → Type 0
+EndsSave g e old new None None output ending = (new ≡ old) × (ending ≡ Usage) × WroteLine output (codes "usage")
+EndsSave g e old new (Some second) (Some kept) output ending =
+    EndsCheckpoint g e (record { old = old; new = new; second = second; kept = kept }) output ending
+EndsSave _ _ _ _ _ _ _ _ = ⊥
+
+-- how each mode ends; `run` alone reads the input and has the auditors told, `state` and `checkpoint` leave the shelf, and
+-- `generate` the disk too; no mode but `state` of all policies and `checkpoint` touches the second disk
+abbrev pub EndsMode : {D E : Type 0} → Ghosts D → Ghosts E → (old new : D) → (second kept : Option E) → Mode → List Auditor → Input → Stream
+    → Shelving → (InputStays ShelfStays : Type 0) → Ending → Type 0
+EndsMode g e old new second kept (Run basis) auditors input output shelf InputStays ShelfStays ending =
+    (kept ≡ second) × EndsRun g old new basis auditors input output shelf ShelfStays ending
+EndsMode g e old new second kept (Value on at workers basis measure) auditors input output shelf InputStays ShelfStays ending =
+    (kept ≡ second) × InputStays × EndsValue g old new on at measure basis shelf output ending
+EndsMode g e old new second kept (Project on years workers basis) auditors input output shelf InputStays ShelfStays ending =
+    (kept ≡ second) × InputStays × EndsProject g old new on years basis shelf output ending
+EndsMode g e old new second kept (State None) auditors input output shelf InputStays ShelfStays ending =
+    InputStays × ShelfStays × EndsBooks g e old new second kept output ending
+EndsMode g e old new second kept (State (Some id)) auditors input output shelf InputStays ShelfStays ending =
+    (kept ≡ second) × InputStays × ShelfStays × EndsState g old new (policy_account id) output ending
+EndsMode g e old new second kept Checkpoint auditors input output shelf InputStays ShelfStays ending =
+    InputStays × ShelfStays × EndsSave g e old new second kept output ending
+EndsMode g e old new second kept (Generate seed count lanes) auditors input output shelf InputStays ShelfStays ending =
+    (kept ≡ second) × InputStays × ShelfStays × (new ≡ old) × EndsGenerate seed count lanes output ending
+EndsMode g e old new second kept (Load seed count lanes workers) auditors input output shelf InputStays ShelfStays ending =
+    (kept ≡ second) × InputStays × EndsLoad g old new seed count lanes workers shelf output ending
 
 -- why the words weren't obeyed, in a line: they ask for nothing, or memory was wanting
 abbrev pub SaysUnasked : List (String Global) → Stream → Ending → Type 0
@@ -46,23 +62,25 @@ SaysUnasked words output NoMemory = WroteLine output (codes "nomemory")
 SaysUnasked _ _ _ = ⊥
 
 -- then nothing is touched
-pub record EndsUnasked {D : Type 0} (old new : D) (words : List (String Global)) (output : Stream)
+pub record EndsUnasked {D E : Type 0} (old new : D) (second kept : Option E) (words : List (String Global)) (output : Stream)
     (InputStays ShelfStays : Type 0) (ending : Ending) : Type 0 where
   pub disk : new ≡ old
+  pub other : kept ≡ second
   pub input : InputStays
   pub shelf : ShelfStays
   pub says : SaysUnasked words output ending
 
 -- the words ask for a mode, which ended so, or weren't obeyed
-abbrev pub Does : {D : Type 0} → Ghosts D → D → D → List (String Global) → List Auditor → Input → Stream → Shelving
-    → (InputStays ShelfStays : Type 0) → Ending → Type 0
-Does g old new words auditors input output shelf InputStays ShelfStays ending =
-    ((mode : Mode) × AskFor words mode × EndsMode g old new mode auditors input output shelf InputStays ShelfStays ending)
-    ⊎ EndsUnasked old new words output InputStays ShelfStays ending
+abbrev pub Does : {D E : Type 0} → Ghosts D → Ghosts E → (old new : D) → (second kept : Option E) → List (String Global) → List Auditor
+    → Input → Stream → Shelving → (InputStays ShelfStays : Type 0) → Ending → Type 0
+Does g e old new second kept words auditors input output shelf InputStays ShelfStays ending =
+    ((mode : Mode) × AskFor words mode × EndsMode g e old new second kept mode auditors input output shelf InputStays ShelfStays ending)
+    ⊎ EndsUnasked old new second kept words output InputStays ShelfStays ending
 
 -- the program did what the words ask for, with these auditors, and the status is that of the ending
-pub record Obeys {D : Type 0} (g : Ghosts D) (old new : D) (words : List (String Global)) (auditors : List Auditor)
-    (input : Input) (output : Stream) (shelf : Shelving) (InputStays ShelfStays : Type 0) (status : ℕ) : Type 0 where
+pub record Obeys {D E : Type 0} (g : Ghosts D) (e : Ghosts E) (old new : D) (second kept : Option E) (words : List (String Global))
+    (auditors : List Auditor) (input : Input) (output : Stream) (shelf : Shelving) (InputStays ShelfStays : Type 0) (status : ℕ)
+    : Type 0 where
   pub ending : Ending
   pub exits : status ≡ status_of ending
-  pub does : Does g old new words auditors input output shelf InputStays ShelfStays ending
+  pub does : Does g e old new second kept words auditors input output shelf InputStays ShelfStays ending

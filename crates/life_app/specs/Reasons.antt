@@ -2,7 +2,8 @@
 use Rattle.std.specs.Prelude.{◌≡◌, ℕ, ◌⊎◌, List, String}
 use Rattle.std.specs.Global.{Global}
 use Rattle.outside_io.specs.Faults.{Rose}
-use Rattle.life_args.specs.Words.{AskForNothing}
+use Rattle.life_args.specs.Words.{AskFor, AskForNothing}
+use Rattle.life_args.specs.declared.mode.Mode.{Mode}
 use Rattle.office_state.specs.Journals.{IsShown}
 use Rattle.office_state.specs.declared.faults.StartCause.{StartCause}
 use Rattle.program_endings.specs.Refusals.{SaysWhy}
@@ -11,26 +12,29 @@ use Rattle.program_endings.specs.Writing.{Input, Shelving, Stream}
 use Rattle.program_endings.specs.declared.ending.Ending.{Ending}
 use Rattle.program_endings.specs.declared.ending.Ending.TheVariants.{Done, Usage, BadScript, BadBasis, BadJournal, ReadFault, WriteFault, DiskFault, NoMemory, Ahead}
 use Rattle.script_run.specs.Script.{IsRefused}
-use Rattle.life_app.specs.Needs.{Filing, HasBadFile, IsPastTheEnd}
+use Rattle.life_app.specs.Needs.{AreTrusted, Filing, HasBadFile, HasDiskFault, HasSecond, IsPastTheEnd, NeedBasis, Second, seen_by}
 use Rattle.life_app.specs.Words.{AskForCheckpoint, AskForRun}
 
 -- Why the program ends so: what the words are, or that too few commands are there; what the script, a basis file or the
--- journal is, and the line that names it; or which device's count of faults rose. Success and want of memory have none.
-abbrev pub HasReason : List (String Global) → Input → Stream → Shelving → Filing → Ending → Type 0
-HasReason words input output shelf disk Done = Unit {0}
-HasReason words input output shelf disk Usage = AskForNothing words ⊎ AskForCheckpoint words
-HasReason words input output shelf disk BadScript = (name : List ℕ) × AskForRun words name × IsRefused input output
-HasReason words input output shelf disk BadBasis = HasBadFile words input shelf output
-HasReason words input output shelf disk BadJournal =
-    (cause : StartCause) × SaysWhy cause output × (disk.Honest → IsShown disk.before cause)
-HasReason words input output shelf disk ReadFault =
-    Rose input.faults_before input.faults_after ⊎ Rose shelf.faults_before shelf.faults_after
-HasReason words input output shelf disk WriteFault = Rose output.faults_before output.faults_after
-HasReason words input output shelf disk DiskFault = Rose disk.faults_before disk.faults_after
-HasReason words input output shelf disk NoMemory = Unit {0}
-HasReason words input output shelf disk Ahead = IsPastTheEnd words disk
+-- journal is, and the line that names it; or which device's count of faults rose, of those that the words need. Success and
+-- want of memory have none.
+abbrev pub HasReason : List (String Global) → Input → Stream → Shelving → Filing → Second → Ending → Type 0
+HasReason words input output shelf disk second Done = Unit {0}
+HasReason words input output shelf disk second Usage = AskForNothing words ⊎ (AskForCheckpoint words × ¬ HasSecond second)
+HasReason words input output shelf disk second BadScript = (name : List ℕ) × AskForRun words name × IsRefused input output
+HasReason words input output shelf disk second BadBasis = HasBadFile words input shelf output
+HasReason words input output shelf disk second BadJournal =
+    (mode : Mode) × AskFor words mode
+    × ((cause : StartCause) × SaysWhy cause output × (AreTrusted disk (seen_by mode second) → IsShown disk.before cause))
+HasReason words input output shelf disk second ReadFault =
+    ((name : List ℕ) × AskForRun words name × Rose input.faults_before input.faults_after)
+    ⊎ ((name : List ℕ) × NeedBasis words input name × Rose shelf.faults_before shelf.faults_after)
+HasReason words input output shelf disk second WriteFault = Rose output.faults_before output.faults_after
+HasReason words input output shelf disk second DiskFault = (mode : Mode) × AskFor words mode × HasDiskFault disk (seen_by mode second)
+HasReason words input output shelf disk second NoMemory = Unit {0}
+HasReason words input output shelf disk second Ahead = IsPastTheEnd words disk
 
 -- the status is that of an ending for which there is a reason
-abbrev pub IsReasoned : List (String Global) → Input → Stream → Shelving → Filing → ℕ → Type 0
-IsReasoned words input output shelf disk status =
-    (ending : Ending) × (status ≡ status_of ending) × HasReason words input output shelf disk ending
+abbrev pub IsReasoned : List (String Global) → Input → Stream → Shelving → Filing → Second → ℕ → Type 0
+IsReasoned words input output shelf disk second status =
+    (ending : Ending) × (status ≡ status_of ending) × HasReason words input output shelf disk second ending

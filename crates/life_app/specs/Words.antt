@@ -1,18 +1,14 @@
 -- What the program's words ask for, by the kind of command
-use Rattle.std.specs.Prelude.{ℕ, ℤ, List, Option, String}
+use Rattle.std.specs.Prelude.{ℕ, ℤ, List, String}
 use Rattle.std.specs.Global.{Global}
 use Rattle.policy_types.specs.declared.entry.At.{At}
 use Rattle.policy_value.specs.declared.worth.Measure.{Measure}
 use Rattle.life_args.specs.Words.{AskFor}
-use Rattle.life_args.specs.declared.mode.Mode.TheVariants.{Run, Value, Project, State, Checkpoint, Generate, Load}
+use Rattle.life_args.specs.declared.mode.Mode.TheVariants.{Run, Value, Project, Checkpoint, Generate, Load}
 
 -- the words ask to run a script, with the basis of this name for its valuations
 abbrev pub AskForRun : List (String Global) → List ℕ → Type 0
 AskForRun words name = AskFor words (Run name)
-
--- the words ask for `state`, of all policies or of one
-abbrev pub AskForState : List (String Global) → Type 0
-AskForState words = (id : Option ℕ) × AskFor words (State id)
 
 -- the words ask for the values on a day, at a position, by the basis of this name, and by some measure
 abbrev pub AskForValue : List (String Global) → ℤ → At → List ℕ → Type 0

@@ -1,6 +1,10 @@
 -- Worked cases of what a run and `state` write, computed from the definitions alone. Day 18262 is 2020-01-01
-use Rattle.std.specs.Prelude.{◌≡◌, ◌++◌, ℕ, List, [], ◌∷◌, pos, codes}
+use Rattle.std.specs.Prelude.{◌≡◌, ◌⊎◌, ◌++◌, ℕ, List, [], ◌∷◌, Option, Some, pos, codes, map, string_bytes, String}
+use Rattle.std.specs.Global.{Global}
 use Rattle.std.specs.List.{AllZip}
+use Rattle.life_args.specs.Words.{AskFor}
+use Rattle.life_args.specs.declared.mode.Mode.{Mode}
+use Rattle.outside_io.specs.declared.disks.Disk.{Ghosts}
 use Rattle.policy_types.specs.declared.command.Command.{Command}
 use Rattle.policy_types.specs.declared.command.Command.TheVariants.{Issue, Premium, Alter, Lapse, Reinstate, Claim, Settle, Mature, PaidUp, Upgrade}
 use Rattle.policy_types.specs.declared.command.Plan.TheVariants.{Endowment}
@@ -18,7 +22,13 @@ use Rattle.lane_runner.specs.AnsweredLines.{AnsweredLine, AreLinesOf}
 use Rattle.policy_machine.specs.History.{opened_on}
 use Rattle.policy_machine.specs.Worked.Cases.{policy_issue}
 use Rattle.transcript_text.specs.Transcript.{IsLineText, posting_text, reports_text, trim_text, unpinned_text, unvalued_text, watcher_text}
+use Rattle.program_endings.specs.Worked.{output_with}
+use Rattle.program_endings.specs.Writing.{Stream, WroteLine}
+use Rattle.program_endings.specs.declared.ending.Ending.TheVariants.{BadJournal, NoMemory}
 use Rattle.stating_modes.specs.Books.{books_text, policy_account}
+use Rattle.stating_modes.specs.TwoDisks.{AreTrue, TwoDisks}
+use Rattle.life_app.specs.Needs.{AreTrusted, Filing, HasDiskFault, HasNewFault, HasSecond, With, Without, seen_by}
+use Rattle.life_app.specs.Obeys.{EndsBooks, EndsSave, EndsUnasked}
 
 abbrev pub first_premium : Command
 first_premium = Premium 7001 (pos 18262) 40000
@@ -131,3 +141,38 @@ ClaimedEntries = (policy_account 7001 claimed_beside_another
     ∷ codes "entry,5,settle,2020-07-01,400.00" ++ 10
     ∷ codes "policy,7001,claimed,endowment,0,3,1000.00,400.00,2020-01-01,1,600.00" ++ 10 ∷ [])
     × (policy_account 7002 claimed_beside_another ≡ codes "unknown,7002" ++ 10 ∷ [])
+
+-- an empty file that stays so, of an honest disk whose count of faults rose so far
+abbrev pub filing_with : ℕ → Filing
+filing_with faults = record { before = []; after = []; Honest = Unit {0}; faults_before = 0; faults_after = faults }
+
+-- words that are these bytes ask for a mode that sees the second file, or not
+abbrev SeesSecond : List (List ℕ) → Type 0
+SeesSecond typed = (words : List (String Global)) → map string_bytes words ≡ typed
+    → (mode : Mode) × AskFor words mode × HasSecond (seen_by mode (With (filing_with 0)))
+
+abbrev SeesNone : List (List ℕ) → Type 0
+SeesNone typed = (words : List (String Global)) → map string_bytes words ≡ typed
+    → (mode : Mode) × AskFor words mode × (HasSecond (seen_by mode (With (filing_with 0))) → ⊥)
+
+-- `checkpoint` and `state` do, and `state` of one policy doesn't
+abbrev pub BothWords : Type 0
+BothWords = SeesSecond (codes "checkpoint" ∷ []) × SeesSecond (codes "state" ∷ []) × SeesNone (codes "state" ∷ codes "7001" ∷ [])
+
+-- a fault of the second disk is one where it is seen, and two empty files are trusted
+abbrev pub TwoFilings : Type 0
+TwoFilings = HasDiskFault (filing_with 0) (With (filing_with 1)) × HasNewFault (filing_with 0) (With (filing_with 1))
+    × (HasDiskFault (filing_with 0) Without → ⊥) × (HasNewFault (filing_with 0) Without → ⊥)
+    × AreTrusted (filing_with 0) (With (filing_with 0))
+
+-- over five bytes that are no journal both modes end with that line
+abbrev pub BothRefuseHello : {D E : Type 0} → Ghosts D → Ghosts E → Type 0
+BothRefuseHello {D} {E} g e = (disks : TwoDisks D E) (output : Stream) → AreTrue g e disks → g.reads disks.old ≡ codes "hello"
+    → EndsBooks g e disks.old disks.new (Some disks.second) (Some disks.kept) output BadJournal
+    ⊎ EndsSave g e disks.old disks.new (Some disks.second) (Some disks.kept) output BadJournal
+    → WroteLine output (codes "badjournal,notajournal")
+
+-- where no words could be read, `nomemory` is all that is written
+abbrev pub NoWordsLine : (D E : Type 0) → Type 0
+NoWordsLine D E = (old new : D) (second kept : Option E) (words : List (String Global)) (bytes : List ℕ)
+    → EndsUnasked old new second kept words (output_with 0 [] bytes) (Unit {0}) (Unit {0}) NoMemory → bytes ≡ codes "nomemory" ++ 10 ∷ []

@@ -1,5 +1,5 @@
 // The top call over two disks.
-ghost use Rattle.std.specs.Prelude.{◌≡◌, ◌≤◌, ◌⊎◌, [], map, length};
+ghost use Rattle.std.specs.Prelude.{◌≡◌, ◌≤◌, ◌⊎◌, Some, [], map, length};
 ghost use Rattle.std.specs.List.{AllByRecursion};
 ghost use Rattle.office_state.specs.Journals.{OpensToNone};
 ghost use Rattle.watcher_set.specs.Limits.{most_watchers};
@@ -7,11 +7,9 @@ ghost use Rattle.program_endings.specs.Status.{status_of};
 ghost use Rattle.program_endings.specs.Writing.{between, input_between, shelf_between};
 ghost use Rattle.program_endings.specs.declared.ending.Ending.{Ending as AnEnding};
 ghost use Rattle.life_app.specs.Due.{IsDueEnding};
-ghost use Rattle.life_app.specs.DueKept.{IsDueOfBoth, IsReasonedOfBoth};
-ghost use Rattle.life_app.specs.Needs.{filing_between};
-ghost use Rattle.life_app.specs.ObeysKept.{AskForBoth, ObeysKept};
+ghost use Rattle.life_app.specs.Needs.{With, filing_between};
+ghost use Rattle.life_app.specs.Obeys.{Obeys};
 ghost use Rattle.life_app.specs.Reasons.{IsReasoned};
-ghost use Rattle.life_app.specs.inside.Over.{ended_disks};
 
 use crate::modes::obey;
 use outside_io::{Disk, Gate, Shelf, Sink, Source};
@@ -55,28 +53,24 @@ pub fn life_kept<
 ) -> EndedKept<D, E>
     requires few { length watchers.items ≤ most_watchers }
     requires fresh { AllByRecursion (λ b. noted b ≡ []) watchers.items }
-    ensures obeys { ObeysKept D.Disk E.Disk (ended_disks disk second result) words.now
+    ensures obeys { Obeys D.Disk E.Disk disk result.disk (Some second) (Some result.second) words.now
         (map (λ b. record { stops = stops b; number = number b }) watchers.items) (input_between S.faults S.left S.given S.ended input.old input.new)
         (between K.faults K.written K.pieces output.old output.new)
         (shelf_between H.faults H.agrees shelf.old shelf.new)
         (input.new ≡ input.old) (shelf.new ≡ shelf.old) result.status }
     ensures shelf { H.files shelf.new ≡ H.files shelf.old }
 
-    // Where the words ask for nothing of both disks, each status but 0 and 9 has its reason, and what is due comes about.
-    ensures reason { ¬ AskForBoth words.now → IsReasoned words.now (input_between S.faults S.left S.given S.ended input.old input.new)
+    // Each status but 0 and 9 has its reason: what the words, the script, a basis file or the journal are, or the device that failed.
+    ensures reason { IsReasoned words.now (input_between S.faults S.left S.given S.ended input.old input.new)
         (between K.faults K.written K.pieces output.old output.new)
-        (shelf_between H.faults H.agrees shelf.old shelf.new) (filing_between D.Disk disk result.disk) result.status }
-    ensures due { (ending : AnEnding) → ¬ AskForBoth words.now
-        → IsDueEnding words.now (input_between S.faults S.left S.given S.ended input.old input.new)
-        (between K.faults K.written K.pieces output.old output.new)
-        (shelf_between H.faults H.agrees shelf.old shelf.new) (filing_between D.Disk disk result.disk) ending
-        → (result.status ≡ status_of ending) ⊎ (result.status ≡ 9) }
+        (shelf_between H.faults H.agrees shelf.old shelf.new) (filing_between D.Disk disk result.disk)
+        (With (filing_between E.Disk second result.second)) result.status }
 
-    // Where they do, each status has its reason too, and what is due by both disks comes about, but for want of memory.
-    ensures reason_both { AskForBoth words.now → IsReasonedOfBoth D.Disk E.Disk (ended_disks disk second result)
-        (between K.faults K.written K.pieces output.old output.new) result.status }
-    ensures due_both { (ending : AnEnding) → AskForBoth words.now
-        → IsDueOfBoth D.Disk E.Disk (ended_disks disk second result) (between K.faults K.written K.pieces output.old output.new) ending
+    // An ending that is due, where the devices don't fail on which it rests, comes about, but for want of memory.
+    ensures due { (ending : AnEnding) → IsDueEnding words.now (input_between S.faults S.left S.given S.ended input.old input.new)
+        (between K.faults K.written K.pieces output.old output.new)
+        (shelf_between H.faults H.agrees shelf.old shelf.new) (filing_between D.Disk disk result.disk)
+        (With (filing_between E.Disk second result.second)) ending
         → (result.status ≡ status_of ending) ⊎ (result.status ≡ 9) }
 
     // A file that opens to no commands reads as before, however the run ends, where its disk comes back honest.

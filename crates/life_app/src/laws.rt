@@ -1,5 +1,5 @@
 // What the definitions have to mean, as functions that do nothing.
-ghost use Rattle.std.specs.Prelude.{◌≡◌, ◌⊎◌, ℕ, List, [], String};
+ghost use Rattle.std.specs.Prelude.{◌≡◌, ◌⊎◌, ℕ, List, Option, Some, [], String};
 ghost use Rattle.std.specs.Global.{Global};
 ghost use Rattle.policy_types.specs.declared.command.Command.{Command};
 ghost use Rattle.policy_types.specs.declared.entry.Entry.{Entry};
@@ -9,7 +9,6 @@ ghost use Rattle.command_csv.specs.Reads.{IsFirstScriptFault};
 ghost use Rattle.life_app.specs.Crashes.{AreAllHeld, AreHeld, HasRun};
 ghost use Rattle.stating_modes.specs.TwoDisks.{TellsTruth, TwoDisks};
 ghost use Rattle.life_app.specs.KeptRuns.{AreRunsOfTwo, IsLeftByCall, OneRunOfTwo, SavedOfFirst};
-ghost use Rattle.life_app.specs.ObeysKept.{ObeysKept};
 ghost use Rattle.life_app.specs.Runs.{AreLeft, AreRuns, IsLeftSo, OneRun};
 ghost use Rattle.life_app.specs.Obeys.{Obeys};
 ghost use Rattle.program_endings.specs.Writing.{between, input_between, shelf_between};
@@ -58,14 +57,15 @@ pub fn crashes_of_an_opening<D: Disk>()
 
 /// The runs of a list, each ended by its return or by a crash at any moment, leave in their order what each had answered to
 /// be accepted, perhaps more of what it accepted, and at most one more, that was answered `fault`. The first begins on a disk
-/// of which a crash leaves just what is read. Each call of the program leaves the disk as such a run does.
-pub fn runs_in_a_row<S: Source, K: Sink, H: Shelf, D: Disk>()
+/// of which a crash leaves just what is read. Each call of the program, over a second disk or none, leaves the disk as such a
+/// run does.
+pub fn runs_in_a_row<S: Source, K: Sink, H: Shelf, D: Disk, E: Disk>()
     ensures left { (first last : D) (commands : List Command) (runs : List (OneRun D)) (image : List ℕ) → IsSafe D.Disk first
         → Opens (D.reads first) commands → AreRuns D.Disk first runs last → D.may_leave last image
         → (held : List Command) × Opens image held × AreLeft commands runs held }
-    ensures so { (old new : D) (input read : S) (output written : K) (shelf asked : H) (words : List (String Global))
-        (auditors : List Auditor) (status : ℕ)
-        → Obeys D.Disk old new words auditors (input_between S.faults S.left S.given S.ended input read)
+    ensures so { (old new : D) (second kept : Option E) (input read : S) (output written : K) (shelf asked : H)
+        (words : List (String Global)) (auditors : List Auditor) (status : ℕ)
+        → Obeys D.Disk E.Disk old new second kept words auditors (input_between S.faults S.left S.given S.ended input read)
         (between K.faults K.written K.pieces output written) (shelf_between H.faults H.agrees shelf asked)
         (read ≡ input) (asked ≡ shelf) status
         → (opening : Opening) × ((history : List Entry) × IsLeftSo D.Disk old new opening history) }
@@ -83,7 +83,7 @@ pub fn runs_over_both<S: Source, K: Sink, H: Shelf, D: Disk, E: Disk>()
         → (held : List Command) × Opens image held × SavedOfFirst file held × TellsTruth file image }
     ensures so { (disks : TwoDisks D E) (input read : S) (output written : K) (shelf asked : H) (words : List (String Global))
         (auditors : List Auditor) (status : ℕ) → D.honest disks.new → E.honest disks.kept
-        → ObeysKept D.Disk E.Disk disks words auditors (input_between S.faults S.left S.given S.ended input read)
+        → Obeys D.Disk E.Disk disks.old disks.new (Some disks.second) (Some disks.kept) words auditors (input_between S.faults S.left S.given S.ended input read)
         (between K.faults K.written K.pieces output written) (shelf_between H.faults H.agrees shelf asked)
         (read ≡ input) (asked ≡ shelf) status
         → IsLeftByCall D.Disk E.Disk disks }

@@ -4,7 +4,7 @@ ghost use Rattle.program_endings.specs.Writing.{between, input_between, shelf_be
 ghost use Rattle.program_endings.specs.declared.ending.Ending.TheVariants.{ReadFault};
 ghost use Rattle.stating_modes.specs.Stated.{EndsStateKept};
 ghost use Rattle.stating_modes.specs.TwoDisks.{disks_of};
-ghost use Rattle.life_app.specs.inside.Over.{DoesOver, EndsBooks, EndsSave};
+ghost use Rattle.life_app.specs.Obeys.{Does, EndsBooks, EndsSave};
 ghost use Rattle.life_app.specs.inside.Unasked.{SaysNoMode};
 
 use life_args::{Mode, WordsFault, read_words};
@@ -44,7 +44,7 @@ pub(crate) fn obey<
     gate: &G,
 ) -> FinishedKept<D, Option<E>>
     requires told { (before : ℕ) → W.told watchers before [] }
-    ensures does { DoesOver D.Disk E.Disk disk result.disk second result.second words.now (W.handed watchers)
+    ensures does { Does D.Disk E.Disk disk result.disk second result.second words.now (W.handed watchers)
         (input_between S.faults S.left S.given S.ended input.old input.new)
         (between K.faults K.written K.pieces output.old output.new)
         (shelf_between H.faults H.agrees shelf.old shelf.new)

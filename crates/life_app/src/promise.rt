@@ -1,5 +1,5 @@
 // What the program promises of a script's run, as a function that does nothing.
-ghost use Rattle.std.specs.Prelude.{◌≡◌, ◌⊎◌, ℕ, List, [], String};
+ghost use Rattle.std.specs.Prelude.{◌≡◌, ◌⊎◌, ℕ, List, Option, [], String};
 ghost use Rattle.std.specs.Global.{Global};
 ghost use Rattle.outside_io.specs.Shelves.{Files};
 ghost use Rattle.policy_types.specs.declared.command.Command.{Command};
@@ -16,14 +16,14 @@ ghost use Rattle.life_app.specs.Words.{AskForRun};
 
 use outside_io::{Disk, Shelf, Sink, Source};
 
-/// Where the program obeys words that ask to run a script, and the input gave that of these lanes, it ran them as is
-/// promised, with the basis that it was given, or failed and added no command. A file opens to one list of commands at most,
+/// Where the program obeys words that ask to run a script, whatever the second disk, and the input gave that of these lanes,
+/// it ran them as is promised, with the basis that it was given, or failed and added no command. A file opens to one list of commands at most,
 /// and an empty one to none; and files make one basis at most under a name.
-pub fn headline<S: Source, K: Sink, H: Shelf, D: Disk>()
-    ensures promised { (old new : D) (input read : S) (output written : K) (shelf asked : H)
+pub fn headline<S: Source, K: Sink, H: Shelf, D: Disk, E: Disk>()
+    ensures promised { (old new : D) (second kept : Option E) (input read : S) (output written : K) (shelf asked : H)
         (words : List (String Global)) (auditors : List Auditor) (status : ℕ) (name bytes : List ℕ)
         (lanes : List Lane) (basis : List Dated)
-        → Obeys D.Disk old new words auditors (input_between S.faults S.left S.given S.ended input read)
+        → Obeys D.Disk E.Disk old new second kept words auditors (input_between S.faults S.left S.given S.ended input read)
         (between K.faults K.written K.pieces output written) (shelf_between H.faults H.agrees shelf asked)
         (read ≡ input) (asked ≡ shelf) status
         → AskForRun words name → IsWholeInput (input_between S.faults S.left S.given S.ended input read) bytes

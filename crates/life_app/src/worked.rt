@@ -1,7 +1,6 @@
 //! Worked cases of what a run and `state` write, each a theorem over the definitions alone.
 
-ghost use Rattle.life_app.specs.Worked.{ClaimedBooks, ClaimedEntries, OtherLines, PostingLines, RefusalTexts, StatusTexts, TwoClerks, UpgradeLines, WatcherLines};
-ghost use Rattle.life_app.specs.WorkedKept.{BothRefuseHello, BothWords, NoWordsLine};
+ghost use Rattle.life_app.specs.Worked.{BothRefuseHello, BothWords, ClaimedBooks, ClaimedEntries, TwoFilings, NoWordsLine, OtherLines, PostingLines, RefusalTexts, StatusTexts, TwoClerks, UpgradeLines, WatcherLines};
 
 use outside_io::Disk;
 
@@ -50,9 +49,10 @@ pub fn claimed_entries()
     ensures { ClaimedEntries }
 {}
 
-/// Which words ask for both disks, and how these modes end over a file that is no journal, or without memory.
+/// Which words open both disks, and how these modes end over a file that is no journal, or without memory.
 pub fn words_for_both<D: Disk, E: Disk>()
     ensures words { BothWords }
+    ensures faults { TwoFilings }
     ensures refused { BothRefuseHello D.Disk E.Disk }
     ensures unread { NoWordsLine D E }
 {}

@@ -1,5 +1,5 @@
 -- What the top call promises of devices between two moments, said of devices from their start.
-use Rattle.std.proofs.Common.{◌≡◌, ◌⊎◌, inl, inr, ℕ, List, [], ◌∷◌, ◌++◌, map, refl, Option, Some, None, String}
+use Rattle.std.proofs.Common.{◌≡◌, inl, inr, ℕ, List, [], ◌∷◌, ◌++◌, map, refl, Option, Some, None, String}
 use Rattle.std.specs.Global.{Global}
 use Rattle.outside_io.specs.Shelves.{Files, Answer, Agrees}
 use Rattle.outside_io.specs.Streams.{TakenPiece}
@@ -7,23 +7,19 @@ use Rattle.outside_io.specs.declared.disks.Disk.{Ghosts}
 use Rattle.watcher_set.specs.Noted.{Auditor}
 use Rattle.life_args.specs.declared.mode.Mode.{Mode}
 use Rattle.life_args.specs.declared.mode.Mode.TheVariants.{Run, Value, Project, State, Checkpoint, Generate, Load}
-use Rattle.program_endings.specs.Status.{status_of}
 use Rattle.program_endings.specs.Writing.{Input, Shelving, Stream}
 use Rattle.program_endings.specs.declared.ending.Ending.{Ending}
 use Rattle.program_endings.specs.declared.ending.Ending.TheVariants.{NoMemory}
 use Rattle.script_run.specs.Running.{EndsLanes, EndsRun}
 use Rattle.policy_types.specs.declared.script.Lane.{Lane}
-use Rattle.stating_modes.specs.TwoDisks.{TwoDisks}
-use Rattle.life_app.specs.DueKept.{IsDueOfBoth}
-use Rattle.life_app.specs.Needs.{Filing}
+use Rattle.life_app.specs.Needs.{Filing, Second, With}
 use Rattle.life_app.specs.Obeys.{Does, EndsMode, Obeys}
-use Rattle.life_app.specs.ObeysKept.{AskForBoth, ObeysKept}
 use Rattle.life_cli.specs.Completing.{EndsDuly}
 use Rattle.life_cli.specs.Shipped.{filing_from_start, input_from_start, output_from_start, shelf_from_start}
 
 -- Less may be said of an input and a shelf that stay.
-module _ {D : Type 0} (g : Ghosts D) (old new : D) (words : List (String Global)) (auditors : List Auditor) (input : Input) (output : Stream) (shelf : Shelving)
-    (A B A' B' : Type 0) (f : A → A') (h : B → B') where
+module _ {D E : Type 0} (g : Ghosts D) (e : Ghosts E) (old new : D) (second kept : Option E) (words : List (String Global)) (auditors : List Auditor)
+    (input : Input) (output : Stream) (shelf : Shelving) (A B A' B' : Type 0) (f : A → A') (h : B → B') where
   lanes_still : (lanes : List Lane) (name : List ℕ) (ending : Ending) → EndsLanes g old new lanes name auditors shelf output B ending
       → EndsLanes g old new lanes name auditors shelf output B' ending
   lanes_still lanes name ending (inl plain) = inl (plain.0, h (plain.1), plain.2)
@@ -40,39 +36,26 @@ module _ {D : Type 0} (g : Ghosts D) (old new : D) (words : List (String Global)
   })
   run_still name ending (inr unread) = inr (unread.0, h (unread.1), unread.2)
 
-  mode_still : (mode : Mode) (ending : Ending) → EndsMode g old new mode auditors input output shelf A B ending
-      → EndsMode g old new mode auditors input output shelf A' B' ending
-  mode_still (Run basis) ending ends = run_still basis ending ends
-  mode_still (Value on at workers basis measure) ending ends = (f (ends.0), ends.1)
-  mode_still (Project on years workers basis) ending ends = (f (ends.0), ends.1)
+  mode_still : (mode : Mode) (ending : Ending) → EndsMode g e old new second kept mode auditors input output shelf A B ending
+      → EndsMode g e old new second kept mode auditors input output shelf A' B' ending
+  mode_still (Run basis) ending ends = (ends.0, run_still basis ending (ends.1))
+  mode_still (Value on at workers basis measure) ending ends = (ends.0, f (ends.1), ends.2)
+  mode_still (Project on years workers basis) ending ends = (ends.0, f (ends.1), ends.2)
   mode_still (State None) ending ends = (f (ends.0), h (ends.1), ends.2)
-  mode_still (State (Some id)) ending ends = (f (ends.0), h (ends.1), ends.2)
-  mode_still Checkpoint ending ends = (f (ends.0), h (ends.1), ends.2, ends.3, ends.4)
-  mode_still (Generate seed count lanes) ending ends = (f (ends.0), h (ends.1), ends.2, ends.3)
-  mode_still (Load seed count lanes workers) ending ends = (f (ends.0), ends.1)
+  mode_still (State (Some id)) ending ends = (ends.0, f (ends.1), h (ends.2), ends.3)
+  mode_still Checkpoint ending ends = (f (ends.0), h (ends.1), ends.2)
+  mode_still (Generate seed count lanes) ending ends = (ends.0, f (ends.1), h (ends.2), ends.3, ends.4)
+  mode_still (Load seed count lanes workers) ending ends = (ends.0, f (ends.1), ends.2)
 
-  does_still : (ending : Ending) → Does g old new words auditors input output shelf A B ending → Does g old new words auditors input output shelf A' B' ending
+  does_still : (ending : Ending) → Does g e old new second kept words auditors input output shelf A B ending
+      → Does g e old new second kept words auditors input output shelf A' B' ending
   does_still ending (inl obeyed) = inl (obeyed.0, obeyed.1, mode_still obeyed.0 ending (obeyed.2))
-  does_still ending (inr unasked) = inr (record { disk = unasked.disk; input = f unasked.input; shelf = h unasked.shelf; says = unasked.says })
+  does_still ending (inr unasked) =
+      inr (record { disk = unasked.disk; other = unasked.other; input = f unasked.input; shelf = h unasked.shelf; says = unasked.says })
 
-  pub obeys_still : (status : ℕ) → Obeys g old new words auditors input output shelf A B status → Obeys g old new words auditors input output shelf A' B' status
+  pub obeys_still : (status : ℕ) → Obeys g e old new second kept words auditors input output shelf A B status
+      → Obeys g e old new second kept words auditors input output shelf A' B' status
   obeys_still status obeys = record { ending = obeys.ending; exits = obeys.exits; does = does_still obeys.ending obeys.does }
-
--- The same over two disks.
-module _ {D E : Type 0} (g : Ghosts D) (e : Ghosts E) (disks : TwoDisks D E) (words : List (String Global)) (auditors : List Auditor) (input : Input) (output : Stream)
-    (shelf : Shelving) (A B A' B' : Type 0) (f : A → A') (h : B → B') where
-  pub kept_still : (status : ℕ) → ObeysKept g e disks words auditors input output shelf A B status → ObeysKept g e disks words auditors input output shelf A' B' status
-  kept_still status (inl both) = inl (record { ending = both.ending; exits = both.exits; input = f both.input; shelf = h both.shelf; ends = both.ends })
-  kept_still status (inr (inl one)) = inr (inl (record {
-    other = one.other;
-    obeys = obeys_still g disks.old disks.new words auditors input output shelf A B A' B' f h status one.obeys;
-    second = one.second;
-  }))
-  kept_still status (inr (inr unread)) = inr (inr (record {
-    exits = unread.exits;
-    unasked = record { disk = unread.unasked.disk; input = f unread.unasked.input; shelf = h unread.unasked.shelf; says = unread.unasked.says };
-    second = unread.second;
-  }))
 
 -- A shelf that answered nothing agrees with all files.
 pub agrees_with_all : (answers : List Answer) → answers ≡ [] → (files : Files) → Agrees answers files
@@ -84,55 +67,49 @@ pub seen_of_two : {X Y : Type 0} → (see : X → Y) (none ready one two : List 
 seen_of_two see none ready one two first second a b e₁ e₂ e₃ e₄ is_a is_b = rw (e₁, e₂, e₃, e₄, is_a, is_b) refl
 
 -- The auditors that were handed over are these.
-module _ {D E : Type 0} (g : Ghosts D) (e : Ghosts E) (disks : TwoDisks D E) (words : List (String Global)) (input : Input) (output : Stream) (shelf : Shelving)
-    (A B : Type 0) (status : ℕ) where
-  pub obeys_with : (auditors others : List Auditor) → auditors ≡ others → ObeysKept g e disks words auditors input output shelf A B status
-      → ObeysKept g e disks words others input output shelf A B status
+module _ {D E : Type 0} (g : Ghosts D) (e : Ghosts E) (old new : D) (second kept : Option E) (words : List (String Global)) (input : Input) (output : Stream)
+    (shelf : Shelving) (A B : Type 0) (status : ℕ) where
+  pub obeys_with : (auditors others : List Auditor) → auditors ≡ others → Obeys g e old new second kept words auditors input output shelf A B status
+      → Obeys g e old new second kept words others input output shelf A B status
   obeys_with auditors others same obeys = rw same at obeys
 
 -- Devices that had no fault at the start, and through which nothing had passed.
-module _ {D E : Type 0} (g : Ghosts D) (e : Ghosts E) (disks : TwoDisks D E) (words : List (String Global)) (auditors : List Auditor) (A B : Type 0) (status : ℕ) where
+module _ {D E : Type 0} (g : Ghosts D) (e : Ghosts E) (old new : D) (second kept : Option E) (words : List (String Global)) (auditors : List Auditor)
+    (A B : Type 0) (status : ℕ) where
   pub obeys_from_start : (input_faults input_then output_faults output_then shelf_faults shelf_then : ℕ) (given given_then : List ℕ) (Ended : Type 0)
       (written written_then : Option (List ℕ)) (pieces pieces_then : List TakenPiece) (Agrees : Files → Type 0)
       → input_faults ≡ 0 → given ≡ [] → output_faults ≡ 0 → written ≡ Some [] → pieces ≡ [] → shelf_faults ≡ 0
-      → ObeysKept g e disks words auditors
+      → Obeys g e old new second kept words auditors
       (record { faults_before = input_faults; faults_after = input_then; left_before = None; left_after = None; given_before = given; given_after = given_then; Ended = Ended })
       (record { faults_before = output_faults; faults_after = output_then; before = written; after = written_then; pieces_before = pieces; pieces_after = pieces_then })
       (record { faults_before = shelf_faults; faults_after = shelf_then; Agrees = Agrees }) A B status
-      → ObeysKept g e disks words auditors (input_from_start input_then given_then Ended) (output_from_start output_then written_then pieces_then) (shelf_from_start shelf_then Agrees)
+      → Obeys g e old new second kept words auditors (input_from_start input_then given_then Ended) (output_from_start output_then written_then pieces_then) (shelf_from_start shelf_then Agrees)
       A B status
   obeys_from_start input_faults input_then output_faults output_then shelf_faults shelf_then given given_then Ended written written_then pieces pieces_then Agrees
       e₁ e₂ e₃ e₄ e₅ e₆ obeys = rw (e₁, e₂, e₃, e₄, e₅, e₆) at obeys
 
--- What is due by both disks, of an output from its start.
-module _ {D E : Type 0} (g : Ghosts D) (e : Ghosts E) (disks : TwoDisks D E) (words : List (String Global)) (status : ℕ) where
-  pub due_from_start : (output_faults output_then : ℕ) (written written_then : Option (List ℕ)) (pieces pieces_then : List TakenPiece) → output_faults ≡ 0 → written ≡ Some [] → pieces ≡ []
-      → ((ending : Ending) → AskForBoth words
-      → IsDueOfBoth g e disks (record { faults_before = output_faults; faults_after = output_then; before = written; after = written_then; pieces_before = pieces; pieces_after = pieces_then }) ending
-      → (status ≡ status_of ending) ⊎ (status ≡ 9))
-      → (ending : Ending) → AskForBoth words → IsDueOfBoth g e disks (output_from_start output_then written_then pieces_then) ending
-      → (status ≡ status_of ending) ⊎ (status ≡ 9)
-  due_from_start output_faults output_then written written_then pieces pieces_then e₁ e₂ e₃ due = rw (e₁, e₂, e₃) at due
-
 module _ (words : List (String Global)) (status : ℕ) where
   pub ends_from_start : (input_faults input_then output_faults output_then shelf_faults shelf_then disk_faults disk_then : ℕ) (given given_then : List ℕ) (Ended : Type 0)
       (written written_then : Option (List ℕ)) (pieces pieces_then : List TakenPiece) (Agrees : Files → Type 0) (Honest : Type 0) (file found left : List ℕ)
-      → input_faults ≡ 0 → given ≡ [] → output_faults ≡ 0 → written ≡ Some [] → pieces ≡ [] → shelf_faults ≡ 0 → disk_faults ≡ 0 → file ≡ found
+      (second_faults second_then : ℕ) (SecondHonest : Type 0) (second_file second_found second_left : List ℕ)
+      → input_faults ≡ 0 → given ≡ [] → output_faults ≡ 0 → written ≡ Some [] → pieces ≡ [] → shelf_faults ≡ 0 → disk_faults ≡ 0 → file ≡ found → second_faults ≡ 0 → second_file ≡ second_found
       → EndsDuly words
       (record { faults_before = input_faults; faults_after = input_then; left_before = None; left_after = None; given_before = given; given_after = given_then; Ended = Ended })
       (record { faults_before = output_faults; faults_after = output_then; before = written; after = written_then; pieces_before = pieces; pieces_after = pieces_then })
       (record { faults_before = shelf_faults; faults_after = shelf_then; Agrees = Agrees })
-      (record { before = file; after = left; Honest = Honest; faults_before = disk_faults; faults_after = disk_then }) status
+      (record { before = file; after = left; Honest = Honest; faults_before = disk_faults; faults_after = disk_then })
+      (With (record { before = second_file; after = second_left; Honest = SecondHonest; faults_before = second_faults; faults_after = second_then })) status
       → EndsDuly words (input_from_start input_then given_then Ended) (output_from_start output_then written_then pieces_then) (shelf_from_start shelf_then Agrees)
-      (filing_from_start found left Honest disk_then) status
+      (filing_from_start found left Honest disk_then) (With (filing_from_start second_found second_left SecondHonest second_then)) status
   ends_from_start input_faults input_then output_faults output_then shelf_faults shelf_then disk_faults disk_then given given_then Ended written written_then pieces pieces_then Agrees Honest file
-      found left e₁ e₂ e₃ e₄ e₅ e₆ e₇ e₈ ends = rw (e₁, e₂, e₃, e₄, e₅, e₆, e₇, e₈) at ends
+      found left second_faults second_then SecondHonest second_file second_found second_left e₁ e₂ e₃ e₄ e₅ e₆ e₇ e₈ e₉ e₁₀ ends =
+      rw (e₁, e₂, e₃, e₄, e₅, e₆, e₇, e₈, e₉, e₁₀) at ends
 
 -- Where there was no memory to begin, 9 is right in every case.
-module _ (words : List (String Global)) (input : Input) (output : Stream) (shelf : Shelving) (disk : Filing) (status : ℕ) where
-  pub ends_with_9 : status ≡ 9 → disk.after ≡ disk.before → EndsDuly words input output shelf disk status
+module _ (words : List (String Global)) (input : Input) (output : Stream) (shelf : Shelving) (disk : Filing) (second : Second) (status : ℕ) where
+  pub ends_with_9 : status ≡ 9 → disk.after ≡ disk.before → EndsDuly words input output shelf disk second status
   ends_with_9 nine same = record {
-    reason = λ other. (NoMemory, nine, tt);
-    due = λ ending other is. inr nine;
+    reason = (NoMemory, nine, tt);
+    due = λ ending is. inr nine;
     unopened = λ honest none. same;
   }

@@ -1,12 +1,12 @@
 -- The worked run of the shipped program holds what its case says.
-use Rattle.std.proofs.Common.{[], ◌∷◌, List, refl, inl, inr, codes, String, Global, Some}
+use Rattle.std.proofs.Common.{[], ◌∷◌, List, refl, codes, String, Global, Some}
 use Rattle.outside_io.specs.Shelves.{Agrees}
 use Rattle.program_endings.specs.declared.ending.Ending.TheVariants.{Done}
 use Rattle.life_app.specs.WorkedRun.Both.{saved_file, second_disk}
 use Rattle.life_app.specs.WorkedRun.Calls.{called, cut_disk, cut_file, last_disk}
 use Rattle.life_app.specs.WorkedRun.Promise.{AreTyped, premium_script, premium_text}
-use Rattle.life_app.proofs.WorkedRun.Both.{none_of_both}
-use Rattle.life_app.proofs.WorkedRun.Due.{due_of_the_run}
+use Rattle.life_app.specs.Needs.{With}
+use Rattle.life_app.proofs.WorkedRun.Due.{due_beside}
 use Rattle.life_app.proofs.WorkedRun.Promise.{obeyed}
 use Rattle.life_app.proofs.WorkedRun.First.{honest_last}
 use Rattle.life_app.proofs.WorkedRun.Row.{second_left}
@@ -22,17 +22,16 @@ obeys words same = record {
   second = second_disk;
   found = record { faultless = refl; first = refl; reads = refl };
   second_found = record { faultless = refl; first = refl; reads = refl };
-  obeys = inr (inl (record { other = none_of_both words same; obeys = obeyed words same; second = refl }));
-  reason = λ both. absurd (none_of_both words same both);
-  due = λ ending both is. absurd (none_of_both words same both);
+  obeys = obeyed words (Some second_disk) same;
 }
 
 ends : (words : List (String Global)) → AreTyped words (codes "run" ∷ [])
     → EndsDuly words (input_from_start 0 premium_script (Unit {0})) (output_from_start 0 (Some premium_text) shown_pieces)
-    (shelf_from_start 0 (Agrees [])) (filing_from_start cut_file (called.reads last_disk) (called.honest last_disk) 0) 0
+    (shelf_from_start 0 (Agrees [])) (filing_from_start cut_file (called.reads last_disk) (called.honest last_disk) 0)
+    (With (filing_from_start saved_file (called.reads second_disk) (called.honest second_disk) 0)) 0
 ends words same = record {
-  reason = λ other. (Done, refl, tt);
-  due = λ ending other is. due_of_the_run words same ending is;
+  reason = (Done, refl, tt);
+  due = λ ending is. due_beside (Some second_disk) words same ending is;
   unopened = λ honest none. absurd (none _ (second_left.opened honest_last));
 }
 

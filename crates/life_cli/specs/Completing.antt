@@ -6,16 +6,14 @@ use Rattle.program_endings.specs.Status.{status_of}
 use Rattle.program_endings.specs.Writing.{Input, Shelving, Stream}
 use Rattle.program_endings.specs.declared.ending.Ending.{Ending}
 use Rattle.life_app.specs.Due.{IsDueEnding}
-use Rattle.life_app.specs.Needs.{Filing}
-use Rattle.life_app.specs.ObeysKept.{AskForBoth}
+use Rattle.life_app.specs.Needs.{Filing, Second}
 use Rattle.life_app.specs.Reasons.{IsReasoned}
 
-pub record EndsDuly (words : List (String Global)) (input : Input) (output : Stream) (shelf : Shelving) (disk : Filing)
+pub record EndsDuly (words : List (String Global)) (input : Input) (output : Stream) (shelf : Shelving) (disk : Filing) (second : Second)
     (status : ℕ) : Type 0 where
-  -- where the words open the journal's disk alone, the status has its reason
-  pub reason : ¬ AskForBoth words → IsReasoned words input output shelf disk status
+  -- the status has its reason
+  pub reason : IsReasoned words input output shelf disk second status
   -- and an ending that is due comes about, but for want of memory
-  pub due : (ending : Ending) → ¬ AskForBoth words → IsDueEnding words input output shelf disk ending
-      → (status ≡ status_of ending) ⊎ (status ≡ 9)
+  pub due : (ending : Ending) → IsDueEnding words input output shelf disk second ending → (status ≡ status_of ending) ⊎ (status ≡ 9)
   -- a file that opens to no commands reads as before, where its disk comes back honest
   pub unopened : disk.Honest → OpensToNone disk.before → disk.after ≡ disk.before

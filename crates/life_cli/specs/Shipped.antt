@@ -1,19 +1,15 @@
 -- What the program does on the devices that it is shipped with, from its start to its end
-use Rattle.std.specs.Prelude.{◌≡◌, ◌⊎◌, ◌==◌, ℕ, false, List, [], ◌∷◌, length, Option, None, Some, String}
+use Rattle.std.specs.Prelude.{◌==◌, ℕ, false, List, [], ◌∷◌, length, Option, None, Some, String}
 use Rattle.std.specs.Global.{Global}
 use Rattle.outside_io.specs.Shelves.{Files}
 use Rattle.outside_io.specs.Streams.{TakenPiece}
 use Rattle.outside_io.specs.declared.disks.Disk.{Ghosts}
 use Rattle.watcher_set.specs.Noted.{Auditor}
 use Rattle.watcher_set.specs.Premiums.{premiums_of}
-use Rattle.program_endings.specs.Status.{status_of}
 use Rattle.program_endings.specs.Writing.{Input, Shelving, Stream}
-use Rattle.program_endings.specs.declared.ending.Ending.{Ending}
-use Rattle.stating_modes.specs.TwoDisks.{TwoDisks}
-use Rattle.life_app.specs.DueKept.{IsDueOfBoth, IsReasonedOfBoth}
 use Rattle.life_app.specs.Headline.{IsFirstFound}
 use Rattle.life_app.specs.Needs.{Filing}
-use Rattle.life_app.specs.ObeysKept.{AskForBoth, ObeysKept}
+use Rattle.life_app.specs.Obeys.{Obeys}
 
 -- it counts commands, and is done at so many
 abbrev pub count_auditor : ℕ → Auditor
@@ -58,12 +54,7 @@ abbrev pub filing_from_start : (before after : List ℕ) → (Honest : Type 0) �
 filing_from_start before after Honest faults =
     record { before = before; after = after; Honest = Honest; faults_before = 0; faults_after = faults }
 
--- the journal's disk and the second one, as they were and as they are
-abbrev pub two_disks : {D E : Type 0} → (old new : D) → (second kept : E) → TwoDisks D E
-two_disks old new second kept = record { old = old; new = new; second = second; kept = kept }
-
--- The words were obeyed, over two disks as they were found; and where they ask for the books by both, the status has its
--- reason, and what is due came about, but for want of memory.
+-- the words were obeyed, over two disks as they were found
 pub record ObeysFromStart {D E : Type 0} (g : Ghosts D) (e : Ghosts E) (bytes saved : List ℕ) (new : D) (kept : E)
     (words : List (String Global)) (input : Input) (output : Stream) (shelf : Shelving) (InputStays ShelfStays : Type 0)
     (status : ℕ) : Type 0 where
@@ -71,7 +62,4 @@ pub record ObeysFromStart {D E : Type 0} (g : Ghosts D) (e : Ghosts E) (bytes sa
   pub second : E
   pub found : IsFirstFound g bytes old
   pub second_found : IsFirstFound e saved second
-  pub obeys : ObeysKept g e (two_disks old new second kept) words shipped_auditors input output shelf InputStays ShelfStays status
-  pub reason : AskForBoth words → IsReasonedOfBoth g e (two_disks old new second kept) output status
-  pub due : (ending : Ending) → AskForBoth words → IsDueOfBoth g e (two_disks old new second kept) output ending
-      → (status ≡ status_of ending) ⊎ (status ≡ 9)
+  pub obeys : Obeys g e old new (Some second) (Some kept) words shipped_auditors input output shelf InputStays ShelfStays status

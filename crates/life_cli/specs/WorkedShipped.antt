@@ -3,6 +3,7 @@ use Rattle.std.specs.Prelude.{[], ◌∷◌, List, Some, codes, String}
 use Rattle.std.specs.Global.{Global}
 use Rattle.outside_io.specs.Shelves.{Agrees}
 use Rattle.outside_io.specs.Streams.{TakenPiece}
+use Rattle.life_app.specs.Needs.{With}
 use Rattle.life_app.specs.WorkedRun.Both.{saved_file, second_disk}
 use Rattle.life_app.specs.WorkedRun.Calls.{called, cut_file, last_disk}
 use Rattle.life_app.specs.WorkedRun.Promise.{AreTyped, premium_script, premium_text}
@@ -20,4 +21,5 @@ ShippedByHand = (words : List (String Global)) → AreTyped words (codes "run" �
     → ObeysFromStart called called cut_file saved_file last_disk second_disk words (input_from_start 0 premium_script (Unit {0}))
     (output_from_start 0 (Some premium_text) shown_pieces) (shelf_from_start 0 (Agrees [])) ⊥ (Unit {0}) 0
     × EndsDuly words (input_from_start 0 premium_script (Unit {0})) (output_from_start 0 (Some premium_text) shown_pieces)
-    (shelf_from_start 0 (Agrees [])) (filing_from_start cut_file (called.reads last_disk) (called.honest last_disk) 0) 0
+    (shelf_from_start 0 (Agrees [])) (filing_from_start cut_file (called.reads last_disk) (called.honest last_disk) 0)
+    (With (filing_from_start saved_file (called.reads second_disk) (called.honest second_disk) 0)) 0

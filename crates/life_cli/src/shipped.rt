@@ -1,6 +1,6 @@
 // All of the program but what the system hands it, on the devices that it is shipped with. Of the system it has threads and
 // waiting, and these devices: no way leads to another.
-ghost use Rattle.std.specs.Prelude.{◌≡◌, ◌⊎◌, ℕ, List, [], codes};
+ghost use Rattle.std.specs.Prelude.{◌≡◌, ℕ, List, Some, [], codes};
 ghost use Rattle.std.specs.Process.{exit_status};
 ghost use Rattle.outside_io.specs.Shelves.{Files};
 ghost use Rattle.policy_types.specs.declared.script.Lane.{Lane};
@@ -8,16 +8,13 @@ ghost use Rattle.basis_book.specs.Dated.{Dated};
 ghost use Rattle.basis_shelf.specs.Bases.{IsBasis};
 ghost use Rattle.command_csv.specs.Reads.{Reads};
 ghost use Rattle.office_state.specs.Journals.{Opens};
-ghost use Rattle.program_endings.specs.Status.{status_of};
 ghost use Rattle.program_endings.specs.Writing.{IsWholeInput, between, input_between, shelf_between};
-ghost use Rattle.program_endings.specs.declared.ending.Ending.{Ending as AnEnding};
-ghost use Rattle.life_app.specs.DueKept.{IsDueOfBoth};
 ghost use Rattle.life_app.specs.Headline.{IsGivenBasis, IsPromisedFromStart};
-ghost use Rattle.life_app.specs.Needs.{filing_between};
-ghost use Rattle.life_app.specs.ObeysKept.{AskForBoth, ObeysKept};
+ghost use Rattle.life_app.specs.Needs.{With, filing_between};
+ghost use Rattle.life_app.specs.Obeys.{Obeys};
 ghost use Rattle.life_app.specs.Words.{AskForRun};
 ghost use Rattle.life_cli.specs.Completing.{EndsDuly};
-ghost use Rattle.life_cli.specs.Shipped.{ObeysFromStart, filing_from_start, shipped_auditors, input_from_start, output_from_start, shelf_from_start, two_disks};
+ghost use Rattle.life_cli.specs.Shipped.{ObeysFromStart, filing_from_start, shipped_auditors, input_from_start, output_from_start, shelf_from_start};
 
 use crate::devices::{CheckpointDisk, Devices, Folder, Input, JournalDisk, OutputOf};
 use life_app::{EndedKept, life_kept};
@@ -91,7 +88,10 @@ pub fn run_shipped<R: Threads + Wait + Sync, F: FoundFile, C: FoundFile>(
         (shelf_from_start (⟦<Folder as Shelf>⟧.faults result.shelf) (⟦<Folder as Shelf>⟧.agrees result.shelf))
         (filing_from_start F.bytes (⟦<JournalDisk<F> as Disk>⟧.reads result.disk)
         (⟦<JournalDisk<F> as Disk>⟧.honest result.disk)
-        (⟦<JournalDisk<F> as Disk>⟧.faults result.disk)) result.status }
+        (⟦<JournalDisk<F> as Disk>⟧.faults result.disk))
+        (With (filing_from_start C.bytes (⟦<CheckpointDisk<C> as Disk>⟧.reads result.second)
+        (⟦<CheckpointDisk<C> as Disk>⟧.honest result.second)
+        (⟦<CheckpointDisk<C> as Disk>⟧.faults result.second))) result.status }
 {
     let Devices {
         mut input,
@@ -157,8 +157,8 @@ fn obey<R: Threads + Wait + Sync, F: FoundFile, C: FoundFile>(
     disk: JournalDisk<F>,
     second: CheckpointDisk<C>,
 ) -> EndedKept<JournalDisk<F>, CheckpointDisk<C>>
-    ensures obeys { ObeysKept ⟦<JournalDisk<F> as Disk>⟧ ⟦<CheckpointDisk<C> as Disk>⟧
-        (two_disks disk result.disk second result.second) words.now shipped_auditors
+    ensures obeys { Obeys ⟦<JournalDisk<F> as Disk>⟧ ⟦<CheckpointDisk<C> as Disk>⟧
+        disk result.disk (Some second) (Some result.second) words.now shipped_auditors
         (input_between (⟦<Input as Source>⟧.faults) (⟦<Input as Source>⟧.left) (⟦<Input as Source>⟧.given)
         (⟦<Input as Source>⟧.ended) input.old input.new)
         (between (⟦<OutputOf<F> as Sink>⟧.faults) (⟦<OutputOf<F> as Sink>⟧.written) (⟦<OutputOf<F> as Sink>⟧.pieces) output.old output.new)
@@ -169,12 +169,8 @@ fn obey<R: Threads + Wait + Sync, F: FoundFile, C: FoundFile>(
         (⟦<Input as Source>⟧.ended) input.old input.new)
         (between (⟦<OutputOf<F> as Sink>⟧.faults) (⟦<OutputOf<F> as Sink>⟧.written) (⟦<OutputOf<F> as Sink>⟧.pieces) output.old output.new)
         (shelf_between (⟦<Folder as Shelf>⟧.faults) (⟦<Folder as Shelf>⟧.agrees) shelf.old shelf.new)
-        (filing_between ⟦<JournalDisk<F> as Disk>⟧ disk result.disk) result.status }
-    ensures due { (ending : AnEnding) → AskForBoth words.now
-        → IsDueOfBoth ⟦<JournalDisk<F> as Disk>⟧ ⟦<CheckpointDisk<C> as Disk>⟧
-        (two_disks disk result.disk second result.second)
-        (between (⟦<OutputOf<F> as Sink>⟧.faults) (⟦<OutputOf<F> as Sink>⟧.written) (⟦<OutputOf<F> as Sink>⟧.pieces) output.old output.new) ending
-        → (result.status ≡ status_of ending) ⊎ (result.status ≡ 9) }
+        (filing_between ⟦<JournalDisk<F> as Disk>⟧ disk result.disk)
+        (With (filing_between ⟦<CheckpointDisk<C> as Disk>⟧ second result.second)) result.status }
 {
     let counting = Box::new(alloc, CountWatcher::new(MOST_COMMANDS));
     let adding = Box::new(alloc, PremiumWatcher::new());

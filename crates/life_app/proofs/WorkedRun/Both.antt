@@ -1,5 +1,5 @@
 -- The worked run over both disks holds what its cases say.
-use Rattle.std.proofs.Common.{◌≡◌, ◌⊎◌, ℕ, ◌≤◌, true, List, [], ◌∷◌, ◌++◌, length, take, drop, get_or, refl, sym, ◌∙◌, ap, subst, inl, inr, lit≤, lit<, arith, codes, None, String, Global, append-nil, map, string_bytes}
+use Rattle.std.proofs.Common.{◌≡◌, ◌⊎◌, ℕ, ◌≤◌, true, List, [], ◌∷◌, ◌++◌, length, take, drop, get_or, refl, sym, ◌∙◌, ap, subst, inl, inr, lit≤, lit<, arith, codes, None, Some, String, Global, append-nil}
 use Rattle.std.specs.Fmt.{digits}
 use Rattle.std.proofs.lemmas.Bool.{cases_eq}
 use Rattle.std.proofs.lemmas.List.{take_at}
@@ -19,9 +19,9 @@ use Rattle.statements.specs.Statements.{account_line, count_text, policy_text}
 use Rattle.stating_modes.specs.Stated.{EndsStateKept, snapshot_text}
 use Rattle.stating_modes.specs.Saved.{EndsCheckpoint, IsNoneOrEarlierOrHeld}
 use Rattle.stating_modes.specs.TwoDisks.{AreTrue, IsHeldWhereTrue, IsMadeSafe, TellsTruth}
-use Rattle.life_args.specs.declared.mode.Mode.TheVariants.{Checkpoint, Run, State}
-use Rattle.life_args.proofs.Answering.{ask_once}
+use Rattle.life_args.specs.declared.mode.Mode.TheVariants.{Checkpoint, State}
 use Rattle.life_args.proofs.WorkedWords.{asks, asks_nothing}
+use Rattle.life_args.specs.Words.{AskFor}
 use Rattle.office_state.specs.declared.faults.StartCause.TheVariants.{NotAJournal}
 use Rattle.office_state.specs.Journals.{IsShown}
 use Rattle.office_state.specs.Worked.{hand_issue, hand_premium}
@@ -36,17 +36,17 @@ use Rattle.program_endings.specs.declared.ending.Ending.TheVariants.{Done, Usage
 use Rattle.record_codec.specs.Spelling.{spelling_of}
 use Rattle.life_app.specs.KeptRuns.{AreRunsOfTwo, IsRunOfTwo, IsSnapshotOfFirst, KeepsSecond, LeavesSaved, LeavesSecond, SavedOfFirst, SavesBooks, WasCutAfter, WasLeftOf}
 use Rattle.life_app.specs.Obeys.{SaysUnasked}
-use Rattle.life_app.specs.ObeysKept.{AskForBooks, AskForBoth}
-use Rattle.life_app.proofs.BooksSteps.{both_due}
+use Rattle.life_app.specs.Due.{HasJournal, HasNoJournal}
+use Rattle.life_app.specs.Words.{AskForCheckpoint}
+use Rattle.life_app.proofs.ProgramSteps.{due}
 use Rattle.life_app.proofs.KeptRunLaws.{two_left}
-use Rattle.life_app.specs.WorkedRun.Due.{letters}
+use Rattle.life_app.specs.WorkedRun.Due.{letters, letters_filing, no_input}
 use Rattle.life_app.specs.WorkedRun.Calls.{CalledDisk, called, cut_disk, cut_file, called_disk, empty_disk, last_disk, puts, reopening}
-use Rattle.life_app.specs.WorkedRun.Promise.{AreTyped, output_of}
+use Rattle.life_app.specs.WorkedRun.Promise.{AreTyped, output_of, shelf_that_told, two_auditors}
 use Rattle.life_app.specs.WorkedRun.Runs.{both_commands, looked_disk, second_opening}
-use Rattle.life_app.specs.WorkedRun.Both.{DueOfBothByHand, DueOfTheSaving, LeftOfTwoByHand, OtherwiseByHand, PartsOfTwoByHand, RowOfTwoByHand, SavedByHand, StatedByHand, TrustedByHand, cut_of_two, issue_books, letters_disks, read_disk, runs_of_two, saved_disk, saved_file, saved_of_two, saving, saving_disks, second_disk, stating_disks, whole_of_two}
+use Rattle.life_app.specs.WorkedRun.Both.{DueOfBothByHand, DueOfTheSaving, LeftOfTwoByHand, OtherwiseByHand, PartsOfTwoByHand, RowOfTwoByHand, SavedByHand, StatedByHand, TrustedByHand, cut_of_two, empty_filing, issue_books, letters_disks, looked_filing, read_disk, runs_of_two, saved_disk, saved_file, saved_filing, saved_of_two, saving, saving_disks, second_disk, stating_disks, whole_of_two}
 use Rattle.life_app.proofs.WorkedRun.Calls.{Left, reads}
 use Rattle.life_app.proofs.WorkedRun.Due.{none_failed}
-use Rattle.life_app.proofs.WorkedRun.Promise.{asks_run, obeyed}
 use Rattle.life_app.proofs.WorkedRun.First.{cut, found_safe, honest_last, honest_paid, journal_of_issue, was_cut, first_left}
 use Rattle.life_app.proofs.WorkedRun.Row.{facts, honest_looked, left_alone, opened_left, second_left}
 
@@ -176,13 +176,31 @@ neither : (Rise : Type 0) → (Rise → ⊥) → Rise ⊎ Rise → ⊥
 neither Rise none (inl rose) = none rose
 neither Rise none (inr rose) = none rose
 
-pub due_of_both : IsShown letters NotAJournal → DueOfBothByHand
-due_of_both shown = (
-  record { are_true = true_saving; none_failed = neither _ none_failed },
-  record { are_true = true_stating; none_failed = neither _ none_failed },
-  (record { are_true = true_saving; none_failed = neither _ none_failed }, (hand_issue ∷ [], inl (journal_of_issue cut_file cut)), none_failed),
-  (record { are_true = true_letters; none_failed = neither _ none_failed }, shown_opens_to_none letters NotAJournal tt shown),
-)
+saving_journal : HasJournal looked_filing saved_filing (hand_issue ∷ [])
+saving_journal = record { trusted = (honest_looked, honest_saved, truth_of_none cut_file); opens = inl (journal_of_issue cut_file cut); held = neither _ none_failed }
+
+asks_save : (words : List (String Global)) → AreTyped words (codes "checkpoint" ∷ []) → AskForCheckpoint words
+asks_save words same = asks _ Checkpoint (refl, refl) words same
+
+asks_books : (words : List (String Global)) → AreTyped words (codes "state" ∷ []) → AskFor words (State None)
+asks_books words same = asks _ (State None) (refl, record { pieces = []; spells = refl; only = tt; id_is = refl }) words same
+
+module _ (shown : IsShown letters NotAJournal) where
+  no_journal : HasNoJournal letters_filing empty_filing
+  no_journal = record {
+    trusted = (((((tt, tt), refl), refl), refl), (tt, refl), truth_of_none letters);
+    none = shown_opens_to_none letters NotAJournal tt shown;
+    held = neither _ none_failed;
+  }
+
+  pub due_of_both : DueOfBothByHand
+  due_of_both = (
+    saving_journal,
+    record { trusted = (honest_looked, (((tt, tt), refl), refl), truth_of_saved); opens = inl (journal_of_issue cut_file cut); held = neither _ none_failed },
+    no_journal,
+    λ words same. (Checkpoint, asks_save words same, tt, (hand_issue ∷ [], saving_journal), none_failed),
+    λ words same. (State None, asks_books words same, tt, no_journal),
+  )
 
 -- ---- the call
 
@@ -203,9 +221,8 @@ saved = record {
 pub saved_by_hand : SavedByHand
 saved_by_hand = (
   saved,
-  λ words same.
-      let asked = asks _ Checkpoint (refl, refl) words same in
-      (inr asked, inl (record { ending = Done; exits = refl; input = tt; shelf = tt; ends = inr (asked, saved) })),
+  saved,
+  λ words same. record { ending = Done; exits = refl; does = inl (Checkpoint, asks_save words same, (tt, tt, saved)) },
 )
 
 -- ---- the runs
@@ -355,41 +372,29 @@ stated = record {
   second = record { honesty = λ honest. (tt, refl); looks = λ honest. read_looks };
 }
 
-asks_books : (words : List (String Global)) → AreTyped words (codes "state" ∷ []) → AskForBooks words
-asks_books words same = asks _ (State None) (refl, record { pieces = []; spells = refl; only = tt; id_is = refl }) words same
-
 pub stated_by_hand : StatedByHand
 stated_by_hand = (
   stated_alone,
   stated,
-  λ words same. (
-    asks_books words same,
-    inl (asks_books words same, stated),
-    record { ending = Done; exits = refl; input = tt; shelf = tt; ends = inl (asks_books words same, stated) },
-  ),
+  stated,
+  λ words same. record { ending = Done; exits = refl; does = inl (State None, asks_books words same, (tt, tt, stated)) },
 )
 
 -- ---- other words
-
-pub none_of_both : (words : List (String Global)) → AreTyped words (codes "run" ∷ []) → AskForBoth words → ⊥
-none_of_both words same (inl state) =
-    let no : Run (codes "basis.csv") ≡ State None = ask_once (map string_bytes words) _ _ (asks_run words same) state in cc
-none_of_both words same (inr save) =
-    let no : Run (codes "basis.csv") ≡ Checkpoint = ask_once (map string_bytes words) _ _ (asks_run words same) save in cc
 
 says_usage : (words : List (String Global)) → AreTyped words [] → SaysUnasked words (output_of (codes "usage" ++ 10 ∷ [])) Usage
 says_usage words same = (asks_nothing [] (λ mode are. are) words same, inl refl)
 
 pub otherwise_by_hand : OtherwiseByHand
 otherwise_by_hand = (
-  λ words same. record { other = none_of_both words same; obeys = obeyed words same; second = refl },
-  λ words same. asks _ Checkpoint (refl, refl) words same,
+  asks_save,
   says_usage,
-  λ words same. record { disk = refl; input = tt; shelf = tt; says = says_usage words same },
-  λ words. record { exits = refl; unasked = record { disk = refl; input = tt; shelf = tt; says = inl refl }; second = refl },
+  λ words same. record { disk = refl; other = refl; input = tt; shelf = tt; says = says_usage words same },
+  λ words. record { disk = refl; other = refl; input = tt; shelf = tt; says = inl refl },
 )
 
 pub due_of_the_saving : DueOfTheSaving
 due_of_the_saving words same ending is =
-    both_due called called saving_disks (output_of (codes "checkpoint,1" ++ 10 ∷ [])) words Done ending
-    (inr (asks _ Checkpoint (refl, refl) words same, saved)) is
+    due called called cut_disk looked_disk (Some empty_disk) (Some saved_disk) two_auditors words no_input (output_of (codes "checkpoint,1" ++ 10 ∷ []))
+    (shelf_that_told []) (Unit {0}) (Unit {0}) Done (inl (Checkpoint, asks_save words same, (tt, tt, saved)))
+    (λ rose. absurd (omega (arith, rose))) (λ rose. absurd (omega (arith, rose))) ending is

@@ -1,5 +1,5 @@
 -- Worked cases have what is due.
-use Rattle.std.proofs.Common.{◌≤◌, [], ◌∷◌, refl, inr, lit≤, arith, codes, pos, None, Some}
+use Rattle.std.proofs.Common.{◌≡◌, ◌≤◌, ◌⊎◌, List, [], ◌∷◌, refl, inr, lit≤, arith, codes, pos, Option, None, Some, String, Global}
 use Rattle.std.proofs.lemmas.Int.{ints}
 use Rattle.std.proofs.lemmas.List.Elements.{All-nil}
 use Rattle.basis_shelf.specs.Worked.{BasisOfOneRow, FirstBadFiles, certain_death, one_row, shelf_with}
@@ -13,11 +13,15 @@ use Rattle.office_state.specs.declared.faults.StartCause.TheVariants.{NotAJourna
 use Rattle.office_state.specs.Journals.{IsShown}
 use Rattle.office_state.specs.Worked.{hand_issue}
 use Rattle.office_state.proofs.JournalLaws.{shown_opens_to_none}
-use Rattle.life_app.specs.Due.{HasBasis, HasJournal, HasNoBasis, HasNoJournal, HasNoScript, HasScript, IsHeld}
+use Rattle.life_app.specs.Due.{HasBasis, HasJournal, HasNoBasis, HasNoJournal, HasNoScript, HasScript, IsDueEnding, IsHeld}
+use Rattle.program_endings.specs.Status.{status_of}
+use Rattle.program_endings.specs.declared.ending.Ending.{Ending}
 use Rattle.program_endings.specs.declared.ending.Ending.TheVariants.{Done}
+use Rattle.life_app.specs.Needs.{Without}
+use Rattle.life_app.proofs.BooksSteps.{second_between}
 use Rattle.life_app.proofs.ProgramSteps.{due}
-use Rattle.life_app.specs.WorkedRun.Calls.{called, cut_disk, last_disk}
-use Rattle.life_app.specs.WorkedRun.Promise.{given_script, output_of, premium_lanes, premium_script, premium_text, shelf_that_told, two_auditors}
+use Rattle.life_app.specs.WorkedRun.Calls.{CalledDisk, called, cut_disk, last_disk}
+use Rattle.life_app.specs.WorkedRun.Promise.{AreTyped, given_script, output_of, premium_lanes, premium_script, premium_text, shelf_that_told, two_auditors}
 use Rattle.life_app.specs.WorkedRun.Due.{BasisByHand, DueByHand, DueOfTheRun, NeedsByHand, basisless_shelf, cut_filing, faulty_script, letters, letters_filing, stocked_shelf, value_lanes, value_script}
 use Rattle.life_app.proofs.WorkedRun.Promise.{asks_run, did, reads_premium}
 use Rattle.life_app.proofs.WorkedRun.First.{honest_last}
@@ -29,8 +33,8 @@ none_failed rose = let no : 1 ≤ 0 = rose in omega (arith, no)
 script : HasScript given_script premium_lanes
 script = record { bytes = premium_script; whole = inr (refl, tt); read = (lit≤ tt, reads_premium); held = none_failed }
 
-journal : HasJournal cut_filing (hand_issue ∷ [])
-journal = record { honest = honest_last; opens = second_left.opened honest_last; held = none_failed }
+journal : HasJournal cut_filing Without (hand_issue ∷ [])
+journal = record { trusted = honest_last; opens = second_left.opened honest_last; held = none_failed }
 
 module _ (clerk : NoClerk) (line : ValueLine) (basis : BasisOfOneRow) (bad : FirstBadFiles) (shown : IsShown letters NotAJournal) where
   values : HasScript value_script value_lanes
@@ -45,8 +49,8 @@ module _ (clerk : NoClerk) (line : ValueLine) (basis : BasisOfOneRow) (bad : Fir
   no_basis : HasNoBasis basisless_shelf (codes "a.csv")
   no_basis = record { files = shelf_with one_row None; agree = (tt, refl); bad = _; first = bad.0; held = none_failed }
 
-  no_journal : HasNoJournal letters_filing
-  no_journal = record { honest = ((((tt, tt), refl), refl), refl); none = shown_opens_to_none letters NotAJournal tt shown; held = none_failed }
+  no_journal : HasNoJournal letters_filing Without
+  no_journal = record { trusted = ((((tt, tt), refl), refl), refl); none = shown_opens_to_none letters NotAJournal tt shown; held = none_failed }
 
   pub needs_by_hand : NeedsByHand
   needs_by_hand = ((premium_lanes, (lit≤ tt, reads_premium)), inr (1, (1, clerk)), script, values, no_script, has_basis, no_basis, journal, no_journal)
@@ -94,6 +98,12 @@ module _ (clerk : NoClerk) (line : ValueLine) (basis : BasisOfOneRow) (bad : Fir
     ),
   )
 
+-- whatever the second disk, which stays
+pub due_beside : (second : Option CalledDisk) (words : List (String Global)) → AreTyped words (codes "run" ∷ []) → (ending : Ending)
+    → IsDueEnding words given_script (output_of premium_text) (shelf_that_told []) cut_filing (second_between called second second) ending
+    → (status_of Done ≡ status_of ending) ⊎ (status_of Done ≡ 9)
+due_beside second words same ending is = due called called cut_disk last_disk second second two_auditors words given_script (output_of premium_text) (shelf_that_told []) ⊥ (Unit {0}) Done
+    (did words second same) (λ rose. absurd (omega (arith, rose))) (λ rose. absurd (omega (arith, rose))) ending is
+
 pub due_of_the_run : DueOfTheRun
-due_of_the_run words same ending is = due called cut_disk last_disk two_auditors words given_script (output_of premium_text) (shelf_that_told []) ⊥ (Unit {0}) Done
-    (did words same) (λ rose. absurd (omega (arith, rose))) (λ rose. absurd (omega (arith, rose))) ending is
+due_of_the_run words same ending is = due_beside None words same ending is

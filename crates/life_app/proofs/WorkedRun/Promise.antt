@@ -1,5 +1,5 @@
 -- The worked run is as the headline says.
-use Rattle.std.proofs.Common.{◌≡◌, ◌+◌, ◌++◌, ℕ, List, [], ◌∷◌, length, arith, refl, ap, sym, subst, inl, inr, lit≤, lit<, codes, String, Global}
+use Rattle.std.proofs.Common.{◌≡◌, ◌+◌, ◌++◌, ℕ, List, [], ◌∷◌, length, arith, refl, ap, sym, subst, inl, inr, lit≤, lit<, codes, Option, None, String, Global}
 use Rattle.std.specs.Fmt.{digits}
 use Rattle.std.specs.Prelude.{take}
 use Rattle.std.specs.List.{IsDistinct, flat_map}
@@ -34,7 +34,7 @@ use Rattle.life_app.specs.Headline.{IsPromised, IsUnrun, SaysUnrun}
 use Rattle.life_app.specs.Obeys.{Does, Obeys}
 use Rattle.life_app.specs.Words.{AskForRun}
 use Rattle.life_app.proofs.HeadlineLaws.{by_script, headline}
-use Rattle.life_app.specs.WorkedRun.Calls.{Unsynced, called, cut_disk, cut_file, last_disk, untorn}
+use Rattle.life_app.specs.WorkedRun.Calls.{CalledDisk, Unsynced, called, cut_disk, cut_file, last_disk, untorn}
 use Rattle.life_app.specs.WorkedRun.Runs.{second_turns}
 use Rattle.life_app.specs.WorkedRun.Promise.{AreTyped, GivenByHand, HeadlineByHand, ObeyedByHand, PromisedByHand, ToldOnceSafe, given_script, output_of, premium_lanes, premium_line, premium_script, premium_text, shelf_that_told, two_auditors}
 use Rattle.outside_io.specs.FileCalls.{FileCall, FileLeft}
@@ -167,13 +167,13 @@ read = record {
 run_ended : EndsRun called cut_disk last_disk (codes "basis.csv") two_auditors given_script (output_of premium_text) (shelf_that_told []) (Unit {0}) Done
 run_ended = inl read
 
-pub did : (words : List (String Global)) → AreTyped words (codes "run" ∷ [])
-    → Does called cut_disk last_disk words two_auditors given_script (output_of premium_text) (shelf_that_told []) ⊥ (Unit {0}) Done
-did words same = inl (Run (codes "basis.csv"), asks_run words same, run_ended)
+pub did : (words : List (String Global)) (second : Option CalledDisk) → AreTyped words (codes "run" ∷ [])
+    → Does called called cut_disk last_disk second second words two_auditors given_script (output_of premium_text) (shelf_that_told []) ⊥ (Unit {0}) Done
+did words second same = inl (Run (codes "basis.csv"), asks_run words same, (refl, run_ended))
 
-pub obeyed : (words : List (String Global)) → AreTyped words (codes "run" ∷ [])
-    → Obeys called cut_disk last_disk words two_auditors given_script (output_of premium_text) (shelf_that_told []) ⊥ (Unit {0}) 0
-obeyed words same = record { ending = Done; exits = refl; does = did words same }
+pub obeyed : (words : List (String Global)) (second : Option CalledDisk) → AreTyped words (codes "run" ∷ [])
+    → Obeys called called cut_disk last_disk second second words two_auditors given_script (output_of premium_text) (shelf_that_told []) ⊥ (Unit {0}) 0
+obeyed words second same = record { ending = Done; exits = refl; does = did words second same }
 
 pub obeyed_by_hand : ObeyedByHand
 obeyed_by_hand = (ran, ran, ended, read, run_ended, obeyed)
@@ -195,8 +195,8 @@ no_unrun unrun = unrun_fails unrun.ending unrun.says unrun.exits
 
 pub headline_by_hand : HeadlineByHand
 headline_by_hand words same = headline called cut_disk last_disk (output_of premium_text) (codes "basis.csv") given_script (shelf_that_told [])
-    facts.only_now premium_lanes [] two_auditors premium_script words ⊥ (Unit {0}) 0
-    (obeyed words same) (asks_run words same) whole reads_premium (inl (refl, refl))
+    facts.only_now called None None premium_lanes [] two_auditors premium_script words ⊥ (Unit {0}) 0
+    (obeyed words None same) (asks_run words same) whole reads_premium (inl (refl, refl))
 
 promised : IsPromised called Opens cut_disk last_disk premium_lanes [] two_auditors (output_of premium_text) 0
 promised = elim (by_script called cut_disk last_disk (output_of premium_text) (codes "basis.csv") given_script (shelf_that_told [])

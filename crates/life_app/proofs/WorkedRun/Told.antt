@@ -150,8 +150,7 @@ module _ (line : ValueLine) where
         ),
       ),
     ),
-    tt,
-    (Done, refl, tt),
+    λ words. (Done, refl, tt),
   )
 
 -- ---- a valuation

@@ -6,23 +6,24 @@ use Rattle.checkpoint_store.specs.Spelling.{snapshot_bytes}
 use Rattle.checkpoint_store.specs.Worked.{issued_snapshot}
 use Rattle.outside_io.specs.FileCalls.{FileCall, Measured, Synced, file_reads}
 use Rattle.office_state.specs.Journals.{Opens}
+use Rattle.office_state.specs.Worked.{hand_issue}
 use Rattle.policy_types.specs.declared.command.Command.{Command}
 use Rattle.program_endings.specs.Status.{status_of}
 use Rattle.program_endings.specs.declared.ending.Ending.{Ending}
-use Rattle.program_endings.specs.declared.ending.Ending.TheVariants.{Done, Usage, BadJournal}
+use Rattle.program_endings.specs.declared.ending.Ending.TheVariants.{Done, Usage, BadJournal, NoMemory}
 use Rattle.stating_modes.specs.Books.{books_text}
 use Rattle.stating_modes.specs.Stating.{EndsState}
 use Rattle.stating_modes.specs.Saved.{EndsCheckpoint}
 use Rattle.stating_modes.specs.Stated.{EndsStateKept}
 use Rattle.stating_modes.specs.TwoDisks.{AreTrue, IsMadeSafe, TellsTruth, TwoDisks}
-use Rattle.life_app.specs.DueKept.{AreGood, IsDueOfBoth}
+use Rattle.life_app.specs.Due.{HasJournal, HasNoJournal, IsDueEnding}
 use Rattle.life_app.specs.KeptRuns.{AreRunsOfTwo, IsLeftByCall, IsRunOfTwo, IsSnapshotOfFirst, KeepsSecond, LeavesSaved, LeavesSecond, OneRunOfTwo, SavedOfFirst, SavesBooks, WasCutAfter, WasCutBefore, WasLeftOf}
-use Rattle.life_app.specs.Obeys.{EndsUnasked, SaysUnasked}
-use Rattle.life_app.specs.ObeysKept.{AskForBooks, AskForBoth, EndsByBoth, HasNoWords, ObeysByBoth, ObeysByOne, ObeysKept}
+use Rattle.life_app.specs.Obeys.{EndsBooks, EndsSave, EndsUnasked, Obeys, SaysUnasked}
+use Rattle.life_app.specs.Needs.{Filing, Second, With, filing_between}
 use Rattle.life_app.specs.Words.{AskForCheckpoint}
-use Rattle.life_app.specs.WorkedRun.Due.{letters, letters_disk, no_input}
+use Rattle.life_app.specs.WorkedRun.Due.{letters, letters_disk, letters_filing, no_input}
 use Rattle.life_app.specs.WorkedRun.Calls.{CalledDisk, called, cut_disk, called_disk, empty_disk, last_disk, puts, untorn}
-use Rattle.life_app.specs.WorkedRun.Promise.{AreTyped, given_script, output_of, premium_text, shelf_that_told, two_auditors}
+use Rattle.life_app.specs.WorkedRun.Promise.{AreTyped, output_of, shelf_that_told, two_auditors}
 use Rattle.life_app.specs.WorkedRun.Runs.{both_commands, cut_run, looked_disk, second_opening, whole_run}
 
 -- an empty second file is made safe; its gate is closed, all else is written, and the gate is opened
@@ -76,17 +77,34 @@ runs_of_two = cut_of_two ∷ saved_of_two ∷ whole_of_two ∷ []
 abbrev pub TrustedByHand : Type 0
 TrustedByHand = AreTrue called called saving_disks × AreTrue called called stating_disks × AreTrue called called letters_disks
 
+-- their files: the journal's that was looked at, beside the one that was saved to, or read; and an empty one
+abbrev pub looked_filing : Filing
+looked_filing = filing_between called cut_disk looked_disk
+
+abbrev pub saved_filing : Second
+saved_filing = With (filing_between called empty_disk saved_disk)
+
+abbrev pub read_filing : Second
+read_filing = With (filing_between called second_disk read_disk)
+
+abbrev pub empty_filing : Second
+empty_filing = With (filing_between called empty_disk empty_disk)
+
 -- and neither failed, so what is due is the work, or that there is no journal
 abbrev pub DueOfBothByHand : Type 0
-DueOfBothByHand = AreGood called called saving_disks × AreGood called called stating_disks
-    × IsDueOfBoth called called saving_disks (output_of (codes "checkpoint,1" ++ 10 ∷ [])) Done
-    × IsDueOfBoth called called letters_disks (output_of []) BadJournal
+DueOfBothByHand = HasJournal looked_filing saved_filing (hand_issue ∷ []) × HasJournal looked_filing read_filing (hand_issue ∷ [])
+    × HasNoJournal letters_filing empty_filing
+    × ((words : List (String Global)) → AreTyped words (codes "checkpoint" ∷ [])
+    → IsDueEnding words no_input (output_of (codes "checkpoint,1" ++ 10 ∷ [])) (shelf_that_told []) looked_filing saved_filing Done)
+    × ((words : List (String Global)) → AreTyped words (codes "state" ∷ [])
+    → IsDueEnding words no_input (output_of []) (shelf_that_told []) letters_filing empty_filing BadJournal)
 
 -- `checkpoint` saved the books, and the words are obeyed
 abbrev pub SavedByHand : Type 0
 SavedByHand = EndsCheckpoint called called saving_disks (output_of (codes "checkpoint,1" ++ 10 ∷ [])) Done
-    × ((words : List (String Global)) → AreTyped words (codes "checkpoint" ∷ []) → AskForBoth words
-    × ObeysKept called called saving_disks words two_auditors no_input (output_of (codes "checkpoint,1" ++ 10 ∷ [])) (shelf_that_told []) (Unit {0}) (Unit {0}) 0)
+    × EndsSave called called cut_disk looked_disk (Some empty_disk) (Some saved_disk) (output_of (codes "checkpoint,1" ++ 10 ∷ [])) Done
+    × ((words : List (String Global)) → AreTyped words (codes "checkpoint" ∷ [])
+    → Obeys called called cut_disk looked_disk (Some empty_disk) (Some saved_disk) words two_auditors no_input (output_of (codes "checkpoint,1" ++ 10 ∷ [])) (shelf_that_told []) (Unit {0}) (Unit {0}) 0)
 
 -- each run is one over both disks, and they follow one another
 abbrev pub RowOfTwoByHand : Type 0
@@ -100,7 +118,7 @@ RowOfTwoByHand = IsRunOfTwo called called empty_disk empty_disk cut_of_two
 -- and so the call that saved them, which ended with 0, ended as is due
 abbrev pub DueOfTheSaving : Type 0
 DueOfTheSaving = (words : List (String Global)) → AreTyped words (codes "checkpoint" ∷ []) → (ending : Ending)
-    → IsDueOfBoth called called saving_disks (output_of (codes "checkpoint,1" ++ 10 ∷ [])) ending
+    → IsDueEnding words no_input (output_of (codes "checkpoint,1" ++ 10 ∷ [])) (shelf_that_told []) looked_filing saved_filing ending
     → (status_of Done ≡ status_of ending) ⊎ (status_of Done ≡ 9)
 
 -- what these runs are made of
@@ -119,23 +137,17 @@ issue_books = codes "policy,7001,inforce,endowment,0,3,1000.00,400.00,2020-01-01
 abbrev pub StatedByHand : Type 0
 StatedByHand = EndsState called cut_disk looked_disk books_text (output_of issue_books) Done
     × EndsStateKept called called stating_disks (output_of issue_books) Done
-    × ((words : List (String Global)) → AreTyped words (codes "state" ∷ []) → AskForBooks words
-    × EndsByBoth called called stating_disks words (output_of issue_books) Done
-    × ObeysByBoth called called stating_disks words (output_of issue_books) (Unit {0}) (Unit {0}) 0)
+    × EndsBooks called called cut_disk looked_disk (Some second_disk) (Some read_disk) (output_of issue_books) Done
+    × ((words : List (String Global)) → AreTyped words (codes "state" ∷ [])
+    → Obeys called called cut_disk looked_disk (Some second_disk) (Some read_disk) words two_auditors no_input (output_of issue_books)
+    (shelf_that_told []) (Unit {0}) (Unit {0}) 0)
 
--- disks that aren't touched
-abbrev pub untouched_disks : TwoDisks CalledDisk CalledDisk
-untouched_disks = record { old = cut_disk; new = cut_disk; second = second_disk; kept = second_disk }
-
--- a script's run leaves the second disk; no words ask for nothing; and there may be no memory to read them
+-- no words ask for nothing, and there may be no memory to read them
 abbrev pub OtherwiseByHand : Type 0
-OtherwiseByHand = ((words : List (String Global)) → AreTyped words (codes "run" ∷ []) → ObeysByOne called
-    (record { old = cut_disk; new = last_disk; second = second_disk; kept = second_disk }) words two_auditors given_script
-    (output_of premium_text) (shelf_that_told []) ⊥ (Unit {0}) 0)
-    × ((words : List (String Global)) → AreTyped words (codes "checkpoint" ∷ []) → AskForCheckpoint words)
+OtherwiseByHand = ((words : List (String Global)) → AreTyped words (codes "checkpoint" ∷ []) → AskForCheckpoint words)
     × ((words : List (String Global)) → AreTyped words [] → SaysUnasked words (output_of (codes "usage" ++ 10 ∷ [])) Usage)
-    × ((words : List (String Global)) → AreTyped words [] → EndsUnasked cut_disk cut_disk words (output_of (codes "usage" ++ 10 ∷ [])) (Unit {0}) (Unit {0}) Usage)
-    × ((words : List (String Global)) → HasNoWords untouched_disks words (output_of (codes "nomemory" ++ 10 ∷ [])) (Unit {0}) (Unit {0}) 9)
+    × ((words : List (String Global)) → AreTyped words [] → EndsUnasked cut_disk cut_disk (Some second_disk) (Some second_disk) words (output_of (codes "usage" ++ 10 ∷ [])) (Unit {0}) (Unit {0}) Usage)
+    × ((words : List (String Global)) → EndsUnasked cut_disk cut_disk (Some second_disk) (Some second_disk) words (output_of (codes "nomemory" ++ 10 ∷ [])) (Unit {0}) (Unit {0}) NoMemory)
 
 -- so the second file's checkpoint is of the first of the commands, and tells the truth of the journal
 abbrev pub LeftOfTwoByHand : Type 0

@@ -21,7 +21,7 @@ use Rattle.script_run.specs.Script.{IsReadable, IsUnreadable}
 use Rattle.script_run.specs.Worked.{input_that_gave}
 use Rattle.life_app.specs.Due.{HasBasis, HasItsJournal, HasItsNeeds, HasJournal, HasNoBasis, HasNoJournal, HasNoScript, HasScript, IsDueEnding, LacksItsBasis, LacksItsJournal}
 use Rattle.life_app.specs.Headline.{IsGivenBasis}
-use Rattle.life_app.specs.Needs.{Filing, filing_between}
+use Rattle.life_app.specs.Needs.{Filing, Without, filing_between}
 use Rattle.life_app.specs.Words.{AskForValue}
 use Rattle.life_app.specs.WorkedRun.Calls.{CalledDisk, called, cut_disk, called_disk, last_disk}
 use Rattle.life_app.specs.WorkedRun.Promise.{AreTyped, given_script, output_of, premium_lanes, premium_script, premium_text, shelf_that_told}
@@ -70,8 +70,8 @@ NeedsByHand = IsReadable premium_script
     × HasNoScript faulty_script
     × HasBasis stocked_shelf (codes "b.csv")
     × HasNoBasis basisless_shelf (codes "a.csv")
-    × HasJournal cut_filing (hand_issue ∷ [])
-    × HasNoJournal letters_filing
+    × HasJournal cut_filing Without (hand_issue ∷ [])
+    × HasNoJournal letters_filing Without
 
 -- the line that asks for values is given the basis that the files make, of which its one row is picked for a policy of 2020
 abbrev pub BasisByHand : Type 0
@@ -79,21 +79,21 @@ BasisByHand = (entry : Dated) × IsGivenBasis IsBasis value_lanes (codes "b.csv"
 
 -- the run of the premium has all that it needs, and so it is to be done; other words, files and scripts have other endings
 abbrev pub DueByHand : Type 0
-DueByHand = HasItsNeeds (Run (codes "basis.csv")) given_script (shelf_that_told [])
-    × HasItsJournal (Run (codes "basis.csv")) cut_filing
-    × ((words : List (String Global)) → AreTyped words (codes "run" ∷ []) → IsDueEnding words given_script (output_of premium_text) (shelf_that_told []) cut_filing Done)
-    × ((words : List (String Global)) → AreTyped words (codes "state" ∷ []) → IsDueEnding words no_input (output_of []) (shelf_that_told []) letters_filing BadJournal)
-    × ((words : List (String Global)) → AreTyped words [] → IsDueEnding words no_input (output_of []) (shelf_that_told []) cut_filing Usage)
-    × ((words : List (String Global)) → AreTyped words (codes "run" ∷ []) → IsDueEnding words faulty_script (output_of []) (shelf_that_told []) cut_filing BadScript)
+DueByHand = HasItsNeeds (Run (codes "basis.csv")) given_script (shelf_that_told []) Without
+    × HasItsJournal (Run (codes "basis.csv")) cut_filing Without
+    × ((words : List (String Global)) → AreTyped words (codes "run" ∷ []) → IsDueEnding words given_script (output_of premium_text) (shelf_that_told []) cut_filing Without Done)
+    × ((words : List (String Global)) → AreTyped words (codes "state" ∷ []) → IsDueEnding words no_input (output_of []) (shelf_that_told []) letters_filing Without BadJournal)
+    × ((words : List (String Global)) → AreTyped words [] → IsDueEnding words no_input (output_of []) (shelf_that_told []) cut_filing Without Usage)
+    × ((words : List (String Global)) → AreTyped words (codes "run" ∷ []) → IsDueEnding words faulty_script (output_of []) (shelf_that_told []) cut_filing Without BadScript)
     × LacksItsBasis (Run (codes "a.csv")) value_script basisless_shelf
     × LacksItsBasis (ToValue (pos 18262) Now 1 (codes "a.csv") Terminal) no_input basisless_shelf
-    × HasItsNeeds (ToValue (pos 18262) Now 1 (codes "b.csv") Terminal) no_input stocked_shelf
-    × HasItsJournal (ToValue (pos 18262) (Position 1) 1 (codes "b.csv") Terminal) cut_filing
-    × LacksItsJournal (State None) letters_filing
+    × HasItsNeeds (ToValue (pos 18262) Now 1 (codes "b.csv") Terminal) no_input stocked_shelf Without
+    × HasItsJournal (ToValue (pos 18262) (Position 1) 1 (codes "b.csv") Terminal) cut_filing Without
+    × LacksItsJournal (State None) letters_filing Without
     × ((words : List (String Global)) → AreTyped words (codes "value" ∷ codes "2021-01-01" ∷ []) → AskForValue words (pos 18628) Now (codes "basis.csv"))
 
 -- and so the run of the premium, which ended with 0, ended as is due
 abbrev pub DueOfTheRun : Type 0
 DueOfTheRun = (words : List (String Global)) → AreTyped words (codes "run" ∷ []) → (ending : Ending)
-    → IsDueEnding words given_script (output_of premium_text) (shelf_that_told []) cut_filing ending
+    → IsDueEnding words given_script (output_of premium_text) (shelf_that_told []) cut_filing Without ending
     → (status_of Done ≡ status_of ending) ⊎ (status_of Done ≡ 9)

@@ -1,5 +1,5 @@
 -- What the headline says of the worked run's second half: the script, what is written, and the basis that is given
-use Rattle.std.specs.Prelude.{◌≡◌, ◌⊎◌, ◌==◌, ℕ, false, length, List, [], ◌∷◌, ◌++◌, Some, codes, map, string_bytes, String}
+use Rattle.std.specs.Prelude.{◌≡◌, ◌⊎◌, ◌==◌, ℕ, false, length, List, [], ◌∷◌, ◌++◌, Option, Some, codes, map, string_bytes, String}
 use Rattle.std.specs.Global.{Global}
 use Rattle.basis_shelf.specs.Bases.{IsBasis}
 use Rattle.command_csv.specs.Reads.{Reads, lane_of}
@@ -23,7 +23,7 @@ use Rattle.watcher_set.specs.Premiums.{premiums_of}
 use Rattle.life_app.specs.Headline.{IsGivenBasis, IsPromised, IsPromisedFromStart, IsUnrun}
 use Rattle.life_app.specs.Obeys.{Obeys}
 use Rattle.life_app.specs.Words.{AskForRun}
-use Rattle.life_app.specs.WorkedRun.Calls.{called, cut_disk, cut_file, last_disk}
+use Rattle.life_app.specs.WorkedRun.Calls.{CalledDisk, called, cut_disk, cut_file, last_disk}
 use Rattle.life_app.specs.WorkedRun.Runs.{second_turns}
 
 -- the clerk's one line
@@ -69,15 +69,15 @@ GivenByHand = ((words : List (String Global)) → AreTyped words (codes "run" �
     × IsWholeInput given_script premium_script × Reads premium_script premium_lanes
     × IsGivenBasis IsBasis premium_lanes (codes "basis.csv") (shelf_that_told []) []
 
--- the program obeyed them, over the file that the crash had cut, and nothing was asked of the shelf
+-- the program obeyed them, over the file that the crash had cut and any second disk or none, and nothing was asked of the shelf
 abbrev pub ObeyedByHand : Type 0
 ObeyedByHand = IsRunOf called cut_disk last_disk premium_lanes [] two_auditors (output_of premium_text) (WroteWhole (output_of premium_text)) AreAnswered
     × EndsScript called cut_disk last_disk premium_lanes [] two_auditors (output_of premium_text) Done
     × EndsLanes called cut_disk last_disk premium_lanes (codes "basis.csv") two_auditors (shelf_that_told []) (output_of premium_text) (Unit {0}) Done
     × EndsRead called cut_disk last_disk (codes "basis.csv") two_auditors given_script (output_of premium_text) (shelf_that_told []) (Unit {0}) Done
     × EndsRun called cut_disk last_disk (codes "basis.csv") two_auditors given_script (output_of premium_text) (shelf_that_told []) (Unit {0}) Done
-    × ((words : List (String Global)) → AreTyped words (codes "run" ∷ [])
-    → Obeys called cut_disk last_disk words two_auditors given_script (output_of premium_text) (shelf_that_told []) ⊥ (Unit {0}) 0)
+    × ((words : List (String Global)) (second : Option CalledDisk) → AreTyped words (codes "run" ∷ [])
+    → Obeys called called cut_disk last_disk second second words two_auditors given_script (output_of premium_text) (shelf_that_told []) ⊥ (Unit {0}) 0)
 
 -- so the headline says of it what is promised, or that no line was answered
 abbrev pub HeadlineByHand : Type 0

@@ -26,13 +26,12 @@ use Rattle.trial_load.specs.Generating.{EndsGenerate}
 use Rattle.trial_load.specs.Loading.{EndsLoad}
 use Rattle.life_app.specs.Obeys.{EndsMode}
 use Rattle.script_run.specs.Running.{ReadsForValues}
-use Rattle.life_app.specs.DueKept.{HasReasonOfBoth, IsReasonedOfBoth}
 use Rattle.life_app.specs.Headline.{IsEnclosingRow, IsEnclosingText, IsUnrun, IsWorthBy, WasFaulted}
-use Rattle.life_app.specs.Needs.{HasBadFile, IsPastTheEnd, NeedBasis}
+use Rattle.life_app.specs.Needs.{HasBadFile, IsPastTheEnd, NeedBasis, Without}
 use Rattle.life_app.specs.Reasons.{HasReason, IsReasoned}
 use Rattle.life_app.specs.Runs.{AddsCommands}
 use Rattle.life_app.specs.Words.{AskForLoad, AskForProject}
-use Rattle.life_app.specs.WorkedRun.Both.{issue_books, saving_disks}
+use Rattle.life_app.specs.WorkedRun.Both.{issue_books, looked_filing, saved_filing}
 use Rattle.life_app.specs.WorkedRun.Calls.{called, cut_disk}
 use Rattle.life_app.specs.WorkedRun.Due.{cut_filing, no_input, value_script}
 use Rattle.life_app.specs.WorkedRun.Promise.{AreTyped, given_script, output_of, premium_text, shelf_that_told, two_auditors}
@@ -55,16 +54,15 @@ absent_basis = codes "badbasis,basis.csv,0,absent" ++ 10 ∷ []
 -- statuses and endings with their reasons
 abbrev pub ReasonsByHand : Type 0
 ReasonsByHand = ((words : List (String Global)) → AreTyped words (codes "run" ∷ [])
-    → IsReasoned words given_script (output_of premium_text) (shelf_that_told []) cut_filing 0
+    → IsReasoned words given_script (output_of premium_text) (shelf_that_told []) cut_filing Without 0
     × NeedBasis words value_script (codes "basis.csv")
     × HasBadFile words value_script unstocked_shelf (output_of absent_basis)
-    × HasReason words value_script (output_of absent_basis) unstocked_shelf cut_filing BadBasis)
+    × HasReason words value_script (output_of absent_basis) unstocked_shelf cut_filing Without BadBasis)
     × ReadsForValues value_script
     × ((words : List (String Global)) → AreTyped words (codes "value" ∷ codes "2021-01-01" ∷ codes "--at=5" ∷ []) → IsPastTheEnd words cut_filing)
     × ((words : List (String Global)) → AreTyped words (codes "project" ∷ codes "2021-01-01" ∷ codes "1" ∷ []) → AskForProject words (pos 18628) 1 (codes "basis.csv"))
     × ((words : List (String Global)) → AreTyped words (codes "load" ∷ codes "7" ∷ codes "5" ∷ codes "2" ∷ codes "1" ∷ []) → AskForLoad words)
-    × HasReasonOfBoth called called saving_disks (output_of (codes "checkpoint,1" ++ 10 ∷ [])) Done
-    × IsReasonedOfBoth called called saving_disks (output_of (codes "checkpoint,1" ++ 10 ∷ [])) 0
+    × ((words : List (String Global)) → IsReasoned words no_input (output_of (codes "checkpoint,1" ++ 10 ∷ [])) (shelf_that_told []) looked_filing saved_filing 0)
 
 -- the modes that need a basis end so where it isn't there, `generate` where there is no memory, and `state` with its books
 abbrev pub ModesByHand : Type 0
@@ -72,7 +70,7 @@ ModesByHand = EndsValue called cut_disk cut_disk (pos 18628) Now Terminal (codes
     × EndsProject called cut_disk cut_disk (pos 18628) 1 (codes "basis.csv") unstocked_shelf (output_of absent_basis) BadBasis
     × EndsLoad called cut_disk cut_disk 7 5 2 1 unstocked_shelf (output_of absent_basis) BadBasis
     × EndsGenerate 7 5 2 (output_of (codes "nomemory" ++ 10 ∷ [])) NoMemory
-    × EndsMode called cut_disk looked_disk (State None) two_auditors no_input (output_of issue_books) (shelf_that_told []) (Unit {0}) (Unit {0}) Done
+    × EndsMode called called cut_disk looked_disk None None (State None) two_auditors no_input (output_of issue_books) (shelf_that_told []) (Unit {0}) (Unit {0}) Done
 
 abbrev pub two_bases : List Dated
 two_bases = from_2000 ∷ from_2020 ∷ []

@@ -10,6 +10,6 @@ returns g c = record {
         counts_now = λ disk moment image honest passed may. g.met.D.Disk.counts_now disk moment image honest passed may;
         only_now = λ disk image honest left. g.met.D.Disk.only_now disk image honest left;
       }) first last commands runs image safe opens are left;
-  so = λ old new input read output written shelf asked words auditors status obeys.
-      left_so g.D.Disk old new auditors _ _ _ _ _ words obeys.ending obeys.does;
+  so = λ old new second kept input read output written shelf asked words auditors status obeys.
+      left_so g.D.Disk old new g.E.Disk second kept auditors _ _ _ _ _ words obeys.ending obeys.does;
 }

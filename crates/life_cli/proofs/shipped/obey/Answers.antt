@@ -3,6 +3,7 @@ use denote.Param.Object.{read_made}
 use Rattle.watcher_set.specs.Noted.{Auditor}
 use Rattle.program_endings.specs.Status.{status_of}
 use Rattle.program_endings.specs.declared.ending.Ending.{Ending}
+use Rattle.program_endings.specs.declared.ending.Ending.TheVariants.{NoMemory}
 use Rattle.watcher_set.specs.declared.counting.CountWatcher.{CountWatcher}
 use Rattle.life_cli.specs.Shipped.{shipped_auditors, count_auditor}
 use Rattle.life_cli.proofs.FromStart.{obeys_with, seen_of_two, ends_with_9}
@@ -10,26 +11,20 @@ use Rattle.life_cli.proofs.shipped.obey.OwnLists.{own-1}
 use Rattle.life_cli.proofs.shipped.obey.Goals as goal
 
 pub returns-in_default-clause-obeys : goal.returns-in_default-clause-obeys
-returns-in_default-clause-obeys g c = inr (inr (record {
+returns-in_default-clause-obeys g c = record {
+  ending = NoMemory;
   exits = c.status-status.ensures ∙ ap (λ (e : Ending). status_of e) c.lack_memory.ensures.so;
-  unasked = record { disk = refl; input = refl; shelf = refl; says = c.lack_memory.ensures.wrote };
-  second = refl;
-}))
-
-pub returns-in_default-clause-due : goal.returns-in_default-clause-due
-returns-in_default-clause-due g c ending both is = inr (c.status-status.ensures ∙ ap (λ (e : Ending). status_of e) c.lack_memory.ensures.so)
-
-pub returns-clause-due : goal.returns-clause-due
-returns-clause-due g c = c.life_kept.ensures.due_both
+  does = inr (record { disk = refl; other = refl; input = refl; shelf = refl; says = c.lack_memory.ensures.wrote });
+}
 
 pub returns-in_default-clause-ends : goal.returns-in_default-clause-ends
-returns-in_default-clause-ends g c = ends_with_9 _ _ _ _ _ _ (c.status-status.ensures ∙ ap (λ (e : Ending). status_of e) c.lack_memory.ensures.so) refl
+returns-in_default-clause-ends g c = ends_with_9 _ _ _ _ _ _ _ (c.status-status.ensures ∙ ap (λ (e : Ending). status_of e) c.lack_memory.ensures.so) refl
 
 pub returns-clause-ends : goal.returns-clause-ends
 returns-clause-ends g c = record { reason = c.life_kept.ensures.reason; due = c.life_kept.ensures.due; unopened = c.life_kept.ensures.unopened }
 
 pub returns-clause-obeys : goal.returns-clause-obeys
-returns-clause-obeys g c = obeys_with _ _ _ _ _ _ _ _ _ _ _ shipped_auditors
+returns-clause-obeys g c = obeys_with _ _ _ _ _ _ _ _ _ _ _ _ _ _ shipped_auditors
     (
     seen_of_two _ _ _ _ _ _ _ _ _ c.push_reserved-2.ensures.items c.push_reserved.ensures.items c.reserve-room.ensures.items c.new-auditors.ensures.items
     (

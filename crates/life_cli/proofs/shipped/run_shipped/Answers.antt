@@ -3,9 +3,7 @@ use Rattle.outside_io.specs.FileCalls.{FileCall, file_reads, AreAllowed}
 use Rattle.outside_io.specs.Shelves.{Files, Agrees}
 use Rattle.outside_io.specs.Streams.{StreamPiece, passed_bytes, pieces_by, HasEnd}
 use Rattle.outside_io.specs.FileLaws.{left_only_now}
-use Rattle.life_app.proofs.BooksSteps.{reasoned}
-use Rattle.life_cli.specs.Shipped.{two_disks}
-use Rattle.life_cli.proofs.FromStart.{due_from_start, ends_from_start, agrees_with_all, kept_still, obeys_from_start}
+use Rattle.life_cli.proofs.FromStart.{ends_from_start, agrees_with_all, obeys_still, obeys_from_start}
 use Rattle.life_cli.proofs.Promised.{promised}
 use Rattle.life_cli.proofs.shipped.run_shipped.Goals as goal
 
@@ -20,16 +18,15 @@ returns-clause-obeys g c =
     let gave = ap (λ (pieces : List StreamPiece). passed_bytes pieces) c.requires.input.1 in
     let disk = c.args.devices.disk in
     let second = c.args.devices.second in
-    let disks = two_disks disk c.obey-status.result.disk second c.obey-status.result.second in
     let took = ap (λ (pieces : List StreamPiece). Some (passed_bytes pieces)) c.requires.output.1 in
     let none : pieces_by output.taken output.by ≡ [] = ap (λ (pieces : List StreamPiece). pieces_by pieces output.by) c.requires.output.1 in
     let obeys =
-    obeys_from_start _ _ _ _ _ _ _ _ input.faults input'.faults output.faults output'.faults shelf.faults shelf'.faults
+    obeys_from_start _ _ _ _ _ _ _ _ _ _ _ input.faults input'.faults output.faults output'.faults shelf.faults shelf'.faults
     (passed_bytes input.given) (passed_bytes input'.given) (HasEnd input'.given) (Some (passed_bytes output.taken)) (Some (passed_bytes output'.taken)) (pieces_by output.taken output.by) (pieces_by output'.taken output'.by)
     (λ files. Agrees shelf'.answers files)
     c.requires.input.0 gave c.requires.output.0 took none c.requires.shelf.0
     (
-    kept_still _ _ disks _ _ _ _ _ (input' ≡ input) (shelf' ≡ shelf) (passed_bytes input'.given ≡ []) ((files : Files) → Agrees shelf'.answers files)
+    obeys_still _ _ disk c.obey-status.result.disk (Some second) (Some c.obey-status.result.second) _ _ _ _ _ (input' ≡ input) (shelf' ≡ shelf) (passed_bytes input'.given ≡ []) ((files : Files) → Agrees shelf'.answers files)
     (λ stays. cc (gave)) (λ stays. agrees_with_all shelf'.answers (cc (c.requires.shelf.1))) _ c.obey-status.ensures.obeys
     ) in
     record {
@@ -46,9 +43,6 @@ returns-clause-obeys g c =
         reads = ap (λ (calls : List FileCall). file_reads g.C.FoundFile.bytes g.C.FoundFile.torn calls) c.requires.second.1;
       };
       obeys = obeys;
-      reason = λ both. reasoned _ _ disks _ _ _ _ _ _ _ _ obeys both;
-      due = due_from_start _ _ disks _ _ output.faults output'.faults (Some (passed_bytes output.taken)) (Some (passed_bytes output'.taken)) (pieces_by output.taken output.by) (pieces_by output'.taken output'.by)
-          c.requires.output.0 took none c.obey-status.ensures.due;
     }
 
 pub returns-clause-promised : goal.returns-clause-promised
@@ -68,15 +62,22 @@ returns-clause-ends g c =
     let output' = c.obey-status.new.output in
     let shelf' = c.obey-status.new.shelf in
     let disk' = c.obey-status.result.disk in
+    let second = c.args.devices.second in
+    let second' = c.obey-status.result.second in
     let found = g.F.FoundFile.bytes in
     let torn = g.F.FoundFile.torn in
+    let saved = g.C.FoundFile.bytes in
+    let second_torn = g.C.FoundFile.torn in
     ends_from_start _ _ input.faults input'.faults output.faults output'.faults shelf.faults shelf'.faults disk.file.faults disk'.file.faults
     (passed_bytes input.given) (passed_bytes input'.given) (HasEnd input'.given) (Some (passed_bytes output.taken)) (Some (passed_bytes output'.taken)) (pieces_by output.taken output.by) (pieces_by output'.taken output'.by)
     (λ files. Agrees shelf'.answers files) (AreAllowed found torn disk'.file.calls) (file_reads found torn disk.file.calls) found (file_reads found torn disk'.file.calls)
+    second.file.faults second'.file.faults (AreAllowed saved second_torn second'.file.calls) (file_reads saved second_torn second.file.calls) saved
+    (file_reads saved second_torn second'.file.calls)
     c.requires.input.0 (ap (λ (pieces : List StreamPiece). passed_bytes pieces) c.requires.input.1) c.requires.output.0
     (ap (λ (pieces : List StreamPiece). Some (passed_bytes pieces)) c.requires.output.1)
     (ap (λ (pieces : List StreamPiece). pieces_by pieces output.by) c.requires.output.1) c.requires.shelf.0 c.requires.disk.0
-    (ap (λ (calls : List FileCall). file_reads found torn calls) c.requires.disk.1) c.obey-status.ensures.ends
+    (ap (λ (calls : List FileCall). file_reads found torn calls) c.requires.disk.1) c.requires.second.0
+    (ap (λ (calls : List FileCall). file_reads saved second_torn calls) c.requires.second.1) c.obey-status.ensures.ends
 
 pub returns-clause-names : goal.returns-clause-names
 returns-clause-names g c = (c.obey-status.result.disk.named _ refl, c.obey-status.result.second.named _ refl)
