@@ -28,7 +28,7 @@ LIMITS = {
     "docs/FORMATS.md": 6150,
     "docs/ARCHITECTURE.md": 5200,
     "docs/PROOF.md": 8200,
-    "docs/DECISIONS.md": 4300,
+    "docs/DECISIONS.md": 4310,
     "docs/FIGURES.md": 1700,
 }
 MOST_IN_A_SENTENCE = 35
