@@ -39,7 +39,8 @@ return found;
 # cells that don't say by which head they belong, where a table is narrow
 UNNAMED = """
 return [...document.querySelectorAll('tbody td')].filter(cell => cell.textContent.trim() && !cell.classList.contains('bar') &&
-  getComputedStyle(cell, '::before').content.replaceAll('"', '') !== cell.dataset.head).map(cell => cell.textContent);
+  cell.getClientRects().length && getComputedStyle(cell, '::before').content.replaceAll('"', '') !== cell.dataset.head)
+  .map(cell => cell.textContent);
 """
 
 # tables that are wider than their place, so that they scroll sideways
