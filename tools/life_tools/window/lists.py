@@ -90,8 +90,8 @@ def found_in(database: sqlite3.Connection, sought: Sought, position: int) -> Fou
     column, way = SORTED[sought.sort], "desc" if falling else "asc"
     order = f"{column} {way}" if column == "policy" else f"{column} {way}, policy {way}"
     skipped = count - begin - size if is_back else begin
-    # of the rows that are passed over only their places are read
-    places = f"select rowid from policy where {where} order by {order} limit ? offset ?"
+    # of the rows that are passed over only their places are read; by the order that is there already, as to sort takes longer
+    places = f"select rowid from policy indexed by policy_by_{column} where {where} order by {order} limit ? offset ?"
     rows = database.execute(f"select * from policy where rowid in ({places}) order by {order}", [*values, size, skipped])
     found = rows.fetchall()
     return Found(found[::-1] if is_back else found, count)
