@@ -29,7 +29,7 @@ LIMITS = {
     "docs/ARCHITECTURE.md": 5200,
     "docs/PROOF.md": 8200,
     "docs/DECISIONS.md": 4310,
-    "docs/FIGURES.md": 1700,
+    "docs/FIGURES.md": 1750,
 }
 MOST_IN_A_SENTENCE = 35
 MOST_IN_A_CELL = 30
