@@ -56,6 +56,9 @@ cd ..
 open_window --folder book
 TMPDIR=$work/browser timeout 900 python3 "$root/.ci/window/ways.py" "$(cat address)" "$PWD/book" "$life" "$shots" >said 2>times || complain "$(cat said; tail -n 5 times)"
 
+go_on "orders"
+/usr/bin/python3 "$root/.ci/window/orders.py" "$tools" book/journal.life >said || complain "$(cat said)"
+
 go_on "hostile requests"
 timeout 60 python3 "$root/.ci/window/hostile.py" "$(cat address)" book >said || complain "$(cat said)"
 [ "$(stat -c %a "$TMPDIR"/life-window-*)" = 700 ] || complain "the private folder is open: $(ls -ld "$TMPDIR"/*)"

@@ -77,6 +77,13 @@ def condition(sought: Sought, position: int) -> tuple[str, list[Any]]:
     return " and ".join(parts), values
 
 
+def made_order(database: sqlite3.Connection, column: str) -> str:
+    """Says to go by this column's order, which is quicker than to sort. It is made behind the first page, so it may lack."""
+    name = f"policy_by_{column}"
+    made = database.execute("select 1 from sqlite_master where type = 'index' and name = ?", (name,)).fetchone()
+    return f"indexed by {name}" if made else ""
+
+
 def found_in(database: sqlite3.Connection, sought: Sought, position: int) -> Found:
     """The page; one behind the middle of a long list is read from its end, which is as quick as its beginning."""
     where, values = condition(sought, position)
@@ -90,8 +97,8 @@ def found_in(database: sqlite3.Connection, sought: Sought, position: int) -> Fou
     column, way = SORTED[sought.sort], "desc" if falling else "asc"
     order = f"{column} {way}" if column == "policy" else f"{column} {way}, policy {way}"
     skipped = count - begin - size if is_back else begin
-    # of the rows that are passed over only their places are read; by the order that is there already, as to sort takes longer
-    places = f"select rowid from policy indexed by policy_by_{column} where {where} order by {order} limit ? offset ?"
+    # of the rows that are passed over only their places are read
+    places = f"select rowid from policy {made_order(database, column)} where {where} order by {order} limit ? offset ?"
     rows = database.execute(f"select * from policy where rowid in ({places}) order by {order}", [*values, size, skipped])
     found = rows.fetchall()
     return Found(found[::-1] if is_back else found, count)
