@@ -1,4 +1,5 @@
-"""Tells how far the gate is while it runs, and at its end its processor seconds by part and by crate.
+"""Tells how far the gate is while it runs, and at its end its processor seconds by part and by crate, the dearest chain
+of crates that each wait for those below, and what all of it is on a standard machine.
 
 budget.py PID LOG: PID is the shell that runs the gate, LOG the file that its `rt ci` writes. It looks at /proc twice a
 second, and ends by SIGTERM, or when that shell is gone.
@@ -20,6 +21,50 @@ MINUTES_BETWEEN_LINES = 5
 MOST_MINUTES = 190
 TICKS = os.sysconf("SC_CLK_TCK")
 PARTS = ("proofs", "tests", "seeds", "edits", "compiling")
+# a machine is as fast as the standard one where `fixed_loop` takes a second of its processor
+LOOPS = 3
+SHIPPED = "life_cli"
+
+
+def fixed_loop() -> float:
+    """The processor seconds of some fixed work in memory, at random places as a prover's; the least of a few rounds."""
+    rounds = []
+    for _ in range(LOOPS):
+        begun = time.process_time()
+        drawn: dict[int, tuple[int, ...]] = {}
+        word = 1
+        for _ in range(300_000):
+            word = (word * 1_103_515_245 + 12_345) % 2_147_483_648
+            drawn[word >> 10] = (*drawn.get(word >> 10, ()), word)
+        sorted(drawn, key=lambda it: drawn[it])
+        rounds.append(time.process_time() - begun)
+    return min(rounds)
+
+
+def stands_on(text: str) -> dict[str, list[str]]:
+    """Each crate of crates.txt with the libraries of its line."""
+    return {name: below.split() for name, below in re.findall(r"^(\w+)[^#\n:]*:([^#\n]*)", text, re.M)}
+
+
+def dearest_chain(below: dict[str, list[str]], seconds: dict[str, float], top: str) -> list[str]:
+    """The crates that `top` waits for the longest, each for the one before it, by these seconds; `top` is the last."""
+    chains: dict[str, tuple[float, list[str]]] = {}
+
+    def chain(crate: str) -> tuple[float, list[str]]:
+        if crate not in chains:
+            waited, crates = max((chain(it) for it in below[crate] if it in below), default=(0.0, []))
+            chains[crate] = waited + seconds.get(crate, 0.0), [*crates, crate]
+        return chains[crate]
+
+    return chain(top)[1]
+
+
+def told_chain(below: dict[str, list[str]], seconds: dict[str, float]) -> str:
+    """The dearest chain under the shipped program and its seconds of proof; a crate that was kept has none."""
+    crates = dearest_chain(below, seconds, SHIPPED)
+    whole = sum(seconds.get(it, 0.0) for it in crates)
+    each = ", ".join(f"{it} {seconds.get(it, 0.0):.0f}" for it in crates)
+    return f"gate: the dearest chain is of {len(crates)} crates, {whole:.0f} processor seconds of proof: {each}"
 
 
 class Process:
@@ -82,8 +127,8 @@ class Budget:
         self.works: dict[Any, tuple[str, str]] = {}  # What each prover works at.
         self.there: set[Any] = set()  # The processes of the last look.
         self.commands: dict[Any, list[str]] = {}  # The words of each command of the shell.
-        crates = re.findall(r"^(\w+)[^#\n]*:", Path("crates.txt").read_text(), re.M)
-        self.crates = len(crates)
+        self.below = stands_on(Path("crates.txt").read_text())
+        self.loops = [fixed_loop()]
         self.edits = len(list(Path("crates").glob("*/must-fail/*.edit")))
 
     def look(self) -> bool:
@@ -119,7 +164,7 @@ class Budget:
         tested = len(set(re.findall(r"^rt: (\w+): its tests are proved", said, re.M)))
         failed = sorted(set(re.findall(r"^rt: (\w+).* NOT PROVED", said, re.M)))
         tried = sum(part == "edits" and key not in self.there for key, (_, part) in self.works.items())
-        line = f"{proved} of {self.crates} crates proved, {tested} crates' tests, {tried} of {self.edits} wrong bodies tried"
+        line = f"{proved} of {len(self.below)} crates proved, {tested} crates' tests, {tried} of {self.edits} wrong bodies tried"
         line += f", NOT PROVED: {', '.join(failed)}" if failed else ""
         return f"gate: {(time.time() - self.begun) / 60:.0f} minutes: {line}"
 
@@ -149,9 +194,18 @@ class Budget:
         total = (sum(whole.values()) + rest + checks) / 60
         lines.append(f"tests and programs run, and the rest of `rt ci`: {rest:.0f}; this repository's own checks: {checks:.0f}")
         lines.append(f"gate: {total:.0f} processor minutes in {(time.time() - self.begun) / 60:.0f} minutes")
+        lines.append(self.standard(total))
+        lines.append(told_chain(self.below, {crate: of["proofs"] for crate, of in of_crates.items()}))
         if total > MOST_MINUTES:
             lines.append(f"gate: ABOVE ITS LIMIT of {MOST_MINUTES} processor minutes")
         return "\n".join(lines)
+
+    def standard(self, minutes: float) -> str:
+        """What these minutes are on a standard machine, by the loop's seconds before and after."""
+        self.loops.append(fixed_loop())
+        made = 2 * minutes / sum(self.loops)
+        loops = " and ".join(f"{it:.2f}" for it in self.loops)
+        return f"gate: {made:.0f} minutes of a standard machine; the fixed loop took {loops} s"
 
 
 def main() -> None:

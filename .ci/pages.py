@@ -26,10 +26,10 @@ LIMITS = {
     "docs/AUDIT.md": 2700,
     "docs/OPERATIONS.md": 2650,
     "docs/FORMATS.md": 6150,
-    "docs/ARCHITECTURE.md": 5200,
-    "docs/PROOF.md": 8200,
-    "docs/DECISIONS.md": 4310,
-    "docs/FIGURES.md": 1750,
+    "docs/ARCHITECTURE.md": 5180,
+    "docs/PROOF.md": 8220,
+    "docs/DECISIONS.md": 4430,
+    "docs/FIGURES.md": 1860,
 }
 MOST_IN_A_SENTENCE = 35
 MOST_IN_A_CELL = 30

@@ -34,6 +34,7 @@ ALLOWED = {
     "crvm_reserve::paid_up_mean_bounds": OF_ONE,
     "deficiency_reserve::minimum_bounds": OF_ONE,
     "parallel_value::map_in": "a list of the values, where there is none yet to write them into, over `map_onto`",
+    "snapshot_value::policies": "all policies of a position in one list; the program goes through them room by room",
     "report_text::print_row": "one line of the many that the program writes together",
     "statements::print_entry": "one line of the many that the program writes together",
     "xtbml_subset::read_table": "a table by age alone, over what `read_any` runs",

@@ -135,16 +135,23 @@ def sides_of(one: known.Definition) -> Sides:
     return sides
 
 
-def contracts_of(text: str) -> list[tuple[bool, str]]:
-    """The clauses of the public functions of a file: whether each is shown, and what it says."""
+def functions_of(text: str) -> list[list[tuple[bool, str]]]:
+    """The clauses of each public function of a file: whether each is shown, and what it says."""
     found = []
     for function in re.split(r"\n(?=pub fn |    pub fn |fn |impl |pub struct |struct |#\[)", bare(text)):
         if not function.lstrip().startswith("pub fn "):
             continue
+        clauses = []
         for clause in CLAUSE.finditer(function):
             depth, place = 1, clause.end()
             while depth:
                 depth += {"{": 1, "}": -1}.get(function[place], 0)
                 place += 1
-            found.append((clause.group(1) == "ensures", function[clause.end():place - 1]))
+            clauses.append((clause.group(1) == "ensures", function[clause.end():place - 1]))
+        found.append(clauses)
     return found
+
+
+def contracts_of(text: str) -> list[tuple[bool, str]]:
+    """The clauses of all public functions of a file."""
+    return [clause for clauses in functions_of(text) for clause in clauses]

@@ -8,9 +8,10 @@ stands; so it holds what it names itself, and what it builds. Each definition un
 
 A premise of such a clause, and each statement of these two crates under one, has to be built: a case shows it, as a part
 that is no choice, by its name or in a field of what it builds (`statements.py`). A premise that nothing builds might never
-hold, and then the law under it says nothing.
+hold, and then the law under it says nothing. So might a case of which a part stands under a hypothesis that no case builds
+(`conditions.py`): it is conditional, builds nothing, and has to stand below with the reason.
 
-usage: python3 .ci/worked.py [--all]      with --all: each definition that no case holds, and each premise
+usage: python3 .ci/worked.py [--all]      with --all: each definition that no case holds, each premise, each conditional case
 """
 from __future__ import annotations
 
@@ -19,11 +20,12 @@ import re
 import sys
 from typing import Any
 
+import conditions
 import definitions as known
 import statements
 
 HOME = ("life_app.specs.", "life_cli.specs.")
-WHOLE_RUN = "life_app.specs.WorkedRun."
+WORKED = re.compile(r"\.specs\.(?:\w+\.)*Worked\w*\.")
 
 # Of a disk, whatever it is. A case that names these says nothing of what stands below them.
 OF_A_DISK = set("""
@@ -42,6 +44,28 @@ EXCEPTIONS = {
     "Says nothing.": "program_endings.specs.Replies.AreAny",
 }
 
+# Conditional, by the reason: which hypotheses, and the cases that stand under them.
+CONDITIONAL = {
+    "What a mode's record means over any disk, which it leaves open.": (
+        r"\w+ D\b.*|D\.reads [\w.]+ ≡ (\[\]|codes \"hello\")|E\.may_leave disks\.kept image", """
+        life_app.specs.Worked.BothRefuseHello program_endings.specs.Worked.RefusesHello
+        stating_modes.specs.Worked.KeepsAnEmptyFile stating_modes.specs.Worked.KnowsNobody
+        stating_modes.specs.Worked.RefusesHelloByTwo stating_modes.specs.Worked.SavesNothing
+        stating_modes.specs.Worked.StatesAnEmptyFile valuing_modes.specs.Worked.IsAheadOfAnEmptyFile
+        valuing_modes.specs.Worked.ValuesAnEmptyFile valuing_modes.specs.WorkedProjections.ProjectsAnEmptyFile"""),
+    "Of words as the system hands them, of which no value is built: `AreWords` is of their bytes.": (
+        r"map string_bytes words ≡ .*", " ".join(f"life_args.specs.Worked.{case}" for case in """
+        CheckpointWords LoadWords MeasureNearWords MeasureWords NearWords ProjectNearWords ProjectWords RunWords StateWords
+        ValueWords""".split())),
+    "What follows of any list of commands, by its length and by what the rules say.": (
+        r"(length|judge) commands .*≡ .*", """
+        policy_machine.specs.Worked.Postings.FullAtTheLimit policy_machine.specs.Worked.Postings.NoOpeningPastTheLimit
+        policy_machine.specs.Worked.Postings.NotFullBefore policy_machine.specs.Worked.Postings.RulesBeforeFull"""),
+    "A length of millions, of which no list is spelled.": (r"length \w+ ≡ \d{7,}", """
+        script_run.specs.Worked.OneByteTooMany valuing_modes.specs.Worked.Files.LongBases
+        valuing_modes.specs.Worked.Files.LongTables"""),
+}
+
 
 class Texts:
     """All definitions of specs/, what each shows and asks for, and what its words mean."""
@@ -50,10 +74,29 @@ class Texts:
         self.definitions, self.imports = known.read_specs()
         self.sides = {key: statements.sides_of(one) for key, one in self.definitions.items()}
         self.says = self.statements()
+        self.said_names = {self.definitions[key].name for key in self.says}
 
     def meant(self, words: set[str], imports: dict[str, str], place: str = "") -> set[str]:
         found = {imports[word] for word in words if word in imports} | {f"{place}.{word}" for word in words}
         return found & self.definitions.keys()
+
+    def is_said(self, kind: str) -> bool:
+        """Whether a type says more than of what kind a value is."""
+        return bool(re.search("[≡≢≤<⊥]", kind) or self.said_names & set(known.WORD.findall(kind)))
+
+    def meaning(self, word: str, place: str) -> conditions.Meaning | None:
+        """What a name of a worked file means in this file: its parameters, its clauses, and its own file."""
+        key = self.imports[place].get(word, f"{place}.{word}")
+        if key not in self.definitions or not WORKED.search(key):
+            return None
+        one = self.definitions[key]
+        lines = statements.bare("\n".join(one.lines)).splitlines()
+        if re.match(r"\s*pub record", lines[0]):
+            return [], [" × ".join(f"({field})" for field in statements.fields_of(lines))], one.place
+        head = next((line for line in lines if re.match(r"\s*" + re.escape(one.name) + r"\b(?!\s*:).* =", line)), "")
+        given = [name for name in head.partition(" =")[0].split()[1:] if not name.startswith("{")]
+        is_type = re.search(r"Type \d+\s*$", lines[0].partition(" : ")[2]) and head
+        return (given, statements.clauses_of(one.name, lines), one.place) if is_type else None
 
     def side(self, key: str, side: str) -> set[str]:
         """The definitions that this one shows for sure (`sure`), shows perhaps (`choice`), or asks for (`asked`)."""
@@ -105,23 +148,39 @@ def asked_for(texts: Texts, open_names: list[tuple[str, bool]]) -> set[str]:
     return {key for key, shown in seen if not shown and key in texts.says}
 
 
-def cases_of(texts: Texts) -> set[str]:
-    """The worked cases: those that a contract names."""
-    named = set()
-    for path in known.TOP.glob("crates/*/src/**/*.rt"):
-        for meaning in known.imports_of(path.read_text(encoding="utf-8")).values():
-            if re.search(r"\.specs\.(?:\w+\.)*Worked\w*", meaning) and meaning in texts.definitions:
-                named.add(meaning)
-    return named
+def parts_of(texts: Texts) -> list[conditions.Part]:
+    """What the worked cases show, the definitions of worked files that clauses name, each under what its function asks for."""
+    parts = []
+    for path in sorted(known.TOP.glob("crates/*/src/**/*.rt")):
+        text = path.read_text(encoding="utf-8")
+        texts.imports[str(path)] = imports = known.imports_of(text)
+        for clauses in statements.functions_of(text) if any(map(WORKED.search, imports.values())) else []:
+            asked = tuple(conditions.bare(clause) for shown, clause in clauses if not shown)
+            for case, clause in cases_in(texts, clauses, imports):
+                within = conditions.Part(case, "", asked, frozenset("DE"), frozenset([str(path)]))
+                reader = conditions.Reader(case, texts.meaning, texts.is_said)
+                reader.read(re.sub(r"\b([DE])\.Disk\b", r"\1", clause), within)
+                parts += reader.parts
+    return parts
 
 
-def built_by(texts: Texts, cases: set[str]) -> set[str]:
-    """What these show for sure, and what that shows so."""
-    built, open_names = set(), set(cases)
+def cases_in(texts: Texts, clauses: list[tuple[bool, str]], imports: dict[str, str]) -> list[tuple[str, str]]:
+    """The worked cases that clauses show, each with the clause."""
+    return [(imports[word], clause) for shown, clause in clauses if shown for word in sorted(set(known.WORD.findall(clause)))
+            if word in imports and WORKED.search(imports[word]) and imports[word] in texts.definitions]
+
+
+def built_by(texts: Texts, shown: list[conditions.Part]) -> set[str]:
+    """What these parts show for sure, and what that shows so."""
+    built, open_names = set(), {part.case for part in shown}
+    for part in shown:
+        words = statements.Sides().read(part.text).sure
+        open_names |= set().union(*(texts.meant(words, texts.imports[place], place) for place in part.places))
     while open_names:
         key = open_names.pop()
         built.add(key)
-        open_names |= texts.side(key, "sure") - built
+        if not WORKED.search(key):
+            open_names |= texts.side(key, "sure") - built
     return built
 
 
@@ -135,27 +194,41 @@ def held_by(texts: Texts, cases: set[str], built: set[str]) -> set[str]:
     return texts.under(plain, OF_A_DISK) | built | (named - asked)
 
 
+def told_conditional(shown: list[conditions.Part], others: list[conditions.Part]) -> tuple[list[str], set[str]]:
+    """What is wrong of the cases under hypotheses that no case builds, and each of them."""
+    listed = {case: pattern for pattern, cases in CONDITIONAL.values() for case in cases.split()}
+    found = sorted({(part.case, one) for part in others for one in conditions.unmet(part, shown)})
+    wrong = [f"{case} is conditional: no case builds {one}" for case, one in found
+             if not re.fullmatch(listed.get(case, "⊥"), one)]
+    cases = {case for case, _ in found}
+    wrong += [f"{case} isn't conditional, or gone, and needs no reason" for case in sorted(listed.keys() - cases)]
+    return wrong, cases
+
+
 def main() -> Any:
     texts = Texts()
-    cases = cases_of(texts)
+    parts = parts_of(texts)
+    shown, others = conditions.met(parts)
     named, premises = contracts(texts)
     promise = {key for key in texts.under(named, set()) if ".Worked" not in key}
-    built = built_by(texts, cases)
+    cases, built = {part.case for part in parts}, built_by(texts, shown)
     bare = promise - held_by(texts, cases, built)
     excepted = {key for names in EXCEPTIONS.values() for key in names.split()}
-    empty = premises - built
     wrong = [f"no worked case rests on {key}" for key in sorted(bare - excepted)]
     wrong += [f"{key} is held, or gone, and needs no exception" for key in sorted(excepted - bare)]
-    wrong += [f"no worked case builds the premise {key}" for key in sorted(empty)]
+    wrong += [f"no worked case builds the premise {key}" for key in sorted(premises - built)]
+    told, conditional = told_conditional(shown, others)
+    wrong += told
     if len(excepted) >= 20:
         wrong.append(f"{len(excepted)} exceptions are too many")
     for what in wrong:
         print(f"worked: {what}", file=sys.stderr)
     if "--all" in sys.argv:
-        print("\n".join(sorted(bare)), "\n".join(f"premise {key}" for key in sorted(premises)), sep="\n")
+        print(*sorted(bare), *(f"premise {key}" for key in sorted(premises)), sep="\n")
+        print(*(f"conditional {case}" for case in sorted(conditional)), sep="\n")
     if not wrong:
         print(f"worked: {len(cases)} cases hold {len(promise - bare)} of the {len(promise)} definitions under the promise, "
-              f"and build its {len(premises)} premises; {len(excepted)} are excepted")
+              f"and build its {len(premises)} premises; {len(excepted)} are excepted, and {len(conditional)} cases conditional")
     return 1 if wrong else 0
 
 

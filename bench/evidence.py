@@ -4,9 +4,9 @@
 usage: python3 bench/evidence.py [--most N]     the status is 1 where more than N rows are stale, none where N isn't given
 
 Each row of wrong_bodies/tried.csv and twins.csv carries checksums of the texts that were tried: of the edit, of the twin
-where there is one, and of the code of the files that the edit strikes. A row is stale where one of them is another now,
-where it has none, or where its edit is gone; so is an edit without a row. `wrong_bodies.py --stale` and `twins.py
---stale` try just these.
+where there is one, and of what the verdict rests on in the files that the edit strikes, as struck.py tells. A row is
+stale where one of them is another now, where it has none, or where its edit is gone; so is an edit without a row.
+`wrong_bodies.py --stale` and `twins.py --stale` try just these.
 """
 from __future__ import annotations
 
@@ -16,6 +16,7 @@ import os
 import sys
 from collections.abc import Iterable, Mapping
 
+from struck import rests_on
 from trying import ROOT, edits_of, pairs_of, text_of
 
 LETTERS = 12
@@ -29,15 +30,13 @@ def sum_of(*texts: str) -> str:
     return made.hexdigest()[:LETTERS]
 
 
-def code_of(text: str) -> str:
-    """A file's lines but for blank ones and those of comments alone, of which no proof depends."""
-    return "\n".join(line for line in text.splitlines() if line.strip() and not line.lstrip().startswith("//"))
-
-
 def struck_sum(crate: str, edit: str) -> str:
-    """Of the code of the files that an edit of a crate strikes, as they are; a file that is gone has none."""
-    paths = sorted({f"{ROOT}/crates/{crate}/{path}" for path, _, _ in pairs_of(edit)})
-    return sum_of(*(code_of(text_of(path)) if os.path.isfile(path) else "" for path in paths))
+    """Of what counts of the files that an edit of a crate strikes, as they are; a file that is gone has none."""
+    olds: dict[str, list[str]] = {}
+    for path, old, _ in pairs_of(edit):
+        olds.setdefault(f"{ROOT}/crates/{crate}/{path}", []).append(old)
+    texts = (rests_on(text_of(path), olds[path]) if os.path.isfile(path) else "" for path in sorted(olds))
+    return sum_of(*texts)
 
 
 def why_stale(row: Mapping[str, str] | None, now: Mapping[str, str]) -> str:

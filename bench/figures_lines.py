@@ -64,6 +64,9 @@ def lines(setting: timing.Setting) -> Iterator[timing.Row]:
     yield ("the first line of a run at its reader, behind its record in the file", f"{first[1]:.2f} ms",
            f"the run's lines in the median {middle[1]:.2f} ms")
     yield ("with eight clerks", f"{first[8]:.2f} ms", f"the run's lines in the median {middle[8]:.2f} ms")
+    longest = {n: median([max(run.behind()) for run in runs]) for n, runs in found.items()}
+    yield ("the longest wait of a reader for a line, behind its record", f"{longest[1]:.2f} ms",
+           f"eight clerks {longest[8]:.2f} ms")
 
 
 def short_issues(clerks: int) -> list[str]:

@@ -17,6 +17,8 @@ from contextlib import contextmanager
 from dataclasses import dataclass
 from typing import Any
 
+from struck import module_of, paths_of
+
 ROOT = os.path.dirname(os.path.dirname(os.path.abspath(__file__)))
 BODIES = f"{ROOT}/bench/wrong_bodies"
 ONE_JOB = ["--jobs", "1"]
@@ -44,8 +46,9 @@ class Ended:
         return self.status == 0
 
     def unread(self) -> bool:
-        """Whether the compiler refused the text, so that nothing was proved or refused."""
-        return self.status == 1 and "logic=not-proved" not in self.said
+        """Whether there is no verdict: the compiler refused the text, no function has the name, or the check was cut off."""
+        refused = "logic=not-proved" in self.said or re.search(r"^only=\d+ proved=\d+$", self.said, re.M)
+        return self.status not in (0, 1) or (self.status == 1 and not refused)
 
     def first_goals(self, most: int = 2) -> str:
         """The places and goals at which it was refused, the first of them."""
@@ -107,14 +110,38 @@ class Seed:
         return Ended(ran.returncode, ran.stdout, after.ru_utime + after.ru_stime - before.ru_utime - before.ru_stime)
 
 
+class Alone(Seed):
+    """A crate of which only the functions that a text strikes are checked, from nothing, with those that they call.
+
+    One that is refused there is refused in a check of the crate; one whose bodies alone differ is accepted as they are.
+    """
+
+    def tried(self, texts: dict[str, str]) -> Ended:
+        paths = [it for path in texts for it in paths_of(path, text_of(f"{self.crate.folder}/{path}"), texts[path])]
+        before = resource.getrusage(resource.RUSAGE_CHILDREN)
+        ran = self.checked(texts, paths)
+        if ran.returncode == 2:
+            # the prover names the methods of a trait in a way of its own
+            ran = self.checked(texts, [module_of(path) for path in texts])
+        after = resource.getrusage(resource.RUSAGE_CHILDREN)
+        return Ended(ran.returncode, ran.stdout, after.ru_utime + after.ru_stime - before.ru_utime - before.ru_stime)
+
+    def checked(self, texts: dict[str, str], paths: list[str]) -> Any:
+        return self.kit.checked(self.crate, texts, [*ONE_JOB, *(word for path in paths for word in ("--only", path))], None)
+
+
 @contextmanager
-def seed_of(kit: Any, name: str) -> Iterator[Seed | None]:
+def seed_of(kit: Any, name: str, is_alone: bool = False) -> Iterator[Seed | None]:
     """The crate's seed, begun with what any checkout's check kept; None if the crate isn't proved as it stands."""
     crate = next(it for it in kit.rtlib.crates_below(ROOT) if it.name == name)
     kit.adopt(crate, is_alone=False)
     start = f"{crate.folder}/out/incremental"
     room = None
-    if not any(below.build_rlib(ONE_JOB, anew=False) for below in crate.below()):
+    are_built = not any(below.build_rlib(ONE_JOB, anew=False) for below in crate.below())
+    if is_alone:
+        yield Alone(kit, crate, "") if are_built else None
+        return
+    if are_built:
         room = kit.seeded(crate, ONE_JOB, start if os.path.isdir(start) else None)
     try:
         yield Seed(kit, crate, room) if room else None

@@ -1,12 +1,12 @@
 #!/usr/bin/env python3
 """Tries of each wrong body whether it is refused for what it means or for its form. The answers stand in twins.csv.
 
-usage: python3 bench/twins.py [--stale] [--list] [--edits] [--table FILE] [CRATE..]    (rt; the crates are checked by `rt check`)
+usage: python3 bench/twins.py [--stale] [--alone] [--list] [--edits] [--table FILE] [CRATE..]    (rt checks the crates)
 
 An edit that exchanges a name, a literal or an operator for another keeps the form of the source: its twin is the
 source, which is proved. Any other edit needs a twin: an edit of the same form that changes nothing, which has to be
 accepted. A rule makes it, or the file bench/twins/CRATE/NAME.edit holds it, or that file says "none: WHY" where there
-can be none. Each row has checksums of the edit, of the twin, and of the files that these strike, as evidence.py tells.
+can be none. Each row has checksums of the edit, of the twin, and of what they strike, as evidence.py tells.
 """
 from __future__ import annotations
 
@@ -293,9 +293,12 @@ def listed(crate: str, table: str) -> None:
     for path in edits_of(crate):
         row = untried(crate, path)
         has = known.get((row[1], row[2], row[3]))
-        if has:
-            # what was tried keeps the checksums of its day; what needs no trial gets those of now
-            row = [*(has[it] for it in COLUMNS[:-3]), *(row[-3:] if any(row[-3:]) else [has.get(it) or "" for it in SUMS])]
+        if has and not any(row[-3:]):
+            # what was tried keeps the checksums of its day
+            row = [has.get(it) or "" for it in COLUMNS]
+        elif has and has.get("edit_sum") == row[COLUMNS.index("edit_sum")]:
+            # what needs no trial gets those of now, and what was told of the same edit stays
+            row = [*(has[it] for it in COLUMNS[:-3]), *row[-3:]]
         rows.append(row)
         print("\t".join(row))
     keep(table, crate, rows)
@@ -304,6 +307,7 @@ def listed(crate: str, table: str) -> None:
 def words() -> argparse.Namespace:
     parser = argparse.ArgumentParser(description=__doc__, formatter_class=argparse.RawDescriptionHelpFormatter)
     parser.add_argument("crates", nargs="*", metavar="CRATE", help="all crates where none is named")
+    parser.add_argument("--alone", action="store_true", help="checks what a text strikes and no more, from nothing")
     parser.add_argument("--stale", action="store_true", help="only the edits whose row isn't of the texts of now")
     parser.add_argument("--edits", action="store_true", help="the edits too: what refuses them, and the processor seconds")
     parser.add_argument("--list", action="store_true", help="tries nothing: prints the table, with new edits as not tried")
@@ -323,7 +327,7 @@ def main() -> int:
     kit = ready_kit()
     failed = 0
     for name in names:
-        with seed_of(kit, name) as seed:
+        with seed_of(kit, name, asked.alone) as seed:
             if seed is None:
                 print(f"{name}: isn't proved as it stands, so nothing is tried")
             rows = rows_of(seed, asked) if seed else []

@@ -1,10 +1,10 @@
 #!/usr/bin/env python3
 """Tries the wrong bodies that the gate doesn't try: the check has to refuse each. Ends: wrong_bodies/tried.csv.
 
-usage: python3 bench/wrong_bodies.py [--stale] [CRATE..]    (rt; the crates are checked by `rt check`)
+usage: python3 bench/wrong_bodies.py [--stale] [--alone] [CRATE..]    (rt; the crates are checked by `rt check`)
 
 They are the edits bench/wrong_bodies/CRATE/NAME.edit, in the form of crates/CRATE/must-fail. Each is tried over what
-the check of its crate kept. Its row has checksums of the edit and of the files that it strikes, as evidence.py tells;
+the check of its crate kept. Its row has checksums of the edit and of what it strikes, as evidence.py tells;
 `--stale` tries just those whose texts are others by now. The status is 1 where one isn't refused, can't be applied or
 can't be compiled, or a crate isn't proved.
 """
@@ -48,7 +48,7 @@ def ended(seed: Seed, name: str) -> str:
     ran = seed.tried(texts)
     if ran.proved():
         return "not refused"
-    return f"{'not compiled' if ran.unread() else 'refused'}: {ran.first_goals(1)}"
+    return f"{'no verdict' if ran.unread() else 'refused'}: {ran.first_goals(1)}"
 
 
 def known() -> dict[tuple[str, str], dict[str, str]]:
@@ -103,6 +103,7 @@ def try_crate(seed: Seed, names: list[str]) -> bool:
 def main() -> int:
     parser = argparse.ArgumentParser(description=__doc__, formatter_class=argparse.RawDescriptionHelpFormatter)
     parser.add_argument("crates", nargs="*", metavar="CRATE", help="all crates where none is named")
+    parser.add_argument("--alone", action="store_true", help="checks what a text strikes and no more, from nothing")
     parser.add_argument("--stale", action="store_true", help="only the bodies whose texts are others than those tried")
     asked = parser.parse_args()
     crates = asked.crates or sorted(it for it in os.listdir(BODIES) if names_in(it))
@@ -110,7 +111,7 @@ def main() -> int:
     kit = ready_kit() if any(wanted.values()) else None
     failed = 0
     for crate in filter(wanted.get, crates):
-        with seed_of(kit, crate) as seed:
+        with seed_of(kit, crate, asked.alone) as seed:
             if seed is None:
                 print(f"{crate}: isn't proved as it stands, so nothing is tried")
             failed |= seed is None or not try_crate(seed, wanted[crate])

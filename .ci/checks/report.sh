@@ -164,7 +164,7 @@ python3 "$root/.ci/tools/sums_by_sqlite.py" || complain "SQLite adds the groups 
 # a small book with every kind of posting, so that a pair takes less than a second
 begin "a hundred pairs of positions"
 python3 "$root/.ci/tools/drawn_book.py" "$root" 7 20 6 >policies || failed=1
-python3 "$root/.ci/tools/movements.py" "$root" "$program" 100 7 >said 2>&1 || complain "$(tail -n 1 said)"
+python3 "$root/.ci/tools/movements.py" "$root" "$program" 100 7 >said 2>&1 || complain "$(tail -n 20 said)"
 
 begin_with_examples "wrong input"
 "$life" run <"$examples/small-office.csv" >transcript

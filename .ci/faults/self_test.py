@@ -8,6 +8,7 @@ import os
 import sys
 from collections.abc import Callable
 from dataclasses import replace
+from functools import partial
 from typing import Any
 
 from judge import demand_faults, judge_early_end, judge_lacking, judge_transcript, judge_unanswered
@@ -40,6 +41,12 @@ def refused(judge: Callable[..., Any]) -> bool:
     except Wrong:
         return True
     return False
+
+
+def demand_refused(changed: dict[str, Callable[..., Any]]) -> None:
+    """Demands that a judge refuses each of these; those that it takes are told, all of them."""
+    taken = [what for what, judge in changed.items() if not refused(judge)]
+    demand(not taken, f"the judge takes {'; '.join(taken)}")
 
 
 def replaced(ended: Ended, old: str, new: str) -> Ended:
@@ -87,8 +94,7 @@ def try_transcripts(program: str, folder: str) -> int:
         "status 9": replace(ended, status=9),
         "a line left out": replace(ended, text=ended.text.split("\n", 1)[1]),
     }
-    for what, run in changed.items():
-        demand(refused(lambda: judge(run)), f"the judge takes {what}")
+    demand_refused({what: partial(judge, run) for what, run in changed.items()})
     return len(changed)
 
 
@@ -99,8 +105,8 @@ def try_counts(program: str, folder: str) -> int:
         desk, before, ended = disturbed(program, os.path.join(folder, kind), ONE_CLERK, kind, when, JOURNAL)
         runs[kind] = judge_transcript(ONE_CLERK, ended, before, read_basis(desk.path("basis.csv")), {}), log_of(desk)
         demand_faults(*runs[kind])
-    for one, other in (("pwrite64", "fsync"), ("fsync", "pwrite64")):
-        demand(refused(lambda: demand_faults(runs[one][0], runs[other][1])), f"the judge takes a run whose {other} failed")
+    demand_refused({f"a run whose {other} failed": partial(demand_faults, runs[one][0], runs[other][1])
+                    for one, other in (("pwrite64", "fsync"), ("fsync", "pwrite64"))})
     return len(runs)
 
 
@@ -123,8 +129,7 @@ def try_ends(program: str, folder: str) -> int:
         "a posting twice": lambda: judge_lacking(ONE_CLERK, before, doubled(silent)),
         "one of before lost for want of memory": lambda: judge_lacking(ONE_CLERK, before, file_of(book_before().commands[:4])),
     }
-    for what, judge in changed.items():
-        demand(refused(judge), f"the judge takes {what}")
+    demand_refused(changed)
     return len(changed)
 
 
@@ -143,8 +148,9 @@ def try_refusals(program: str, folder: str) -> int:
     trial = Refused(program, folder, "", Mode("a run", ["run"], ONE_CLERK, before))
     whole, lacking = trial.right, without_the_last(program, os.path.join(folder, "lacking"), 1)
     silent, early = replace(whole, status=9, text=""), replace(whole, status=9, text="nomemory\n", after=before)
-    for word, ended in {"right": whole, "in part": lacking, "cut": silent, "nomemory": early}.items():
-        demand(trial.judge(ended) == word, f"{word} isn't told of the run that has it")
+    right = {"right": whole, "in part": lacking, "cut": silent, "nomemory": early}
+    found = {word: trial.judge(ended) for word, ended in right.items()}
+    demand(all(word == told for word, told in found.items()), f"of the run that has each word is told: {found}")
     changed = {
         "an accepted line more": replace(whole, text="1,premium,102,accepted,9\n" + whole.text),
         "an accepted line in place of one without memory": replaced(lacking, ",nomemory", ",accepted,9"),
@@ -160,8 +166,7 @@ def try_refusals(program: str, folder: str) -> int:
         "no text at status 0": replace(silent, status=0),
         "a line on standard error": replace(whole, complaints="out of memory"),
     }
-    for what, ended in changed.items():
-        demand(refused(lambda: trial.judge(ended)), f"the judge takes {what}")
+    demand_refused({what: partial(trial.judge, ended) for what, ended in changed.items()})
     return len(changed)
 
 

@@ -124,6 +124,7 @@ def main() -> None:
     basis = read_basis(os.path.join(folder, "basis.csv"))
     known: Known = {}
     refused: collections.Counter[str] = collections.Counter()
+    taken: collections.defaultdict[str, list[int]] = collections.defaultdict(list)
     for seed in range(SCRIPTS):
         draw = draws(seed)
         script_before = make_script(draw, Book())
@@ -142,7 +143,9 @@ def main() -> None:
             except Wrong:
                 refused[name] += 1
             else:
-                sys.exit(f"stress: the checker takes a transcript with {name} (seed {seed})")
+                taken[name].append(seed)
+    if taken:
+        sys.exit(f"stress: the checker takes transcripts with these, each of some seeds: {dict(taken)}")
     missing = [name for name, *_ in LINES if not refused[name]]
     if missing:
         sys.exit(f"stress: never tried: {missing}")

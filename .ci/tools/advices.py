@@ -50,13 +50,12 @@ def look_at_table() -> None:
     assert shown_table() == told, [each for each in zip(shown_table(), told) if each[0] != each[1]]
     reasons = [["wrongstatus", status] for status in STATUSES] + [[remedy.reason] for remedy in REMEDIES
                                                                   if "," not in remedy.reason]
-    for kind in (*KINDS.values(), "value"):
-        for reason in reasons:
-            what = remedy_of(kind, reason).what
-            # to put a policy in force again for a death would pay one outside the cover
-            assert kind not in BENEFITS or "reinstate" not in what.replace("don't reinstate", ""), (kind, reason, what)
-    assert remedy_of("claim", ["graceover", "2020-03-15"]).what == "don't reinstate; refer it"
-    assert remedy_of("claim", ["wrongstatus", "lapsed"]).what == "don't reinstate; refer it"
+    told_of = [(kind, reason, remedy_of(kind, reason).what) for kind in (*KINDS.values(), "value") for reason in reasons]
+    # to put a policy in force again for a death would pay one outside the cover
+    wrong = [each for each in told_of if each[0] in BENEFITS and "reinstate" in each[2].replace("don't reinstate", "")]
+    assert not wrong, wrong
+    refers = [remedy_of("claim", reason).what for reason in (["graceover", "2020-03-15"], ["wrongstatus", "lapsed"])]
+    assert refers == ["don't reinstate; refer it"] * 2, refers
 
 
 def answers(program: str, commands: list[Command]) -> list[str]:

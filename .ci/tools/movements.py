@@ -53,14 +53,17 @@ def judge(draw: random.Random, count: int) -> None:
     pair = f"{on1} {first} {on2} {last} {' '.join(measure)}"
     if status != 0:
         sys.exit(f"{pair}: status {status}")
-    for place, fields in ((1, printed_total(on1, first, measure)), (2, printed_total(on2, last, measure))):
-        name = ("opening reserve", "closing reserve")[place - 1]
+    wrong = []
+    printed = {"opening reserve": printed_total(on1, first, measure), "closing reserve": printed_total(on2, last, measure)}
+    for name, fields in printed.items():
         if lines[name][1:] != fields:
-            sys.exit(f"{pair}: {name} is {lines[name]}, and life value printed {fields}")
+            wrong.append(f"{pair}: {name} is {lines[name]}, and life value printed {fields}")
     for bound in (1, 2):
         moved = sum(cents(fields[bound]) for name, fields in lines.items() if name != "closing reserve")
         if moved != cents(lines["closing reserve"][bound]):
-            sys.exit(f"{pair}: the lines add up to {moved} cents, and the closing reserve is {lines['closing reserve']}")
+            wrong.append(f"{pair}: the lines add up to {moved} cents, and the closing reserve is {lines['closing reserve']}")
+    if wrong:
+        sys.exit("\n".join(wrong))
 
 
 def run() -> None:

@@ -52,9 +52,10 @@ def main(address: Any, folder: str, program: str, day: str) -> int:
     rows = list(csv.reader(io.StringIO(taken(window, f"/1/report.csv?on={day}").decode())))
     assert all(harmless(cell) for row in rows for cell in row), "a cell of the CSV begins a formula"
     bounds = [rows[0].index(name) for name in ("lower bound", "upper bound")]
-    for key in ("plan", "status", "issue-year", "age-band", "basis-row"):
-        sums = [sum(int(row[place].replace(".", "")) for row in rows[1:-1] if row[0] == key) for place in bounds]
-        assert sums == total, f"by {key}: {sums}, and life prints {total}"
+    keys = ("plan", "status", "issue-year", "age-band", "basis-row")
+    sums = {key: [sum(int(row[place].replace(".", "")) for row in rows[1:-1] if row[0] == key) for place in bounds]
+            for key in keys}
+    assert all(each == total for each in sums.values()), f"life prints {total}, and the sums are {sums}"
     book = openpyxl.load_workbook(io.BytesIO(taken(window, f"/1/report.xlsx?on={day}")))
     cells = [cell for sheet in book for line in sheet.iter_rows() for cell in line]
     assert not any(cell.data_type == "f" for cell in cells), "a cell of the workbook is a formula"

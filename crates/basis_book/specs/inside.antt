@@ -1,3 +1,4 @@
 pub mod Fields
 pub mod Judged
+pub mod Placed
 pub mod Starting

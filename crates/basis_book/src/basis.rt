@@ -3,7 +3,8 @@ ghost use Rattle.indexmap.specs.IndexMap.{get_by_text};
 ghost use Rattle.basis_book.specs.Dated.{Dated, dated, AreBounded, IsFirstMissing, IsPicked};
 
 use crate::fault::NoSuchTable;
-use crate::row::BasisRows;
+use crate::row::{BasisRows, MOST_ROWS};
+use arrayvec::ArrayVec;
 use indexmap::IndexMap;
 use select_rates::AnyTable;
 use std::marker::Model;
@@ -13,19 +14,23 @@ use std::marker::Model;
 pub struct Basis {
     rows: BasisRows,
     tables: IndexMap<String, AnyTable>,
+    /// For each row where its table stands among the tables. They lie here, since a basis is made without memory.
+    places: ArrayVec<usize, MOST_ROWS>,
 }
 
 impl Model for Basis {
-    ghost use Rattle.std.specs.Prelude.{List, map, All, IsSome};
-    ghost use Rattle.indexmap.specs.IndexMap.{get_by_text};
+    ghost use Rattle.std.specs.Prelude.{List, map, All, IsSome, slice_get};
+    ghost use Rattle.indexmap.specs.IndexMap.{get_by_text, values};
     ghost use Rattle.basis_book.specs.Dated.{Dated, dated, AreBounded};
+    ghost use Rattle.basis_book.specs.inside.Placed.{ArePlaces};
 
     ghost Value = { List Dated };
 
     ghost view = { λ basis. map (dated (get_by_text basis.tables)) basis.rows };
 
     ghost invariant = { λ basis. AreBounded basis.rows
-        × All (λ row. IsSome (get_by_text basis.tables row.table)) basis.rows };
+        × All (λ row. IsSome (get_by_text basis.tables row.table)) basis.rows
+        × ArePlaces (slice_get (values basis.tables)) (get_by_text basis.tables) basis.rows basis.places.items };
 }
 
 impl Basis {
@@ -36,14 +41,18 @@ impl Basis {
         ensures rows { IfOk result (λ basis. basis ≡ map (dated (get_by_text tables)) rows) }
         ensures missing { IfErr result (λ fault. IsFirstMissing (get_by_text tables) rows fault.0) }
     {
-        let mut number = 0;
+        let mut places = ArrayVec::new();
         for row in rows.as_slice() {
-            number += 1;
-            if !tables.contains_key(row.table.text()) {
-                return Err(NoSuchTable(number));
-            }
+            let Some(place) = tables.get_index_of(row.table.text()) else {
+                return Err(NoSuchTable(places.len() as u32 + 1));
+            };
+            places.push(place);
         }
-        Ok(Basis { rows, tables })
+        Ok(Basis {
+            rows,
+            tables,
+            places,
+        })
     }
 
     /// The place, counted from 0, the table and the basis points of the last row whose day isn't after
@@ -55,10 +64,11 @@ impl Basis {
         ensures bounded { IfSome result (λ p. (p.0 < 1000) × (p.2 ≤ 2000)) }
     {
         let rows = self.rows.as_slice();
+        let places = self.places.as_slice();
         for index in (0..rows.len()).rev() {
             let row = &rows[index];
             if row.from_day <= issued {
-                let table = self.tables.get(row.table.text())?;
+                let table = &self.tables[places[index]];
                 return Some((index as u16, table, row.bp));
             }
         }

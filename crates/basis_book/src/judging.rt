@@ -11,13 +11,10 @@ use crate::fields::BasisFields;
 use crate::name::Name;
 use crate::points::points_of;
 use crate::reading::Reading;
-use crate::row::{BasisRow, BasisRows};
+use crate::row::{BasisRow, BasisRows, MOST_ROWS};
 use life_dates::parse_day;
 use policy_types::NoMemory;
 use std::alloc::Global;
-
-/// The most rows of a basis file.
-const MOST_ROWS: u32 = 1_000;
 
 /// The basis row that three fields spell.
 fn row_of(alloc: Global, fields: &BasisFields) -> Result<Option<BasisRow>, NoMemory>
@@ -98,11 +95,11 @@ impl Reading {
             → AreThree row fields.entry → Judged rows self.old
             → OnOk result (Judged (rows ++ row ∷ []) self.new) }
     {
-        if self.count > MOST_ROWS {
+        if self.count > MOST_ROWS as u32 {
             return Ok(());
         }
         self.count += 1;
-        if self.count > MOST_ROWS {
+        if self.count > MOST_ROWS as u32 {
             return Ok(());
         }
         if self.fault.is_some() {
@@ -125,7 +122,7 @@ impl Reading {
             (λ found. (length rows ≤ 1000) × AreRows rows found × AreBounded found)
             (IsRowsFault rows) }
     {
-        if self.count > MOST_ROWS {
+        if self.count > MOST_ROWS as u32 {
             return Err(BasisFault::TooManyRows);
         }
         match self.fault {

@@ -11,5 +11,8 @@ pub struct BasisRow {
     pub bp: u16,
 }
 
+/// The most rows of a basis file.
+pub const MOST_ROWS: usize = 1_000;
+
 /// The rows of a basis file, in order.
 pub type BasisRows = Listed<BasisRow>;

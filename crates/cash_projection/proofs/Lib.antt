@@ -11,4 +11,4 @@ pub mod YearLines
 pub mod CallerLemmas
 pub mod Crossing
 pub mod Portioning
-pub mod PinnedSteps
+pub mod RoomSteps

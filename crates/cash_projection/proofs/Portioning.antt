@@ -43,17 +43,13 @@ portions_whole policies cut more portion rest whole longer last =
     ap policies_of_portions longer ∙ policies_behind cut portion ∙ ap (λ (ps : List Policy). policies_of_portions cut ++ ps) last ∙ whole
 
 -- the workers take each portion
-module _ (basis : List Dated) (on : ℤ) (years : ℕ) (most : years ≤ 131) where
+module _ (basis : List Dated) (on : ℤ) (years : ℕ) where
   one_takes : (projector : Projector) → IsProjectorFor basis on years projector → (portions : List Portion)
       → AllByRecursion IsOfIssue (policies_of_portions portions) → length (policies_of_portions portions) ≤ most_commands → AllByRecursion (TakesPortion projector) portions
   one_takes projector is [] sound few = tt
   one_takes projector is (portion ∷ more) sound few = (
-    record {
-      years = omega (arith, is.many, most);
-      right = is.right;
-      sound = all_front IsOfIssue portion.policies.now (policies_of_portions more) sound;
-      few = omega (arith, few, length-append portion.policies.now (policies_of_portions more));
-    },
+    is.takes portion (all_front IsOfIssue portion.policies.now (policies_of_portions more) sound)
+        (omega (arith, few, length-append portion.policies.now (policies_of_portions more))),
     one_takes projector is more (all_back IsOfIssue portion.policies.now (policies_of_portions more) sound)
         (omega (arith, few, length-append portion.policies.now (policies_of_portions more))),
   )

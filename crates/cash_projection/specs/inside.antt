@@ -1,5 +1,5 @@
-pub mod Books
 pub mod Parts
 pub mod Paths
 pub mod Portions
+pub mod Rooms
 pub mod Tallies

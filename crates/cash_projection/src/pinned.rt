@@ -1,22 +1,19 @@
 // The projection of the policies at the newest position of an office.
-ghost use Rattle.std.specs.Prelude.{◌≡◌, ◌≤◌, ℕ, List, IfOk};
-ghost use Rattle.policy_types.specs.declared.policy.Policy.{Policy as APolicy};
+ghost use Rattle.std.specs.Prelude.{◌≡◌, ◌≤◌};
 ghost use Rattle.policy_types.specs.declared.entry.At.TheVariants.{Now};
 ghost use Rattle.turn_lock.specs.Passes.{PassFacts};
 ghost use Rattle.shared_office.specs.Offices.{IsOfficeHistory};
 ghost use Rattle.shared_office.specs.Pins.{KeepsPins};
-ghost use Rattle.snapshot_value.specs.Listing.{IsBookAt};
 ghost use Rattle.snapshot_value.specs.Valuing.{most_turns};
-ghost use Rattle.cash_projection.specs.Pinned.{HasProjected, IsProjectionAt};
-ghost use Rattle.cash_projection.specs.inside.Books.{AnswersBook};
+ghost use Rattle.cash_projection.specs.Pinned.{HasProjected};
 
 use crate::printing::Projection;
-use crate::sharing::tally_in;
+use crate::tallier::{CashQuery, Tallier};
 use basis_book::Basis;
 use outside_io::{Disk, Gate};
-use policy_types::{At, NoMemory};
+use policy_types::At;
 use shared_office::{Office, OfficePass};
-use snapshot_value::{NO_LANE, Policies, ValueFault, policies};
+use snapshot_value::{NO_LANE, ValueFault, read_pinned};
 use std::alloc::Global;
 use std::sync::Wait;
 use std::thread::Threads;
@@ -26,8 +23,8 @@ use watcher_set::Watching;
 /// What the policies of the book, at the newest position, are expected to pay and to be paid on a day, in days since
 /// 1970-01-01, in each of so many years from the current one; and the turn of the pin.
 ///
-/// The policies are listed by the turns of `policies`; then they are shared among the workers. The bytes of the answer
-/// are the same for any number of them.
+/// The policies are read by the turns of `policies`, and tallied by the workers at the same time, when there are 131,072
+/// or none is left to read. The bytes of the answer are the same for any number of workers.
 pub fn project<D: Disk, W: Watching, G: Gate, R: Threads + Wait + Sync>(
     rt: &R,
     alloc: Global,
@@ -47,62 +44,11 @@ pub fn project<D: Disk, W: Watching, G: Gate, R: Threads + Wait + Sync>(
     ensures facts { PassFacts IsOfficeHistory pass.new }
     ensures pins { KeepsPins pass.old pass.new }
 {
-    let Turned { turn, answer } = policies(rt, alloc, office, pass, At::Now, NO_LANE, gate);
-    match answer {
-        Ok(listed) => Turned {
-            turn,
-            answer: project_listed(rt, alloc, &listed, basis, on, years, workers),
-        },
-        Err(fault) => Turned {
-            turn,
-            answer: Err(fault),
-        },
-    }
-}
-
-// Projects policies that were listed.
-fn project_listed<R: Threads + Sync>(
-    rt: &R,
-    alloc: Global,
-    listed: &Policies,
-    basis: &Basis,
-    on: i32,
-    years: u8,
-    workers: u8,
-) -> Result<Projection, ValueFault>
-    requires years { years ≤ 131 }
-    requires workers { (1 ≤ workers) × (workers ≤ 64) }
-    requires is { (p : ℕ) × ((ps : List APolicy) × IsBookAt p ps listed.now) }
-    ensures { (p : ℕ) (ps : List APolicy) → IsBookAt p ps listed.now → AnswersBook basis.now on years p ps result }
-{
-    match projection_of(rt, alloc, listed, basis, on, years, workers) {
-        Ok(projection) => Ok(projection),
-        Err(_) => Err(ValueFault::NoMemory),
-    }
-}
-
-// The projection of policies that were listed.
-fn projection_of<R: Threads + Sync>(
-    rt: &R,
-    alloc: Global,
-    listed: &Policies,
-    basis: &Basis,
-    on: i32,
-    years: u8,
-    workers: u8,
-) -> Result<Projection, NoMemory>
-    requires years { years ≤ 131 }
-    requires workers { (1 ≤ workers) × (workers ≤ 64) }
-    requires is { (p : ℕ) × ((ps : List APolicy) × IsBookAt p ps listed.now) }
-    ensures { (p : ℕ) (ps : List APolicy) → IsBookAt p ps listed.now → IfOk result (IsProjectionAt basis.now on years p ps) }
-{
-    let tally = tally_in(rt, alloc, listed.book.as_slice(), basis, on, years, workers)?;
-    let cash = tally.cash(alloc)?;
-    Ok(Projection {
-        position: listed.position,
+    let query = CashQuery {
+        basis,
         on,
-        policies: tally.policies,
-        unvalued: tally.unvalued,
-        years: cash,
-    })
+        years,
+        workers,
+    };
+    read_pinned::<D, W, G, R, Tallier<'_>>(rt, alloc, office, pass, query, At::Now, NO_LANE, gate)
 }

@@ -1,10 +1,11 @@
 // The tally of a list of policies, by several workers at the same time.
-ghost use Rattle.std.specs.Prelude.{◌≡◌, ◌≤◌, ◌+◌, ◌*◌, IfOk, length, ℤ, List};
+ghost use Rattle.std.specs.Prelude.{◌≡◌, ◌≤◌, ◌+◌, ◌*◌, IfOk, OnOk, length, ℤ, List};
 ghost use Rattle.std.specs.List.{AllByRecursion};
 ghost use Rattle.basis_book.specs.Dated.{Dated};
+ghost use Rattle.parallel_value.specs.Pieces.{AreAsBefore};
 ghost use Rattle.policy_types.specs.Limits.{most_commands};
 ghost use Rattle.cash_projection.specs.Policies.{IsOfIssue};
-ghost use Rattle.cash_projection.specs.inside.Portions.{AreTallies, AreTalliesOfFew, IsProjectorFor, policies_of_portions};
+ghost use Rattle.cash_projection.specs.inside.Portions.{AreTallies, AreTalliesOfFew, GivesTally, IsProjectorFor, TakesPortion, policies_of_portions};
 ghost use Rattle.cash_projection.specs.inside.Tallies.{IsTallyOf};
 ghost use Rattle.cash_projection.specs.declared.portions.Portion.{Portion as APortion};
 
@@ -16,66 +17,63 @@ use crate::tally::Tally;
 use basis_book::Basis;
 use parallel_value::map_into;
 use policy_types::{NoMemory, Policy};
-use snapshot_value::POLICIES_TO_A_WORKER;
 use std::alloc::Global;
 use std::mem::size_of;
 use std::thread::Threads;
 
 /// What all workers keep together, counted in paths.
-const PATHS_TOGETHER: usize = 240;
+const PATHS_TOGETHER: usize = 960;
+
+/// A worker keeps no more: there are 131 ages of a table.
+const MOST_PATHS: usize = 237;
 
 /// A worker's tally takes no more than so many paths.
 const PATHS_FOR_A_TALLY: usize = 3;
 
-/// With more workers there would be no path left for each.
-const MOST_PROJECTORS: u8 = 60;
-
-// So it stays below 1 MiB, with 32 KiB for all else.
-const _: () = prove!(PATHS_TOGETHER * size_of::<SurvivalPath>() <= 1_015_808);
+// So it stays below 4 MiB, with 128 KiB for all else.
+const _: () = prove!(PATHS_TOGETHER * size_of::<SurvivalPath>() <= 4_063_232);
 
 const _: () = prove!(size_of::<Tally>() <= PATHS_FOR_A_TALLY * size_of::<SurvivalPath>());
 
-/// The tally of policies on a day, in days since 1970-01-01, by as many workers as are asked for, or fewer where each
-/// would have too few policies or no room to keep a path. It is the same for any number of them.
+/// The tally of policies, by all workers, each of which goes through a portion of its own. It is the same for any number
+/// of them.
 pub fn tally_in<R: Threads + Sync>(
     rt: &R,
     alloc: Global,
+    projectors: &mut [Projector<'_>],
     policies: &[Policy],
-    basis: &Basis,
-    on: i32,
     years: u8,
-    workers: u8,
 ) -> Result<Tally, NoMemory>
+    requires workers { (1 ≤ length projectors.old) × (length projectors.old ≤ 64) }
+    requires years { years ≤ 131 }
+    requires each { (basis : List Dated) × ((on : ℤ) × AllByRecursion (IsProjectorFor basis on years) projectors.old) }
     requires sound { AllByRecursion IsOfIssue policies.now }
     requires few { length policies.now ≤ most_commands }
-    requires years { years ≤ 131 }
-    requires workers { (1 ≤ workers) × (workers ≤ 64) }
-    ensures { IfOk result (λ tally. IsTallyOf basis.now on years policies.now tally) }
+    ensures tally { (basis : List Dated) (on : ℤ) → AllByRecursion (IsProjectorFor basis on years) projectors.old
+        → IfOk result (λ tally. IsTallyOf basis on years policies.now tally) }
+    ensures projectors { OnOk result (AreAsBefore TakesPortion GivesTally projectors.old projectors.new) }
 {
-    let most = usize::from(workers.min(MOST_PROJECTORS));
-    let many = (policies.len() / POLICIES_TO_A_WORKER).clamp(1, most);
-    let mut projectors = projectors_for(alloc, basis, on, years, many)?;
-    let portions = portions_of(alloc, policies, many)?;
+    let portions = portions_of(alloc, policies, projectors.len())?;
     let mut tallies = Vec::from_elem(alloc, Tally::new(years), portions.len())?;
-    let workers = projectors.as_mut_slice();
     Ok(tally_portions(
         rt,
-        workers,
+        projectors,
         portions.as_slice(),
         tallies.as_mut_slice(),
         years,
     ))
 }
 
-// The workers, each with paths of its own.
-fn projectors_for<'a>(
+/// So many workers, each with paths of its own.
+pub fn projectors_for<'a>(
     alloc: Global,
     basis: &'a Basis,
     on: i32,
     years: u8,
     many: usize,
 ) -> Result<Vec<Projector<'a>>, NoMemory>
-    requires { (1 ≤ many) × (many ≤ 60) }
+    requires many { (1 ≤ many) × (many ≤ 64) }
+    requires years { years ≤ 131 }
     ensures many { IfOk result (λ projectors. length projectors.items ≡ many) }
     ensures each { IfOk result (λ projectors. AllByRecursion (IsProjectorFor basis.now on years) projectors.items) }
 {
@@ -95,11 +93,11 @@ fn projectors_for<'a>(
 
 // The paths that each of so many workers keeps.
 fn paths_of_a_worker(many: usize) -> u16
-    requires { (1 ≤ many) × (many ≤ 60) }
+    requires { (1 ≤ many) × (many ≤ 64) }
     ensures some { 1 ≤ result }
-    ensures together { many * (result + 3) ≤ 240 }
+    ensures together { many * (result + 3) ≤ 960 }
 {
-    (PATHS_TOGETHER / many - PATHS_FOR_A_TALLY) as u16
+    (PATHS_TOGETHER / many - PATHS_FOR_A_TALLY).min(MOST_PATHS) as u16
 }
 
 // The tally of all portions, by all workers, each of which writes into places of its own.
@@ -116,8 +114,9 @@ fn tally_portions<R: Threads + Sync>(
     requires each { (basis : List Dated) × ((on : ℤ) × AllByRecursion (IsProjectorFor basis on years) projectors.old) }
     requires sound { AllByRecursion IsOfIssue (policies_of_portions portions.now) }
     requires few { length (policies_of_portions portions.now) ≤ most_commands }
-    ensures { (basis : List Dated) (on : ℤ) → AllByRecursion (IsProjectorFor basis on years) projectors.old
+    ensures tally { (basis : List Dated) (on : ℤ) → AllByRecursion (IsProjectorFor basis on years) projectors.old
         → IsTallyOf basis on years (policies_of_portions portions.now) result }
+    ensures projectors { AreAsBefore TakesPortion GivesTally projectors.old projectors.new }
 {
     map_into(rt, projectors, portions, places);
     joined(years, places)

@@ -4,7 +4,8 @@ use Rattle.std.specs.List.{AllByRecursion, IsDistinct, cons_option, fold}
 use Rattle.std.specs.Map.{keys_of, lookup}
 use Rattle.std.proofs.lemmas.Bool.{eqb-false, eqb-true, eq-eqb, ne_eqb}
 use Rattle.std.proofs.lemmas.List.{map-append}
-use Rattle.indexmap.specs.IndexMap.{insert_entry}
+use Rattle.indexmap.specs.IndexMap.{IndexMap, index_of, insert_entry, set_value_at}
+use Rattle.indexmap.proofs.MapLemmas.{Found-position, insert_entry-first}
 use Rattle.policy_types.specs.declared.command.Command.{Command}
 use Rattle.policy_types.specs.declared.policy.Policy.{Policy}
 use Rattle.policy_types.specs.declared.refusal.Refusal.TheVariants.{Taken, Unknown}
@@ -118,6 +119,12 @@ insert_present k before after (first ∷ front) back (e ∷ es) keyed same numbe
     middle : (front : List Policy) → AllByRecursion (λ y. nat_eq first.id y ≡ false) (policy_ids (front ++ before ∷ back)) → nat_eq first.id before.id ≡ false
     middle [] all = all.0
     middle (p ∷ front) all = middle front all.1
+
+-- one is set where its number stands
+pub set_there : {S : Type 0} (policies : IndexMap ℕ Policy S) (k i : ℕ) (after : Policy) → index_of nat_eq policies k ≡ Some i
+    → set_value_at policies.entries i after ≡ insert_entry nat_eq policies.entries k after
+set_there policies k i after is =
+    sym (insert_entry-first nat_eq k after policies.entries i (Found-position (nat_eq k) policies.entries i is).first)
 
 pub insert_keyed : (k : ℕ) (after : Policy) (es : Entries) → after.id ≡ k → AreKeyed es → AreKeyed (insert_entry nat_eq es k after)
 insert_keyed k after [] number keyed = (sym number, tt)

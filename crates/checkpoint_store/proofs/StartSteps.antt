@@ -9,7 +9,7 @@ use Rattle.journal_replay.specs.Keeping.{AreKept}
 use Rattle.journal_replay.specs.Replays.{Replays, Stops, bodies_of}
 use Rattle.journal_replay.specs.declared.replaying.ReplayFault.{ReplayFault}
 use Rattle.journal_replay.specs.declared.replaying.ReplayFault.TheVariants as replay
-use Rattle.journal_replay.proofs.ReplaySteps.{Stops-weaker, all_replayed}
+use Rattle.journal_replay.proofs.ReplaySteps.{Stops-wider, all_replayed}
 use Rattle.checkpoint_store.specs.declared.faults.ReopenFault.{ReopenFault}
 use Rattle.checkpoint_store.specs.declared.faults.ReopenFault.TheVariants.{DiskFault, BadRecord, NoMemory}
 use Rattle.checkpoint_store.specs.declared.front.Front.{Front}
@@ -123,6 +123,5 @@ pub reading_stopped : {D : Type 0} {g : Ghosts D} (journal : Journal D g) (now :
     → Stops (AreKept (λ (books : NumberedBooks) commands. AreBooksOf commands books)) (λ commands command. judge commands command ≡ None) journal now [] fault
     → Stops AreDecided (λ commands command. judge commands command ≡ None) journal now [] fault
 reading_stopped journal now fault stops =
-    Stops-weaker (AreKept (λ (books : NumberedBooks) commands. AreBooksOf commands books)) AreDecided
-    (λ commands command. judge commands command ≡ None) (λ commands command. judge commands command ≡ None)
-    (λ commands of. (of.1.valid, of.1.accepted)) (λ commands command follows. follows) journal now [] fault stops
+    Stops-wider (AreKept (λ (books : NumberedBooks) commands. AreBooksOf commands books)) AreDecided
+    (λ commands command. judge commands command ≡ None) (λ commands of. (of.1.valid, of.1.accepted)) journal now [] fault stops

@@ -170,7 +170,8 @@ pub on_map : {T E : Type 0} (r : Result T E) (P Q : Type 0) → (P → Q) → On
 on_map (Ok x) P Q more has = more has
 on_map (Err e) P Q more has = tt
 
-pub kept_or : {T : Type 0} (r : Result T Unkept) (commands : List Command) (command : Command) (P : Type 0) → OnOk r P → IfErr r (λ why. why ≡ NoMemory)
+pub kept_or : {T : Type 0} (r : Result T Unkept) (commands : List Command) (command : Command) (P : Type 0) → judge commands command ≡ None
+    → OnOk r P → IfErr r (λ why. why ≡ NoMemory)
     → MatchResult r (λ u. P) (λ why. IsUnkept (λ before next. judge before next ≡ None) commands command why)
-kept_or (Ok x) commands command P has none = has
-kept_or (Err e) commands command P has none = subst (IsUnkept (λ before next. judge before next ≡ None) commands command) (sym none) tt
+kept_or (Ok x) commands command P accepted has none = has
+kept_or (Err e) commands command P accepted has none = subst (IsUnkept (λ before next. judge before next ≡ None) commands command) (sym none) accepted

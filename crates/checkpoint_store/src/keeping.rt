@@ -17,11 +17,12 @@ impl Keeper for NumberedBooks {
     ghost mark = { λ books. 0 };
 
     fn add(&mut self, n: u32, command: &Command) -> Result<(), Unkept> {
-        let Ok(after) = self.judgement(command) else {
+        let (index, judged) = self.judgement(command);
+        let Ok(after) = judged else {
             return Err(Unkept::Refused);
         };
         match after {
-            Some(policy) => self.set(command, policy),
+            Some(policy) => self.set(index, command, policy),
             None => {
                 self.position += 1;
                 self.upgrade = self.position;

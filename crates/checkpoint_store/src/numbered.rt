@@ -1,6 +1,7 @@
 // The books by number, while records are decided anew.
 ghost use Rattle.std.specs.Prelude.{◌≡◌, ◌<◌, [], nat_eq, false, IfErr, IfOk, IfSome, OnOk};
 ghost use Rattle.std.specs.Map.{lookup};
+ghost use Rattle.indexmap.specs.IndexMap.{index_of};
 ghost use Rattle.policy_types.specs.Limits.{most_commands};
 ghost use Rattle.policy_types.specs.Valid.{IsValid, id_of, is_upgrade};
 ghost use Rattle.policy_machine.specs.Book.{judged};
@@ -40,19 +41,32 @@ impl NumberedBooks {
         }
     }
 
-    /// What the rules make of a command: the policy that it leaves, or none where it is an upgrade.
-    pub(crate) fn judgement(&self, command: &Command) -> Result<Option<Policy>, Refusal>
+    /// The index of the policy that a command names, where there is one, and what the rules make of the command: the policy
+    /// that it leaves, or none where it is an upgrade.
+    pub(crate) fn judgement(
+        &self,
+        command: &Command,
+    ) -> (Option<usize>, Result<Option<Policy>, Refusal>)
         requires valid { IsValid command.now }
         requires sound { AreSoundBooks self.now }
-        ensures sound { IfOk result (λ left. IfSome left IsSound) }
-        ensures judged { result ≡ judged self.now.upgrade (lookup (nat_eq (id_of command.now)) self.now.policies.entries) command.now }
+        ensures index { result.0 ≡ index_of nat_eq self.now.policies (id_of command.now) }
+        ensures sound { IfOk result.1 (λ left. IfSome left IsSound) }
+        ensures judged { result.1 ≡ judged self.now.upgrade (lookup (nat_eq (id_of command.now)) self.now.policies.entries) command.now }
     {
-        let policy = self.policies.get(&command.id());
-        judge(self.upgrade, policy, command)
+        match self.policies.get_full(&command.id()) {
+            Some((index, _, policy)) => (Some(index), judge(self.upgrade, Some(policy), command)),
+            None => (None, judge(self.upgrade, None, command)),
+        }
     }
 
-    /// Sets the policy that an accepted command left.
-    pub(crate) fn set(&mut self, command: &Command, policy: Policy) -> Result<(), Unkept>
+    /// Sets the policy that an accepted command left, at its index.
+    pub(crate) fn set(
+        &mut self,
+        index: Option<usize>,
+        command: &Command,
+        policy: Policy,
+    ) -> Result<(), Unkept>
+        requires index { index ≡ index_of nat_eq self.old.policies (id_of command.now) }
         requires valid { IsValid command.now }
         requires sound { AreSoundBooks self.old }
         requires few { self.old.position < most_commands }
@@ -63,9 +77,16 @@ impl NumberedBooks {
     {
         self.ledger.post(command, &policy);
         self.position += 1;
-        match self.policies.insert(command.id(), policy) {
-            Ok(_) => Ok(()),
-            Err(_) => Err(Unkept::NoMemory),
+        match index {
+            Some(index) => {
+                let (_id, before) = self.policies.pair_mut(index);
+                *before = policy;
+                Ok(())
+            }
+            None => match self.policies.insert(command.id(), policy) {
+                Ok(_) => Ok(()),
+                Err(_) => Err(Unkept::NoMemory),
+            },
         }
     }
 }

@@ -1,5 +1,5 @@
 -- One record more behind those that were replayed, and what is known where it isn't kept
-use Rattle.std.proofs.Common.{◌≡◌, ℕ, ◌+◌, ◌<◌, ◌≤◌, List, [], ◌∷◌, ◌++◌, length, take, get_or, slice_index_or, ap, sym, ◌∙◌, arith}
+use Rattle.std.proofs.Common.{◌≡◌, ℕ, ◌+◌, ◌<◌, ◌≤◌, List, [], ◌∷◌, ◌++◌, length, take, get_or, slice_index_or, refl, ap, sym, ◌∙◌, arith}
 use Rattle.std.proofs.Math.Seq.{take-length}
 use Rattle.std.proofs.lemmas.List.{take_more, length_push, map-append}
 use Rattle.outside_io.specs.declared.disks.Disk.{Ghosts}
@@ -10,7 +10,7 @@ use Rattle.posting_journal.specs.declared.journal.Journal.{Journal}
 use Rattle.record_codec.specs.Spelling.{spelling_of}
 use Rattle.journal_replay.specs.declared.replaying.ReplayFault.{ReplayFault}
 use Rattle.journal_replay.specs.declared.replaying.ReplayFault.TheVariants.{DiskFault, BadRecord, NoMemory}
-use Rattle.journal_replay.specs.Replays.{BodiesBehind, Replays, StaysAs, Stops, bodies_of}
+use Rattle.journal_replay.specs.Replays.{BodiesBehind, IsKeptAndOne, IsWanting, Replays, StaysAs, Stops, bodies_of}
 
 module _ {D : Type 0} {g : Ghosts D} (start : Journal D g) (commands : List Command) where
   -- nothing is replayed yet
@@ -59,6 +59,19 @@ module _ {D : Type 0} {g : Ghosts D} (start : Journal D g) (commands : List Comm
       },
     )
 
+    -- it would be, but for want of memory
+    pub wants_here : (now : D) (n : ℕ) (command : Command) → Kept commands → length commands ≡ n → n < count_of start
+        → IsValid command → Follows commands command
+        → ((bodies : List (List ℕ)) (last : List ℕ) → g.honest now → StandsFor start bodies last
+        → slice_index_or bodies n [] ≡ spelling_of command)
+        → IsWanting Kept Follows start now commands
+    wants_here now n command kept counted within valid follows spelled = record {
+      n = n + 1;
+      behind = omega (arith, counted);
+      replays = replays_one (IsKeptAndOne Kept Follows) now n command counted within
+          (record { before = commands; last = command; same = refl; kept = kept; valid = valid; follows = follows }) spelled;
+    }
+
   module _ (Between : List Command → Type 0) (mid : Journal D g) (stays : StaysAs start mid) (n : ℕ)
       (so_far : Replays Between start (disk_of mid) n commands) (now : D) (honesty : g.honest now → g.honest (disk_of mid)) where
     same_later : (bodies : List (List ℕ)) (last : List ℕ) → g.honest now → StandsFor start bodies last
@@ -84,7 +97,11 @@ module _ {D : Type 0} {g : Ghosts D} (start : Journal D g) (commands : List Comm
       λ bodies last honest is same.
           stops.1 bodies last honest (stays.stands bodies last (honesty honest) is) (same_later bodies last honest is same),
     )
-    stops_later Kept Follows NoMemory from stops = tt
+    stops_later Kept Follows NoMemory from wants = record {
+      n = wants.n;
+      behind = omega (arith, from, so_far.counted, wants.behind);
+      replays = replays_on (IsKeptAndOne Kept Follows) wants.n wants.replays;
+    }
 
 -- with every record replayed the bodies are those of the commands
 pub all_replayed : {D : Type 0} {g : Ghosts D} (Kept : List Command → Type 0) (journal : Journal D g) (now : D) (commands : List Command)
@@ -93,14 +110,13 @@ pub all_replayed : {D : Type 0} {g : Ghosts D} (Kept : List Command → Type 0) 
 all_replayed Kept journal now commands all bodies last honest is same =
     sym (take-length bodies) ∙ ap (λ n. take n bodies) (sym is.count) ∙ all.front bodies last honest is same
 
--- what stops a replay stops it for whatever follows from the same
-pub Stops-weaker : {D : Type 0} {g : Ghosts D} (Kept Wider : List Command → Type 0) (Follows Narrower : List Command → Command → Type 0)
+-- what stops a replay stops it for what is kept more widely
+pub Stops-wider : {D : Type 0} {g : Ghosts D} (Kept Wider : List Command → Type 0) (Follows : List Command → Command → Type 0)
     → ((commands : List Command) → Kept commands → Wider commands)
-    → ((commands : List Command) (command : Command) → Narrower commands command → Follows commands command)
     → (journal : Journal D g) (now : D) (commands : List Command) (fault : ReplayFault)
-    → Stops Kept Follows journal now commands fault → Stops Wider Narrower journal now commands fault
-Stops-weaker Kept Wider Follows Narrower widen narrow journal now commands (DiskFault count) stops = tt
-Stops-weaker Kept Wider Follows Narrower widen narrow journal now commands (BadRecord n) stops = (
+    → Stops Kept Follows journal now commands fault → Stops Wider Follows journal now commands fault
+Stops-wider Kept Wider Follows widen journal now commands (DiskFault count) stops = tt
+Stops-wider Kept Wider Follows widen journal now commands (BadRecord n) stops = (
   stops.0,
   λ bodies last honest is same.
       let at = stops.1 bodies last honest is same in
@@ -110,7 +126,19 @@ Stops-weaker Kept Wider Follows Narrower widen narrow journal now commands (BadR
         counted = at.counted;
         within = at.within;
         front = at.front;
-        none = λ command spelled valid follows. at.none command spelled valid (narrow at.commands command follows);
+        none = at.none;
       },
 )
-Stops-weaker Kept Wider Follows Narrower widen narrow journal now commands NoMemory stops = tt
+Stops-wider Kept Wider Follows widen journal now commands NoMemory wants =
+    let all = wants.replays in
+    let more = all.kept in
+    record {
+      n = wants.n;
+      behind = wants.behind;
+      replays = record {
+        later = all.later;
+        kept = record { before = more.before; last = more.last; same = more.same; kept = widen more.before more.kept; valid = more.valid; follows = more.follows };
+        counted = all.counted;
+        front = all.front;
+      };
+    }

@@ -8,7 +8,7 @@ use Rattle.journal_replay.specs.declared.keeper.Unkept.TheVariants.{Refused, NoM
 abbrev pub AreKept : {K : Type 0} → (K → List Command → Type 0) → List Command → Type 0
 AreKept {K} stands commands = (keeper : K) × stands keeper commands
 
--- the command can't follow these, or there is no memory
+-- the command can't follow these, or it can and there is no memory
 abbrev pub IsUnkept : (List Command → Command → Type 0) → List Command → Command → Unkept → Type 0
 IsUnkept follows commands command Refused = follows commands command → ⊥
-IsUnkept follows commands command NoMemory = Unit {0}
+IsUnkept follows commands command NoMemory = follows commands command

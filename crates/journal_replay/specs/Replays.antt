@@ -1,5 +1,5 @@
 -- What replaying a journal's records tells of the journal, its disk and the keeper
-use Rattle.std.specs.Prelude.{◌≡◌, ℕ, ◌<◌, ◌≤◌, List, [], length, map, take, slice_index_or, Result, Ok, Err}
+use Rattle.std.specs.Prelude.{◌≡◌, ℕ, ◌<◌, ◌≤◌, List, [], ◌∷◌, ◌++◌, length, map, take, slice_index_or, Result, Ok, Err}
 use Rattle.outside_io.specs.Faults.{Rose}
 use Rattle.outside_io.specs.declared.disks.Disk.{Ghosts}
 use Rattle.policy_types.specs.declared.command.Command.{Command}
@@ -72,10 +72,26 @@ pub record IsStoppedAt (Kept : List Command → Type 0) (Follows : List Command 
   pub none : (command : Command) → slice_index_or bodies n [] ≡ spelling_of command → IsValid command
       → Follows commands command → ⊥
 
+-- commands that have Kept, and a valid one that follows them
+pub record IsKeptAndOne (Kept : List Command → Type 0) (Follows : List Command → Command → Type 0) (commands : List Command) : Type 0 where
+  pub before : List Command
+  pub last : Command
+  pub same : commands ≡ before ++ last ∷ []
+  pub kept : Kept before
+  pub valid : IsValid last
+  pub follows : Follows before last
+
+-- the first bodies are those of commands that are kept and of one that follows, where those of these commands stand before it
+pub record IsWanting {D : Type 0} {g : Ghosts D} (Kept : List Command → Type 0) (Follows : List Command → Command → Type 0)
+    (journal : Journal D g) (now : D) (commands : List Command) : Type 0 where
+  pub n : ℕ
+  pub behind : length commands < n
+  pub replays : Replays (IsKeptAndOne Kept Follows) journal now n commands
+
 -- what the bodies show of a fault, behind those of these commands
 abbrev pub Stops : {D : Type 0} {g : Ghosts D} → (List Command → Type 0) → (List Command → Command → Type 0)
     → Journal D g → D → List Command → ReplayFault → Type 0
 Stops Kept Follows journal now commands (DiskFault count) = Unit {0}
 Stops Kept Follows journal now commands (BadRecord n) =
     (length commands ≤ n) × BodiesBehind journal now commands (IsStoppedAt Kept Follows n)
-Stops Kept Follows journal now commands NoMemory = Unit {0}
+Stops Kept Follows journal now commands NoMemory = IsWanting Kept Follows journal now commands

@@ -7,7 +7,7 @@ ghost use Rattle.journal_replay.specs.Keeping.{IsUnkept};
 
 use policy_types::Command;
 
-/// Why a command isn't kept: it can't follow those before it, or there is no memory.
+/// Why a command isn't kept: it can't follow those before it, or it can and there is no memory for it.
 #[derive(Drop)]
 pub enum Unkept {
     Refused,

@@ -14,7 +14,8 @@ use std::marker::Brand;
 use std::sync::ledger::{Blank, Ledger};
 
 /// Why a journal's records aren't all replayed: its disk failed, and this is the disk's count of faults, which rose;
-/// record `n`, from 0, is the first that spells no command which can follow; or there is no memory.
+/// record `n`, from 0, is the first that spells no command which can follow; or one spells such a command, as all before
+/// it do, and there is no memory for it.
 #[derive(Drop)]
 pub enum ReplayFault {
     DiskFault(u64),

@@ -1,8 +1,7 @@
 // The lines of a lane are answered in order, by turns of one pass.
-ghost use Rattle.std.specs.Prelude.{◌≡◌, ◌+◌, ◌≤◌, ◌<◌, List, [], ◌∷◌, ◌++◌, All, length};
+ghost use Rattle.std.specs.Prelude.{◌≡◌, ◌+◌, ◌≤◌, ◌<◌, List, [], ◌∷◌, ◌++◌};
 ghost use Rattle.basis_book.specs.Dated.{Dated};
-ghost use Rattle.policy_types.specs.Valid.{IsValid};
-ghost use Rattle.policy_types.specs.declared.script.Line.TheVariants.{Post as PostLine, Value as ValueLine, Trim as TrimLine};
+ghost use Rattle.policy_types.specs.declared.script.Line.TheVariants.{Value as ValueLine, Trim as TrimLine};
 ghost use Rattle.rtrb.specs.Ring.{SameProducer, known_free, sent};
 ghost use Rattle.turn_lock.specs.Passes.{PassFacts};
 ghost use Rattle.shared_office.specs.Offices.{IsOfficeHistory};
@@ -16,7 +15,7 @@ use crate::telling::Outlet;
 use crate::transcript::{Outcome, TranscriptLine};
 use basis_book::Basis;
 use outside_io::{Disk, Gate};
-use policy_types::{At, Command, Lane, Line};
+use policy_types::{At, Lane, Line};
 use policy_value::Measure;
 use shared_office::{Office, OfficeCalls, OfficePass};
 use snapshot_value::{Query, Valuation, ValueFault, value};
@@ -48,45 +47,10 @@ pub fn answer_lane<D: Disk, W: Watching, G: Gate, R: Threads + Wait + Sync>(
 {
     // What is known of every pass (`PassFacts`) is told of this one here.
     pass.caller();
-    answer_lines(
-        rt,
-        alloc,
-        office,
-        pass,
-        lane.number,
-        lane.lines.as_slice(),
-        basis,
-        gate,
-        bell,
-        outlet,
-    );
-}
-
-fn answer_lines<D: Disk, W: Watching, G: Gate, R: Threads + Wait + Sync>(
-    rt: &R,
-    alloc: Global,
-    office: &Office<D, W>,
-    pass: &mut OfficePass<D, W>,
-    number: u8,
-    asked: &[Line],
-    basis: &Basis,
-    gate: &G,
-    bell: &LaneBell<'_>,
-    outlet: &mut Outlet,
-)
-    requires right { All IsRightLine asked.now }
-    requires ours { pass.old.turnstile ≡ office.now }
-    requires left { turns_needed asked.now ≤ pass.old.left }
-    requires facts { PassFacts IsOfficeHistory pass.old }
-    requires none { sent outlet.old.ring ≡ [] }
-    requires room { length asked.now ≤ known_free outlet.old.ring }
-    ensures answered { HasAnswered basis.now number asked.now pass.old pass.new (sent outlet.new.ring) }
-    ensures facts { PassFacts IsOfficeHistory pass.new }
-    ensures ring { SameProducer outlet.old.ring outlet.new.ring }
-{
+    let asked = lane.lines.as_slice();
     for line in asked {
-        gate.at(rt, number, 0);
-        let told = answer_line(rt, alloc, office, pass, number, line, basis, gate);
+        gate.at(rt, lane.number, 0);
+        let told = answer_line(rt, alloc, office, pass, lane.number, line, basis, gate);
         hand_over(outlet, bell, told);
     }
 }
@@ -122,33 +86,19 @@ fn answer_line<D: Disk, W: Watching, G: Gate, R: Threads + Wait + Sync>(
     ensures facts { PassFacts IsOfficeHistory pass.new }
 {
     match *line {
-        Line::Post(command) => answer_post(rt, office, pass, lane, command),
+        Line::Post(command) => {
+            let Turned { turn, answer } = office.post(rt, pass, &command);
+            TranscriptLine {
+                lane,
+                turn,
+                line: Line::Post(command),
+                outcome: Outcome::Posted(answer),
+            }
+        }
         Line::Trim => answer_trim(rt, office, pass, lane),
         Line::Value { on, at, workers } => answer_value(
             rt, alloc, office, pass, lane, on, at, workers, basis, gate,
         ),
-    }
-}
-
-fn answer_post<D: Disk, W: Watching, R: Wait>(
-    rt: &R,
-    office: &Office<D, W>,
-    pass: &mut OfficePass<D, W>,
-    lane: u8,
-    command: Command,
-) -> TranscriptLine
-    requires valid { IsValid command }
-    requires ours { pass.old.turnstile ≡ office.now }
-    requires left { 1 ≤ pass.old.left }
-    ensures answered { (basis : List Dated) → HasAnswered basis lane (PostLine command ∷ []) pass.old pass.new (result ∷ []) }
-    ensures facts { PassFacts IsOfficeHistory pass.new }
-{
-    let Turned { turn, answer } = office.post(rt, pass, &command);
-    TranscriptLine {
-        lane,
-        turn,
-        line: Line::Post(command),
-        outcome: Outcome::Posted(answer),
     }
 }
 

@@ -6,6 +6,8 @@
 //!    nobody rings.
 //!
 //! So no ring is missed, and a line waits for a millisecond at most: a lane at a disk, whose line is the only one, rings.
+ghost use Rattle.std.specs.Prelude.{◌≡◌, ◌+◌, ◌-◌, ◌^◌, if◌then◌else◌, min};
+
 use std::sync::Wait;
 use std::sync::atomic::AtomicU64;
 use std::sync::atomic::Ordering::SeqCst;
@@ -43,14 +45,17 @@ pub struct Sleeper<'a> {
 }
 
 impl WriterBell {
-    pub fn new() -> WriterBell {
+    /// It names nobody. Contracts don't see whom it names, since any thread may change that.
+    pub(crate) fn new() -> WriterBell {
         WriterBell {
             named: AtomicU64::new(NOBODY),
         }
     }
 
     /// For the lane at this place, from 0.
-    pub fn of_lane(&self, place: usize) -> LaneBell<'_> {
+    pub(crate) fn of_lane(&self, place: usize) -> LaneBell<'_>
+        ensures { (result.bell.now ≡ self.now) × (result.place ≡ min (place + 1) (2 ^ 64 - 1)) }
+    {
         LaneBell {
             bell: self,
             place: (place as u64).saturating_add(1),
@@ -60,7 +65,7 @@ impl WriterBell {
 
 impl<'a> LaneBell<'a> {
     /// Wakes the writer, where it sleeps for this lane.
-    pub fn ring(&self) {
+    pub(crate) fn ring(&self) {
         let named = &self.bell.named;
         if named.load(SeqCst) == self.place
             && named
@@ -73,7 +78,10 @@ impl<'a> LaneBell<'a> {
 }
 
 impl<'a> Sleeper<'a> {
-    pub fn at(bell: &'a WriterBell) -> Sleeper<'a> {
+    /// At this bell, before the first line.
+    pub(crate) fn at(bell: &'a WriterBell) -> Sleeper<'a>
+        ensures { (result.bell.now ≡ bell.now) × (result.missing ≡ 0) × (result.came ≡ 0) }
+    {
         Sleeper {
             bell,
             missing: NOBODY,
@@ -82,19 +90,26 @@ impl<'a> Sleeper<'a> {
     }
 
     /// Whether the next line of the lane at this place, from 0, is there.
-    pub fn sees(&mut self, place: usize, is_there: bool) {
+    pub(crate) fn sees(&mut self, place: usize, is_there: bool)
+        ensures missing { self.new.missing ≡ (if is_there then self.old.missing else min (place + 1) (2 ^ 64 - 1)) }
+        ensures came { self.new.came ≡ self.old.came }
+    {
         if !is_there {
             self.missing = (place as u64).saturating_add(1);
         }
     }
 
     /// A line is there.
-    pub fn has_one(&mut self) {
+    pub(crate) fn has_one(&mut self)
+        ensures { (self.new.missing ≡ self.old.missing) × (self.new.came ≡ min (self.old.came + 1) (2 ^ 64 - 1)) }
+    {
         self.came = self.came.saturating_add(1);
     }
 
     /// Waits for the missing line. It may come back without: then the caller looks, and waits again.
-    pub fn rest<R: Wait>(&mut self, rt: &R) {
+    pub(crate) fn rest<R: Wait>(&mut self, rt: &R)
+        ensures { self.new.missing ≡ self.old.missing }
+    {
         let named = &self.bell.named;
         if self.came >= SEVERAL {
             self.came = 0;

@@ -15,7 +15,7 @@ ghost use Rattle.lane_runner.specs.Written.{HasEnded};
 ghost use Rattle.lane_runner.specs.inside.Gathering.{HasPutOut};
 ghost use Rattle.lane_runner.specs.inside.Merging.{AreInOrder, HasLooked, IsMerged, all_to_come};
 ghost use Rattle.lane_runner.specs.inside.Showing.{IsShowing};
-ghost use Rattle.lane_runner.specs.inside.Parts.{HasEntered, HasLeft, HasLaneRoom, HasRunAt, HaveRun, IsEndOf, IsInletFor, IsReadySeat, IsReadyAt, IsSameSeat, IsSpent, IsWhole, shares_to_enter, told_in, turns_to_enter};
+ghost use Rattle.lane_runner.specs.inside.Parts.{HasEntered, HasLeft, HasRunAt, HaveRun, IsEndOf, IsInletFor, IsReadySeat, IsReadyAt, IsSameSeat, IsSpent, IsWhole, shares_to_enter, told_in, turns_to_enter};
 
 use crate::answering::answer_lane;
 use crate::bell::WriterBell;
@@ -85,7 +85,13 @@ pub fn run_lanes<
 {
     // What is known of every pass (`PassFacts`) is told of this one here.
     pass.caller();
-    let room = room_for::<D, W>(alloc, lanes)?;
+    let Room {
+        outlets,
+        mut inlets,
+        mut seats,
+        mut callers,
+        mut page,
+    } = room_for::<D, W>(alloc, lanes)?;
     let run = Run {
         rt,
         alloc,
@@ -94,7 +100,21 @@ pub fn run_lanes<
         basis,
         gate,
     };
-    Ok(run_in::<R, X, D, K, W, G>(&run, pass, moments, output, room))
+    enter_all(office, pass, outlets, &mut seats);
+    run_beside::<R, X, D, K, W, G>(&run, &mut seats, &mut inlets, moments, &mut page, output);
+    leave_all(office, pass, seats, &mut callers);
+    // What is known of every pass (`PassFacts`) is told of this one here.
+    pass.caller();
+    let written = page.written();
+    let Page { lines, latest, .. } = page;
+    Ok(Ran {
+        transcript: Transcript {
+            callers: Callers::new(callers),
+            lines,
+        },
+        written,
+        latest,
+    })
 }
 
 // What is the same for each lane of a run.
@@ -106,63 +126,6 @@ struct Run<'a, R, D: Disk, W: Watching, G> {
     lanes: &'a [Lane],
     basis: &'a Basis,
     gate: &'a G,
-}
-
-// Runs lanes, for whose lines there is room.
-fn run_in<
-    R: Threads + Wait + Sync,
-    X: Wording + Send,
-    D: Disk + Send,
-    K: Sink<Beside = D> + Send,
-    W: Watching + Send,
-    G: Gate + Sync,
->(
-    run: &Run<R, D, W, G>,
-    pass: &mut OfficePass<D, W>,
-    moments: &mut MomentInlet<D>,
-    output: &mut K,
-    room: Room<D, W>,
-) -> Ran<D>
-    requires lanes { AreRightLanes run.now.lanes.now }
-    requires ours { pass.old.turnstile ≡ run.now.office.now }
-    requires left { 2 ^ 40 ≤ pass.old.left }
-    requires shares { 2 ^ 10 ≤ pass.old.shares }
-    requires unheard { received moments.old.ring ≡ [] }
-    requires room { HasLaneRoom run.now.lanes.now room.outlets room.inlets room.seats room.callers }
-    requires page { (room.page.lines ≡ []) × (room.page.bytes.items ≡ []) × (room.page.stopped ≡ None) }
-    ensures answered { HasAnsweredLanes run.now.basis.now run.now.lanes.now pass.old pass.new result.transcript }
-    ensures wrote { HasEnded (K.faults output.old) (K.faults output.new) (K.written output.old) (K.written output.new)
-        X.text result.transcript.lines result.written }
-    ensures shown { HasShown X.text (K.pieces output.old) (K.pieces output.new) result.transcript.lines
-        (received moments.new.ring) result.latest result.written }
-    ensures ring { SameConsumer moments.old.ring moments.new.ring }
-    ensures later { K.faults output.old ≤ K.faults output.new }
-    ensures facts { PassFacts IsOfficeHistory pass.new }
-{
-    let Room {
-        outlets,
-        mut inlets,
-        mut seats,
-        mut callers,
-        mut page,
-    } = room;
-    // What is known of every pass (`PassFacts`) is told of this one here.
-    pass.caller();
-    enter_all(run.office, pass, outlets, &mut seats);
-    run_beside::<R, X, D, K, W, G>(run, &mut seats, &mut inlets, moments, &mut page, output);
-    leave_all(run.office, pass, seats, &mut callers);
-    // What is known of every pass (`PassFacts`) is told of this one here.
-    pass.caller();
-    let written = page.written();
-    let Page { lines, latest, .. } = page;
-    Ran {
-        transcript: Transcript {
-            callers: Callers::new(callers),
-            lines,
-        },
-        written,
-        latest,
-    }
 }
 
 // Gives each lane a pass of its own.

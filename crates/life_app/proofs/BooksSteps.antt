@@ -1,9 +1,9 @@
 -- How `state` of all policies and `checkpoint` end over both disks
-use Rattle.std.proofs.Common.{◌≡◌, ◌⊎◌, ℕ, List, inl, inr, refl, Option, Some, String, Global, arith}
+use Rattle.std.proofs.Common.{◌≡◌, ◌⊎◌, ℕ, List, inl, inr, refl, Option, Some, arith}
 use Rattle.outside_io.specs.Faults.{Rose}
 use Rattle.outside_io.specs.declared.disks.Disk.{Ghosts}
 use Rattle.policy_types.specs.declared.command.Command.{Command}
-use Rattle.life_args.specs.Words.{AskFor}
+use Rattle.life_args.specs.Words.{AreWords}
 use Rattle.life_args.specs.declared.mode.Mode.{Mode}
 use Rattle.office_state.specs.Journals.{IsOfTheFile, Opens, OpensToNone}
 use Rattle.office_state.specs.declared.faults.StartCause.{StartCause}
@@ -110,7 +110,7 @@ module _ {D E : Type 0} (g : Ghosts D) (e : Ghosts E) (disks : TwoDisks D E) (ou
   refused _ none ends = absurd ends
 
   -- why it ended so, of a mode that opens both
-  pub reason : (words : List (String Global)) (input : Input) (shelf : Shelving) (mode : Mode) → AskFor words mode
+  pub reason : (words : List (List ℕ)) (input : Input) (shelf : Shelving) (mode : Mode) → AreWords words mode
       → (AreTrusted journal (seen_by mode other) → AreTrusted journal other) → (HasDiskFault journal other → HasDiskFault journal (seen_by mode other))
       → (ending : Ending) → EndsKnown ending → HasReason words input output shelf journal other ending
   reason words input shelf mode asked seen failed Done ends = tt

@@ -1,5 +1,5 @@
 -- Where the count of faults of one of the disks rose and the output didn't fail, the ending tells it, but for want of memory
-use Rattle.std.proofs.Common.{◌≡◌, ◌<◌, ◌⊎◌, ℕ, ℤ, List, [], ◌∷◌, ◌++◌, refl, ap, ◌∙◌, inl, inr, Option, None, Some, String, Global, arith}
+use Rattle.std.proofs.Common.{◌≡◌, ◌<◌, ◌⊎◌, ℕ, ℤ, List, [], ◌∷◌, ◌++◌, refl, ap, ◌∙◌, inl, inr, Option, None, Some, arith}
 use Rattle.std.specs.List.{AllByRecursion, cons_option, filter_map, last_or}
 use Rattle.std.specs.Option.{unwrap_or}
 use Rattle.outside_io.specs.declared.disks.Disk.{Ghosts}
@@ -190,7 +190,7 @@ module _ {D E : Type 0} (g : Ghosts D) (e : Ghosts E) (old new : D) (output : St
         load_told g old new output held (first_rose second kept rose ends.0) seed count lanes workers shelf ending ends.2
 
     -- whatever the program does
-    pub fault_told : (words : List (String Global)) → Does g e old new second kept words auditors input output shelf InputStays ShelfStays ending
+    pub fault_told : (words : List (List ℕ)) → Does g e old new second kept words auditors input output shelf InputStays ShelfStays ending
         → (status_of ending ≡ 8) ⊎ (status_of ending ≡ 9)
     fault_told words does = elim does [
       | inl (mode, asked, ends) ↦ mode_told mode ends

@@ -1,5 +1,5 @@
 -- What is promised of a script's run follows from what the program does
-use Rattle.std.proofs.Common.{◌≡◌, ℕ, ℤ, ◌⊎◌, List, [], ◌∷◌, ◌++◌, map, string_bytes, refl, ap, sym, ◌∙◌, subst, inl, inr, append-nil, Option, Result, Ok, Err, String, Global}
+use Rattle.std.proofs.Common.{◌≡◌, ℕ, ℤ, ◌⊎◌, List, [], ◌∷◌, ◌++◌, refl, ap, sym, ◌∙◌, subst, inl, inr, append-nil, Option, Result, Ok, Err}
 use Rattle.std.specs.Prelude.{take}
 use Rattle.std.specs.List.{AllZip}
 use Rattle.std.proofs.lemmas.Bool.{false≢true}
@@ -22,6 +22,8 @@ use Rattle.policy_types.specs.declared.script.Line.TheVariants.{Post, Value, Tri
 use Rattle.policy_types.specs.declared.script.Lane.{Lane}
 use Rattle.policy_machine.specs.Book.{book}
 use Rattle.policy_machine.specs.History.{Opening, accepted_by, accepted_of, commands_after, opened_on}
+use Rattle.policy_value.specs.Covers.{cap_along, cover_along}
+use Rattle.policy_value.specs.Measures.{exact_reserve}
 use Rattle.policy_value.specs.Rows.{IsExact, IsReserveOf}
 use Rattle.policy_value.specs.declared.worth.Measure.TheVariants.{Terminal}
 use Rattle.policy_value.specs.declared.worth.Row.{Row}
@@ -48,21 +50,39 @@ use Rattle.life_args.proofs.Answering.{ask_once}
 use Rattle.life_args.specs.declared.mode.Mode.{Mode}
 use Rattle.life_args.specs.declared.mode.Mode.TheVariants.{Run}
 use Rattle.life_app.specs.Obeys.{Does, EndsMode, Obeys, SaysUnasked}
+use Rattle.life_app.specs.TableReserves.{AreOnce, table_reserves}
+use Rattle.life_app.specs.Texts.{run_wording}
 use Rattle.life_app.specs.Words.{AskForRun}
 use Rattle.life_app.specs.Headline.{WroteAsEnded, IsEnclosingRow, IsGivenBasis, IsPromised, IsThere, IsToldLine, IsToldText, IsUnrun, IsWorthBy, SaysUnrun, WasFaulted}
 
 -- the rounded bounds of a row are bounds of the exact reserve
 worth_by : (policy : Policy) (entry : Dated) (on : ℤ) (shape : Result Shape NotValued) (t : ℕ) (worth : Worth)
     → shape_of policy.plan policy.age policy.years entry.table ≡ shape → IsReserveOf policy entry.table entry.bp on Terminal shape t worth
-    → IsExact Terminal policy entry.table entry.bp t worth → IsWorthBy policy entry on shape t worth
-worth_by policy entry on (Ok shape) t (Bounds lo hi) is value exact = let enclosed = exact shape is in (value.0, enclosed.0, enclosed.1)
+    → IsExact Terminal policy entry.table entry.bp t worth → IsWorthBy table_reserves policy entry on t worth
+worth_by policy entry on (Ok shape) t (Bounds lo hi) is value exact =
+    let enclosed = exact shape is in
+    (shape.n, (exact_reserve policy.status (cover_along entry.table shape entry.bp) (cap_along entry.table shape.age entry.bp) t, record { shape = shape; shaped = is; covered = refl; rates = enclosed.0; exact = refl }, value.0, enclosed.1))
 worth_by policy entry on (Ok shape) t (Word why) is value exact = let never = value.1 in cc
 worth_by policy entry on (Ok shape) t (Both lo hi min_lo min_hi test) is value exact = let never = value.1 in cc
 worth_by policy entry on (Err word) t (Bounds lo hi) is value exact = let never = value.1 in cc
 worth_by policy entry on (Err word) t (Both lo hi min_lo min_hi test) is value exact = let never = value.1 in cc
 worth_by policy entry on (Err word) t (Word why) is value exact = let same = value.1 in cc
 
-pub enclosing : (basis : List Dated) (on : ℤ) (policy : Policy) (row : Row) → IsValuedRow basis on Terminal policy row → IsEnclosingRow basis on policy row
+-- there is one shape, and so one exact reserve
+pub once : AreOnce table_reserves
+once = record {
+  one = λ policy entry years other t reserve another is too.
+      let both = sym is.shaped ∙ too.shaped in
+      let same : is.shape ≡ too.shape = cc in (
+        is.covered ∙ ap (λ (s : Shape). s.n) same ∙ sym too.covered,
+        is.exact
+            ∙ ap (λ (s : Shape). exact_reserve policy.status (cover_along entry.table s entry.bp) (cap_along entry.table s.age entry.bp) t) same
+            ∙ sym too.exact,
+      );
+  none = λ policy entry years t reserve why is lacks. let never = sym is.shaped ∙ lacks in cc;
+}
+
+pub enclosing : (basis : List Dated) (on : ℤ) (policy : Policy) (row : Row) → IsValuedRow basis on Terminal policy row → IsEnclosingRow table_reserves basis on policy row
 enclosing basis on policy row is = record {
   id = is.valued.id;
   status = is.valued.status;
@@ -80,7 +100,7 @@ each_pair P Q step (x ∷ xs) [] all = absurd all
 each_pair P Q step (x ∷ xs) (y ∷ ys) all = (step x y all.0, each_pair P Q step xs ys all.1)
 
 told_text : (clerk : ℕ) (line : Line) (reply : Reply) (commands : List Command) (basis : List Dated) (IsDry : Type 0) (text : List ℕ)
-    → IsReplyText clerk line reply commands basis IsDry text → IsToldText clerk line reply commands basis IsDry text
+    → IsReplyText clerk line reply commands basis IsDry text → IsToldText run_wording table_reserves clerk line reply commands basis IsDry text
 told_text clerk (Post command) reply commands basis IsDry text is = is
 told_text clerk Trim (Floor floor) commands basis IsDry text is = is
 told_text clerk (Value on at workers) (PinRefused refusal) commands basis IsDry text is = is
@@ -90,7 +110,7 @@ told_text clerk (Value on at workers) (Pinned position policies) commands basis 
     rows.0,
     (
       rows.1.0,
-      each_pair (IsValuedRow basis on Terminal) (IsEnclosingRow basis on) (enclosing basis on) (book (take position commands)) rows.1.0 rows.1.1,
+      each_pair (IsValuedRow basis on Terminal) (IsEnclosingRow table_reserves basis on) (enclosing basis on) (book (take position commands)) rows.1.0 rows.1.1,
       rows.1.2,
     ),
   )
@@ -99,9 +119,9 @@ told_text _ _ _ _ _ _ _ is = absurd is
 
 -- the texts of a run's lines
 told_lines : (opening : Opening) (history : List Entry) (basis : List Dated) (dry : List ℕ) (lines : List AnsweredLine) (texts : List (List ℕ))
-    → AllZip (IsLineText opening history basis dry) lines texts → AllZip (IsToldLine opening.commands history basis dry) lines texts
+    → AllZip (IsLineText opening history basis dry) lines texts → AllZip (IsToldLine run_wording table_reserves opening.commands history basis dry) lines texts
 told_lines opening history basis dry lines texts =
-    each_pair (IsLineText opening history basis dry) (IsToldLine opening.commands history basis dry)
+    each_pair (IsLineText opening history basis dry) (IsToldLine run_wording table_reserves opening.commands history basis dry)
     (λ line text is. told_text line.clerk line.line line.first.1.reply (commands_after opening (take line.first.0 history)) basis _ text is) lines texts
 
 -- a posting that is pending was answered `fault` when all that is accepted was
@@ -149,7 +169,7 @@ module _ {D : Type 0} (g : Ghosts D) (old new : D) (output : Stream) where
       (Replies : List Entry → List ℕ → Type 0) (ending : Ending) → (ran : IsRunOf g old new lanes basis auditors output Wrote Replies)
       → ((texts : List (List ℕ)) (reports : List ℕ) → Wrote texts reports
       → WroteAsEnded g old new ran.history ran.dry texts reports output ending)
-      → IsPromised g Opens old new lanes basis auditors output (status_of ending)
+      → IsPromised g Opens run_wording table_reserves old new lanes basis auditors output (status_of ending)
   promised lanes basis auditors Wrote Replies ending ran written =
       let opening = opened_on ran.commands (g.faults old) in
       record {
@@ -213,7 +233,7 @@ module _ {D : Type 0} (g : Ghosts D) (old new : D) (output : Stream) where
     -- what is promised, of a run or of none
     abbrev pub Told : List Lane → List Dated → List Auditor → ℕ → Type 0
     Told lanes basis auditors status =
-        IsPromised g Opens old new lanes basis auditors output status ⊎ IsUnrun g Opens old new name input output shelf status
+        IsPromised g Opens run_wording table_reserves old new lanes basis auditors output status ⊎ IsUnrun g Opens old new name input output shelf status
 
     -- how a script's run ends, by what was written
     by_ending : (lanes : List Lane) (basis : List Dated) (auditors : List Auditor) (ending : Ending)
@@ -279,7 +299,7 @@ module _ {D : Type 0} (g : Ghosts D) (old new : D) (output : Stream) where
           without_script lanes basis auditors ending unread.0 unread.2
 
       -- words that ask for a run were read, or there was no memory for them
-      unasked_run : (words : List (String Global)) (ending : Ending) → AskForRun words name → new ≡ old → SaysUnasked words output ending
+      unasked_run : (words : List (List ℕ)) (ending : Ending) → AskForRun words name → new ≡ old → SaysUnasked words output ending
           → IsUnrun g Opens old new name input output shelf (status_of ending)
       unasked_run words Usage asked same says = absurd (says.0 (Run name) asked)
       unasked_run words NoMemory asked same says = unrun_untouched NoMemory says same only_now
@@ -287,7 +307,7 @@ module _ {D : Type 0} (g : Ghosts D) (old new : D) (output : Stream) where
 
       -- what the words ask for, and how it ended, whatever the second disk
       module _ {E : Type 0} (e : Ghosts E) (second kept : Option E) (lanes : List Lane) (basis : List Dated) (auditors : List Auditor)
-          (bytes : List ℕ) (words : List (String Global)) (InputStays ShelfStays : Type 0) where
+          (bytes : List ℕ) (words : List (List ℕ)) (InputStays ShelfStays : Type 0) where
         by_words : (ending : Ending) → AskForRun words name
             → IsWholeInput input bytes → Reads bytes lanes → IsGivenBasis IsBasis lanes name shelf basis
             → Does g e old new second kept words auditors input output shelf InputStays ShelfStays ending
@@ -295,7 +315,7 @@ module _ {D : Type 0} (g : Ghosts D) (old new : D) (output : Stream) where
         by_words ending asked whole reads given (inl (mode, for, ends)) =
             let run : EndsMode g e old new second kept (Run name) auditors input output shelf InputStays ShelfStays ending =
             subst (λ (m : Mode). EndsMode g e old new second kept m auditors input output shelf InputStays ShelfStays ending)
-            (ask_once (map string_bytes words) mode (Run name) for asked) ends in
+            (ask_once words mode (Run name) for asked) ends in
             by_script lanes basis auditors bytes ShelfStays ending whole reads given run.1
         by_words ending asked whole reads given (inr unasked) =
             inr (unasked_run words ending asked unasked.disk unasked.says)

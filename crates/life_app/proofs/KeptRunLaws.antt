@@ -16,8 +16,6 @@ use Rattle.office_state.proofs.JournalLaws.{opens_to_one, to_bodies}
 use Rattle.office_state.proofs.OpeningSteps.{opening_keeps}
 use Rattle.stating_modes.specs.Saved.{EndsCheckpoint, IsNoneOrEarlierOrHeld}
 use Rattle.stating_modes.specs.TwoDisks.{AreTrue, IsOnlyRead, TellsTruth, TwoDisks}
-use Rattle.std.specs.Global.{Global}
-use Rattle.std.specs.Prelude.{String}
 use Rattle.posting_journal.proofs.Moments.{leaves, looks_none}
 use Rattle.watcher_set.specs.Noted.{Auditor}
 use Rattle.life_args.specs.declared.mode.Mode.{Mode}
@@ -231,7 +229,7 @@ module _ {D E : Type 0} (g : Ghosts D) (e : Ghosts E) (second_facts : Facts e) (
     | inr safe ↦ inr (record { alone = ends.first; safe = safe; since = ends.since kept_honest; now = ends.now kept_honest })
   ]
 
-  module _ (words : List (String Global)) (auditors : List Auditor) (input : Input) (output : Stream) (shelf : Shelving)
+  module _ (words : List (List ℕ)) (auditors : List Auditor) (input : Input) (output : Stream) (shelf : Shelving)
       (InputStays ShelfStays : Type 0) where
     left_alone : Some disks.kept ≡ Some disks.second → LeavesSecond e disks.second disks.kept ⊎ LeavesSaved g e disks
     left_alone same = inl (untouched (cc))

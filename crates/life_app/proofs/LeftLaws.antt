@@ -1,5 +1,5 @@
 -- How each mode leaves the disk: by the turns of an office, alone, or untouched
-use Rattle.std.proofs.Common.{◌≡◌, ℕ, ℤ, List, [], refl, inl, inr, Option, None, Some, String, Global}
+use Rattle.std.proofs.Common.{◌≡◌, ℕ, ℤ, List, [], refl, inl, inr, Option, None, Some}
 use Rattle.outside_io.specs.declared.disks.Disk.{Ghosts}
 use Rattle.policy_types.specs.declared.command.Command.{Command}
 use Rattle.policy_types.specs.declared.entry.At.{At}
@@ -160,7 +160,7 @@ module _ {D : Type 0} (g : Ghosts D) (old new : D) where
     mode_left (Load seed count lanes workers) ending ends = load_left seed count lanes workers shelf output ending ends.2
 
     -- the program leaves the disk so
-    pub left_so : (words : List (String Global)) (ending : Ending)
+    pub left_so : (words : List (List ℕ)) (ending : Ending)
         → Does g e old new second kept words auditors input output shelf InputStays ShelfStays ending
         → (opening : Opening) × ((history : List Entry) × IsLeftSo g old new opening history)
     left_so words ending does = elim does [

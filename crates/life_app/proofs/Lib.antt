@@ -1,5 +1,6 @@
 pub mod CrashLaws
 pub mod FaultsTold
+pub mod TextLaws
 pub mod HeadlineLaws
 pub mod RunLaws
 pub mod LeftLaws

@@ -1,5 +1,5 @@
 -- What the exit status tells of the words, the script, the basis and the file
-use Rattle.std.proofs.Common.{◌≡◌, ℕ, ◌≤◌, ◌<◌, ◌⊎◌, ℤ, List, length, map, string_bytes, ⊎_elim, refl, ap, subst, inl, inr, Option, None, Some, String, Global, codes}
+use Rattle.std.proofs.Common.{◌≡◌, ℕ, ◌≤◌, ◌<◌, ◌⊎◌, ℤ, List, length, ⊎_elim, refl, ap, subst, inl, inr, Option, None, Some, codes}
 use Rattle.std.specs.Prelude.{true}
 use Rattle.outside_io.specs.declared.disks.Disk.{Ghosts}
 use Rattle.outside_io.specs.Faults.{Rose}
@@ -17,7 +17,7 @@ use Rattle.basis_shelf.specs.FirstBad.{IsFirstBadFile}
 use Rattle.basis_shelf.specs.declared.fault.BadBasis.{BadBasis as ABadBasis}
 use Rattle.command_csv.specs.Reads.{Reads}
 use Rattle.life_args.proofs.Answering.{ask_once}
-use Rattle.life_args.specs.Words.{AskFor, AskForNothing}
+use Rattle.life_args.specs.Words.{AreWords}
 use Rattle.life_args.specs.declared.mode.Mode.{Mode}
 use Rattle.life_args.specs.declared.mode.Mode.TheVariants.{Run, Value, Project, State, Checkpoint, Generate, Load}
 use Rattle.office_state.proofs.OpeningSteps.{finished}
@@ -44,7 +44,7 @@ use Rattle.life_app.proofs.BooksSteps.{second_between, two_disks}
 use Rattle.life_app.proofs.FaultsTold.{fault_told}
 use Rattle.life_app.specs.Due.{HasBasis, HasItsJournal, HasItsNeeds, HasJournal, HasNoBasis, HasNoJournal, HasNoScript, IsDueEnding, IsHeld, LacksItsBasis, LacksItsJournal}
 use Rattle.life_app.specs.Obeys.{Does, EndsBooks, EndsMode, EndsSave, SaysUnasked}
-use Rattle.life_app.specs.Words.{AskForCheckpoint, AskForGenerate, AskForLoad, AskForProject, AskForRun, AskForValue}
+use Rattle.life_app.specs.Words.{AreNoWords, AskForCheckpoint, AskForGenerate, AskForLoad, AskForProject, AskForRun, AskForValue}
 
 -- a bad file gives 4, and its line besides
 said : {status : ℕ} (output : Stream) (bad : ABadBasis) → SaysBadFile bad output status ⊎ (status ≡ 9) → (status ≡ 4) ⊎ (status ≡ 9)
@@ -59,27 +59,27 @@ module _ {shelf : Shelving} (lanes : List Lane) (name : List ℕ) (has : asks_fo
   held_for asks = (has asks).held
 
 module _ {D E : Type 0} (g : Ghosts D) (e : Ghosts E) (old new : D) (second kept : Option E) (auditors : List Auditor) where
-  module _ (words : List (String Global)) (input : Input) (output : Stream) (shelf : Shelving) (InputStays ShelfStays : Type 0) where
-    unasked : (ending : Ending) → SaysUnasked words output ending → (mode : Mode) → AskFor words mode → status_of ending ≡ 9
+  module _ (words : List (List ℕ)) (input : Input) (output : Stream) (shelf : Shelving) (InputStays ShelfStays : Type 0) where
+    unasked : (ending : Ending) → SaysUnasked words output ending → (mode : Mode) → AreWords words mode → status_of ending ≡ 9
     unasked Usage says mode asked = absurd (says.0 mode asked)
     unasked NoMemory says mode asked = refl
     unasked _ says mode asked = absurd says
 
     -- the mode that the words ask for ended so, or there was no memory to read them
     pub as_asked : (ending : Ending) → Does g e old new second kept words auditors input output shelf InputStays ShelfStays ending
-        → (mode : Mode) → AskFor words mode
+        → (mode : Mode) → AreWords words mode
         → EndsMode g e old new second kept mode auditors input output shelf InputStays ShelfStays ending ⊎ (status_of ending ≡ 9)
     as_asked ending does mode asked = elim does [
       | inl (other, asked_too, ends) ↦ inl (
           subst (λ (m : Mode). EndsMode g e old new second kept m auditors input output shelf InputStays ShelfStays ending)
-          (ask_once (map string_bytes words) other mode asked_too asked) ends
+          (ask_once words other mode asked_too asked) ends
           )
       | inr none ↦ inr (unasked ending none.says mode asked)
     ]
 
     -- words that ask for nothing
     pub as_nothing : (ending : Ending) → Does g e old new second kept words auditors input output shelf InputStays ShelfStays ending
-        → AskForNothing words → (status_of ending ≡ 2) ⊎ (status_of ending ≡ 9)
+        → AreNoWords words → (status_of ending ≡ 2) ⊎ (status_of ending ≡ 9)
     as_nothing ending does nothing = elim does [
       | inl (mode, asked, ends) ↦ absurd (nothing mode asked)
       | inr none ↦ said ending none.says
@@ -253,7 +253,7 @@ module _ {D E : Type 0} (g : Ghosts D) (e : Ghosts E) (old new : D) (second kept
         | inr without ↦ inr without
       ]
 
-      stated : (id : Option ℕ) (commands : List Command) → AskFor words (State id) → HasJournal filing (seen_by (State id) other) commands
+      stated : (id : Option ℕ) (commands : List Command) → AreWords words (State id) → HasJournal filing (seen_by (State id) other) commands
           → (Rose output.faults_before output.faults_after → ⊥) → (status_of ending ≡ 0) ⊎ (status_of ending ≡ 9)
       stated None commands asked file held = elim (as_asked ending does (State None) asked) [
         | inl ends ↦ books_done second kept commands ending file held ends.2
@@ -264,7 +264,7 @@ module _ {D E : Type 0} (g : Ghosts D) (e : Ghosts E) (old new : D) (second kept
         | inr none ↦ inr none
       ]
 
-      unstated : (id : Option ℕ) → AskFor words (State id) → HasNoJournal filing (seen_by (State id) other)
+      unstated : (id : Option ℕ) → AreWords words (State id) → HasNoJournal filing (seen_by (State id) other)
           → (status_of ending ≡ 5) ⊎ (status_of ending ≡ 9)
       unstated None asked none = elim (as_asked ending does (State None) asked) [
         | inl ends ↦ books_refused second kept ending none ends.2
@@ -384,7 +384,7 @@ module _ {D E : Type 0} (g : Ghosts D) (e : Ghosts E) (old new : D) (second kept
         | inr bytes ↦ script_refused bytes.0 name asked bytes.1 bytes.2 none.held
       ]
 
-      bad_basis : (mode : Mode) → AskFor words mode → LacksItsBasis mode input shelf → (status_of ending ≡ 4) ⊎ (status_of ending ≡ 9)
+      bad_basis : (mode : Mode) → AreWords words mode → LacksItsBasis mode input shelf → (status_of ending ≡ 4) ⊎ (status_of ending ≡ 9)
       bad_basis (Run name) asked lacks =
           let script = lacks.1 in
           let none = lacks.3 in
@@ -396,7 +396,7 @@ module _ {D E : Type 0} (g : Ghosts D) (e : Ghosts E) (old new : D) (second kept
           said output none.bad (unfit_load none.bad none.files (seed, (count, (lanes, (workers, asked)))) none.agree none.first none.held)
       bad_basis _ asked lacks = absurd lacks
 
-      bad_journal : (mode : Mode) → AskFor words mode → HasItsNeeds mode input shelf other → LacksItsJournal mode filing other
+      bad_journal : (mode : Mode) → AreWords words mode → HasItsNeeds mode input shelf other → LacksItsJournal mode filing other
           → (status_of ending ≡ 5) ⊎ (status_of ending ≡ 9)
       bad_journal (Run name) asked has none =
           let script = has.1 in
@@ -411,7 +411,7 @@ module _ {D E : Type 0} (g : Ghosts D) (e : Ghosts E) (old new : D) (second kept
       bad_journal Checkpoint asked has none = unsaved asked has none
       bad_journal (Generate seed count lanes) asked has none = absurd none
 
-      done : (mode : Mode) → AskFor words mode → HasItsNeeds mode input shelf other → HasItsJournal mode filing other
+      done : (mode : Mode) → AreWords words mode → HasItsNeeds mode input shelf other → HasItsJournal mode filing other
           → IsHeld output.faults_before output.faults_after → (status_of ending ≡ 0) ⊎ (status_of ending ≡ 9)
       done (Run name) asked has journal output_held =
           let script = has.1 in

@@ -1,5 +1,5 @@
 -- Each ending of a mode has its reason
-use Rattle.std.proofs.Common.{◌≡◌, ℕ, ℤ, List, refl, sym, subst, inl, inr, Option, None, Some, String, Global, codes, arith}
+use Rattle.std.proofs.Common.{◌≡◌, ℕ, ℤ, List, refl, sym, subst, inl, inr, Option, None, Some, codes, arith}
 use Rattle.std.specs.Prelude.{true}
 use Rattle.outside_io.specs.Faults.{Rose}
 use Rattle.outside_io.specs.declared.disks.Disk.{Ghosts}
@@ -9,7 +9,7 @@ use Rattle.policy_types.specs.declared.script.Lane.{Lane}
 use Rattle.basis_book.specs.Dated.{Dated}
 use Rattle.policy_value.specs.declared.worth.Measure.{Measure}
 use Rattle.watcher_set.specs.Noted.{Auditor}
-use Rattle.life_args.specs.Words.{AskFor}
+use Rattle.life_args.specs.Words.{AreWords}
 use Rattle.life_args.specs.declared.mode.Mode.{Mode}
 use Rattle.life_args.specs.declared.mode.Mode.TheVariants.{Run, Value, Project, State, Checkpoint, Generate, Load}
 use Rattle.program_endings.specs.declared.ending.Ending.{Ending}
@@ -43,11 +43,11 @@ failed_alone : (disk : Filing) (second : Second) → Rose disk.faults_before dis
 failed_alone disk Without rose = rose
 failed_alone disk (With second) rose = inl rose
 
-module _ {D : Type 0} (g : Ghosts D) (old new : D) (words : List (String Global)) (input : Input) (output : Stream) (shelf : Shelving) (other : Second) where
+module _ {D : Type 0} (g : Ghosts D) (old new : D) (words : List (List ℕ)) (input : Input) (output : Stream) (shelf : Shelving) (other : Second) where
   abbrev Reason : Ending → Type 0
   Reason ending = HasReason words input output shelf (filing_between g old new) other ending
 
-  module _ (mode : Mode) (asked : AskFor words mode) where
+  module _ (mode : Mode) (asked : AreWords words mode) where
     refused : IsRefusedJournal g old new output → Reason BadJournal
     refused journal = (mode, asked, (journal.cause, journal.line, λ trusted. journal.shown (trusted_alone (filing_between g old new) (seen_by mode other) trusted)))
 
@@ -62,7 +62,7 @@ module _ {D : Type 0} (g : Ghosts D) (old new : D) (words : List (String Global)
   no_basis name _ need ends = absurd ends
 
   -- a script's run
-  script : (mode : Mode) → AskFor words mode → (lanes : List Lane) (basis : List Dated) (auditors : List Auditor) (ending : Ending)
+  script : (mode : Mode) → AreWords words mode → (lanes : List Lane) (basis : List Dated) (auditors : List Auditor) (ending : Ending)
       → EndsScript g old new lanes basis auditors output ending → Reason ending
   script mode asked lanes basis auditors Done ends = tt
   script mode asked lanes basis auditors BadJournal ends = refused mode asked ends
@@ -96,7 +96,7 @@ module _ {D : Type 0} (g : Ghosts D) (old new : D) (words : List (String Global)
   ]
 
   -- a mode that only reads
-  read_only : (mode : Mode) → AskFor words mode → (Tells : (List ℕ → Type 0) → Type 0) (ending : Ending) → EndsReadOnly g old new Tells output ending → Reason ending
+  read_only : (mode : Mode) → AreWords words mode → (Tells : (List ℕ → Type 0) → Type 0) (ending : Ending) → EndsReadOnly g old new Tells output ending → Reason ending
   read_only mode asked Tells Done ends = tt
   read_only mode asked Tells BadJournal ends = refused mode asked ends
   read_only mode asked Tells WriteFault ends = ends.0
@@ -111,7 +111,7 @@ module _ {D : Type 0} (g : Ghosts D) (old new : D) (words : List (String Global)
   past_the_end on (Position p) name asked ahead =
       (on, (p, (name, asked, λ honest. (ahead.commands, ahead.opened honest, ahead.beyond.ahead))))
 
-  value_reason : (on : ℤ) (at : At) (workers : ℕ) (name : List ℕ) (measure : Measure) (ending : Ending) → AskFor words (Value on at workers name measure)
+  value_reason : (on : ℤ) (at : At) (workers : ℕ) (name : List ℕ) (measure : Measure) (ending : Ending) → AreWords words (Value on at workers name measure)
       → EndsValue g old new on at measure name shelf output ending → Reason ending
   value_reason on at workers name measure ending asked ends = elim ends [
     | inl by ↦ elim by.ends [
@@ -121,7 +121,7 @@ module _ {D : Type 0} (g : Ghosts D) (old new : D) (words : List (String Global)
     | inr none ↦ no_basis name ending (inl (on, (at, (workers, (measure, asked))))) none.1
   ]
 
-  project_reason : (on : ℤ) (years workers : ℕ) (name : List ℕ) (ending : Ending) → AskFor words (Project on years workers name)
+  project_reason : (on : ℤ) (years workers : ℕ) (name : List ℕ) (ending : Ending) → AreWords words (Project on years workers name)
       → EndsProject g old new on years name shelf output ending → Reason ending
   project_reason on years workers name ending asked ends = elim ends [
     | inl by ↦ read_only (Project on years workers name) asked (IsProjected g old new on years by.basis) ending by.ends
@@ -134,7 +134,7 @@ module _ {D : Type 0} (g : Ghosts D) (old new : D) (words : List (String Global)
   generate_reason seed count lanes NoMemory ends = tt
   generate_reason seed count lanes _ ends = absurd ends
 
-  loading : (mode : Mode) → AskFor words mode → (lanes : List Lane) (workers : ℕ) (basis : List Dated) (ending : Ending) → EndsLoading g old new lanes workers basis output ending
+  loading : (mode : Mode) → AreWords words mode → (lanes : List Lane) (workers : ℕ) (basis : List Dated) (ending : Ending) → EndsLoading g old new lanes workers basis output ending
       → Reason ending
   loading mode asked lanes workers basis Done ends = tt
   loading mode asked lanes workers basis BadJournal ends = refused mode asked ends
@@ -143,7 +143,7 @@ module _ {D : Type 0} (g : Ghosts D) (old new : D) (words : List (String Global)
   loading mode asked lanes workers basis NoMemory ends = tt
   loading mode asked lanes workers basis _ ends = absurd ends
 
-  load_reason : (seed count lanes workers : ℕ) (ending : Ending) → AskFor words (Load seed count lanes workers)
+  load_reason : (seed count lanes workers : ℕ) (ending : Ending) → AreWords words (Load seed count lanes workers)
       → EndsLoad g old new seed count lanes workers shelf output ending → Reason ending
   load_reason seed count lanes workers ending asked ends = elim ends [
     | inl by ↦ loading (Load seed count lanes workers) asked _ workers by.basis ending by.ends
@@ -155,11 +155,11 @@ module _ {D : Type 0} (g : Ghosts D) (old new : D) (words : List (String Global)
   says_reason NoMemory says = tt
   says_reason _ says = absurd says
 
-module _ {D E : Type 0} (g : Ghosts D) (e : Ghosts E) (old new : D) (words : List (String Global)) (input : Input) (output : Stream) (shelf : Shelving) where
+module _ {D E : Type 0} (g : Ghosts D) (e : Ghosts E) (old new : D) (words : List (List ℕ)) (input : Input) (output : Stream) (shelf : Shelving) where
   abbrev OverBoth : (second kept : Option E) → Ending → Type 0
   OverBoth second kept ending = HasReason words input output shelf (filing_between g old new) (second_between e second kept) ending
 
-  books_reason : (second kept : Option E) (ending : Ending) → AskFor words (State None) → EndsBooks g e old new second kept output ending
+  books_reason : (second kept : Option E) (ending : Ending) → AreWords words (State None) → EndsBooks g e old new second kept output ending
       → OverBoth second kept ending
   books_reason None None ending asked ends = read_only g old new words input output shelf Without (State None) asked (IsStated g old new books_text) ending ends
   books_reason (Some second) (Some kept) ending asked ends =
@@ -167,7 +167,7 @@ module _ {D E : Type 0} (g : Ghosts D) (e : Ghosts E) (old new : D) (words : Lis
       (both.stated g e (two_disks old new second kept) output ending ends)
   books_reason _ _ ending asked ends = absurd ends
 
-  save_reason : (second kept : Option E) (ending : Ending) → AskFor words Checkpoint → EndsSave g e old new second kept output ending
+  save_reason : (second kept : Option E) (ending : Ending) → AreWords words Checkpoint → EndsSave g e old new second kept output ending
       → OverBoth second kept ending
   save_reason None None ending asked ends = subst (λ (e : Ending). HasReason words input output shelf (filing_between g old new) Without e) (sym ends.1) (inr (asked, λ no. no))
   save_reason (Some second) (Some kept) ending asked ends =
@@ -179,7 +179,7 @@ module _ {D E : Type 0} (g : Ghosts D) (e : Ghosts E) (old new : D) (words : Lis
     abbrev other : Second
     other = second_between e second kept
 
-    mode_reason : (mode : Mode) → AskFor words mode
+    mode_reason : (mode : Mode) → AreWords words mode
         → EndsMode g e old new second kept mode auditors input output shelf InputStays ShelfStays ending → OverBoth second kept ending
     mode_reason (Run name) asked ends = run_reason g old new words input output shelf other name auditors ShelfStays ending asked ends.1
     mode_reason (Value on at workers name measure) asked ends =

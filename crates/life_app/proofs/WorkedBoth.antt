@@ -4,7 +4,6 @@ use Rattle.std.specs.Fmt.{digits}
 use Rattle.outside_io.specs.declared.disks.Disk.{Ghosts}
 use Rattle.life_args.specs.Pieces.{bare}
 use Rattle.life_args.specs.declared.mode.Mode.TheVariants.{State, Checkpoint}
-use Rattle.life_args.proofs.WorkedWords.{asks}
 use Rattle.program_endings.proofs.WorkedEndings.{no_fault}
 use Rattle.program_endings.specs.Worked.{output_with}
 use Rattle.program_endings.specs.Writing.{WroteLine}
@@ -15,11 +14,11 @@ use Rattle.life_app.specs.Worked.{BothRefuseHello, BothWords, TwoFilings, NoWord
 pub both_words : BothWords
 unfolding digits
 both_words = (
-  λ words same. (Checkpoint, asks _ Checkpoint (refl, refl) words same, tt),
-  λ words same. (State None, asks _ (State None) (refl, record { pieces = []; spells = refl; only = tt; id_is = refl }) words same, tt),
-  λ words same. (
+  (Checkpoint, (refl, refl), tt),
+  (State None, (refl, record { pieces = []; spells = refl; only = tt; id_is = refl }), tt),
+  (
     State (Some 7001),
-    asks _ (State (Some 7001)) (refl, record { pieces = bare (codes "7001") ∷ []; spells = refl; only = tt; id_is = ((lit≤ tt, lit≤ tt), refl) }) words same,
+    (refl, record { pieces = bare (codes "7001") ∷ []; spells = refl; only = tt; id_is = ((lit≤ tt, lit≤ tt), refl) }),
     λ no. no,
   ),
 )
@@ -39,5 +38,5 @@ only_line : (bytes : List ℕ) → WroteLine (output_with 0 [] bytes) (codes "no
 only_line bytes (inl all) = all
 only_line bytes (inr part) = absurd (no_fault part.0)
 
-pub no_words : (D E : Type 0) → NoWordsLine D E
-no_words D E old new second kept words bytes none = only_line bytes none.says
+pub no_words : NoWordsLine
+no_words words = (inl refl, only_line)

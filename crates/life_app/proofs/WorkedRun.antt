@@ -5,3 +5,4 @@ pub mod Promise
 pub mod Due
 pub mod Both
 pub mod Told
+pub mod Lanes

@@ -1,6 +1,5 @@
 -- Which ending is due, where the devices don't fail on which it rests
-use Rattle.std.specs.Prelude.{◌≡◌, ◌≤◌, ◌<◌, ◌⊎◌, ℕ, ℤ, true, List, codes, length, String}
-use Rattle.std.specs.Global.{Global}
+use Rattle.std.specs.Prelude.{◌≡◌, ◌≤◌, ◌<◌, ◌⊎◌, ℕ, ℤ, true, List, codes, length}
 use Rattle.outside_io.specs.Faults.{Rose}
 use Rattle.outside_io.specs.Shelves.{Files}
 use Rattle.outside_io.specs.Streams.{GivesMore}
@@ -11,7 +10,7 @@ use Rattle.basis_book.specs.Dated.{Dated}
 use Rattle.basis_shelf.specs.Bases.{IsBasis}
 use Rattle.basis_shelf.specs.FirstBad.{IsFirstBadFile}
 use Rattle.basis_shelf.specs.declared.fault.BadBasis.{BadBasis as ABadBasis}
-use Rattle.life_args.specs.Words.{AskFor, AskForNothing}
+use Rattle.life_args.specs.Words.{AreWords}
 use Rattle.life_args.specs.declared.mode.Mode.{Mode}
 use Rattle.life_args.specs.declared.mode.Mode.TheVariants.{Run, Value, Project, State, Checkpoint, Generate, Load}
 use Rattle.office_state.specs.Journals.{Opens, OpensToNone}
@@ -21,7 +20,7 @@ use Rattle.program_endings.specs.declared.ending.Ending.TheVariants.{Done, Usage
 use Rattle.script_run.specs.Script.{IsReadAs, IsUnreadable, asks_for_values, most_script_bytes}
 use Rattle.valuing_modes.specs.Valuing.{position_of}
 use Rattle.life_app.specs.Needs.{AreTrusted, Filing, HasDiskFault, HasNewFault, HasSecond, Second, Without, seen_by}
-use Rattle.life_app.specs.Words.{AskForRun, AskForValue}
+use Rattle.life_app.specs.Words.{AreNoWords, AskForRun, AskForValue}
 
 -- the count of faults didn't rise
 abbrev pub IsHeld : ℕ → ℕ → Type 0
@@ -103,17 +102,17 @@ LacksItsJournal mode disk second = HasNoJournal disk (seen_by mode second)
 -- The ending that is due: by the words; by the script; by the basis; by the journal, and how many commands it has; where
 -- nothing is lacking, and the output doesn't fail, the work is done; and where the count of the shelf or of the input rises,
 -- or that of a disk while the output doesn't fail, that is told.
-abbrev pub IsDueEnding : List (String Global) → Input → Stream → Shelving → Filing → Second → Ending → Type 0
-IsDueEnding words input output shelf disk second Usage = AskForNothing words
+abbrev pub IsDueEnding : List (List ℕ) → Input → Stream → Shelving → Filing → Second → Ending → Type 0
+IsDueEnding words input output shelf disk second Usage = AreNoWords words
 IsDueEnding words input output shelf disk second BadScript = (name : List ℕ) × AskForRun words name × HasNoScript input
-IsDueEnding words input output shelf disk second BadBasis = (mode : Mode) × AskFor words mode × LacksItsBasis mode input shelf
+IsDueEnding words input output shelf disk second BadBasis = (mode : Mode) × AreWords words mode × LacksItsBasis mode input shelf
 IsDueEnding words input output shelf disk second BadJournal =
-    (mode : Mode) × AskFor words mode × HasItsNeeds mode input shelf second × LacksItsJournal mode disk second
+    (mode : Mode) × AreWords words mode × HasItsNeeds mode input shelf second × LacksItsJournal mode disk second
 IsDueEnding words input output shelf disk second Ahead =
     (on : ℤ) × ((p : ℕ) × ((name : List ℕ) × AskForValue words on (Position p) name
     × HasBasis shelf name × ((commands : List Command) × HasJournal disk Without commands × (length commands < p))))
 IsDueEnding words input output shelf disk second Done =
-    (mode : Mode) × AskFor words mode × HasItsNeeds mode input shelf second × HasItsJournal mode disk second
+    (mode : Mode) × AreWords words mode × HasItsNeeds mode input shelf second × HasItsJournal mode disk second
     × IsHeld output.faults_before output.faults_after
 IsDueEnding words input output shelf disk second ReadFault =
     (shelf.faults_before < shelf.faults_after) ⊎ (input.faults_before < input.faults_after)

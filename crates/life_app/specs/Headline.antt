@@ -1,16 +1,15 @@
 -- What is promised of a script's run, in few words: its transcript is one legal history, in which each lane's lines stand
 -- once, in order; its valuations enclose the exact reserves; and what a crash leaves. Which file opens to which commands is
 -- a parameter: all that is asked of it is that a file opens to one list of commands at most, and an empty file to none. So is
--- which files make which basis under a name: they make one at most.
-use Rattle.std.specs.Prelude.{◌≡◌, ◌⊎◌, ℕ, ℤ, ◌≤◌, ◌<ℤ◌, All, List, [], ◌∷◌, ◌++◌, codes, nat_eq, true, false, take, Result, Ok, Err}
+-- which files make which basis under a name: they make one at most. So are the texts, of which the line of a posting tells its
+-- reply, and a valuation its rows; and the exact reserves, of which there is one at most.
+use Rattle.std.specs.Prelude.{◌≡◌, ◌⊎◌, ℕ, ℤ, ◌≤◌, ◌<ℤ◌, All, List, [], ◌∷◌, ◌++◌, codes, nat_eq, true, false, take}
 use Rattle.std.specs.List.{AllByRecursion, AllZip, Contains, IsDistinct}
 use Rattle.basis_book.specs.Dated.{Dated, IsPicked}
 use Rattle.outside_io.specs.Faults.{Rose}
 use Rattle.outside_io.specs.Shelves.{Files}
 use Rattle.outside_io.specs.Streams.{TakenPiece}
 use Rattle.outside_io.specs.declared.disks.Disk.{Ghosts}
-use Rattle.plan_benefits.specs.Shapes.{shape_of}
-use Rattle.plan_benefits.specs.declared.fault.NotValued.{NotValued}
 use Rattle.plan_benefits.specs.declared.fault.NotValued.TheVariants.{NoBasis}
 use Rattle.policy_types.specs.declared.command.Command.{Command}
 use Rattle.policy_types.specs.declared.policy.Policy.{Policy}
@@ -23,18 +22,13 @@ use Rattle.policy_types.specs.declared.script.Line.TheVariants.{Post, Value, Tri
 use Rattle.policy_types.specs.declared.script.Lane.{Lane}
 use Rattle.policy_machine.specs.Book.{book}
 use Rattle.policy_machine.specs.History.{IsLegal, accepted_of, opened_on}
-use Rattle.policy_value.specs.Measures.{exact_reserve}
 use Rattle.policy_value.specs.Rows.{IsInsured, IsYear}
-use Rattle.policy_value.specs.declared.worth.Measure.TheVariants.{Terminal}
 use Rattle.policy_value.specs.declared.worth.Row.{Row}
 use Rattle.policy_value.specs.declared.worth.Worth.{Worth}
 use Rattle.policy_value.specs.declared.worth.Worth.TheVariants.{Bounds, Word}
+use Rattle.present_value.specs.Fractions.{Fraction}
 use Rattle.present_value.specs.Reserve.{Encloses}
-use Rattle.policy_value.specs.Covers.{AreByDuration, cap_along, cover_along}
-use Rattle.rate_table.specs.declared.shape.Shape.{Shape}
 use Rattle.lane_runner.specs.AnsweredLines.{AnsweredLine, AreLinesOf}
-use Rattle.report_text.specs.Block.{block_text}
-use Rattle.transcript_text.specs.Transcript.{posting_text, reports_text, trim_text, unpinned_text, unvalued_text}
 use Rattle.watcher_set.specs.Noted.{Auditor, reports_of}
 use Rattle.office_state.specs.Journals.{IsShown}
 use Rattle.office_state.specs.declared.faults.StartCause.{StartCause}
@@ -48,48 +42,48 @@ use Rattle.program_endings.specs.declared.ending.Ending.TheVariants.{Done, BadSc
 use Rattle.script_run.specs.Script.{IsRefused, asks_for_values}
 use Rattle.script_run.specs.Shown.{AreSafeWhenShown}
 use Rattle.script_run.specs.Texts.{WroteFront, WroteUpTo, WroteWhole}
+use Rattle.life_app.specs.Given.{Reserves, Wording}
 
--- by an entry of the basis: the bounds enclose the exact reserve of the amount at the policy's year, to at most two
--- cents, by the rates of the age at issue and the duration, or the word says why the table has none
-abbrev pub IsWorthBy : Policy → Dated → ℤ → Result Shape NotValued → ℕ → Worth → Type 0
-IsWorthBy policy entry on (Ok shape) t (Bounds lo hi) =
-    IsYear policy.issued on shape.n t
-    × AreByDuration entry.table shape.age (cover_along entry.table shape entry.bp) (cap_along entry.table shape.age entry.bp)
-    × Encloses lo hi policy.amount
-    (exact_reserve policy.status (cover_along entry.table shape entry.bp) (cap_along entry.table shape.age entry.bp) t)
-IsWorthBy policy entry on (Err word) t (Word why) = why ≡ word
+-- by an entry of the basis: the bounds enclose the exact reserve of the amount at the policy's year, to at most two cents, or
+-- the word says why it has none
+abbrev pub IsWorthBy : Reserves → Policy → Dated → ℤ → ℕ → Worth → Type 0
+IsWorthBy reserves policy entry on t (Bounds lo hi) =
+    (years : ℕ) × ((reserve : Fraction) × reserves.Is policy entry years t reserve
+    × IsYear policy.issued on years t × Encloses lo hi policy.amount reserve)
+IsWorthBy reserves policy entry on t (Word why) = reserves.HasNone policy entry why
 IsWorthBy _ _ _ _ _ _ = ⊥
 
 -- The row of a policy on a day. One that is in force or paid up, and issued by then, is worth what the last entry says that
 -- had begun on its day of issue; any other is worth nothing.
-pub record IsEnclosingRow (basis : List Dated) (on : ℤ) (policy : Policy) (row : Row) : Type 0 where
+pub record IsEnclosingRow (reserves : Reserves) (basis : List Dated) (on : ℤ) (policy : Policy) (row : Row) : Type 0 where
   pub id : row.id ≡ policy.id
   pub status : row.status ≡ policy.status
   pub insured : IsInsured policy on → (index : ℕ) → (entry : Dated) → IsPicked basis policy.issued index entry
-      → IsWorthBy policy entry on (shape_of policy.plan policy.age policy.years entry.table) row.t row.worth
+      → IsWorthBy reserves policy entry on row.t row.worth
   pub unnamed : IsInsured policy on → All (λ (entry : Dated). policy.issued <ℤ entry.from_day) basis → row.worth ≡ Word NoBasis
   pub uninsured : (IsInsured policy on → ⊥) → row.worth ≡ Bounds 0 0
 
 -- the text of a valuation at a position: a row for each of the policies that the first so many commands leave
-abbrev pub IsEnclosingText : ℕ → ℤ → List Command → List Dated → ℕ → List ℕ → Type 0
-IsEnclosingText clerk on commands basis position text =
-    (rows : List Row) × AllZip (IsEnclosingRow basis on) (book (take position commands)) rows
-    × (text ≡ block_text clerk on position Terminal rows)
+abbrev pub IsEnclosingText : Wording → Reserves → ℕ → ℤ → List Command → List Dated → ℕ → List ℕ → Type 0
+IsEnclosingText wording reserves clerk on commands basis position text =
+    (rows : List Row) × AllZip (IsEnclosingRow reserves basis on) (book (take position commands)) rows
+    × (text ≡ wording.block clerk on position rows)
 
 -- the text of a clerk's line, by the reply to its first turn, before which these commands were accepted
-abbrev pub IsToldText : ℕ → Line → Reply → List Command → List Dated → (IsDry : Type 0) → List ℕ → Type 0
-IsToldText clerk (Post command) reply commands basis IsDry text = text ≡ posting_text clerk command reply
-IsToldText clerk Trim (Floor floor) commands basis IsDry text = text ≡ trim_text clerk floor
-IsToldText clerk (Value on at workers) (PinRefused refusal) commands basis IsDry text = text ≡ unpinned_text clerk on refusal
-IsToldText clerk (Value on at workers) (Pinned position policies) commands basis IsDry text =
-    (IsDry × (text ≡ unvalued_text clerk on))
-    ⊎ ((IsDry → ⊥) × IsEnclosingText clerk on commands basis position text)
-IsToldText _ _ _ _ _ _ _ = ⊥
+abbrev pub IsToldText : Wording → Reserves → ℕ → Line → Reply → List Command → List Dated → (IsDry : Type 0) → List ℕ → Type 0
+IsToldText wording reserves clerk (Post command) reply commands basis IsDry text = text ≡ wording.posting clerk command reply
+IsToldText wording reserves clerk Trim (Floor floor) commands basis IsDry text = text ≡ wording.trim clerk floor
+IsToldText wording reserves clerk (Value on at workers) (PinRefused refusal) commands basis IsDry text =
+    text ≡ wording.unpinned clerk on refusal
+IsToldText wording reserves clerk (Value on at workers) (Pinned position policies) commands basis IsDry text =
+    (IsDry × (text ≡ wording.unvalued clerk on))
+    ⊎ ((IsDry → ⊥) × IsEnclosingText wording reserves clerk on commands basis position text)
+IsToldText _ _ _ _ _ _ _ _ _ = ⊥
 
 -- the text of an answered line of a history that began after these commands
-abbrev pub IsToldLine : List Command → List Entry → List Dated → List ℕ → AnsweredLine → List ℕ → Type 0
-IsToldLine commands history basis dry answered text =
-    IsToldText answered.clerk answered.line answered.first.1.reply
+abbrev pub IsToldLine : Wording → Reserves → List Command → List Entry → List Dated → List ℕ → AnsweredLine → List ℕ → Type 0
+IsToldLine wording reserves commands history basis dry answered text =
+    IsToldText wording reserves answered.clerk answered.line answered.first.1.reply
     (commands ++ accepted_of (take answered.first.0 history)) basis (Contains dry answered.first.0) text
 
 -- a posting of the command was answered `fault` when just these were accepted
@@ -126,8 +120,8 @@ WroteAsEnded g old new history dry texts reports output NoMemory =
 WroteAsEnded _ _ _ _ _ _ _ _ _ = ⊥
 
 -- The run of these lanes, by a basis, with these auditors, and with a disk before and after it.
-pub record IsPromised {D : Type 0} (g : Ghosts D) (Opens : List ℕ → List Command → Type 0) (old new : D) (lanes : List Lane)
-    (basis : List Dated) (auditors : List Auditor) (output : Stream) (status : ℕ) : Type 0 where
+pub record IsPromised {D : Type 0} (g : Ghosts D) (Opens : List ℕ → List Command → Type 0) (wording : Wording) (reserves : Reserves)
+    (old new : D) (lanes : List Lane) (basis : List Dated) (auditors : List Auditor) (output : Stream) (status : ℕ) : Type 0 where
   -- one history, legal from the commands of the file on
   pub commands : List Command
   pub history : List Entry
@@ -143,10 +137,10 @@ pub record IsPromised {D : Type 0} (g : Ghosts D) (Opens : List ℕ → List Com
   -- The transcript is their texts, and behind them stand the auditors' reports of what was accepted. What was written of
   -- that, and why no more, is told by the status.
   pub texts : List (List ℕ)
-  pub told : AllZip (IsToldLine commands history basis dry) lines texts
+  pub told : AllZip (IsToldLine wording reserves commands history basis dry) lines texts
   pub ending : Ending
   pub exits : status ≡ status_of ending
-  pub wrote : WroteAsEnded g old new history dry texts (reports_text (reports_of auditors (accepted_of history))) output ending
+  pub wrote : WroteAsEnded g old new history dry texts (wording.reports (reports_of auditors (accepted_of history))) output ending
   -- and what was shown of the lines is safe by then
   pub shown : g.honest new → (run : List TakenPiece) × (output.pieces_after ≡ run ++ output.pieces_before)
       × AreSafeWhenShown g Opens new commands history lines texts run
@@ -197,12 +191,12 @@ pub record IsFirstFound {D : Type 0} (g : Ghosts D) (bytes : List ℕ) (old : D)
 
 -- The run of these lanes, by a basis of this name, over a disk as it was found: it was as is promised, or failed and added no
 -- command.
-pub record IsPromisedFromStart {D : Type 0} (g : Ghosts D) (Opens : List ℕ → List Command → Type 0) (bytes : List ℕ) (new : D)
-    (lanes : List Lane) (name : List ℕ) (basis : List Dated) (auditors : List Auditor) (input : Input) (output : Stream)
-    (shelf : Shelving) (status : ℕ) : Type 0 where
+pub record IsPromisedFromStart {D : Type 0} (g : Ghosts D) (Opens : List ℕ → List Command → Type 0) (wording : Wording)
+    (reserves : Reserves) (bytes : List ℕ) (new : D) (lanes : List Lane) (name : List ℕ) (basis : List Dated)
+    (auditors : List Auditor) (input : Input) (output : Stream) (shelf : Shelving) (status : ℕ) : Type 0 where
   pub old : D
   pub found : IsFirstFound g bytes old
-  pub told : IsPromised g Opens old new lanes basis auditors output status
+  pub told : IsPromised g Opens wording reserves old new lanes basis auditors output status
       ⊎ IsUnrun g Opens old new name input output shelf status
 
 -- the basis that a run of these lanes is given: where a line asks for values, files that the shelf's answers agree with make

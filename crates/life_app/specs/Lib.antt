@@ -4,6 +4,9 @@ pub mod Reasons
 pub mod Due
 pub mod Obeys
 pub mod Crashes
+pub mod Given
+pub mod Texts
+pub mod TableReserves
 pub mod Headline
 pub mod Runs
 pub mod KeptRuns

@@ -1,6 +1,5 @@
 -- What the words need of the basis and the disks
-use Rattle.std.specs.Prelude.{◌≡◌, ℕ, ◌<◌, ◌⊎◌, ℤ, List, None, length, codes, String}
-use Rattle.std.specs.Global.{Global}
+use Rattle.std.specs.Prelude.{◌≡◌, ℕ, ◌<◌, ◌⊎◌, ℤ, List, None, length, codes}
 use Rattle.outside_io.specs.Faults.{Rose}
 use Rattle.outside_io.specs.Shelves.{Files}
 use Rattle.outside_io.specs.declared.disks.Disk.{Ghosts}
@@ -20,7 +19,7 @@ use Rattle.life_app.specs.Words.{AskForLoad, AskForProject, AskForRun, AskForVal
 
 -- the words need the basis of this name: they ask for values, or to run a script of which a line does, or to run a
 -- generated script, or for a projection
-abbrev pub NeedBasis : List (String Global) → Input → List ℕ → Type 0
+abbrev pub NeedBasis : List (List ℕ) → Input → List ℕ → Type 0
 NeedBasis words input name =
     ((on : ℤ) × ((at : At) × AskForValue words on at name))
     ⊎ (AskForRun words name × ReadsForValues input)
@@ -28,7 +27,7 @@ NeedBasis words input name =
     ⊎ ((on : ℤ) × ((years : ℕ) × AskForProject words on years name))
 
 -- the words need a basis of which a file is bad, and the first bad one is named
-abbrev pub HasBadFile : List (String Global) → Input → Shelving → Stream → Type 0
+abbrev pub HasBadFile : List (List ℕ) → Input → Shelving → Stream → Type 0
 HasBadFile words input shelf output =
     (name : List ℕ) × ((bad : BadBasis) × NeedBasis words input name
     × ((files : Files) → shelf.Agrees files → IsFirstBadFile files name bad) × WroteOrFailed output (bad_basis_text bad))
@@ -84,7 +83,7 @@ HasNewFault disk Without = disk.faults_before < disk.faults_after
 HasNewFault disk (With second) = (disk.faults_before < disk.faults_after) ⊎ (second.faults_before < second.faults_after)
 
 -- the words ask for values after more commands than the disk's file opens to
-abbrev pub IsPastTheEnd : List (String Global) → Filing → Type 0
+abbrev pub IsPastTheEnd : List (List ℕ) → Filing → Type 0
 IsPastTheEnd words disk =
     (on : ℤ) × ((p : ℕ) × ((name : List ℕ) × AskForValue words on (Position p) name
     × (disk.Honest → (commands : List Command) × Opens disk.before commands × (length commands < p))))

@@ -1,9 +1,8 @@
 -- What the program does at its words, over the journal's disk and a second one, or none, and the status with which it ends
-use Rattle.std.specs.Prelude.{◌≡◌, ℕ, ◌⊎◌, List, codes, Option, Some, None, String}
-use Rattle.std.specs.Global.{Global}
+use Rattle.std.specs.Prelude.{◌≡◌, ℕ, ◌⊎◌, List, codes, Option, Some, None}
 use Rattle.outside_io.specs.declared.disks.Disk.{Ghosts}
 use Rattle.watcher_set.specs.Noted.{Auditor}
-use Rattle.life_args.specs.Words.{AskFor, AskForNothing}
+use Rattle.life_args.specs.Words.{AreWords}
 use Rattle.life_args.specs.declared.mode.Mode.{Mode}
 use Rattle.life_args.specs.declared.mode.Mode.TheVariants.{Run, Value, Project, State, Checkpoint, Generate, Load}
 use Rattle.program_endings.specs.Status.{status_of}
@@ -19,6 +18,7 @@ use Rattle.valuing_modes.specs.Valuing.{EndsValue}
 use Rattle.valuing_modes.specs.Projecting.{EndsProject}
 use Rattle.trial_load.specs.Generating.{EndsGenerate}
 use Rattle.trial_load.specs.Loading.{EndsLoad}
+use Rattle.life_app.specs.Words.{AreNoWords}
 
 -- how `state` of all policies ends: by the journal alone, or by both disks
 abbrev pub EndsBooks : {D E : Type 0} → Ghosts D → Ghosts E → (old new : D) → (second kept : Option E) → Stream → Ending → Type 0
@@ -56,13 +56,13 @@ EndsMode g e old new second kept (Load seed count lanes workers) auditors input 
     (kept ≡ second) × InputStays × EndsLoad g old new seed count lanes workers shelf output ending
 
 -- why the words weren't obeyed, in a line: they ask for nothing, or memory was wanting
-abbrev pub SaysUnasked : List (String Global) → Stream → Ending → Type 0
-SaysUnasked words output Usage = AskForNothing words × WroteLine output (codes "usage")
+abbrev pub SaysUnasked : List (List ℕ) → Stream → Ending → Type 0
+SaysUnasked words output Usage = AreNoWords words × WroteLine output (codes "usage")
 SaysUnasked words output NoMemory = WroteLine output (codes "nomemory")
 SaysUnasked _ _ _ = ⊥
 
 -- then nothing is touched
-pub record EndsUnasked {D E : Type 0} (old new : D) (second kept : Option E) (words : List (String Global)) (output : Stream)
+pub record EndsUnasked {D E : Type 0} (old new : D) (second kept : Option E) (words : List (List ℕ)) (output : Stream)
     (InputStays ShelfStays : Type 0) (ending : Ending) : Type 0 where
   pub disk : new ≡ old
   pub other : kept ≡ second
@@ -71,14 +71,14 @@ pub record EndsUnasked {D E : Type 0} (old new : D) (second kept : Option E) (wo
   pub says : SaysUnasked words output ending
 
 -- the words ask for a mode, which ended so, or weren't obeyed
-abbrev pub Does : {D E : Type 0} → Ghosts D → Ghosts E → (old new : D) → (second kept : Option E) → List (String Global) → List Auditor
+abbrev pub Does : {D E : Type 0} → Ghosts D → Ghosts E → (old new : D) → (second kept : Option E) → List (List ℕ) → List Auditor
     → Input → Stream → Shelving → (InputStays ShelfStays : Type 0) → Ending → Type 0
 Does g e old new second kept words auditors input output shelf InputStays ShelfStays ending =
-    ((mode : Mode) × AskFor words mode × EndsMode g e old new second kept mode auditors input output shelf InputStays ShelfStays ending)
+    ((mode : Mode) × AreWords words mode × EndsMode g e old new second kept mode auditors input output shelf InputStays ShelfStays ending)
     ⊎ EndsUnasked old new second kept words output InputStays ShelfStays ending
 
 -- the program did what the words ask for, with these auditors, and the status is that of the ending
-pub record Obeys {D E : Type 0} (g : Ghosts D) (e : Ghosts E) (old new : D) (second kept : Option E) (words : List (String Global))
+pub record Obeys {D E : Type 0} (g : Ghosts D) (e : Ghosts E) (old new : D) (second kept : Option E) (words : List (List ℕ))
     (auditors : List Auditor) (input : Input) (output : Stream) (shelf : Shelving) (InputStays ShelfStays : Type 0) (status : ℕ)
     : Type 0 where
   pub ending : Ending

@@ -1,8 +1,7 @@
 -- Worked cases of what a run and `state` write, computed from the definitions alone. Day 18262 is 2020-01-01
-use Rattle.std.specs.Prelude.{◌≡◌, ◌⊎◌, ◌++◌, ℕ, List, [], ◌∷◌, Option, Some, pos, codes, map, string_bytes, String}
-use Rattle.std.specs.Global.{Global}
+use Rattle.std.specs.Prelude.{◌≡◌, ◌⊎◌, ◌++◌, ℕ, List, [], ◌∷◌, Some, pos, codes}
 use Rattle.std.specs.List.{AllZip}
-use Rattle.life_args.specs.Words.{AskFor}
+use Rattle.life_args.specs.Words.{AreWords}
 use Rattle.life_args.specs.declared.mode.Mode.{Mode}
 use Rattle.outside_io.specs.declared.disks.Disk.{Ghosts}
 use Rattle.policy_types.specs.declared.command.Command.{Command}
@@ -28,7 +27,11 @@ use Rattle.program_endings.specs.declared.ending.Ending.TheVariants.{BadJournal,
 use Rattle.stating_modes.specs.Books.{books_text, policy_account}
 use Rattle.stating_modes.specs.TwoDisks.{AreTrue, TwoDisks}
 use Rattle.life_app.specs.Needs.{AreTrusted, Filing, HasDiskFault, HasNewFault, HasSecond, With, Without, seen_by}
-use Rattle.life_app.specs.Obeys.{EndsBooks, EndsSave, EndsUnasked}
+use Rattle.policy_value.specs.declared.worth.Row.{Row}
+use Rattle.policy_value.specs.declared.worth.Worth.TheVariants.{Bounds}
+use Rattle.life_app.specs.TableReserves.{AreOnce, table_reserves}
+use Rattle.life_app.specs.Texts.{AreAlike, IsPlainReply, IsPlainRow, IsPlainWorth, TellsApart, run_wording}
+use Rattle.life_app.specs.Obeys.{EndsBooks, EndsSave, SaysUnasked}
 
 abbrev pub first_premium : Command
 first_premium = Premium 7001 (pos 18262) 40000
@@ -148,12 +151,10 @@ filing_with faults = record { before = []; after = []; Honest = Unit {0}; faults
 
 -- words that are these bytes ask for a mode that sees the second file, or not
 abbrev SeesSecond : List (List ℕ) → Type 0
-SeesSecond typed = (words : List (String Global)) → map string_bytes words ≡ typed
-    → (mode : Mode) × AskFor words mode × HasSecond (seen_by mode (With (filing_with 0)))
+SeesSecond typed = (mode : Mode) × AreWords typed mode × HasSecond (seen_by mode (With (filing_with 0)))
 
 abbrev SeesNone : List (List ℕ) → Type 0
-SeesNone typed = (words : List (String Global)) → map string_bytes words ≡ typed
-    → (mode : Mode) × AskFor words mode × (HasSecond (seen_by mode (With (filing_with 0))) → ⊥)
+SeesNone typed = (mode : Mode) × AreWords typed mode × (HasSecond (seen_by mode (With (filing_with 0))) → ⊥)
 
 -- `checkpoint` and `state` do, and `state` of one policy doesn't
 abbrev pub BothWords : Type 0
@@ -172,7 +173,15 @@ BothRefuseHello {D} {E} g e = (disks : TwoDisks D E) (output : Stream) → AreTr
     ⊎ EndsSave g e disks.old disks.new (Some disks.second) (Some disks.kept) output BadJournal
     → WroteLine output (codes "badjournal,notajournal")
 
--- where no words could be read, `nomemory` is all that is written
-abbrev pub NoWordsLine : (D E : Type 0) → Type 0
-NoWordsLine D E = (old new : D) (second kept : Option E) (words : List (String Global)) (bytes : List ℕ)
-    → EndsUnasked old new second kept words (output_with 0 [] bytes) (Unit {0}) (Unit {0}) NoMemory → bytes ≡ codes "nomemory" ++ 10 ∷ []
+-- where no words could be read, `nomemory` is written, and is all that is
+abbrev pub NoWordsLine : Type 0
+NoWordsLine = (words : List (List ℕ)) → SaysUnasked words (output_with 0 [] (codes "nomemory" ++ 10 ∷ [])) NoMemory
+    × ((bytes : List ℕ) → SaysUnasked words (output_with 0 [] bytes) NoMemory → bytes ≡ codes "nomemory" ++ 10 ∷ [])
+
+abbrev pub plain_row : Row
+plain_row = record { id = 7001; status = InForce; t = 1; worth = Bounds 12722 12723 }
+
+-- replies and rows of which the texts tell: all refusals alike, and two positions apart
+abbrev pub ToldApart : Type 0
+ToldApart = IsPlainReply (Accepted 2) × AreAlike (Refused Taken) (Refused Unknown) × (AreAlike (Accepted 2) (Accepted 3) → ⊥)
+    × IsPlainRow plain_row × IsPlainWorth plain_row.worth × TellsApart run_wording × AreOnce table_reserves

@@ -1,5 +1,5 @@
 // The top call over two disks.
-ghost use Rattle.std.specs.Prelude.{◌≡◌, ◌≤◌, ◌⊎◌, Some, [], map, length};
+ghost use Rattle.std.specs.Prelude.{◌≡◌, ◌≤◌, ◌⊎◌, Some, [], map, length, string_bytes};
 ghost use Rattle.std.specs.List.{AllByRecursion};
 ghost use Rattle.office_state.specs.Journals.{OpensToNone};
 ghost use Rattle.watcher_set.specs.Limits.{most_watchers};
@@ -53,7 +53,7 @@ pub fn life_kept<
 ) -> EndedKept<D, E>
     requires few { length watchers.items ≤ most_watchers }
     requires fresh { AllByRecursion (λ b. noted b ≡ []) watchers.items }
-    ensures obeys { Obeys D.Disk E.Disk disk result.disk (Some second) (Some result.second) words.now
+    ensures obeys { Obeys D.Disk E.Disk disk result.disk (Some second) (Some result.second) (map string_bytes words.now)
         (map (λ b. record { stops = stops b; number = number b }) watchers.items) (input_between S.faults S.left S.given S.ended input.old input.new)
         (between K.faults K.written K.pieces output.old output.new)
         (shelf_between H.faults H.agrees shelf.old shelf.new)
@@ -61,13 +61,13 @@ pub fn life_kept<
     ensures shelf { H.files shelf.new ≡ H.files shelf.old }
 
     // Each status but 0 and 9 has its reason: what the words, the script, a basis file or the journal are, or the device that failed.
-    ensures reason { IsReasoned words.now (input_between S.faults S.left S.given S.ended input.old input.new)
+    ensures reason { IsReasoned (map string_bytes words.now) (input_between S.faults S.left S.given S.ended input.old input.new)
         (between K.faults K.written K.pieces output.old output.new)
         (shelf_between H.faults H.agrees shelf.old shelf.new) (filing_between D.Disk disk result.disk)
         (With (filing_between E.Disk second result.second)) result.status }
 
     // An ending that is due, where the devices don't fail on which it rests, comes about, but for want of memory.
-    ensures due { (ending : AnEnding) → IsDueEnding words.now (input_between S.faults S.left S.given S.ended input.old input.new)
+    ensures due { (ending : AnEnding) → IsDueEnding (map string_bytes words.now) (input_between S.faults S.left S.given S.ended input.old input.new)
         (between K.faults K.written K.pieces output.old output.new)
         (shelf_between H.faults H.agrees shelf.old shelf.new) (filing_between D.Disk disk result.disk)
         (With (filing_between E.Disk second result.second)) ending

@@ -1,6 +1,5 @@
 // What the definitions have to mean, as functions that do nothing.
-ghost use Rattle.std.specs.Prelude.{◌≡◌, ◌⊎◌, ℕ, List, Option, Some, [], String};
-ghost use Rattle.std.specs.Global.{Global};
+ghost use Rattle.std.specs.Prelude.{◌≡◌, ◌⊎◌, ℕ, List, Option, Some, []};
 ghost use Rattle.policy_types.specs.declared.command.Command.{Command};
 ghost use Rattle.policy_types.specs.declared.entry.Entry.{Entry};
 ghost use Rattle.policy_machine.specs.History.{Opening};
@@ -64,7 +63,7 @@ pub fn runs_in_a_row<S: Source, K: Sink, H: Shelf, D: Disk, E: Disk>()
         → Opens (D.reads first) commands → AreRuns D.Disk first runs last → D.may_leave last image
         → (held : List Command) × Opens image held × AreLeft commands runs held }
     ensures so { (old new : D) (second kept : Option E) (input read : S) (output written : K) (shelf asked : H)
-        (words : List (String Global)) (auditors : List Auditor) (status : ℕ)
+        (words : List (List ℕ)) (auditors : List Auditor) (status : ℕ)
         → Obeys D.Disk E.Disk old new second kept words auditors (input_between S.faults S.left S.given S.ended input read)
         (between K.faults K.written K.pieces output written) (shelf_between H.faults H.agrees shelf asked)
         (read ≡ input) (asked ≡ shelf) status
@@ -81,7 +80,7 @@ pub fn runs_over_both<S: Source, K: Sink, H: Shelf, D: Disk, E: Disk>()
         → IsSafe D.Disk first → IsSafe E.Disk second → Opens (D.reads first) commands → SavedOfFirst (E.reads second) commands
         → AreRunsOfTwo D.Disk E.Disk first second runs last last_second → D.may_leave last image → E.may_leave last_second file
         → (held : List Command) × Opens image held × SavedOfFirst file held × TellsTruth file image }
-    ensures so { (disks : TwoDisks D E) (input read : S) (output written : K) (shelf asked : H) (words : List (String Global))
+    ensures so { (disks : TwoDisks D E) (input read : S) (output written : K) (shelf asked : H) (words : List (List ℕ))
         (auditors : List Auditor) (status : ℕ) → D.honest disks.new → E.honest disks.kept
         → Obeys D.Disk E.Disk disks.old disks.new (Some disks.second) (Some disks.kept) words auditors (input_between S.faults S.left S.given S.ended input read)
         (between K.faults K.written K.pieces output written) (shelf_between H.faults H.agrees shelf asked)

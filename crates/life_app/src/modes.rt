@@ -1,5 +1,5 @@
 // The words are obeyed over the journal's disk and a second one, or none.
-ghost use Rattle.std.specs.Prelude.{◌≡◌, ◌<◌, ℕ, [], Some};
+ghost use Rattle.std.specs.Prelude.{◌≡◌, ◌<◌, ℕ, [], Some, map, string_bytes};
 ghost use Rattle.program_endings.specs.Writing.{between, input_between, shelf_between};
 ghost use Rattle.program_endings.specs.declared.ending.Ending.TheVariants.{ReadFault};
 ghost use Rattle.stating_modes.specs.Stated.{EndsStateKept};
@@ -44,7 +44,7 @@ pub(crate) fn obey<
     gate: &G,
 ) -> FinishedKept<D, Option<E>>
     requires told { (before : ℕ) → W.told watchers before [] }
-    ensures does { Does D.Disk E.Disk disk result.disk second result.second words.now (W.handed watchers)
+    ensures does { Does D.Disk E.Disk disk result.disk second result.second (map string_bytes words.now) (W.handed watchers)
         (input_between S.faults S.left S.given S.ended input.old input.new)
         (between K.faults K.written K.pieces output.old output.new)
         (shelf_between H.faults H.agrees shelf.old shelf.new)

@@ -1,6 +1,5 @@
 // What the program promises of a script's run, as a function that does nothing.
-ghost use Rattle.std.specs.Prelude.{◌≡◌, ◌⊎◌, ℕ, List, Option, [], String};
-ghost use Rattle.std.specs.Global.{Global};
+ghost use Rattle.std.specs.Prelude.{◌≡◌, ◌⊎◌, ℕ, List, Option, []};
 ghost use Rattle.outside_io.specs.Shelves.{Files};
 ghost use Rattle.policy_types.specs.declared.command.Command.{Command};
 ghost use Rattle.policy_types.specs.declared.script.Lane.{Lane};
@@ -12,23 +11,26 @@ ghost use Rattle.program_endings.specs.Writing.{IsWholeInput, between, input_bet
 ghost use Rattle.watcher_set.specs.Noted.{Auditor};
 ghost use Rattle.life_app.specs.Headline.{IsGivenBasis, IsPromised, IsUnrun};
 ghost use Rattle.life_app.specs.Obeys.{Obeys};
+ghost use Rattle.life_app.specs.TableReserves.{AreOnce, table_reserves};
+ghost use Rattle.life_app.specs.Texts.{TellsApart, run_wording};
 ghost use Rattle.life_app.specs.Words.{AskForRun};
 
 use outside_io::{Disk, Shelf, Sink, Source};
 
 /// Where the program obeys words that ask to run a script, whatever the second disk, and the input gave that of these lanes,
 /// it ran them as is promised, with the basis that it was given, or failed and added no command. A file opens to one list of commands at most,
-/// and an empty one to none; and files make one basis at most under a name.
+/// and an empty one to none; files make one basis at most under a name; there is one exact reserve at most; and texts that
+/// are the same say the same.
 pub fn headline<S: Source, K: Sink, H: Shelf, D: Disk, E: Disk>()
     ensures promised { (old new : D) (second kept : Option E) (input read : S) (output written : K) (shelf asked : H)
-        (words : List (String Global)) (auditors : List Auditor) (status : ℕ) (name bytes : List ℕ)
+        (words : List (List ℕ)) (auditors : List Auditor) (status : ℕ) (name bytes : List ℕ)
         (lanes : List Lane) (basis : List Dated)
         → Obeys D.Disk E.Disk old new second kept words auditors (input_between S.faults S.left S.given S.ended input read)
         (between K.faults K.written K.pieces output written) (shelf_between H.faults H.agrees shelf asked)
         (read ≡ input) (asked ≡ shelf) status
         → AskForRun words name → IsWholeInput (input_between S.faults S.left S.given S.ended input read) bytes
         → Reads bytes lanes → IsGivenBasis IsBasis lanes name (shelf_between H.faults H.agrees shelf asked) basis
-        → IsPromised D.Disk Opens old new lanes basis auditors (between K.faults K.written K.pieces output written) status
+        → IsPromised D.Disk Opens run_wording table_reserves old new lanes basis auditors (between K.faults K.written K.pieces output written) status
         ⊎ IsUnrun D.Disk Opens old new name (input_between S.faults S.left S.given S.ended input read)
         (between K.faults K.written K.pieces output written) (shelf_between H.faults H.agrees shelf asked) status }
     ensures one { (bytes : List ℕ) (commands others : List Command) → Opens bytes commands → Opens bytes others
@@ -36,4 +38,6 @@ pub fn headline<S: Source, K: Sink, H: Shelf, D: Disk, E: Disk>()
     ensures empty { Opens [] [] }
     ensures one_basis { (files : Files) (name : List ℕ) (basis other : List Dated) → IsBasis files name basis
         → IsBasis files name other → basis ≡ other }
+    ensures one_reserve { AreOnce table_reserves }
+    ensures told { TellsApart run_wording }
 {}

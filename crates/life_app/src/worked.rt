@@ -1,6 +1,6 @@
 //! Worked cases of what a run and `state` write, each a theorem over the definitions alone.
 
-ghost use Rattle.life_app.specs.Worked.{BothRefuseHello, BothWords, ClaimedBooks, ClaimedEntries, TwoFilings, NoWordsLine, OtherLines, PostingLines, RefusalTexts, StatusTexts, TwoClerks, UpgradeLines, WatcherLines};
+ghost use Rattle.life_app.specs.Worked.{BothRefuseHello, BothWords, ClaimedBooks, ClaimedEntries, TwoFilings, NoWordsLine, OtherLines, PostingLines, RefusalTexts, StatusTexts, ToldApart, TwoClerks, UpgradeLines, WatcherLines};
 
 use outside_io::Disk;
 
@@ -54,5 +54,10 @@ pub fn words_for_both<D: Disk, E: Disk>()
     ensures words { BothWords }
     ensures faults { TwoFilings }
     ensures refused { BothRefuseHello D.Disk E.Disk }
-    ensures unread { NoWordsLine D E }
+    ensures unread { NoWordsLine }
+{}
+
+/// Replies and rows of which the texts tell.
+pub fn texts_are_told_apart()
+    ensures { ToldApart }
 {}

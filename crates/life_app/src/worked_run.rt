@@ -1,10 +1,11 @@
 //! A worked run, each part a theorem: it holds what the laws ask for, and they say of it what is written here.
 
 ghost use Rattle.life_app.specs.WorkedRun.Calls.{HonestCalls, ReadsByHand};
-ghost use Rattle.life_app.specs.WorkedRun.Runs.{CrashesByHand, FoundByHand, LeftByHand, OpenedByHand, RanByHand, RowByHand};
+ghost use Rattle.life_app.specs.WorkedRun.Runs.{CrashesByHand, FoundByHand, ImagesByHand, LeftByHand, OpenedByHand, RanByHand, RowByHand};
 ghost use Rattle.life_app.specs.WorkedRun.Promise.{GivenByHand, HeadlineByHand, ObeyedByHand, PromisedByHand, ToldOnceSafe};
 ghost use Rattle.life_app.specs.WorkedRun.Due.{BasisByHand, DueByHand, DueOfTheRun, NeedsByHand};
 ghost use Rattle.life_app.specs.WorkedRun.Both.{DueOfBothByHand, DueOfTheSaving, LeftOfTwoByHand, OtherwiseByHand, PartsOfTwoByHand, RowOfTwoByHand, SavedByHand, StatedByHand, TrustedByHand};
+ghost use Rattle.life_app.specs.WorkedRun.Lanes.{LegalLanes, ReopenedLanes, ToldLanes};
 ghost use Rattle.life_app.specs.WorkedRun.Told.{EnclosedByHand, EndedByHand, ModesByHand, ReasonsByHand};
 
 use basis_shelf::shelves_by_hand;
@@ -23,6 +24,7 @@ pub fn calls_by_hand()
 pub fn runs_by_hand()
     ensures ran { RanByHand }
     ensures row { RowByHand }
+    ensures images { ImagesByHand }
     ensures crashes { CrashesByHand }
     ensures opened { OpenedByHand }
     ensures left { LeftByHand }
@@ -74,3 +76,11 @@ pub fn told_by_hand()
 {
     lines_are_written();
 }
+
+/// Two lanes: a premium is refused, two policies are valued while the other clerk posts, the disk fails in a posting, and the
+/// file is opened again.
+pub fn lanes_by_hand()
+    ensures legal { LegalLanes }
+    ensures told { ToldLanes }
+    ensures reopened { ReopenedLanes }
+{}

@@ -1,6 +1,5 @@
 -- What the top call promises of devices between two moments, said of devices from their start.
-use Rattle.std.proofs.Common.{◌≡◌, inl, inr, ℕ, List, [], ◌∷◌, ◌++◌, map, refl, Option, Some, None, String}
-use Rattle.std.specs.Global.{Global}
+use Rattle.std.proofs.Common.{◌≡◌, inl, inr, ℕ, List, [], ◌∷◌, ◌++◌, map, refl, Option, Some, None}
 use Rattle.outside_io.specs.Shelves.{Files, Answer, Agrees}
 use Rattle.outside_io.specs.Streams.{TakenPiece}
 use Rattle.outside_io.specs.declared.disks.Disk.{Ghosts}
@@ -18,7 +17,7 @@ use Rattle.life_cli.specs.Completing.{EndsDuly}
 use Rattle.life_cli.specs.Shipped.{filing_from_start, input_from_start, output_from_start, shelf_from_start}
 
 -- Less may be said of an input and a shelf that stay.
-module _ {D E : Type 0} (g : Ghosts D) (e : Ghosts E) (old new : D) (second kept : Option E) (words : List (String Global)) (auditors : List Auditor)
+module _ {D E : Type 0} (g : Ghosts D) (e : Ghosts E) (old new : D) (second kept : Option E) (words : List (List ℕ)) (auditors : List Auditor)
     (input : Input) (output : Stream) (shelf : Shelving) (A B A' B' : Type 0) (f : A → A') (h : B → B') where
   lanes_still : (lanes : List Lane) (name : List ℕ) (ending : Ending) → EndsLanes g old new lanes name auditors shelf output B ending
       → EndsLanes g old new lanes name auditors shelf output B' ending
@@ -67,14 +66,14 @@ pub seen_of_two : {X Y : Type 0} → (see : X → Y) (none ready one two : List 
 seen_of_two see none ready one two first second a b e₁ e₂ e₃ e₄ is_a is_b = rw (e₁, e₂, e₃, e₄, is_a, is_b) refl
 
 -- The auditors that were handed over are these.
-module _ {D E : Type 0} (g : Ghosts D) (e : Ghosts E) (old new : D) (second kept : Option E) (words : List (String Global)) (input : Input) (output : Stream)
+module _ {D E : Type 0} (g : Ghosts D) (e : Ghosts E) (old new : D) (second kept : Option E) (words : List (List ℕ)) (input : Input) (output : Stream)
     (shelf : Shelving) (A B : Type 0) (status : ℕ) where
   pub obeys_with : (auditors others : List Auditor) → auditors ≡ others → Obeys g e old new second kept words auditors input output shelf A B status
       → Obeys g e old new second kept words others input output shelf A B status
   obeys_with auditors others same obeys = rw same at obeys
 
 -- Devices that had no fault at the start, and through which nothing had passed.
-module _ {D E : Type 0} (g : Ghosts D) (e : Ghosts E) (old new : D) (second kept : Option E) (words : List (String Global)) (auditors : List Auditor)
+module _ {D E : Type 0} (g : Ghosts D) (e : Ghosts E) (old new : D) (second kept : Option E) (words : List (List ℕ)) (auditors : List Auditor)
     (A B : Type 0) (status : ℕ) where
   pub obeys_from_start : (input_faults input_then output_faults output_then shelf_faults shelf_then : ℕ) (given given_then : List ℕ) (Ended : Type 0)
       (written written_then : Option (List ℕ)) (pieces pieces_then : List TakenPiece) (Agrees : Files → Type 0)
@@ -88,7 +87,7 @@ module _ {D E : Type 0} (g : Ghosts D) (e : Ghosts E) (old new : D) (second kept
   obeys_from_start input_faults input_then output_faults output_then shelf_faults shelf_then given given_then Ended written written_then pieces pieces_then Agrees
       e₁ e₂ e₃ e₄ e₅ e₆ obeys = rw (e₁, e₂, e₃, e₄, e₅, e₆) at obeys
 
-module _ (words : List (String Global)) (status : ℕ) where
+module _ (words : List (List ℕ)) (status : ℕ) where
   pub ends_from_start : (input_faults input_then output_faults output_then shelf_faults shelf_then disk_faults disk_then : ℕ) (given given_then : List ℕ) (Ended : Type 0)
       (written written_then : Option (List ℕ)) (pieces pieces_then : List TakenPiece) (Agrees : Files → Type 0) (Honest : Type 0) (file found left : List ℕ)
       (second_faults second_then : ℕ) (SecondHonest : Type 0) (second_file second_found second_left : List ℕ)
@@ -106,7 +105,7 @@ module _ (words : List (String Global)) (status : ℕ) where
       rw (e₁, e₂, e₃, e₄, e₅, e₆, e₇, e₈, e₉, e₁₀) at ends
 
 -- Where there was no memory to begin, 9 is right in every case.
-module _ (words : List (String Global)) (input : Input) (output : Stream) (shelf : Shelving) (disk : Filing) (second : Second) (status : ℕ) where
+module _ (words : List (List ℕ)) (input : Input) (output : Stream) (shelf : Shelving) (disk : Filing) (second : Second) (status : ℕ) where
   pub ends_with_9 : status ≡ 9 → disk.after ≡ disk.before → EndsDuly words input output shelf disk second status
   ends_with_9 nine same = record {
     reason = (NoMemory, nine, tt);

@@ -1,39 +1,40 @@
 -- The worked run of the shipped program holds what its case says.
-use Rattle.std.proofs.Common.{[], ◌∷◌, List, refl, codes, String, Global, Some}
+use Rattle.std.proofs.Common.{[], ◌∷◌, refl, codes, Some}
 use Rattle.outside_io.specs.Shelves.{Agrees}
 use Rattle.program_endings.specs.declared.ending.Ending.TheVariants.{Done}
 use Rattle.life_app.specs.WorkedRun.Both.{saved_file, second_disk}
 use Rattle.life_app.specs.WorkedRun.Calls.{called, cut_disk, cut_file, last_disk}
-use Rattle.life_app.specs.WorkedRun.Promise.{AreTyped, premium_script, premium_text}
+use Rattle.life_app.specs.WorkedRun.Promise.{premium_script, premium_text}
 use Rattle.life_app.specs.Needs.{With}
 use Rattle.life_app.proofs.WorkedRun.Due.{due_beside}
 use Rattle.life_app.proofs.WorkedRun.Promise.{obeyed}
 use Rattle.life_app.proofs.WorkedRun.First.{honest_last}
-use Rattle.life_app.proofs.WorkedRun.Row.{second_left}
+use Rattle.life_app.proofs.WorkedRun.Row.{facts, second_left}
+use Rattle.life_cli.proofs.Promised.{shipped}
 use Rattle.life_cli.specs.Completing.{EndsDuly}
 use Rattle.life_cli.specs.Shipped.{ObeysFromStart, filing_from_start, input_from_start, output_from_start, shelf_from_start}
 use Rattle.life_cli.specs.WorkedShipped.{ShippedByHand, shown_pieces}
 
-obeys : (words : List (String Global)) → AreTyped words (codes "run" ∷ [])
-    → ObeysFromStart called called cut_file saved_file last_disk second_disk words (input_from_start 0 premium_script (Unit {0}))
+obeys : ObeysFromStart called called cut_file saved_file last_disk second_disk (codes "run" ∷ []) (input_from_start 0 premium_script (Unit {0}))
     (output_from_start 0 (Some premium_text) shown_pieces) (shelf_from_start 0 (Agrees [])) ⊥ (Unit {0}) 0
-obeys words same = record {
+obeys = record {
   old = cut_disk;
   second = second_disk;
   found = record { faultless = refl; first = refl; reads = refl };
   second_found = record { faultless = refl; first = refl; reads = refl };
-  obeys = obeyed words (Some second_disk) same;
+  obeys = obeyed (Some second_disk);
 }
 
-ends : (words : List (String Global)) → AreTyped words (codes "run" ∷ [])
-    → EndsDuly words (input_from_start 0 premium_script (Unit {0})) (output_from_start 0 (Some premium_text) shown_pieces)
+ends : EndsDuly (codes "run" ∷ []) (input_from_start 0 premium_script (Unit {0})) (output_from_start 0 (Some premium_text) shown_pieces)
     (shelf_from_start 0 (Agrees [])) (filing_from_start cut_file (called.reads last_disk) (called.honest last_disk) 0)
     (With (filing_from_start saved_file (called.reads second_disk) (called.honest second_disk) 0)) 0
-ends words same = record {
+ends = record {
   reason = (Done, refl, tt);
-  due = λ ending is. due_beside (Some second_disk) words same ending is;
+  due = due_beside (Some second_disk);
   unopened = λ honest none. absurd (none _ (second_left.opened honest_last));
 }
 
 pub shipped_by_hand : ShippedByHand
-shipped_by_hand words same = (obeys words same, ends words same)
+shipped_by_hand = shipped called called (codes "run" ∷ []) (input_from_start 0 premium_script (Unit {0}))
+    (output_from_start 0 (Some premium_text) shown_pieces) (shelf_from_start 0 (Agrees [])) ⊥ (Unit {0}) 0
+    cut_file saved_file last_disk second_disk obeys facts.only_now ends

@@ -1,6 +1,5 @@
 -- Which status a run of the program ends with: the reasons, and what is due comes about
-use Rattle.std.specs.Prelude.{◌≡◌, ◌⊎◌, ℕ, List, String}
-use Rattle.std.specs.Global.{Global}
+use Rattle.std.specs.Prelude.{◌≡◌, ◌⊎◌, ℕ, List}
 use Rattle.office_state.specs.Journals.{OpensToNone}
 use Rattle.program_endings.specs.Status.{status_of}
 use Rattle.program_endings.specs.Writing.{Input, Shelving, Stream}
@@ -9,7 +8,7 @@ use Rattle.life_app.specs.Due.{IsDueEnding}
 use Rattle.life_app.specs.Needs.{Filing, Second}
 use Rattle.life_app.specs.Reasons.{IsReasoned}
 
-pub record EndsDuly (words : List (String Global)) (input : Input) (output : Stream) (shelf : Shelving) (disk : Filing) (second : Second)
+pub record EndsDuly (words : List (List ℕ)) (input : Input) (output : Stream) (shelf : Shelving) (disk : Filing) (second : Second)
     (status : ℕ) : Type 0 where
   -- the status has its reason
   pub reason : IsReasoned words input output shelf disk second status

@@ -1,3 +1,4 @@
 pub mod Shipped
 pub mod Completing
+pub mod ShippedRun
 pub mod WorkedShipped

@@ -1,6 +1,5 @@
 -- What the program does on the devices that it is shipped with, from its start to its end
-use Rattle.std.specs.Prelude.{◌==◌, ℕ, false, List, [], ◌∷◌, length, Option, None, Some, String}
-use Rattle.std.specs.Global.{Global}
+use Rattle.std.specs.Prelude.{◌==◌, ℕ, false, List, [], ◌∷◌, length, Option, None, Some}
 use Rattle.outside_io.specs.Shelves.{Files}
 use Rattle.outside_io.specs.Streams.{TakenPiece}
 use Rattle.outside_io.specs.declared.disks.Disk.{Ghosts}
@@ -56,7 +55,7 @@ filing_from_start before after Honest faults =
 
 -- the words were obeyed, over two disks as they were found
 pub record ObeysFromStart {D E : Type 0} (g : Ghosts D) (e : Ghosts E) (bytes saved : List ℕ) (new : D) (kept : E)
-    (words : List (String Global)) (input : Input) (output : Stream) (shelf : Shelving) (InputStays ShelfStays : Type 0)
+    (words : List (List ℕ)) (input : Input) (output : Stream) (shelf : Shelving) (InputStays ShelfStays : Type 0)
     (status : ℕ) : Type 0 where
   pub old : D
   pub second : E

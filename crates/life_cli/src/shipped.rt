@@ -1,20 +1,14 @@
 // All of the program but what the system hands it, on the devices that it is shipped with. Of the system it has threads and
 // waiting, and these devices: no way leads to another.
-ghost use Rattle.std.specs.Prelude.{◌≡◌, ℕ, List, Some, [], codes};
+ghost use Rattle.std.specs.Prelude.{◌≡◌, Some, [], codes, map, string_bytes};
 ghost use Rattle.std.specs.Process.{exit_status};
 ghost use Rattle.outside_io.specs.Shelves.{Files};
-ghost use Rattle.policy_types.specs.declared.script.Lane.{Lane};
-ghost use Rattle.basis_book.specs.Dated.{Dated};
-ghost use Rattle.basis_shelf.specs.Bases.{IsBasis};
-ghost use Rattle.command_csv.specs.Reads.{Reads};
-ghost use Rattle.office_state.specs.Journals.{Opens};
-ghost use Rattle.program_endings.specs.Writing.{IsWholeInput, between, input_between, shelf_between};
-ghost use Rattle.life_app.specs.Headline.{IsGivenBasis, IsPromisedFromStart};
+ghost use Rattle.program_endings.specs.Writing.{between, input_between, shelf_between};
 ghost use Rattle.life_app.specs.Needs.{With, filing_between};
 ghost use Rattle.life_app.specs.Obeys.{Obeys};
-ghost use Rattle.life_app.specs.Words.{AskForRun};
 ghost use Rattle.life_cli.specs.Completing.{EndsDuly};
-ghost use Rattle.life_cli.specs.Shipped.{ObeysFromStart, filing_from_start, shipped_auditors, input_from_start, output_from_start, shelf_from_start};
+ghost use Rattle.life_cli.specs.Shipped.{input_from_start, output_from_start, shelf_from_start, shipped_auditors};
+ghost use Rattle.life_cli.specs.ShippedRun.{IsShipped};
 
 use crate::devices::{CheckpointDisk, Devices, Folder, Input, JournalDisk, OutputOf};
 use life_app::{EndedKept, life_kept};
@@ -43,7 +37,7 @@ pub struct Left<D: Disk, S: Disk> {
 /// What it promises is said of what these devices noted, whatever the two files were before (`F`, `C`). Its premises: nothing
 /// had passed through the devices; a file of which something is said gave only answers that the disk model allows; and where
 /// `state` of all and `checkpoint` say something of the journal, both files did, and a checkpoint in the second tells the
-/// truth of it. Clause `promised` speaks of words that ask for a run, of its whole input, and of a basis that its lines read.
+/// truth of it. What is `promised` is of words that ask for a run, of its whole input, and of a basis that its lines read.
 pub fn run_shipped<R: Threads + Wait + Sync, F: FoundFile, C: FoundFile>(
     rt: &R,
     alloc: Global,
@@ -55,8 +49,8 @@ pub fn run_shipped<R: Threads + Wait + Sync, F: FoundFile, C: FoundFile>(
     requires shelf { (devices.shelf.faults ≡ 0) × (devices.shelf.answers ≡ []) }
     requires disk { (devices.disk.file.faults ≡ 0) × (devices.disk.file.calls ≡ []) }
     requires second { (devices.second.file.faults ≡ 0) × (devices.second.file.calls ≡ []) }
-    ensures obeys { ObeysFromStart ⟦<JournalDisk<F> as Disk>⟧
-        ⟦<CheckpointDisk<C> as Disk>⟧ F.bytes C.bytes result.disk result.second words.now
+    ensures shipped { IsShipped ⟦<JournalDisk<F> as Disk>⟧ ⟦<CheckpointDisk<C> as Disk>⟧ F.bytes C.bytes
+        result.disk result.second (map string_bytes words.now)
         (input_from_start (⟦<Input as Source>⟧.faults result.input) (⟦<Input as Source>⟧.given result.input)
         (⟦<Input as Source>⟧.ended result.input))
         (output_from_start (⟦<OutputOf<F> as Sink>⟧.faults result.output) (⟦<OutputOf<F> as Sink>⟧.written result.output)
@@ -64,34 +58,8 @@ pub fn run_shipped<R: Threads + Wait + Sync, F: FoundFile, C: FoundFile>(
         (shelf_from_start (⟦<Folder as Shelf>⟧.faults result.shelf) (⟦<Folder as Shelf>⟧.agrees result.shelf))
         (⟦<Input as Source>⟧.given result.input ≡ [])
         ((files : Files) → ⟦<Folder as Shelf>⟧.agrees result.shelf files) result.status }
-    // A script's run: of words that ask for one, the whole input, the lanes that it reads as, and the basis that it is given.
-    ensures promised { (name script : List ℕ) (lanes : List Lane) (basis : List Dated) → AskForRun words.now name
-        → IsWholeInput (input_from_start (⟦<Input as Source>⟧.faults result.input) (⟦<Input as Source>⟧.given result.input)
-        (⟦<Input as Source>⟧.ended result.input)) script
-        → Reads script lanes
-        → IsGivenBasis IsBasis lanes name
-        (shelf_from_start (⟦<Folder as Shelf>⟧.faults result.shelf) (⟦<Folder as Shelf>⟧.agrees result.shelf)) basis
-        → IsPromisedFromStart ⟦<JournalDisk<F> as Disk>⟧ Opens F.bytes result.disk lanes name basis
-        shipped_auditors
-        (input_from_start (⟦<Input as Source>⟧.faults result.input) (⟦<Input as Source>⟧.given result.input)
-        (⟦<Input as Source>⟧.ended result.input))
-        (output_from_start (⟦<OutputOf<F> as Sink>⟧.faults result.output) (⟦<OutputOf<F> as Sink>⟧.written result.output)
-        (⟦<OutputOf<F> as Sink>⟧.pieces result.output))
-        (shelf_from_start (⟦<Folder as Shelf>⟧.faults result.shelf) (⟦<Folder as Shelf>⟧.agrees result.shelf)) result.status }
     // Each of the two files has its own name.
     ensures names { (result.disk.file.name.now ≡ codes "journal.life") × (result.second.file.name.now ≡ codes "checkpoint.life") }
-    ensures ends { EndsDuly words.now
-        (input_from_start (⟦<Input as Source>⟧.faults result.input) (⟦<Input as Source>⟧.given result.input)
-        (⟦<Input as Source>⟧.ended result.input))
-        (output_from_start (⟦<OutputOf<F> as Sink>⟧.faults result.output) (⟦<OutputOf<F> as Sink>⟧.written result.output)
-        (⟦<OutputOf<F> as Sink>⟧.pieces result.output))
-        (shelf_from_start (⟦<Folder as Shelf>⟧.faults result.shelf) (⟦<Folder as Shelf>⟧.agrees result.shelf))
-        (filing_from_start F.bytes (⟦<JournalDisk<F> as Disk>⟧.reads result.disk)
-        (⟦<JournalDisk<F> as Disk>⟧.honest result.disk)
-        (⟦<JournalDisk<F> as Disk>⟧.faults result.disk))
-        (With (filing_from_start C.bytes (⟦<CheckpointDisk<C> as Disk>⟧.reads result.second)
-        (⟦<CheckpointDisk<C> as Disk>⟧.honest result.second)
-        (⟦<CheckpointDisk<C> as Disk>⟧.faults result.second))) result.status }
 {
     let Devices {
         mut input,
@@ -158,13 +126,13 @@ fn obey<R: Threads + Wait + Sync, F: FoundFile, C: FoundFile>(
     second: CheckpointDisk<C>,
 ) -> EndedKept<JournalDisk<F>, CheckpointDisk<C>>
     ensures obeys { Obeys ⟦<JournalDisk<F> as Disk>⟧ ⟦<CheckpointDisk<C> as Disk>⟧
-        disk result.disk (Some second) (Some result.second) words.now shipped_auditors
+        disk result.disk (Some second) (Some result.second) (map string_bytes words.now) shipped_auditors
         (input_between (⟦<Input as Source>⟧.faults) (⟦<Input as Source>⟧.left) (⟦<Input as Source>⟧.given)
         (⟦<Input as Source>⟧.ended) input.old input.new)
         (between (⟦<OutputOf<F> as Sink>⟧.faults) (⟦<OutputOf<F> as Sink>⟧.written) (⟦<OutputOf<F> as Sink>⟧.pieces) output.old output.new)
         (shelf_between (⟦<Folder as Shelf>⟧.faults) (⟦<Folder as Shelf>⟧.agrees) shelf.old shelf.new)
         (input.new ≡ input.old) (shelf.new ≡ shelf.old) result.status }
-    ensures ends { EndsDuly words.now
+    ensures ends { EndsDuly (map string_bytes words.now)
         (input_between (⟦<Input as Source>⟧.faults) (⟦<Input as Source>⟧.left) (⟦<Input as Source>⟧.given)
         (⟦<Input as Source>⟧.ended) input.old input.new)
         (between (⟦<OutputOf<F> as Sink>⟧.faults) (⟦<OutputOf<F> as Sink>⟧.written) (⟦<OutputOf<F> as Sink>⟧.pieces) output.old output.new)

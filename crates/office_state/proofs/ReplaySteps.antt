@@ -10,7 +10,7 @@ use Rattle.posting_journal.specs.declared.journal.Journal.{Journal}
 use Rattle.journal_replay.specs.Keeping.{AreKept}
 use Rattle.journal_replay.specs.Replays.{BodiesHave, IsStoppedAt, Replays, Stops, bodies_of}
 use Rattle.journal_replay.specs.declared.replaying.ReplayFault.{ReplayFault}
-use Rattle.journal_replay.proofs.ReplaySteps.{Stops-weaker, all_replayed}
+use Rattle.journal_replay.proofs.ReplaySteps.{Stops-wider, all_replayed}
 use Rattle.office_state.specs.declared.books.Books.{Books}
 use Rattle.office_state.specs.Journals.{IsUnfollowed}
 use Rattle.office_state.specs.inside.Books.{commands_in}
@@ -28,10 +28,9 @@ module _ {D : Type 0} (g : Ghosts D) (journal : Journal D g) (now : D) where
       → Stops (AreKept (λ (books : Books) commands. commands_in books ≡ commands)) (λ commands command. judge commands command ≡ None) journal now [] fault
       → Stops MakeJournal (λ commands command. judge commands command ≡ None) journal now [] fault
   books_stopped fault =
-      Stops-weaker (AreKept (λ (books : Books) commands. commands_in books ≡ commands)) MakeJournal
-      (λ commands command. judge commands command ≡ None) (λ commands command. judge commands command ≡ None)
-      (λ commands kept. subst MakeJournal kept.1 (kept.0.kept.valid, kept.0.kept.accepted)) (λ commands command judged. judged)
-      journal now [] fault
+      Stops-wider (AreKept (λ (books : Books) commands. commands_in books ≡ commands)) MakeJournal
+      (λ commands command. judge commands command ≡ None)
+      (λ commands kept. subst MakeJournal kept.1 (kept.0.kept.valid, kept.0.kept.accepted)) journal now [] fault
 
 -- bodies in three parts
 parts : (bodies : List (List ℕ)) (n : ℕ) → n < length bodies

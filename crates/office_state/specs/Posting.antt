@@ -1,5 +1,5 @@
 -- What posting a command does
-use Rattle.std.specs.Prelude.{◌⊎◌, ℕ, List, [], ◌∷◌, ◌++◌}
+use Rattle.std.specs.Prelude.{◌≡◌, ◌⊎◌, ℕ, List, [], ◌∷◌, ◌++◌}
 use Rattle.outside_io.specs.declared.disks.Disk.{Ghosts}
 use Rattle.policy_types.specs.declared.command.Command.{Command}
 use Rattle.policy_types.specs.declared.entry.Call.TheVariants.{Post}
@@ -8,10 +8,14 @@ use Rattle.policy_types.specs.declared.entry.Reply.TheVariants.{Accepted, Refuse
 use Rattle.policy_types.specs.declared.entry.Entry.{Entry}
 use Rattle.policy_machine.specs.History.{Opening, commands_after}
 use Rattle.posting_journal.specs.Runs.{Leaves}
+use Rattle.moment_ring.specs.Ends.{SameOutlet}
+use Rattle.watcher_set.specs.declared.watching.Watching.{Ghosts as WatcherGhosts}
 use Rattle.office_state.specs.declared.answer.Answer.{Answer}
 use Rattle.office_state.specs.declared.answer.Answer.TheVariants.{Accepted as AcceptedAt, Refused as RefusedFor, DiskFault, NoMemory}
 use Rattle.office_state.specs.Journals.{JournalBytes}
+use Rattle.office_state.specs.declared.state.OfficeState.{OfficeState}
 use Rattle.office_state.specs.Images.{HoldsNow}
+use Rattle.office_state.specs.States.{disk_of, opened_of, outlet_of}
 
 -- the reply of an answer's turn; one that lacked memory is blank
 abbrev pub reply_of : Answer → Reply
@@ -42,3 +46,12 @@ pub record CrashesIn {D : Type 0} (g : Ghosts D) (old new : D) (opening : Openin
       ⊎ JournalBytes image (commands_after opening turns ++ command ∷ []))
   pub accepted : IsAcceptance answer → (image : List ℕ) → g.may_leave new image
       → JournalBytes image (commands_after opening turns ++ command ∷ [])
+
+-- What a posting leaves: what the office was opened on, and its outlet; a disk that is honest now was so before; and an
+-- answer that comes before anything is written leaves it.
+pub record KeepsOffice {D W : Type 0} {g : Ghosts D} {w : WatcherGhosts W} (old new : OfficeState D W g w) (answer : Answer)
+    : Type 0 where
+  pub opened : opened_of new ≡ opened_of old
+  pub outlet : SameOutlet (outlet_of old) (outlet_of new)
+  pub honesty : g.honest (disk_of new) → g.honest (disk_of old)
+  pub unwritten : IsBeforeWriting answer → disk_of new ≡ disk_of old

@@ -76,7 +76,6 @@ impl<D: Disk, W: Watching> OfficeState<D, W> {
         ensures stands { (history : List Entry) → StandsFor self.old history
             → StandsFor self.new (history ++ read_turn caller pin first batch.new ∷ []) }
     {
-        let _ = caller;
         let Some(held) = self.held(pin) else {
             unreachable!()
         };

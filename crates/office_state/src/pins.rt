@@ -73,7 +73,6 @@ impl<D: Disk, W: Watching> OfficeState<D, W> {
         ensures stands { (history : List Entry) → StandsFor self.old history
             → StandsFor self.new (history ++ unpin_turn caller pin ∷ []) }
     {
-        let _ = caller;
         self.pins = without(&self.pins, pin);
         self.turns += 1;
     }

@@ -1,13 +1,12 @@
 // A command is posted.
-ghost use Rattle.std.specs.Prelude.{◌≡◌, ◌≢◌, ◌^◌, ◌<◌, ◌++◌, [], ◌∷◌, Ok, OnOk, List, ℕ};
+ghost use Rattle.std.specs.Prelude.{◌≡◌, ◌≢◌, ◌^◌, ◌<◌, ◌++◌, [], ◌∷◌, OnOk, List, ℕ};
 ghost use Rattle.policy_types.specs.Valid.{IsValid};
 ghost use Rattle.policy_types.specs.declared.command.Command.{Command as ACommand};
 ghost use Rattle.policy_types.specs.declared.entry.Entry.{Entry};
-ghost use Rattle.policy_machine.specs.Book.{judged_after};
 ghost use Rattle.moment_ring.specs.Ends.{CanTell, SameOutlet, told};
-ghost use Rattle.office_state.specs.Posting.{CrashesIn, IsBeforeWriting, turn_of};
+ghost use Rattle.office_state.specs.Posting.{CrashesIn, KeepsOffice, turn_of};
 ghost use Rattle.office_state.specs.Standing.{StandsFor};
-ghost use Rattle.office_state.specs.States.{commands_of, disk_of, opened_of, opening_of, outlet_of, turns_of};
+ghost use Rattle.office_state.specs.States.{disk_of, opening_of, outlet_of, turns_of};
 ghost use Rattle.office_state.specs.inside.Books.{CanKeep, IsPlaceOf, commands_in, floor_in};
 ghost use Rattle.office_state.specs.inside.Turns.{one_more};
 ghost use Rattle.versioned_book.specs.Books.{IsPlaceIn};
@@ -18,7 +17,7 @@ use crate::recording::record;
 use crate::state::OfficeState;
 use moment_ring::MomentOutlet;
 use outside_io::{Disk, Moment};
-use policy_types::{Command, MOST_COMMANDS, NoMemory, Policy, Refusal};
+use policy_types::{Command, MOST_COMMANDS, NoMemory, Refusal};
 use record_codec::encode;
 use versioned_book::KeyPlace;
 use watcher_set::Watching;
@@ -30,16 +29,12 @@ impl<D: Disk, W: Watching> OfficeState<D, W> {
         requires turns { turns_of self.old < 2 ^ 62 }
         requires valid { IsValid command.now }
         requires stands { (history : List Entry) × StandsFor self.old history }
-        ensures opened { opened_of self.new ≡ opened_of self.old }
-        ensures outlet { SameOutlet (outlet_of self.old) (outlet_of self.new) }
-        ensures honesty { D.honest (disk_of self.new) → D.honest (disk_of self.old) }
-        ensures unwritten { IsBeforeWriting result → disk_of self.new ≡ disk_of self.old }
+        ensures keeps { KeepsOffice self.old self.new result }
         ensures stands { (history : List Entry) → StandsFor self.old history
             → StandsFor self.new (history ++ turn_of caller command.now result ∷ []) }
         ensures crash { (history : List Entry) → StandsFor self.old history → D.honest (disk_of self.new)
             → CrashesIn D.Disk (disk_of self.old) (disk_of self.new) (opening_of self.old) history command.now result }
     {
-        let _ = caller;
         let answer = self.decide(command);
         self.turns += 1;
         answer
@@ -49,11 +44,8 @@ impl<D: Disk, W: Watching> OfficeState<D, W> {
     fn decide(&mut self, command: &Command) -> Answer
         requires valid { IsValid command.now }
         requires stands { (history : List Entry) × StandsFor self.old history }
-        ensures opened { opened_of self.new ≡ opened_of self.old }
-        ensures outlet { SameOutlet (outlet_of self.old) (outlet_of self.new) }
-        ensures honesty { D.honest (disk_of self.new) → D.honest (disk_of self.old) }
         ensures turns { turns_of self.new ≡ turns_of self.old }
-        ensures unwritten { IsBeforeWriting result → disk_of self.new ≡ disk_of self.old }
+        ensures keeps { KeepsOffice self.old self.new result }
         ensures stands { (history : List Entry) (caller : ℕ) → StandsFor self.old history
             → StandsFor (one_more self.new) (history ++ turn_of caller command.now result ∷ []) }
         ensures crash { (history : List Entry) → StandsFor self.old history → D.honest (disk_of self.new)
@@ -66,7 +58,8 @@ impl<D: Disk, W: Watching> OfficeState<D, W> {
         self.decide_ready(place, command)
     }
 
-    // The same, once its memory is taken: so no more can be wanting.
+    // The same, once its memory is taken: so no more can be wanting. What the rules accept is recorded; the moment since
+    // which it is safe is told; it is kept with the policy that it left; and the watchers are told of it.
     fn decide_ready(&mut self, place: KeyPlace, command: &Command) -> Answer
         requires place { IsPlaceOf self.old.books place command.now }
         requires valid { IsValid command.now }
@@ -75,43 +68,17 @@ impl<D: Disk, W: Watching> OfficeState<D, W> {
         requires ready { W.has_room self.old.watchers }
         requires tellable { CanTell (outlet_of self.old) }
         ensures ample { result ≢ Answer.NoMemory }
-        ensures opened { opened_of self.new ≡ opened_of self.old }
-        ensures outlet { SameOutlet (outlet_of self.old) (outlet_of self.new) }
-        ensures honesty { D.honest (disk_of self.new) → D.honest (disk_of self.old) }
         ensures turns { turns_of self.new ≡ turns_of self.old }
-        ensures unwritten { IsBeforeWriting result → disk_of self.new ≡ disk_of self.old }
+        ensures keeps { KeepsOffice self.old self.new result }
         ensures stands { (history : List Entry) (caller : ℕ) → StandsFor self.old history
             → StandsFor (one_more self.new) (history ++ turn_of caller command.now result ∷ []) }
         ensures crash { (history : List Entry) → StandsFor self.old history → D.honest (disk_of self.new)
             → CrashesIn D.Disk (disk_of self.old) (disk_of self.new) (opening_of self.old) history command.now result }
     {
-        match self.books.judgement(place, command) {
-            Ok(after) => self.accept(place, command, after),
-            Err(refusal) => Answer::Refused(refusal),
-        }
-    }
-
-    // Records a command that the rules accept, tells the moment since which it is safe, keeps it and the policy that it
-    // left, and tells the watchers.
-    fn accept(&mut self, place: KeyPlace, command: &Command, after: Option<Policy>) -> Answer
-        requires place { IsPlaceOf self.old.books place command.now }
-        requires valid { IsValid command.now }
-        requires stands { (history : List Entry) × StandsFor self.old history }
-        requires accepted { judged_after (commands_of self.old) command.now ≡ Ok after }
-        requires room { CanKeep self.old.books place.key }
-        requires ready { W.has_room self.old.watchers }
-        requires tellable { CanTell (outlet_of self.old) }
-        ensures ample { result ≢ Answer.NoMemory }
-        ensures opened { opened_of self.new ≡ opened_of self.old }
-        ensures outlet { SameOutlet (outlet_of self.old) (outlet_of self.new) }
-        ensures honesty { D.honest (disk_of self.new) → D.honest (disk_of self.old) }
-        ensures turns { turns_of self.new ≡ turns_of self.old }
-        ensures unwritten { IsBeforeWriting result → disk_of self.new ≡ disk_of self.old }
-        ensures stands { (history : List Entry) (caller : ℕ) → StandsFor self.old history
-            → StandsFor (one_more self.new) (history ++ turn_of caller command.now result ∷ []) }
-        ensures crash { (history : List Entry) → StandsFor self.old history → D.honest (disk_of self.new)
-            → CrashesIn D.Disk (disk_of self.old) (disk_of self.new) (opening_of self.old) history command.now result }
-    {
+        let after = match self.books.judgement(place, command) {
+            Ok(after) => after,
+            Err(refusal) => return Answer::Refused(refusal),
+        };
         if self.books.count() == MOST_COMMANDS {
             return Answer::Refused(Refusal::Full);
         }

@@ -23,7 +23,6 @@ impl<D: Disk, W: Watching> OfficeState<D, W> {
         ensures stands { (history : List Entry) → StandsFor self.old history
             → StandsFor self.new (history ++ trim_turn caller result ∷ []) }
     {
-        let _ = caller;
         let floor = least_position(&self.pins, self.books.count());
         self.books.trim(floor);
         self.turns += 1;

@@ -1,5 +1,5 @@
 -- The keys of a cache after one of them was asked for.
-use Rattle.std.proofs.Common.{true≢false, subst, ◌≡◌, ℕ, ◌+◌, ◌-◌, ◌^◌, min, Bool, true, false, List, [], ◌∷◌, Contains, Option, Some, None, is_some, refl, sym, ap, ◌∙◌, inl, inr}
+use Rattle.std.proofs.Common.{true≢false, subst, ◌≡◌, ℕ, ◌+◌, ◌-◌, ◌^◌, min, Bool, true, false, List, [], ◌∷◌, Contains, Option, Some, None, IfNone, is_some, refl, sym, ap, ◌∙◌, inl, inr}
 use Rattle.std.proofs.lemmas.List.{take-map}
 use Rattle.std.specs.Map.{keys_of, lookup, lookup_entry, remove_entry}
 use Rattle.std.specs.Set.{remove_key}
@@ -107,6 +107,11 @@ asked_from key older old new premiums unkept asked = record {
 pub not_promoted : (key : CacheKey) (c new : LruCache CacheKey Premium) → lookup (eq-value.it key) c.entries ≡ None → new ≡ lru_cache (promoted (eq-value.it key) c.entries) c.cap → new ≡ c
 not_promoted key c new none is = rw (none_found (eq-value.it key) c.entries none).0 at is
 
+pub missed : (key : CacheKey) (c new : LruCache CacheKey Premium) (o : Option Premium) → o ≡ lookup (eq-value.it key) c.entries → new ≡ lru_cache (promoted (eq-value.it key) c.entries) c.cap
+    → IfNone o ((new ≡ c) × (lookup (eq-value.it key) c.entries ≡ None))
+missed key c new None e is = (not_promoted key c new (sym e) is, sym e)
+missed key c new (Some v) e is = tt
+
 pub some_value : {V : Type 0} (o : Option V) → is_some o ≡ true → (v : V) × (o ≡ Some v)
 some_value None h = cc
 some_value (Some v) h = (v, refl)
@@ -114,13 +119,6 @@ some_value (Some v) h = (v, refl)
 pub none_value : {V : Type 0} (o : Option V) → is_some o ≡ false → o ≡ None
 none_value None h = refl
 none_value (Some v) h = cc
-
--- what is found is found in front
-pub found_again : (key : CacheKey) (es : List (CacheKey × Premium)) (v : Premium) → lookup (eq-value.it key) es ≡ Some v
-    → (w : Premium) × (lookup (eq-value.it key) (promoted (eq-value.it key) es) ≡ Some w)
-found_again key es v found =
-    let entry = entry_found (eq-value.it key) es v found in
-    (entry.0.1, rw (entry.1, entry.2) refl)
 
 -- the keys stay twice
 pub kept_twice : (old mid new : ColumnCache) → KeepsKeys old mid → KeepsKeys mid new → KeepsKeys old new

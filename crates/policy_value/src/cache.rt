@@ -187,11 +187,7 @@ impl ColumnCache {
         ensures miss { IfNone result ((self.new.premiums ≡ self.old.premiums) × IsMissing key self.old) }
         ensures unkept { self.new.unkept ≡ self.old.unkept }
     {
-        if self.premiums.promote(&key) {
-            self.premiums.peek(&key).copied()
-        } else {
-            None
-        }
+        self.premiums.get(&key).copied()
     }
 
     /// The unit of a key at year `t` if both it and the key are kept, which is now the last used.

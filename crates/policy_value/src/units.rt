@@ -9,17 +9,20 @@ use crate::key::{CacheKey, plan_number};
 use policy_types::NoMemory;
 use present_value::Pair;
 use std::alloc::Global;
+use std::mem::size_of;
 
-/// There are as many places as these for each key of which a premium is kept: so many years are asked for of a key.
+// There are as many places as these for each key of which a premium is kept: so many years are asked for of a key.
 const PLACES_FOR_A_KEY: usize = 8;
 
-/// There are never more places, of 32 bytes each.
+// There are never more places, of 32 bytes each.
 const MOST_PLACES: usize = 524_288;
 
-/// A store begins with so many places: those of few policies are quickly made.
+const _: () = prove!(size_of::<Option<KeptUnit>>() == 32);
+
+// A store begins with so many places: those of few policies are quickly made.
 const FIRST_PLACES: usize = 4_096;
 
-/// Where half of the places may be taken there are so many times as many next.
+// Where half of the places may be taken there are so many times as many next.
 const GROWTH: usize = 8;
 
 /// The bounds of the reserve per unit of amount at year `t` of the cover of a key, in units of 10^-16.
@@ -84,7 +87,7 @@ impl UnitStore {
         self.put = self.put.saturating_add(1);
     }
 
-    /// Adds places where half of them may be taken, if there may be more.
+    // Adds places where half of them may be taken, if there may be more.
     fn make_room(&mut self)
         requires { IsUnitStore self.old }
         ensures store { IsUnitStore self.new }
@@ -104,7 +107,7 @@ impl UnitStore {
     }
 }
 
-/// The unit at a place, if it is that of a key at year `t`.
+// The unit at a place, if it is that of a key at year `t`.
 #[tactic(auto, using(crate::proofs::PerUnit::unit_is, crate::proofs::Keeping::itself))]
 fn unit_of(place: Option<KeptUnit>, key: CacheKey, t: u8) -> Option<Pair>
     ensures is { IfSome result (λ unit. place ≡ Some (kept_unit key t unit)) }
@@ -120,7 +123,7 @@ fn unit_of(place: Option<KeptUnit>, key: CacheKey, t: u8) -> Option<Pair>
     }
 }
 
-/// Adds empty places until there are so many.
+// Adds empty places until there are so many.
 #[tactic(auto, using(crate::proofs::PerUnit::places_more))]
 fn add_places(places: &mut Vec<Option<KeptUnit>>, count: usize)
     requires more { length places.old.items ≤ count }
@@ -137,7 +140,7 @@ fn add_places(places: &mut Vec<Option<KeptUnit>>, count: usize)
     }
 }
 
-/// The place of a key at year `t` among so many.
+// The place of a key at year `t` among so many.
 fn place_of(key: CacheKey, t: u8, count: usize) -> usize
     requires { 1 ≤ count }
     ensures is { result ≡ unit_place key t count }

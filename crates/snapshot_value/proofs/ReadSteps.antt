@@ -3,6 +3,7 @@ use Rattle.std.proofs.Common.{◌≡◌, ◌≢◌, false, true, Result, Ok, Err
 use Rattle.std.specs.List.{AllByRecursion}
 use Rattle.std.proofs.lemmas.List.{length-map, length-take, map-append, take_all, take-append-le}
 use Rattle.std.proofs.lemmas.Option.{slice_get_within}
+use Rattle.policy_types.specs.Limits.{most_commands}
 use Rattle.policy_types.specs.declared.policy.Policy.{Policy}
 use Rattle.policy_types.specs.declared.entry.At.{At}
 use Rattle.policy_types.specs.declared.entry.At.TheVariants.{Now, Position}
@@ -39,6 +40,12 @@ module _ {D W : Type 0} (pin : Held) where
   pub first_none : (Has : List Policy → Type 0) (pass : Holding (OfficeOpening D W)) → Has [] → HasReadFirst Has pin 0 pass pass
   first_none Has pass has = record { reads = []; grows = grows_none pass; calls = refl; stays = refl; has = has }
 
+  -- those that were read are not more than policies may be
+  pub first_few : (k : ℕ) (old : Holding (OfficeOpening D W)) → IsKnown old pin
+      → length (take (policies_per_read * k) (policies_at old pin.position)) ≤ most_commands
+  first_few k old is =
+      omega (arith, length-take (policies_per_read * k) (policies_at old pin.position), is.counted, is.few)
+
   module _ (Has : List Policy → Type 0) (k : ℕ) (old mid : Holding (OfficeOpening D W)) (is : IsKnown old pin)
       (so_far : HasReadFirst Has pin k old mid) where
     -- turns are left for the next
@@ -57,6 +64,14 @@ module _ {D W : Type 0} (pin : Held) where
       part_sound =
           subst (AllByRecursion IsSound) (sym part_is)
           (all_part IsSound (policies_per_read * k) policies_per_read (policies_at old pin.position) is.sound)
+
+      pub part_few : length (take (policies_per_read * k) (policies_at old pin.position)) + length part ≤ most_commands
+      part_few =
+          let policies = policies_at old pin.position in
+          let both : length (take (policies_per_read * (k + 1)) policies) ≡ length (take (policies_per_read * k) policies) + length part =
+          ap length (next_part k policies ∙ ap (λ p. take (policies_per_read * k) policies ++ p) (sym part_is))
+          ∙ length-append (take (policies_per_read * k) policies) part in
+          omega (arith, both, first_few (k + 1) old is)
 
       module _ (low : k < reads_needed pin.policies) where
         grew : Grows old new (so_far.reads ++ one.read ∷ [])

@@ -11,6 +11,8 @@ mod worker;
 mod worksheet;
 
 pub use listing::policies;
+pub use reader::Reader;
+pub use reading::read_pinned;
 pub use shares::{NO_LANE, POLICIES_TO_A_WORKER};
 pub use valuation::{Policies, Query, Valuation, ValueFault};
 pub use valuing::value;

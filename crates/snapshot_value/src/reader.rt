@@ -1,4 +1,4 @@
-ghost use Rattle.std.specs.Prelude.{◌≤◌, ℕ, List, [], ◌++◌, IfOk, OnOk, length};
+ghost use Rattle.std.specs.Prelude.{◌≤◌, ℕ, List, [], ◌++◌, ◌+◌, IfOk, OnOk, length};
 ghost use Rattle.std.specs.List.{AllByRecursion};
 ghost use Rattle.std.specs.Thread.{IsSync};
 ghost use Rattle.policy_types.specs.Limits.{most_commands};
@@ -38,7 +38,8 @@ pub trait Reader {
         part: &[Policy],
     ) -> Result<(), NoMemory>
         requires sync { IsSync R.row }
-        requires begun { (plan : Self.Plan) × ((before : List APolicy) × has_read plan self.old before) }
+        requires begun { (plan : Self.Plan) × ((before : List APolicy) × has_read plan self.old before
+            × (length before + length part.now ≤ most_commands)) }
         requires sound { AllByRecursion IsSound part.now }
         ensures { (plan : Self.Plan) (before : List APolicy) → has_read plan self.old before
             → OnOk result (has_read plan self.new (before ++ part.now)) };
@@ -51,7 +52,8 @@ pub trait Reader {
         position: u32,
     ) -> Result<Self::Made, NoMemory>
         requires sync { IsSync R.row }
-        requires begun { (plan : Self.Plan) × ((policies : List APolicy) × has_read plan self policies) }
+        requires begun { (plan : Self.Plan) × ((policies : List APolicy) × has_read plan self policies
+            × (length policies ≤ most_commands)) }
         ensures { (plan : Self.Plan) (policies : List APolicy) → has_read plan self policies
             → length policies ≤ most_commands → AllByRecursion IsSound policies
             → IfOk result (gives plan position policies) };

@@ -146,7 +146,7 @@ fn make<R: Threads + Sync, T: Reader>(
     pin: &Pin,
 ) -> Result<T::Made, NoMemory>
     requires sync { IsSync R.row }
-    requires read { (plan : T.Plan) × ((policies : List APolicy) × T.has_read plan reader policies) }
+    requires read { (plan : T.Plan) × ((policies : List APolicy) × T.has_read plan reader policies × (length policies ≤ most_commands)) }
     ensures { (plan : T.Plan) (policies : List APolicy) → T.has_read plan reader policies
         → length policies ≤ most_commands → AllByRecursion IsSound policies
         → IfOk result (T.gives plan pin.now.position policies) }

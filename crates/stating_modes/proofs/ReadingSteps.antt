@@ -25,7 +25,7 @@ use Rattle.posting_journal.proofs.Moments.{looks_on}
 use Rattle.posting_journal.proofs.Unique.{opens_once}
 use Rattle.journal_replay.specs.Keeping.{AreKept}
 use Rattle.journal_replay.specs.Replays.{IsLookedAt, IsQuiet, IsStoppedAt, Replays, Stops, bodies_of}
-use Rattle.journal_replay.proofs.ReplaySteps.{Stops-weaker, all_replayed}
+use Rattle.journal_replay.proofs.ReplaySteps.{Stops-wider, all_replayed}
 use Rattle.journal_replay.specs.declared.replaying.ReplayFault.{ReplayFault}
 use Rattle.journal_replay.specs.declared.replaying.ReplayFault.TheVariants as replay
 use Rattle.office_state.specs.declared.faults.StartCause.{StartCause}
@@ -90,13 +90,25 @@ account_own old new commands command after n holds valid each own same entries p
       ∙ ap (policy_of (commands ++ command ∷ [])) (sym same);
 }
 
--- one that the rules refuse can't be next
+-- what the rules make of one of its own is what they make of it after the commands
+decided_after : (account : Account) (commands : List Command) (command : Command) (decision : Result Policy Refusal) → IsAccount account commands
+    → id_of command ≡ account.id → next account.policy command ≡ decision → next (policy_of commands (id_of command)) command ≡ decision
+decided_after account commands command decision holds own decided =
+    ap (λ id. next (policy_of commands id) command) own ∙ ap (λ p. next p command) (sym holds.policy) ∙ decided
+
+-- one that the rules accept can be next
+pub can_be_next : (account : Account) (commands : List Command) (command : Command) (after : Policy) → IsAccount account commands
+    → id_of command ≡ account.id → next account.policy command ≡ Ok after → CanBeNext commands command
+can_be_next account commands command after holds own decided =
+    inr (subst (λ (r : Result Policy Refusal). IsOk r) (sym (decided_after account commands command (Ok after) holds own decided)) refl)
+
+-- one that they refuse can't
 pub not_next : (account : Account) (commands : List Command) (command : Command) (refusal : Refusal) → 1 ≤ account.id → IsAccount account commands
     → id_of command ≡ account.id → next account.policy command ≡ Err refusal → CanBeNext commands command → ⊥
 not_next account commands command refusal some holds own decided can = by_kind can
   where
     decision : next (policy_of commands (id_of command)) command ≡ Err refusal
-    decision = ap (λ id. next (policy_of commands id) command) own ∙ ap (λ p. next p command) (sym holds.policy) ∙ decided
+    decision = decided_after account commands command (Err refusal) holds own decided
 
     by_kind : (command ≡ Upgrade) ⊎ IsOk (next (policy_of commands (id_of command)) command) → ⊥
     by_kind (inl upgraded) = omega (arith, some, own, ap id_of upgraded)
@@ -134,8 +146,8 @@ module _ {D : Type 0} (g : Ghosts D) (journal : Journal D g) (now : D) where
       → Stops (AreKept (λ (account : Account) commands. IsAccount account commands)) CanBeNext journal now [] fault
       → Stops (AllByRecursion IsValid) CanBeNext journal now [] fault
   reading_stopped fault =
-      Stops-weaker (AreKept (λ (account : Account) commands. IsAccount account commands)) (AllByRecursion IsValid) CanBeNext CanBeNext
-      (λ commands kept. kept.1.valid) (λ commands command can. can) journal now [] fault
+      Stops-wider (AreKept (λ (account : Account) commands. IsAccount account commands)) (AllByRecursion IsValid) CanBeNext
+      (λ commands kept. kept.1.valid) journal now [] fault
 
 -- the body spells no command that can be next
 abbrev CanSpellNoNext : List ℕ → List Command → Type 0

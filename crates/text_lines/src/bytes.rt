@@ -1,4 +1,4 @@
-ghost use Rattle.std.specs.Prelude.{◌≡◌, ◌++◌, ℕ, List, OnOk};
+ghost use Rattle.std.specs.Prelude.{◌≡◌, ◌+◌, ◌<◌, ◌++◌, ℕ, List, OnErr, OnOk, length, vec_capacity, vec_len};
 
 use policy_types::NoMemory;
 use std::marker::Model;
@@ -37,9 +37,11 @@ impl Text {
     }
 }
 
-/// Adds more to a text. Where memory is wanting nothing is said of it.
+/// Adds more to a text. Memory may be wanting only where it has no room for it, and then it stays as it was.
 pub fn add(text: &mut Vec<u8>, more: &[u8]) -> Result<(), NoMemory>
-    ensures { OnOk result (text.new.items ≡ text.old.items ++ more.now) }
+    ensures written { OnOk result (text.new.items ≡ text.old.items ++ more.now) }
+    ensures refused { OnErr result (text.new.items ≡ text.old.items) }
+    ensures full { OnErr result (vec_capacity text.old < vec_len text.old + length more.now) }
 {
     text.extend_from_slice(more)?;
     Ok(())

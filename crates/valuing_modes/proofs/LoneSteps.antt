@@ -21,9 +21,9 @@ use Rattle.snapshot_value.specs.declared.valuation.ValueFault.{ValueFault}
 use Rattle.program_endings.specs.declared.ending.Ending.{Ending}
 use Rattle.program_endings.specs.Writing.{Stream}
 use Rattle.valuing_modes.specs.Valuing.{EndsValuing}
-use Rattle.valuing_modes.specs.inside.Valued.{EndsAnswer, EndsValued, IsLoneAnswer}
+use Rattle.valuing_modes.specs.inside.Valued.{EndsAnswer, EndsValued}
 use Rattle.lone_office.proofs.LoneTurns.{lone_answered, lone_due, lone_left}
-use Rattle.valuing_modes.proofs.ValueSteps.{ends_valued, lone_answer, lone_ends}
+use Rattle.valuing_modes.proofs.ValueSteps.{ends_valued, lone_ends}
 
 module _ {D W : Type 0} (g : Ghosts D) (w : WatcherGhosts W) (old disk : D) (watchers : W) (on : ℤ) (measure : Measure) (at : At) (workers turn : ℕ) (basis : List Dated)
     (first closing : Holding (OfficeOpening D W)) (balances : Booking) (reports : List Report) (answer : Result Valuation ValueFault)
@@ -38,14 +38,10 @@ module _ {D W : Type 0} (g : Ghosts D) (w : WatcherGhosts W) (old disk : D) (wat
       lone_answered g w old disk watchers at first closing balances reports started facts closed valued.pin valued.later valued.grows _ valued.answers.0 valued.answers.1
       turn valued.opened (λ (commands : List Command). IsValueAnswer commands basis on measure valued.pin.1.reply answer) valued.place valued.opening valued.answered
 
-  -- the answer is one of an office that nobody else called
-  pub is_lone : IsLoneAnswer answer
-  is_lone = lone_answer started.opening valued.pin.1.caller on measure basis at valued.pin.1.reply answer due answered
-
   left : IsLeftBy g old disk (opened_on started.opening.commands (g.faults old)) []
   left = lone_left g w old disk watchers at first closing balances reports started facts closed valued.pin valued.later valued.grows _ valued.answers.0 valued.answers.1
 
-  -- and `value` ends by it
+  -- `value` ends by it
   pub ends_lone : (output : Stream) (ending : Ending) → EndsAnswer on answer output ending → EndsValuing g old disk on at measure basis output ending
   ends_lone output ending ends =
       ends_valued g old disk on at measure basis output started.opening.commands ending left

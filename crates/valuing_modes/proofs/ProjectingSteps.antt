@@ -1,5 +1,5 @@
 -- How `project` ends, by what its parts did
-use Rattle.std.proofs.Common.{◌≡◌, ℕ, ◌≤◌, ℤ, List, [], length, take, subst, Result, Ok, Err, append-nil, arith, Option}
+use Rattle.std.proofs.Common.{◌≡◌, ℕ, ◌≤◌, ℤ, List, [], length, take, subst, Result, Ok, Err, IfOk, append-nil, arith, Option}
 use Rattle.std.proofs.lemmas.Int.{ints}
 use Rattle.std.proofs.lemmas.List.{take_all}
 use Rattle.outside_io.specs.Streams.{AppendsPart}
@@ -35,7 +35,7 @@ use Rattle.program_endings.specs.declared.ending.Ending.TheVariants.{Done, Write
 use Rattle.program_endings.specs.Writing.{Stream, WroteAll}
 use Rattle.lone_office.proofs.LoneTurns.{lone_answered, lone_due, lone_left}
 use Rattle.valuing_modes.specs.Projecting.{EndsProjecting, IsProjectionText}
-use Rattle.valuing_modes.specs.inside.Projected.{EndsPrinted, EndsProjected, IsLoneProjection, CanBePrinted}
+use Rattle.valuing_modes.specs.inside.Projected.{EndsPrinted, EndsProjected, CanBePrinted}
 
 -- an office was opened, and the projection was written
 ends_projected : {D : Type 0} (g : Ghosts D) (old disk : D) (on : ℤ) (years : ℕ) (basis : List Dated) (output : Stream)
@@ -48,6 +48,33 @@ ends_projected g old disk on years basis output commands WriteFault left ends =
 ends_projected g old disk on years basis output commands NoMemory left ends = (ends, left.alone tt, left.faults)
 ends_projected g old disk on years basis output commands _ left ends = absurd ends
 
+-- A projection at a position can be printed.
+module _ (basis : List Dated) (on : ℤ) (years : ℕ) (day : IsDay on) (few : years ≤ 131) where
+  printable : (position : ℕ) (policies : List Policy) (projection : Projection) → IsProjectionAt basis on years position policies projection
+      → CanBePrinted projection
+  printable position policies projection is = record {
+    day = let same : projection.on ≡ on = is.day in omega (arith, ints, same, day);
+    few = omega (arith, is.cash.rounded.many, few);
+    bounded = is.tellable;
+  }
+
+  answer_printable : (commands : List Command) (reply : Reply) (answer : Result Projection ValueFault)
+      → AnswersPinned (IsProjectionAt basis on years) commands reply answer → IfOk answer CanBePrinted
+  answer_printable commands (Pinned position policies) (Ok projection) is = printable position (book (take position commands)) projection is
+  answer_printable commands (PinRefused refusal) (Ok projection) is = absurd is
+  answer_printable commands (Accepted position) (Ok projection) is = absurd is
+  answer_printable commands (Refused refusal) (Ok projection) is = absurd is
+  answer_printable commands (Faulted count) (Ok projection) is = absurd is
+  answer_printable commands (Slice policies) (Ok projection) is = absurd is
+  answer_printable commands Unpinned (Ok projection) is = absurd is
+  answer_printable commands (Floor floor) (Ok projection) is = absurd is
+  answer_printable commands Blank (Ok projection) is = absurd is
+  answer_printable commands reply (Err fault) is = tt
+
+  pub projected_printable : {D W : Type 0} (old new : Holding (OfficeOpening D W)) (turn : ℕ) (answer : Result Projection ValueFault)
+      → HasProjected basis on years Now old new turn answer → IfOk answer CanBePrinted
+  projected_printable old new turn answer is = answer_printable _ is.pin.1.reply answer is.answered
+
 -- The answer of an office at which nobody turned before.
 module _ (opening : Opening) (caller : ℕ) (on : ℤ) (years : ℕ) (basis : List Dated) where
   abbrev commands : List Command
@@ -57,28 +84,6 @@ module _ (opening : Opening) (caller : ℕ) (on : ℤ) (years : ℕ) (basis : Li
   never_refused (Ahead count) due = due
   never_refused (Trimmed floor) due = due
   never_refused PinsFull due = absurd (let full : 16 ≤ 0 = due in omega (arith, full))
-
-  printable : (position : ℕ) (policies : List Policy) (projection : Projection) → IsDay on → years ≤ 131
-      → IsProjectionAt basis on years position policies projection → CanBePrinted projection
-  printable position policies projection day few is = record {
-    day = let same : projection.on ≡ on = is.day in omega (arith, ints, same, day);
-    few = omega (arith, is.cash.rounded.many, few);
-    bounded = is.tellable;
-  }
-
-  lone_projection : (reply : Reply) (answer : Result Projection ValueFault) → IsDay on → years ≤ 131 → IsDue opening [] caller (pin_call Now) reply
-      → AnswersPinned (IsProjectionAt basis on years) commands reply answer → IsLoneProjection answer
-  lone_projection (Pinned position policies) (Ok projection) day few due is = printable position (book (take position commands)) projection day few is
-  lone_projection (Pinned position policies) (Err (Pin why)) day few due is = absurd is
-  lone_projection (Pinned position policies) (Err NoValues) day few due is = tt
-  lone_projection (PinRefused refusal) answer day few due is = absurd (never_refused refusal due)
-  lone_projection (Accepted position) answer day few due is = absurd is
-  lone_projection (Refused refusal) answer day few due is = absurd is
-  lone_projection (Faulted count) answer day few due is = absurd is
-  lone_projection (Slice policies) answer day few due is = absurd is
-  lone_projection Unpinned answer day few due is = absurd is
-  lone_projection (Floor floor) answer day few due is = absurd is
-  lone_projection Blank answer day few due is = absurd is
 
   module _ (output : Stream) where
     text_of : (position policies : ℕ) (projection : Projection) (Wrote : List ℕ → Type 0) → IsDue opening [] caller (pin_call Now) (Pinned position policies)
@@ -132,11 +137,7 @@ module _ {D W : Type 0} (g : Ghosts D) (w : WatcherGhosts W) (old disk : D) (wat
       (λ (commands : List Command). AnswersPinned (IsProjectionAt basis on years) commands projected.pin.1.reply answer) projected.place projected.opening
       projected.answered
 
-  -- the answer is one of an office that nobody else called
-  pub is_lone_projection : IsDay on → years ≤ 131 → IsLoneProjection answer
-  is_lone_projection day few = lone_projection started.opening projected.pin.1.caller on years basis projected.pin.1.reply answer day few due answered
-
-  -- and `project` ends by it
+  -- `project` ends by it
   pub ends_alone : (output : Stream) (ending : Ending) → EndsPrinted answer output ending → EndsProjecting g old disk on years basis output ending
   ends_alone output ending ends =
       ends_projected g old disk on years basis output started.opening.commands ending

@@ -1,5 +1,5 @@
 -- How `value` ends, by what its parts did
-use Rattle.std.proofs.Common.{◌≡◌, ℕ, ◌≤◌, ◌<◌, ℤ, List, [], length, take, refl, ap₂, sym, ◌∙◌, subst, inl, inr, Result, Ok, Err, arith}
+use Rattle.std.proofs.Common.{◌≡◌, ℕ, ◌≤◌, ◌<◌, ℤ, List, [], length, take, refl, ap₂, sym, ◌∙◌, subst, inl, inr, Result, Ok, Err, IfOk, arith}
 use Rattle.std.specs.List.{AllZip}
 use Rattle.outside_io.specs.Streams.{AppendsPart}
 use Rattle.outside_io.specs.declared.disks.Disk.{Ghosts}
@@ -17,16 +17,19 @@ use Rattle.policy_machine.specs.Merge.{pin_call}
 use Rattle.policy_value.specs.declared.worth.Measure.{Measure}
 use Rattle.report_text.specs.Block.{block_text}
 use Rattle.office_state.specs.Images.{IsLeftBy}
-use Rattle.snapshot_value.specs.Valuing.{AnswersPin, IsValuedRow, IsSnapshot}
+use Rattle.snapshot_value.specs.Valuing.{AnswersPin, HasValued, IsValuedRow, IsSnapshot}
 use Rattle.snapshot_value.specs.declared.valuation.Valuation.{Valuation}
 use Rattle.snapshot_value.specs.declared.valuation.ValueFault.{ValueFault}
 use Rattle.snapshot_value.specs.declared.valuation.ValueFault.TheVariants.{Pin, NoMemory as NoValues}
 use Rattle.program_endings.specs.declared.ending.Ending.{Ending}
 use Rattle.program_endings.specs.declared.ending.Ending.TheVariants.{Done, Ahead, WriteFault, NoMemory}
 use Rattle.program_endings.specs.Writing.{Stream, WroteAll}
+use Rattle.program_endings.specs.Blocks.{IsWritableBlock}
 use Rattle.program_endings.proofs.BlockSteps.{block_writable}
+use Rattle.turn_lock.specs.Passes.{Holding}
+use Rattle.shared_office.specs.Offices.{OfficeOpening}
 use Rattle.valuing_modes.specs.Valuing.{EndsValuing, IsValuation, position_of}
-use Rattle.valuing_modes.specs.inside.Valued.{EndsAnswer, EndsValued, IsLoneAnswer, SaysAhead}
+use Rattle.valuing_modes.specs.inside.Valued.{EndsAnswer, EndsValued, SaysAhead}
 
 -- an office was opened, and its values were written
 pub ends_valued : {D : Type 0} (g : Ghosts D) (old disk : D) (on : ℤ) (at : At) (measure : Measure) (basis : List Dated) (output : Stream)
@@ -41,34 +44,29 @@ ends_valued g old disk on at measure basis output commands Ahead left ends =
 ends_valued g old disk on at measure basis output commands NoMemory left ends = inl (ends, left.alone tt, left.faults)
 ends_valued g old disk on at measure basis output commands _ left ends = absurd ends
 
+-- The values at a position can be written.
+module _ (on : ℤ) (measure : Measure) (basis : List Dated) where
+  answer_writable : (commands : List Command) (reply : Reply) (answer : Result Valuation ValueFault)
+      → AnswersPin commands basis on measure reply answer → IfOk answer IsWritableBlock
+  answer_writable commands (Pinned position policies) (Ok valuation) is = block_writable commands basis on measure position valuation is
+  answer_writable commands (PinRefused refusal) (Ok valuation) is = absurd is
+  answer_writable commands (Accepted position) (Ok valuation) is = absurd is
+  answer_writable commands (Refused refusal) (Ok valuation) is = absurd is
+  answer_writable commands (Faulted count) (Ok valuation) is = absurd is
+  answer_writable commands (Slice policies) (Ok valuation) is = absurd is
+  answer_writable commands Unpinned (Ok valuation) is = absurd is
+  answer_writable commands (Floor floor) (Ok valuation) is = absurd is
+  answer_writable commands Blank (Ok valuation) is = absurd is
+  answer_writable commands reply (Err fault) is = tt
+
+  pub valued_writable : {D W : Type 0} (at : At) (workers : ℕ) (old new : Holding (OfficeOpening D W)) (turn : ℕ) (answer : Result Valuation ValueFault)
+      → HasValued basis on measure at workers old new turn answer → IfOk answer IsWritableBlock
+  valued_writable at workers old new turn answer is = answer_writable _ is.pin.1.reply answer is.answered
+
 -- The answer of an office at which nobody turned before.
 module _ (opening : Opening) (caller : ℕ) (on : ℤ) (measure : Measure) (basis : List Dated) where
   abbrev commands : List Command
   commands = commands_after opening []
-
-  lone_refusal : (at : At) (refusal : PinRefusal) → IsDue opening [] caller (pin_call at) (PinRefused refusal) → IsLoneAnswer (Err (Pin refusal))
-  lone_refusal at (PastTheEnd count) due = tt
-  lone_refusal Now (Trimmed floor) due = due
-  lone_refusal (Position p) (Trimmed floor) due = absurd (let below : p < 0 = due.1 in omega (arith, below))
-  lone_refusal Now PinsFull due = absurd (let full : 16 ≤ 0 = due in omega (arith, full))
-  lone_refusal (Position p) PinsFull due = absurd (let full : 16 ≤ 0 = due.2 in omega (arith, full))
-
-  pub lone_answer : (at : At) (reply : Reply) (answer : Result Valuation ValueFault) → IsDue opening [] caller (pin_call at) reply
-      → AnswersPin commands basis on measure reply answer → IsLoneAnswer answer
-  lone_answer at (Pinned position policies) (Ok valuation) due is = block_writable commands basis on measure position valuation is
-  lone_answer at (Pinned position policies) (Err (Pin why)) due is = absurd is
-  lone_answer at (Pinned position policies) (Err NoValues) due is = tt
-  lone_answer at (PinRefused refusal) (Ok valuation) due is = absurd is
-  lone_answer at (PinRefused refusal) (Err (Pin why)) due is =
-      subst (λ (r : PinRefusal). IsLoneAnswer (Err (Pin r))) (sym is) (lone_refusal at refusal due)
-  lone_answer at (PinRefused refusal) (Err NoValues) due is = absurd is
-  lone_answer at (Accepted position) answer due is = absurd is
-  lone_answer at (Refused refusal) answer due is = absurd is
-  lone_answer at (Faulted count) answer due is = absurd is
-  lone_answer at (Slice policies) answer due is = absurd is
-  lone_answer at Unpinned answer due is = absurd is
-  lone_answer at (Floor floor) answer due is = absurd is
-  lone_answer at Blank answer due is = absurd is
 
   module _ (output : Stream) where
     pinned_place : (at : At) (position policies : ℕ) → IsDue opening [] caller (pin_call at) (Pinned position policies)
@@ -98,8 +96,10 @@ module _ (opening : Opening) (caller : ℕ) (on : ℤ) (measure : Measure) (basi
     ends_refused_pin : (at : At) (refusal : PinRefusal) (ending : Ending) → IsDue opening [] caller (pin_call at) (PinRefused refusal)
         → EndsAnswer on (Err (Pin refusal)) output ending → EndsValued commands on at measure basis output ending
     ends_refused_pin at (PastTheEnd count) ending due ends = ends_ahead at count ending due ends
-    ends_refused_pin at (Trimmed floor) ending due ends = absurd ends
-    ends_refused_pin at PinsFull ending due ends = absurd ends
+    ends_refused_pin Now (Trimmed floor) ending due ends = absurd due
+    ends_refused_pin (Position p) (Trimmed floor) ending due ends = absurd (let below : p < 0 = due.1 in omega (arith, below))
+    ends_refused_pin Now PinsFull ending due ends = absurd (let full : 16 ≤ 0 = due in omega (arith, full))
+    ends_refused_pin (Position p) PinsFull ending due ends = absurd (let full : 16 ≤ 0 = due.2 in omega (arith, full))
 
     pub lone_ends : (at : At) (reply : Reply) (answer : Result Valuation ValueFault) (ending : Ending) → IsDue opening [] caller (pin_call at) reply
         → AnswersPin commands basis on measure reply answer → EndsAnswer on answer output ending → EndsValued commands on at measure basis output ending

@@ -1,10 +1,10 @@
 // The projection of the policies from a day on, by the basis on the shelf.
-ghost use Rattle.std.specs.Prelude.{◌≡◌, ◌<◌, ◌≤◌, Ok};
+ghost use Rattle.std.specs.Prelude.{◌≡◌, ◌<◌, ◌≤◌, IfOk, Ok};
 ghost use Rattle.life_dates.specs.Calendar.{IsDay};
 ghost use Rattle.program_endings.specs.Writing.{between, shelf_between};
 ghost use Rattle.program_endings.specs.declared.ending.Ending.TheVariants.{ReadFault};
 ghost use Rattle.valuing_modes.specs.Projecting.{EndsProject};
-ghost use Rattle.valuing_modes.specs.inside.Projected.{EndsPrinted, IsLoneProjection, CanBePrinted};
+ghost use Rattle.valuing_modes.specs.inside.Projected.{EndsPrinted, CanBePrinted};
 
 use basis_book::Name;
 use cash_projection::{Projection, print_projection};
@@ -56,8 +56,8 @@ pub fn project<R: Threads + Wait + Sync, K: Sink, H: Shelf, D: Disk, G: Gate>(
     let projected = cash_projection::project(
         rt, alloc, &office, &mut pass, &basis, on, years, workers, gate,
     );
-    let (disk, _, _, _) = close(office, pass);
     let ending = write_answer(alloc, projected.answer, output);
+    let (disk, _, _, _) = close(office, pass);
     Finished { ending, disk }
 }
 
@@ -67,13 +67,13 @@ fn write_answer<K: Sink>(
     answer: Result<Projection, ValueFault>,
     output: &mut K,
 ) -> Ending
-    requires lone { IsLoneProjection answer }
+    requires printable { IfOk answer CanBePrinted }
     ensures ends { EndsPrinted answer (between K.faults K.written K.pieces output.old output.new) result }
 {
     match answer {
         Ok(projection) => write_projection(alloc, &projection, output),
-        Err(ValueFault::Pin(_)) => unreachable!(),
-        Err(ValueFault::NoMemory) => lack_memory(output),
+        // nobody else holds a pin, so none is refused
+        Err(_) => lack_memory(output),
     }
 }
 

@@ -1,11 +1,11 @@
 // The values of the policies on a day, by the basis on the shelf.
-ghost use Rattle.std.specs.Prelude.{◌≡◌, ◌<◌, ◌≤◌};
+ghost use Rattle.std.specs.Prelude.{◌≡◌, ◌<◌, ◌≤◌, IfOk};
 ghost use Rattle.life_dates.specs.Calendar.{IsDay};
 ghost use Rattle.valuing_modes.specs.Valuing.{EndsValue};
 ghost use Rattle.program_endings.specs.Writing.{between, shelf_between};
 ghost use Rattle.program_endings.specs.declared.ending.Ending.TheVariants.{ReadFault};
 ghost use Rattle.program_endings.specs.Blocks.{IsWritableBlock};
-ghost use Rattle.valuing_modes.specs.inside.Valued.{EndsAnswer, IsLoneAnswer, SaysAhead};
+ghost use Rattle.valuing_modes.specs.inside.Valued.{EndsAnswer, SaysAhead};
 
 use basis_book::Name;
 use lone_office::{Begun, begin};
@@ -63,8 +63,8 @@ pub fn value<R: Threads + Wait + Sync, K: Sink, H: Shelf, D: Disk, G: Gate>(
         workers,
     };
     let valued = snapshot_value::value(rt, alloc, &office, &mut pass, query, at, NO_LANE, gate);
-    let (disk, _, _, _) = close(office, pass);
     let ending = write_answer(rt, alloc, on, valued.answer, workers, output);
+    let (disk, _, _, _) = close(office, pass);
     Finished { ending, disk }
 }
 
@@ -79,14 +79,14 @@ fn write_answer<R: Threads + Sync, K: Sink>(
 ) -> Ending
     requires day { IsDay on }
     requires workers { (1 ≤ workers) × (workers ≤ 64) }
-    requires lone { IsLoneAnswer answer }
+    requires writable { IfOk answer IsWritableBlock }
     ensures ends { EndsAnswer on answer (between K.faults K.written K.pieces output.old output.new) result }
 {
     match answer {
         Ok(valuation) => write_values(rt, alloc, on, &valuation, workers, output),
         Err(ValueFault::Pin(PinRefusal::Ahead(count))) => refuse_position(alloc, count, output),
-        Err(ValueFault::Pin(_)) => unreachable!(),
-        Err(ValueFault::NoMemory) => lack_memory(output),
+        // nobody else holds a pin or trims, so no other is refused
+        Err(_) => lack_memory(output),
     }
 }
 

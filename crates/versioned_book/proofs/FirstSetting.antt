@@ -1,5 +1,5 @@
 -- The first setting of a key.
-use Rattle.std.proofs.Common.{◌≡◌, ℕ, zero, suc, ◌+◌, ◌<◌, ◌≤◌, Bool, true, false, nat_eq, nat_le, nat_lt, List, [], ◌∷◌, ◌++◌, length, filter, slice_get, None, Some, refl, sym, ap, ◌∙◌, subst, cond, ◌⊎◌, inl, inr, append-nil, arith}
+use Rattle.std.proofs.Common.{◌≡◌, ℕ, ◌+◌, ◌<◌, ◌≤◌, Bool, true, false, nat_eq, nat_le, List, [], ◌∷◌, ◌++◌, length, filter, slice_get, None, Some, refl, sym, ap, ◌∙◌, subst, cond, ◌⊎◌, inl, inr, append-nil, arith}
 use Rattle.std.proofs.lemmas.Bool.{lt-leb, eqb-true, cases_lt}
 use Rattle.std.proofs.lemmas.List.{length_push, map-append}
 use Rattle.std.proofs.lemmas.List.Elements.{filter-append}
@@ -7,41 +7,42 @@ use Rattle.std.proofs.lemmas.Option.{slice_get_within}
 use Rattle.std.specs.List.{list_any}
 use Rattle.std.specs.Map.{keys_of as entry_keys}
 use Rattle.indexmap.specs.IndexMap.{get, Updates}
-use Rattle.versioned_book.specs.Versions.{IsRisingTo, first_position, versions_from, versions}
+use Rattle.versioned_book.specs.Versions.{IsRisingTo, first_position, versions_from}
+use Rattle.versioned_book.specs.Pasts.{AreWhereTold, newest, older_of, olders_in, places_in, older_total}
 use Rattle.versioned_book.specs.Settings.{Setting, keys_of, own, positions, until}
-use Rattle.versioned_book.specs.Books.{IsBookOf, kept_of, many, many_in}
+use Rattle.versioned_book.specs.Books.{IsBookOf}
 use Rattle.versioned_book.specs.declared.chain.Chain.{Chain}
 use Rattle.versioned_book.specs.declared.book.VersionedBook.{VersionedBook}
 use Rattle.versioned_book.proofs.VersionSteps.{some_same}
 use Rattle.versioned_book.proofs.SettingSteps.{all_until, any_absent, keys_of-new, own-other, own-push, positions_rise, rising-push, until_all, until_past}
-use Rattle.versioned_book.proofs.BookSteps.{as_many, many_in-push}
-
--- an item of a list with one more is one of the list, or the last
-get_push : {X : Type 0} (xs : List X) (y z : X) (i : ℕ) → slice_get (xs ++ y ∷ []) i ≡ Some z → (slice_get xs i ≡ Some z) ⊎ ((i ≡ length xs) × (z ≡ y))
-get_push [] y z zero h = inr (refl, sym (some_same y z h))
-get_push [] y z (suc i) h = cc
-get_push (x ∷ xs) y z zero h = inl h
-get_push (x ∷ xs) y z (suc i) h = elim (get_push xs y z i h) [ inl a ↦ inl a | inr b ↦ inr (ap suc b.0, b.1) ]
+use Rattle.versioned_book.proofs.BookSteps.{as_many}
+use Rattle.versioned_book.proofs.PastSteps.{get_push, no_past, older_none, same_keys, told_more}
 
 module _ {V : Type 0} (book new : VersionedBook V) (sets : List (Setting V)) (s : Setting V) (chain : Chain V)
     (absent : get nat_eq book.chains s.key ≡ None) (updates : Updates nat_eq book.chains new.chains s.key (Some chain))
-    (entries : new.chains.entries ≡ book.chains.entries ++ (s.key, chain) ∷ []) (one : versions chain ≡ (s.position, s.value) ∷ [])
+    (entries : new.chains.entries ≡ book.chains.entries ++ (s.key, chain) ∷ []) (one : newest chain ≡ (s.position, s.value))
     (firsts : new.firsts.items ≡ book.firsts.items ++ s.position ∷ []) (floor : new.floor ≡ book.floor) (last : new.last ≡ s.position) (kept : new.kept ≡ book.kept + 1)
-    (rises : book.last < s.position) (several : new.several.items ≡ book.several.items) (h : IsBookOf book sets) where
+    (rises : book.last < s.position) (pasts : new.pasts ≡ book.pasts) (h : IsBookOf book sets) where
   new_keys : keys_of (sets ++ s ∷ []) ≡ keys_of sets ++ s.key ∷ []
   new_keys = keys_of-new sets s (subst (λ ks. list_any (nat_eq s.key) ks ≡ false) h.order (any_absent s.key book.chains.entries absent))
 
   own_one : own s.key (sets ++ s ∷ []) ≡ (s.position, s.value) ∷ []
   own_one = own-push sets s ∙ ap (λ l. l ++ (s.position, s.value) ∷ []) (h.absent s.key absent)
 
-  kept_first : (key : ℕ) (c : Chain V) → get nat_eq new.chains key ≡ Some c → versions c ≡ versions_from new.floor (own key (sets ++ s ∷ []))
-  kept_first key c e = by (nat_eq s.key key) refl
+  none_older : older_of s.key (olders_in book.pasts) ≡ []
+  none_older =
+      older_none s.key (olders_in book.pasts) (subst (λ ks. list_any (nat_eq s.key) ks ≡ false) (same_keys book.pasts.list.items)
+      (no_past book.chains.entries (places_in book.pasts) s.key h.told absent))
+
+  kept_first : (key : ℕ) (c : Chain V) → get nat_eq new.chains key ≡ Some c → older_of key (olders_in new.pasts) ++ newest c ∷ [] ≡ versions_from new.floor (own key (sets ++ s ∷ []))
+  kept_first key c e = ap (λ ps. older_of key (olders_in ps) ++ newest c ∷ []) pasts ∙ by (nat_eq s.key key) refl
     where
-      by : (b : Bool) → nat_eq s.key key ≡ b → versions c ≡ versions_from new.floor (own key (sets ++ s ∷ []))
+      by : (b : Bool) → nat_eq s.key key ≡ b → older_of key (olders_in book.pasts) ++ newest c ∷ [] ≡ versions_from new.floor (own key (sets ++ s ∷ []))
       by true is =
           let this : s.key ≡ key = eqb-true s.key key is in
           let got : chain ≡ c = some_same chain c (sym updates.1 ∙ ap (get nat_eq new.chains) this ∙ e) in
-          ap versions (sym got) ∙ one ∙ sym (ap (versions_from new.floor) own_one) ∙ ap (λ k. versions_from new.floor (own k (sets ++ s ∷ []))) this
+          subst (λ k. older_of k (olders_in book.pasts) ++ newest c ∷ [] ≡ versions_from new.floor (own k (sets ++ s ∷ []))) this
+          (ap (λ l. l ++ newest c ∷ []) none_older ∙ ap (λ v. v ∷ []) (ap newest (sym got) ∙ one) ∙ sym (ap (versions_from new.floor) own_one))
       by false isnt =
           h.kept key c (sym (updates.2 key isnt) ∙ e) ∙ ap (λ f. versions_from f (own key sets)) (sym floor) ∙ ap (versions_from new.floor) (sym (own-other sets s key isnt))
 
@@ -88,33 +89,6 @@ module _ {V : Type 0} (book new : VersionedBook V) (sets : List (Setting V)) (s 
           ∙ ap length new_keys ∙ length_push (keys_of sets) s.key ∙ ap (λ n. n + 1) (as_many book sets h) ∙ sym (length_push book.firsts.items s.position)
           ∙ sym (ap length (all_until p 0 (book.firsts.items ++ s.position ∷ []) s.position (rising-push 0 book.firsts.items book.last s.position h.firsts rises) within))
 
-  several_first : (j key : ℕ) → slice_get (keys_of (sets ++ s ∷ [])) j ≡ Some key
-      → list_any (nat_eq j) new.several.items ≡ nat_lt 1 (length (versions_from new.floor (own key (sets ++ s ∷ []))))
-  several_first j key is = ap (list_any (nat_eq j)) several ∙ by (nat_eq s.key key) refl (get_push (keys_of sets) s.key key j (sym (ap (λ l. slice_get l j) new_keys) ∙ is))
-    where
-      alone : nat_lt 1 (length (versions_from new.floor (own s.key (sets ++ s ∷ [])))) ≡ false
-      alone = ap (λ l. nat_lt 1 (length (versions_from new.floor l))) own_one
-
-      past : j ≡ length (keys_of sets) → (b : Bool) → list_any (nat_eq j) book.several.items ≡ b → b ≡ false
-      past e true f = absurd (omega (arith, h.listed j f, e))
-      past e false f = refl
-
-      by : (same : Bool) → nat_eq s.key key ≡ same → (slice_get (keys_of sets) j ≡ Some key) ⊎ ((j ≡ length (keys_of sets)) × (key ≡ s.key))
-          → list_any (nat_eq j) book.several.items ≡ nat_lt 1 (length (versions_from new.floor (own key (sets ++ s ∷ []))))
-      by true e (inl a) =
-          let none : own key sets ≡ [] = subst (λ k. own k sets ≡ []) (eqb-true s.key key e) (h.absent s.key absent) in
-          h.several j key a ∙ ap (λ l. nat_lt 1 (length (versions_from book.floor l))) none
-          ∙ sym (subst (λ k. nat_lt 1 (length (versions_from new.floor (own k (sets ++ s ∷ [])))) ≡ false) (eqb-true s.key key e) alone)
-      by false e (inl a) =
-          h.several j key a ∙ ap (λ f. nat_lt 1 (length (versions_from f (own key sets)))) (sym floor)
-          ∙ ap (λ l. nat_lt 1 (length (versions_from new.floor l))) (sym (own-other sets s key e))
-      by same e (inr b) =
-          past b.0 (list_any (nat_eq j) book.several.items) refl
-          ∙ sym (subst (λ k. nat_lt 1 (length (versions_from new.floor (own k (sets ++ s ∷ [])))) ≡ false) (sym b.1) alone)
-
-  listed_first : (j : ℕ) → list_any (nat_eq j) new.several.items ≡ true → j < length (keys_of (sets ++ s ∷ []))
-  listed_first j e = omega (arith, h.listed j (sym (ap (list_any (nat_eq j)) several) ∙ e), ap length new_keys, length_push (keys_of sets) s.key)
-
   pub set_first : IsBookOf new (sets ++ s ∷ [])
   set_first = record {
     order = ap entry_keys entries ∙ map-append (λ (e : ℕ × Chain V). e.0) book.chains.entries ((s.key, chain) ∷ []) ∙ ap (λ l. l ++ s.key ∷ []) h.order ∙ sym new_keys;
@@ -125,11 +99,10 @@ module _ {V : Type 0} (book new : VersionedBook V) (sets : List (Setting V)) (s 
     firsts = subst (λ l. IsRisingTo 0 l new.last) (sym firsts) (subst (λ l. IsRisingTo 0 (book.firsts.items ++ s.position ∷ []) l) (sym last) (rising-push 0 book.firsts.items book.last s.position h.firsts rises));
     begun = begun_first;
     counts = counts_first;
-    count =
-        let m : kept_of new ≡ kept_of book + many chain = ap many_in entries ∙ many_in-push book.chains.entries s.key chain in
-        let l : many chain ≡ 1 = ap length one in
-        omega (arith, kept, h.count, m, l);
+    count = omega (arith, kept, h.count, ap length entries, length_push book.chains.entries (s.key, chain), ap (λ ps. older_total (olders_in ps)) pasts);
     bound = omega (arith, kept, last, h.bound, rises);
-    several = several_first;
-    listed = listed_first;
+    told =
+        subst (λ ps. AreWhereTold new.chains.entries (places_in ps)) (sym pasts)
+        (subst (λ es. AreWhereTold es (places_in book.pasts)) (sym entries) (told_more book.chains.entries ((s.key, chain) ∷ []) (places_in book.pasts) h.told));
+    few = omega (arith, ap (λ ps. length (places_in ps)) pasts, h.few, last, rises);
   }

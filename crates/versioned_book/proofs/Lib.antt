@@ -1,7 +1,8 @@
 pub mod VersionSteps
 pub mod SettingSteps
+pub mod Apart
+pub mod PastSteps
 pub mod KeptFew
-pub mod Listing
 pub mod BookSteps
 pub mod FirstSetting
 pub mod Places

@@ -1,17 +1,22 @@
 -- How many keys there are at a position, and the value of one of them.
-use Rattle.std.proofs.Common.{◌≡◌, ℕ, zero, suc, ◌+◌, ◌<◌, ◌≤◌, Bool, true, false, nat_eq, nat_le, List, [], ◌∷◌, length, filter, slice_get, get_or, Option, None, Some, IsSome, is_some, Result, Ok, OnOk, refl, sym, ap, ◌∙◌, subst, cond, if◌then◌else◌, arith}
+use Rattle.std.proofs.Common.{◌≡◌, ℕ, zero, suc, ◌+◌, ◌<◌, ◌≤◌, Bool, true, false, nat_eq, nat_le, List, [], ◌∷◌, ◌++◌, length, filter, slice_get, get_or, Option, None, Some, IsSome, is_some, Result, Ok, OnOk, refl, sym, ap, ◌∙◌, subst, cond, if◌then◌else◌, arith}
 use Rattle.std.proofs.lemmas.Bool.{le-leb, leb-true, leb-false, lt-leb}
 use Rattle.std.proofs.lemmas.List.{length-map}
 use Rattle.std.proofs.lemmas.Option.{slice_get_within}
+use Rattle.std.specs.List.{list_any}
 use Rattle.indexmap.specs.IndexMap.{get}
-use Rattle.versioned_book.specs.Versions.{IsRising, IsRisingTo, first_position, or_else, versions_from, value_at, versions}
+use Rattle.versioned_book.specs.Versions.{IsRising, IsRisingTo, first_position, or_else, versions_from, value_at}
+use Rattle.versioned_book.specs.Pasts.{newest, older_of, olders_in, own_older, places_in}
 use Rattle.versioned_book.specs.Settings.{Setting, keys_of, own, until}
 use Rattle.versioned_book.specs.Books.{IsBookOf}
 use Rattle.versioned_book.specs.declared.chain.Chain.{Chain}
 use Rattle.versioned_book.specs.declared.book.VersionedBook.{VersionedBook}
-use Rattle.versioned_book.proofs.VersionSteps.{rising-trimmed, some_same, value_at-trimmed}
+use Rattle.versioned_book.proofs.VersionSteps.{rising-trimmed, some_same, value_at-past, value_at-trimmed}
 use Rattle.versioned_book.proofs.SettingSteps.{first_until, none_until, own_rising}
-use Rattle.versioned_book.proofs.BookSteps.{as_many, key_at_place}
+use Rattle.versioned_book.proofs.BookSteps.{as_many}
+use Rattle.versioned_book.proofs.Apart.{key_there}
+use Rattle.versioned_book.proofs.KeptFew.{book_apart, pasts_apart}
+use Rattle.versioned_book.proofs.PastSteps.{own_is_older, same_keys, same_test, seen_there}
 
 all_higher : (low : ℕ) (qs : List ℕ) (last j d : ℕ) → IsRisingTo low qs last → j < length qs → low < get_or qs j d
 all_higher low [] last j d h within = absurd (omega (arith, within))
@@ -66,22 +71,40 @@ module _ {V : Type 0} where
       let first = first_until p 0 book.firsts.items book.last index h.firsts (subst (λ n. index < n) (h.counts p) within) in
       omega (arith, slice_get_within book.firsts.items index first.0 first.1, as_many book sets h, ap length h.order, length-map book.chains.entries (λ (e : ℕ × Chain V). e.0))
 
-  -- the chain at an index: what it holds, and that it has a value at each position that the key is there at
+  rising-front : (low : ℕ) (vs : List (ℕ × V)) (v : ℕ × V) → IsRising low (vs ++ v ∷ []) → IsRising low vs
+  rising-front low [] v h = tt
+  rising-front low (x ∷ vs) v h = (h.0, rising-front x.0 vs v h.1)
+
+  -- what stands at the place that a key's entry tells are the key's older versions
+  pub older_read : (book : VersionedBook V) (sets : List (Setting V)) (key : ℕ) (chain : Chain V) → IsBookOf book sets → get nat_eq book.chains key ≡ Some chain
+      → own_older key (slice_get (olders_in book.pasts) chain.past) ≡ older_of key (olders_in book.pasts)
+  older_read book sets key chain h found =
+      own_is_older (olders_in book.pasts) chain.past key (pasts_apart book sets h)
+      (sym (same_test book.pasts.list.items chain.past key) ∙ seen_there book.chains.entries (places_in book.pasts) (book_apart book sets h) h.told key chain found
+      ∙ ap (list_any (nat_eq key)) (same_keys book.pasts.list.items))
+
+  -- the versions of the key at an index, the newest of which its chain holds
   pub record IsChainAt (book : VersionedBook V) (sets : List (Setting V)) (index key : ℕ) (chain : Chain V) : Type 0 where
     pub place : slice_get (keys_of sets) index ≡ Some key
-    pub kept : versions chain ≡ versions_from book.floor (own key sets)
-    pub rising : IsRising 0 (versions chain)
-    pub value : (p : ℕ) → book.floor ≤ p → value_at p (versions chain) ≡ value_at p (own key sets)
+    pub older : own_older key (slice_get (olders_in book.pasts) chain.past) ≡ older_of key (olders_in book.pasts)
+    pub kept : older_of key (olders_in book.pasts) ++ newest chain ∷ [] ≡ versions_from book.floor (own key sets)
+    pub rising : IsRising 0 (older_of key (olders_in book.pasts))
+    pub value : (p : ℕ) → book.floor ≤ p → value_at p (older_of key (olders_in book.pasts) ++ newest chain ∷ []) ≡ value_at p (own key sets)
+    pub before : (p : ℕ) → book.floor ≤ p → p < chain.position → value_at p (own_older key (slice_get (olders_in book.pasts) chain.past)) ≡ value_at p (own key sets)
 
   pub chain_at : (book : VersionedBook V) (sets : List (Setting V)) (index key : ℕ) (chain : Chain V) → IsBookOf book sets → slice_get book.chains.entries index ≡ Some (key, chain)
       → get nat_eq book.chains key ≡ Some chain → IsChainAt book sets index key chain
   chain_at book sets index key chain h entry found =
-      let kept : versions chain ≡ versions_from book.floor (own key sets) = h.kept key chain found in
+      let kept : older_of key (olders_in book.pasts) ++ newest chain ∷ [] ≡ versions_from book.floor (own key sets) = h.kept key chain found in
       record {
-        place = sym (ap (λ l. slice_get l index) h.order) ∙ key_at_place book.chains.entries index key chain entry;
+        place = sym (ap (λ l. slice_get l index) h.order) ∙ key_there book.chains.entries index key chain entry;
+        older = older_read book sets key chain h found;
         kept = kept;
-        rising = subst (IsRising 0) (sym kept) (rising-trimmed book.floor 0 (own key sets) (own_rising key 0 sets book.last h.rising));
+        rising = rising-front 0 (older_of key (olders_in book.pasts)) (newest chain) (subst (IsRising 0) (sym kept) (rising-trimmed book.floor 0 (own key sets) (own_rising key 0 sets book.last h.rising)));
         value = λ p from. ap (value_at p) kept ∙ value_at-trimmed book.floor p (own key sets) from;
+        before = λ p from past.
+            ap (value_at p) (older_read book sets key chain h found) ∙ sym (value_at-past p (older_of key (olders_in book.pasts)) chain.position chain.value past)
+            ∙ ap (value_at p) kept ∙ value_at-trimmed book.floor p (own key sets) from;
       }
 
   begun_value : (p first : ℕ) (vs : List (ℕ × V)) → first_position vs ≡ Some first → first ≤ p → IsSome (value_at p vs)

@@ -1,185 +1,98 @@
--- A trim, chain by chain.
-use Rattle.std.proofs.Common.{◌≡◌, ℕ, suc, ◌+◌, ◌<◌, ◌≤◌, Bool, true, false, ◌&&◌, ◌||◌, nat_eq, nat_le, nat_lt, List, [], ◌∷◌, length, filter, slice_get, None, Some, refl, sym, ap, ◌∙◌, subst, cond, ◌⊎◌, inl, inr, arith}
-use Rattle.std.proofs.lemmas.Bool.{eqb-true, eq-eqb}
-use Rattle.std.specs.List.{list_any}
-use Rattle.std.specs.Map.{lookup, keys_of as entry_keys}
-use Rattle.indexmap.specs.IndexMap.{get, keys, Updates}
-use Rattle.versioned_book.specs.Versions.{IsRisingTo, versions_from, versions}
-use Rattle.versioned_book.specs.Settings.{Setting, keys_of, own, positions}
-use Rattle.versioned_book.specs.Books.{IsBookOf, has_several, kept_of, many, many_in}
+-- A trim, past by past.
+use Rattle.std.proofs.Common.{◌≡◌, ℕ, zero, suc, ◌+◌, ◌<◌, ◌≤◌, Bool, true, false, nat_eq, List, [], ◌∷◌, ◌++◌, length, map, get_or, slice_get, add-one, None, Some, refl, sym, ap, ◌∙◌, subst, if◌then◌else◌, arith}
+use Rattle.std.proofs.Math.ListN.{set}
+use Rattle.std.proofs.lemmas.Bool.{eqb-true}
+use Rattle.std.proofs.lemmas.List.{length-map}
+use Rattle.std.proofs.lemmas.Option.{slice_get_read}
+use Rattle.std.specs.Map.{lookup}
+use Rattle.versioned_book.specs.Versions.{versions_from}
+use Rattle.versioned_book.specs.Pasts.{AreWhereTold, newest, older_of, older_total}
 use Rattle.versioned_book.specs.declared.chain.Chain.{Chain}
-use Rattle.versioned_book.specs.declared.book.VersionedBook.{VersionedBook}
-use Rattle.versioned_book.proofs.VersionSteps.{some_same, trim_again}
-use Rattle.versioned_book.proofs.KeptFew.{AreApart, book_apart, lookup_at}
-use Rattle.versioned_book.proofs.Listing.{any-filter, any-kept, entry_at, trim_single}
+use Rattle.versioned_book.specs.declared.past.Past.{Past}
+use Rattle.versioned_book.proofs.PastSteps.{older_at, older_in, olders-set, place_of, told_of}
+use Rattle.versioned_book.proofs.VersionSteps.{some_same}
 
-module _ {V : Type 0} where
-  place_of : (es : List (ℕ × Chain V)) (key : ℕ) (c : Chain V) → lookup (nat_eq key) es ≡ Some c → (j : ℕ) × (slice_get (entry_keys es) j ≡ Some key)
-  place_of [] key c h = cc
-  place_of (e ∷ es) key c h = by (nat_eq key e.0) refl h (place_of es key c)
+module _ {V : Type 0} (es : List (ℕ × Chain V)) (floor : ℕ) where
+  -- what a trim leaves of a past, behind which the newest version of its key stands
+  abbrev pub IsCut : ℕ × List (ℕ × V) → ℕ × List (ℕ × V) → Type 0
+  IsCut past cut =
+      (cut.0 ≡ past.0)
+      × ((chain : Chain V) → lookup (nat_eq past.0) es ≡ Some chain → versions_from floor (past.1 ++ newest chain ∷ []) ≡ cut.1 ++ newest chain ∷ [])
+
+  -- so many of the pasts are trimmed, and those after them are as before
+  abbrev pub AreCut : ℕ → List (ℕ × List (ℕ × V)) → List (ℕ × List (ℕ × V)) → Type 0
+  AreCut zero pasts now = now ≡ pasts
+  AreCut (suc n) [] now = now ≡ []
+  AreCut (suc n) (p ∷ pasts) [] = ⊥
+  AreCut (suc n) (p ∷ pasts) (q ∷ now) = IsCut p q × AreCut n pasts now
+
+  pub cut_more : (n : ℕ) (pasts now : List (ℕ × List (ℕ × V))) (past cut : ℕ × List (ℕ × V)) → AreCut n pasts now → slice_get now n ≡ Some past → IsCut past cut
+      → AreCut (suc n) pasts (set now n cut)
+  cut_more zero [] now past cut h at is = let clash : None ≡ Some past = ap (λ l. slice_get l 0) (sym h) ∙ at in cc
+  cut_more zero (p ∷ pasts) now past cut h at is =
+      let same : p ≡ past = some_same p past (ap (λ l. slice_get l 0) (sym h) ∙ at) in
+      subst (λ l. AreCut 1 (p ∷ pasts) (set l 0 cut)) (sym h) (subst (λ x. IsCut x cut) (sym same) is, refl)
+  cut_more (suc n) [] now past cut h at is = let clash : None ≡ Some past = ap (λ l. slice_get l (suc n)) (sym h) ∙ at in cc
+  cut_more (suc n) (p ∷ pasts) [] past cut h at is = absurd h
+  cut_more (suc n) (p ∷ pasts) (q ∷ now) past cut h at is = (h.0, cut_more n pasts now past cut h.1 at is)
+
+  -- a key's versions, once all pasts are trimmed
+  pub all_cut : (n : ℕ) (pasts now : List (ℕ × List (ℕ × V))) → length pasts ≤ n → AreCut n pasts now → (key : ℕ) (chain : Chain V) → lookup (nat_eq key) es ≡ Some chain
+      → versions_from floor (older_of key pasts ++ newest chain ∷ []) ≡ older_of key now ++ newest chain ∷ []
+  all_cut zero [] now few h key chain found = sym (ap (λ l. older_of key l ++ newest chain ∷ []) h)
+  all_cut zero (p ∷ pasts) now few h key chain found = absurd (omega (arith, few))
+  all_cut (suc n) [] now few h key chain found = sym (ap (λ l. older_of key l ++ newest chain ∷ []) h)
+  all_cut (suc n) (p ∷ pasts) [] few h key chain found = absurd h
+  all_cut (suc n) (p ∷ pasts) (q ∷ now) few h key chain found =
+      by (nat_eq key p.0) refl (all_cut n pasts now (omega (arith, few)) h.1 key chain found) ∙ ap (λ k. (if nat_eq key k then q.1 else older_of key now) ++ newest chain ∷ []) (sym h.0.0)
     where
-      by : (b : Bool) → nat_eq key e.0 ≡ b → cond b (Some e.1) (lookup (nat_eq key) es) ≡ Some c
-          → (lookup (nat_eq key) es ≡ Some c → (j : ℕ) × (slice_get (entry_keys es) j ≡ Some key)) → (j : ℕ) × (slice_get (entry_keys (e ∷ es)) j ≡ Some key)
-      by true is g rest = (0, ap Some (sym (eqb-true key e.0 is)))
-      by false isnt g rest = let r = rest g in (suc r.0, r.1)
+      by : (b : Bool) → nat_eq key p.0 ≡ b → versions_from floor (older_of key pasts ++ newest chain ∷ []) ≡ older_of key now ++ newest chain ∷ []
+          → versions_from floor ((if b then p.1 else older_of key pasts) ++ newest chain ∷ []) ≡ (if nat_eq key p.0 then q.1 else older_of key now) ++ newest chain ∷ []
+      by true is rest =
+          h.0.1 chain (ap (λ k. lookup (nat_eq k) es) (sym (eqb-true key p.0 is)) ∙ found) ∙ ap (λ b. (if b then q.1 else older_of key now) ++ newest chain ∷ []) (sym is)
+      by false isnt rest =
+          rest ∙ ap (λ b. (if b then q.1 else older_of key now) ++ newest chain ∷ []) (sym isnt)
 
-  -- the chain is trimmed, or as before and its place is among those that are left
-  abbrev pub IsCutOr : VersionedBook V → List (Setting V) → ℕ → List ℕ → ℕ → Chain V → Type 0
-  IsCutOr book sets floor left key c =
-      (versions c ≡ versions_from floor (own key sets))
-      ⊎ ((j : ℕ) × (slice_get (keys book.chains) j ≡ Some key) × (list_any (nat_eq j) left ≡ true) × (versions c ≡ versions_from book.floor (own key sets)))
+module _ {V : Type 0} (es : List (ℕ × Chain V)) (floor : ℕ) where
+  -- one past more is trimmed
+  pub cut_next : (n : ℕ) (pasts : List (ℕ × List (ℕ × V))) (now : List (Past V)) (q r : Past V) → AreCut es floor n pasts (map older_in now)
+      → slice_get now n ≡ Some q → r.key ≡ q.key
+      → ((chain : Chain V) → lookup (nat_eq q.key) es ≡ Some chain → versions_from floor (q.older.items ++ newest chain ∷ []) ≡ r.older.items ++ newest chain ∷ [])
+      → AreCut es floor (n + 1) pasts (map older_in (set now n r))
+  cut_next n pasts now q r h at same cuts =
+      subst (λ k. AreCut es floor k pasts (map older_in (set now n r))) (sym (add-one n))
+      (subst (AreCut es floor (suc n) pasts) (sym (olders-set now n r r.key r.older.items refl refl))
+      (cut_more es floor n pasts (map older_in now) (q.key, q.older.items) (r.key, r.older.items) h (older_at now n q q.key at refl) (same, cuts)))
 
-  -- the chains are trimmed but for those whose places are left
-  pub record AreCut (book now : VersionedBook V) (sets : List (Setting V)) (floor : ℕ) (left : List ℕ) : Type 0 where
-    pub same : keys now.chains ≡ keys book.chains
-    pub each : (key : ℕ) (c : Chain V) → get nat_eq now.chains key ≡ Some c → IsCutOr book sets floor left key c
-    pub absent : (key : ℕ) → get nat_eq now.chains key ≡ None → own key sets ≡ []
-    pub count : now.kept ≡ kept_of now
-    pub bound : now.kept ≤ book.kept
-    pub firsts : now.firsts.items ≡ book.firsts.items
-    pub several : now.several.items ≡ book.several.items
-    pub last : now.last ≡ book.last
+module _ {V : Type 0} (es : List (ℕ × Chain V)) where
+  -- what is known of the past at a place, and of the entry of its key
+  pub record IsCutting (now : List (Past V)) (n : ℕ) (q : Past V) : Type 0 where
+    pub at : slice_get now n ≡ Some q
+    pub chain : Chain V
+    pub entry : slice_get es q.index ≡ Some (q.key, chain)
+    pub few : length q.older.items ≤ older_total (map older_in now)
 
-  -- at first, where all places of several versions are left
-  pub none_cut : (book : VersionedBook V) (sets : List (Setting V)) (floor : ℕ) → book.floor ≤ floor → IsBookOf book sets → AreCut book book sets floor book.several.items
-  none_cut book sets floor later h = record {
-    same = refl;
-    each = each_at_first;
-    absent = h.absent;
-    count = h.count;
-    bound = omega arith;
-    firsts = refl;
-    several = refl;
-    last = refl;
-  }
+  pub cutting : (before now : List (Past V)) (n : ℕ) (q : Past V) → AreWhereTold es (map place_of before) → map place_of now ≡ map place_of before
+      → n < length before → q ≡ get_or now n q → IsCutting now n q
+  cutting before now n q tells same within read =
+      let many : n < length now = omega (arith, within, ap length same, length-map now place_of, length-map before place_of) in
+      let at : slice_get now n ≡ Some q = slice_get_read now (length now) n q refl many read in
+      let place : slice_get (map place_of before) n ≡ Some (place_of q) = ap (λ l. slice_get {X = ℕ × ℕ} l n) (sym same) ∙ place_at now n q at in
+      let entry = told_of (slice_get es q.index) q.key n (tells n q.key q.index place) in
+      record { at = at; chain = entry.0; entry = entry.1; few = within_total now n q at }
     where
-      each_at_first : (key : ℕ) (c : Chain V) → get nat_eq book.chains key ≡ Some c → IsCutOr book sets floor book.several.items key c
-      each_at_first key c e = by (place_of book.chains.entries key c e)
-        where
-          by : (p : (j : ℕ) × (slice_get (keys book.chains) j ≡ Some key)) → IsCutOr book sets floor book.several.items key c
-          by p = listed (list_any (nat_eq p.0) book.several.items) refl
-            where
-              said : list_any (nat_eq p.0) book.several.items ≡ nat_lt 1 (length (versions_from book.floor (own key sets)))
-              said = h.several p.0 key (sym (ap (λ l. slice_get l p.0) h.order) ∙ p.1)
+      place_at : (ps : List (Past V)) (n : ℕ) (q : Past V) → slice_get ps n ≡ Some q → slice_get {X = ℕ × ℕ} (map place_of ps) n ≡ Some (q.key, q.index)
+      place_at [] n q h = cc
+      place_at (p ∷ ps) zero q h = ap (λ x. Some (place_of x)) (some_same p q h)
+      place_at (p ∷ ps) (suc n) q h = place_at ps n q h
 
-              listed : (b : Bool) → list_any (nat_eq p.0) book.several.items ≡ b → IsCutOr book sets floor book.several.items key c
-              listed true is = inr (p.0, p.1, is, h.kept key c e)
-              listed false isnt = inl (h.kept key c e ∙ trim_single floor book.floor (own key sets) later (sym said ∙ isnt))
+      within_total : (ps : List (Past V)) (n : ℕ) (q : Past V) → slice_get ps n ≡ Some q → length q.older.items ≤ older_total (map older_in ps)
+      within_total [] n q h = cc
+      within_total (p ∷ ps) zero q h = omega (arith, ap (λ x. length x.older.items) (some_same p q h))
+      within_total (p ∷ ps) (suc n) q h = omega (arith, within_total ps n q h)
 
-  module _ (book now next : VersionedBook V) (sets : List (Setting V)) (floor i key dropped : ℕ) (left : List ℕ) (chain cut : Chain V)
-      (later : book.floor ≤ floor) (place : slice_get (keys now.chains) i ≡ Some key)
-      (found : get nat_eq now.chains key ≡ Some chain) (updates : Updates nat_eq now.chains next.chains key (Some cut)) (same : keys next.chains ≡ keys now.chains)
-      (trims : versions cut ≡ versions_from floor (versions chain)) (drops : many chain ≡ many cut + dropped)
-      (sum : kept_of next + many chain ≡ kept_of now + many cut)
-      (firsts : next.firsts.items ≡ now.firsts.items) (several : next.several.items ≡ now.several.items) (last : next.last ≡ now.last) (kept : next.kept + dropped ≡ now.kept)
-      (h : AreCut book now sets floor (i ∷ left)) where
-    this_cut : versions cut ≡ versions_from floor (own key sets)
-    this_cut = by (h.each key chain found)
-      where
-        by : IsCutOr book sets floor (i ∷ left) key chain → versions cut ≡ versions_from floor (own key sets)
-        by (inl e) = trims ∙ ap (versions_from floor) e ∙ trim_again floor floor (own key sets) (omega arith)
-        by (inr r) = trims ∙ ap (versions_from floor) r.3 ∙ trim_again floor book.floor (own key sets) later
-
-    each_more : (k : ℕ) (c : Chain V) → get nat_eq next.chains k ≡ Some c → IsCutOr book sets floor left k c
-    each_more k c e = by (nat_eq key k) refl
-      where
-        other : nat_eq key k ≡ false → IsCutOr book sets floor (i ∷ left) k c → IsCutOr book sets floor left k c
-        other isnt (inl a) = inl a
-        other isnt (inr r) = beyond (nat_eq r.0 i) refl r.2
-          where
-            beyond : (b : Bool) → nat_eq r.0 i ≡ b → (b || list_any (nat_eq r.0) left) ≡ true → IsCutOr book sets floor left k c
-            beyond false past among = inr (r.0, r.1, among, r.3)
-            beyond true here among =
-                let at : r.0 ≡ i = eqb-true r.0 i here in
-                let is : key ≡ k = some_same key k (sym place ∙ ap (λ l. slice_get l i) h.same ∙ sym (ap (slice_get (keys book.chains)) at) ∙ r.1) in
-                let yes : nat_eq key k ≡ true = eq-eqb key k is in cc
-
-        by : (b : Bool) → nat_eq key k ≡ b → IsCutOr book sets floor left k c
-        by true is =
-            let this : key ≡ k = eqb-true key k is in
-            let got : cut ≡ c = some_same cut c (sym updates.1 ∙ ap (get nat_eq next.chains) this ∙ e) in
-            inl (ap versions (sym got) ∙ this_cut ∙ ap (λ x. versions_from floor (own x sets)) this)
-        by false isnt = other isnt (h.each k c (sym (updates.2 k isnt) ∙ e))
-
-    absent_next : (k : ℕ) → get nat_eq next.chains k ≡ None → own k sets ≡ []
-    absent_next k e = by (nat_eq key k) refl
-      where
-        by : (b : Bool) → nat_eq key k ≡ b → own k sets ≡ []
-        by true is = let none : Some cut ≡ None = sym updates.1 ∙ ap (get nat_eq next.chains) (eqb-true key k is) ∙ e in cc
-        by false isnt = h.absent k (sym (updates.2 k isnt) ∙ e)
-
-    pub cut_more : AreCut book next sets floor left
-    cut_more = record {
-      same = same ∙ h.same;
-      each = each_more;
-      absent = absent_next;
-      count = omega (arith, kept, h.count, sum, drops);
-      bound = omega (arith, kept, h.bound);
-      firsts = firsts ∙ h.firsts;
-      several = several ∙ h.several;
-      last = last ∙ h.last;
-    }
-
-  module _ (book now next : VersionedBook V) (sets : List (Setting V)) (floor : ℕ) (from : book.floor ≤ floor) (later : floor ≤ book.last)
-      (chains : next.chains ≡ now.chains) (firsts : next.firsts.items ≡ now.firsts.items) (to : next.floor ≡ floor) (last : next.last ≡ now.last) (kept : next.kept ≡ now.kept)
-      (several : next.several.items ≡ filter (λ i. has_several (slice_get now.chains.entries i)) now.several.items)
-      (h : IsBookOf book sets) (done : AreCut book now sets floor []) where
-    kept_cut : (key : ℕ) (c : Chain V) → get nat_eq next.chains key ≡ Some c → versions c ≡ versions_from next.floor (own key sets)
-    kept_cut key c e = by (done.each key c (sym (ap (λ m. get nat_eq m key) chains) ∙ e)) ∙ ap (λ f. versions_from f (own key sets)) (sym to)
-      where
-        by : IsCutOr book sets floor [] key c → versions c ≡ versions_from floor (own key sets)
-        by (inl a) = a
-        by (inr r) = let none : false ≡ true = r.2 in cc
-
-    order : keys next.chains ≡ keys_of sets
-    order = ap keys chains ∙ done.same ∙ h.order
-
-    several_cut : (i key : ℕ) → slice_get (keys_of sets) i ≡ Some key → list_any (nat_eq i) next.several.items ≡ nat_lt 1 (length (versions_from next.floor (own key sets)))
-    several_cut i key at =
-        ap (list_any (nat_eq i)) (several ∙ ap (filter (λ i. has_several (slice_get now.chains.entries i))) done.several)
-        ∙ any-filter i (λ i. has_several (slice_get now.chains.entries i)) book.several.items
-        ∙ by (nat_lt 1 (length (versions_from book.floor (own key sets)))) (h.several i key at) refl
-        ∙ ap (λ f. nat_lt 1 (length (versions_from f (own key sets)))) (sym to)
-      where
-        there : (c : Chain V) × (slice_get now.chains.entries i ≡ Some (key, c))
-        there = entry_at now.chains.entries i key (ap (λ l. slice_get l i) (done.same ∙ h.order) ∙ at)
-
-        apart : AreApart (keys next.chains)
-        apart = subst AreApart (sym (ap keys chains ∙ done.same)) (book_apart book sets h)
-
-        found : get nat_eq next.chains key ≡ Some there.0
-        found = lookup_at next.chains.entries i key there.0 apart (ap (λ m. slice_get m.entries i) chains ∙ there.1)
-
-        test : has_several (slice_get now.chains.entries i) ≡ nat_lt 1 (length (versions_from floor (own key sets)))
-        test = ap has_several there.1 ∙ ap (λ l. nat_lt 1 (length l)) (kept_cut key there.0 found) ∙ ap (λ f. nat_lt 1 (length (versions_from f (own key sets)))) to
-
-        by : (b : Bool) → list_any (nat_eq i) book.several.items ≡ b → nat_lt 1 (length (versions_from book.floor (own key sets))) ≡ b
-            → (list_any (nat_eq i) book.several.items && has_several (slice_get now.chains.entries i)) ≡ nat_lt 1 (length (versions_from floor (own key sets)))
-        by true is many_then = ap (λ b. b && has_several (slice_get now.chains.entries i)) is ∙ test
-        by false isnt few =
-            ap (λ b. b && has_several (slice_get now.chains.entries i)) isnt
-            ∙ sym (ap (λ l. nat_lt 1 (length l)) (sym (trim_single floor book.floor (own key sets) from few)) ∙ few)
-
-    listed_cut : (i : ℕ) → list_any (nat_eq i) next.several.items ≡ true → i < length (keys_of sets)
-    listed_cut i e =
-        h.listed i (any-kept i (λ i. has_several (slice_get now.chains.entries i)) book.several.items
-        (sym (ap (list_any (nat_eq i)) (several ∙ ap (filter (λ i. has_several (slice_get now.chains.entries i))) done.several)) ∙ e))
-
-    pub all_cut : IsBookOf next sets
-    all_cut =
-        let last_same : next.last ≡ book.last = last ∙ done.last in
-        let firsts_same : next.firsts.items ≡ book.firsts.items = firsts ∙ done.firsts in
-        record {
-          order = order;
-          kept = kept_cut;
-          absent = λ key e. done.absent key (sym (ap (λ m. get nat_eq m key) chains) ∙ e);
-          rising = subst (λ l. IsRisingTo 0 (positions sets) l) (sym last_same) h.rising;
-          floor = omega (arith, to, last_same, later);
-          firsts = subst (λ l. IsRisingTo 0 l next.last) (sym firsts_same) (subst (λ l. IsRisingTo 0 book.firsts.items l) (sym last_same) h.firsts);
-          begun = λ i k first at is. h.begun i k first (sym (ap (λ l. slice_get l i) firsts_same) ∙ at) is;
-          counts = λ p. h.counts p ∙ sym (ap (λ l. length (filter (λ first. nat_le first p) l)) firsts_same);
-          count = kept ∙ done.count ∙ sym (ap (λ m. many_in m.entries) chains);
-          bound = omega (arith, kept, done.bound, h.bound, last_same);
-          several = several_cut;
-          listed = listed_cut;
-        }
+pub total-cut : {V : Type 0} (now : List (Past V)) (n : ℕ) (q r : Past V) → slice_get now n ≡ Some q
+    → older_total (map older_in (set now n r)) + length q.older.items ≡ older_total (map older_in now) + length r.older.items
+total-cut [] n q r at = cc
+total-cut (p ∷ now) zero q r at = omega (arith, ap (λ x. length x.older.items) (some_same p q at))
+total-cut (p ∷ now) (suc n) q r at = omega (arith, total-cut now n q r at)

@@ -3,7 +3,6 @@ use Rattle.std.proofs.Common.{◌≡◌, ℕ, zero, suc, ◌+◌, ◌*◌, ◌^�
 use Rattle.std.proofs.lemmas.Bool.{leb-true, leb-false, le-leb, lt-leb}
 use Rattle.std.proofs.lemmas.List.{take_more}
 use Rattle.std.proofs.lemmas.Option.{slice_get_within, get_or_from_slice_get}
-use Rattle.std.proofs.Math.Seq.{take-append_seam}
 use Rattle.std.proofs.Math.Nat.{mul-le-mul_left}
 use Rattle.versioned_book.specs.Versions.{IsRising, newest_of, or_else, versions_from, trimmed_from, value_at}
 
@@ -207,13 +206,3 @@ module _ {V : Type 0} where
 
   pub trim_stop_at : (floor i : ℕ) (vs : List (ℕ × V)) (e : ℕ × V) → slice_get vs (i + 1) ≡ Some e → floor < e.0 → versions_from floor (drop i vs) ≡ drop i vs
   trim_stop_at floor i vs e at h = trim_stop floor i vs e (ap (slice_get vs) (sym (add-one i)) ∙ at) h
-
-  -- a position before the newest needs the older ones alone
-  pub value_at-older : (p n : ℕ) (vs : List (ℕ × V)) (v : ℕ × V) → n ≡ length vs → p < v.0 → value_at p (take n (vs ++ v ∷ [])) ≡ value_at p (vs ++ v ∷ [])
-  value_at-older p n vs v e past =
-      ap (λ k. value_at p (take k (vs ++ v ∷ []))) e ∙ ap (value_at p) (take-append_seam vs (v ∷ [])) ∙ sym (value_at-past p vs v.0 v.1 past)
-
-  -- rising positions are at least as high as their number
-  pub few_rising : (low : ℕ) (vs : List (ℕ × V)) (v : ℕ × V) → IsRising low (vs ++ v ∷ []) → low + length vs < v.0
-  few_rising low [] v h = omega (arith, h.0)
-  few_rising low (x ∷ vs) v h = omega (arith, h.0, few_rising x.0 vs v h.1)

@@ -1,46 +1,33 @@
 -- A book and the settings that it stands for.
-use Rattle.std.specs.Prelude.{◌≡◌, ℕ, ◌+◌, ◌<◌, ◌≤◌, Bool, true, not, List, [], ◌∷◌, length, filter, nat_eq, nat_le, nat_lt, slice_get, Option, None, Some, vec_len, vec_capacity}
+use Rattle.std.specs.Prelude.{◌≡◌, ℕ, ◌+◌, ◌<◌, ◌≤◌, List, [], ◌∷◌, ◌++◌, length, filter, nat_eq, nat_le, slice_get, Option, None, Some, vec_len, vec_capacity}
 use Rattle.std.specs.Coded.{×_prop}
-use Rattle.std.specs.List.{list_any}
 use Rattle.std.proofs.Props.{props}
 use Rattle.indexmap.specs.IndexMap.{get, index_of, keys, spare}
-use Rattle.versioned_book.specs.Versions.{IsRisingTo, first_position, versions_from, versions}
+use Rattle.versioned_book.specs.Versions.{IsRisingTo, first_position, versions_from}
+use Rattle.versioned_book.specs.Pasts.{AreWhereTold, HasPastRoom, newest, older_of, olders_in, places_in, older_total}
 use Rattle.versioned_book.specs.Settings.{Setting, keys_of, own, positions, until}
 use Rattle.versioned_book.specs.declared.chain.Chain.{Chain}
 use Rattle.versioned_book.specs.declared.place.KeyPlace.{KeyPlace}
 use Rattle.versioned_book.specs.declared.book.VersionedBook.{VersionedBook}
 
 module _ {V : Type 0} where
-  -- how many versions a chain has
-  abbrev pub many : Chain V → ℕ
-  many chain = length (versions chain)
-
-  -- how many versions these entries have
-  abbrev pub many_in : List (ℕ × Chain V) → ℕ
-  many_in [] = 0
-  many_in (e ∷ es) = many e.1 + many_in es
-
-  -- how many versions a book keeps
+  -- how many versions a book keeps: the newest of each key, and the older ones
   abbrev pub kept_of : VersionedBook V → ℕ
-  kept_of book = many_in book.chains.entries
+  kept_of book = length book.chains.entries + older_total (olders_in book.pasts)
 
   -- what is kept of a key, of which there may be nothing
-  abbrev pub kept_versions : Option (Chain V) → List (ℕ × V)
-  kept_versions None = []
-  kept_versions (Some chain) = versions chain
+  abbrev pub kept_versions : List (ℕ × V) → Option (Chain V) → List (ℕ × V)
+  kept_versions older None = []
+  kept_versions older (Some chain) = older ++ newest chain ∷ []
 
   abbrev pub versions_in : VersionedBook V → ℕ → List (ℕ × V)
-  versions_in book key = kept_versions (get nat_eq book.chains key)
-
-  -- an entry has several versions
-  abbrev pub has_several : Option (ℕ × Chain V) → Bool
-  has_several None = not true
-  has_several (Some e) = nat_lt 1 (many e.1)
+  versions_in book key = kept_versions (older_of key (olders_in book.pasts)) (get nat_eq book.chains key)
 
   -- the book stands for these settings, of which it keeps what its floor and the positions above it need
   pub record IsBookOf (book : VersionedBook V) (sets : List (Setting V)) : Type 0 where
     pub order : keys book.chains ≡ keys_of sets
-    pub kept : (key : ℕ) (chain : Chain V) → get nat_eq book.chains key ≡ Some chain → versions chain ≡ versions_from book.floor (own key sets)
+    pub kept : (key : ℕ) (chain : Chain V) → get nat_eq book.chains key ≡ Some chain
+        → older_of key (olders_in book.pasts) ++ newest chain ∷ [] ≡ versions_from book.floor (own key sets)
     pub absent : (key : ℕ) → get nat_eq book.chains key ≡ None → own key sets ≡ []
     pub rising : IsRisingTo 0 (positions sets) book.last
     pub floor : book.floor ≤ book.last
@@ -49,8 +36,8 @@ module _ {V : Type 0} where
     pub counts : (p : ℕ) → length (keys_of (until p sets)) ≡ length (filter (λ first. nat_le first p) book.firsts.items)
     pub count : book.kept ≡ kept_of book
     pub bound : book.kept ≤ book.last
-    pub several : (i key : ℕ) → slice_get (keys_of sets) i ≡ Some key → list_any (nat_eq i) book.several.items ≡ nat_lt 1 (length (versions_from book.floor (own key sets)))
-    pub listed : (i : ℕ) → list_any (nat_eq i) book.several.items ≡ true → i < length (keys_of sets)
+    pub told : AreWhereTold book.chains.entries (places_in book.pasts)
+    pub few : length (places_in book.pasts) ≤ book.last
 
   -- the book stands for some settings, as each book does that the calls have made
   abbrev pub IsSomeBook : VersionedBook V → Type 0
@@ -63,7 +50,7 @@ module _ {V : Type 0} where
   -- one more setting of this key needs no memory
   pub record CanSet (book : VersionedBook V) (key : ℕ) : Type 0 where
     pub fresh : get nat_eq book.chains key ≡ None → (0 < spare book.chains) × (vec_len book.firsts < vec_capacity book.firsts)
-    pub more : (chain : Chain V) → get nat_eq book.chains key ≡ Some chain → (vec_len chain.older < vec_capacity chain.older) × (vec_len book.several < vec_capacity book.several)
+    pub more : (chain : Chain V) → get nat_eq book.chains key ≡ Some chain → HasPastRoom book.pasts key chain.past
 
 IsRisingTo-prop : (low : ℕ) (qs : List ℕ) (last : ℕ) → IsProp (IsRisingTo low qs last)
 IsRisingTo-prop low [] last = Prim.hlevel props

@@ -1,4 +1,5 @@
 pub mod Versions
 pub mod Settings
+pub mod Pasts
 pub mod Books
 pub mod inside

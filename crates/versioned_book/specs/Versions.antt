@@ -1,6 +1,5 @@
 -- A key's versions: the values that it took, each with its position, in the order of setting.
-use Rattle.std.specs.Prelude.{◌≡◌, ℕ, ◌+◌, ◌*◌, ◌^◌, ◌<◌, ◌≤◌, List, [], ◌∷◌, ◌++◌, Option, None, Some, if◌then◌else◌, nat_le}
-use Rattle.versioned_book.specs.declared.chain.Chain.{Chain}
+use Rattle.std.specs.Prelude.{◌≡◌, ℕ, ◌+◌, ◌*◌, ◌^◌, ◌<◌, ◌≤◌, List, [], ◌∷◌, Option, None, Some, if◌then◌else◌, nat_le}
 
 -- the positions rise, and stand above the first number and not above the last
 abbrev pub IsRisingTo : ℕ → List ℕ → ℕ → Type 0
@@ -42,10 +41,6 @@ module _ {V : Type 0} where
   abbrev pub versions_from : ℕ → List (ℕ × V) → List (ℕ × V)
   versions_from floor [] = []
   versions_from floor (v ∷ vs) = trimmed_from floor v vs
-
--- all versions of a chain, the oldest first
-abbrev pub versions : {V : Type 0} → Chain V → List (ℕ × V)
-versions chain = chain.older.items ++ (chain.position, chain.value) ∷ []
 
 -- a count of steps went on by so few that two to their number is at most twice n and one more
 abbrev pub AreFewSteps : ℕ → ℕ → ℕ → Type 0

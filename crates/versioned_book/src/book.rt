@@ -1,13 +1,13 @@
 // The book: a chain of versions for each key, in the order in which the keys were first set.
 ghost use Rattle.std.specs.Prelude.{◌≡◌, ℕ, ◌+◌, ◌<◌, ◌≤◌, [], ◌∷◌, ◌++◌, List, filter, length, min, nat_eq, nat_le, slice_get, Some, IfOk, OnOk, vec_len};
 ghost use Rattle.indexmap.specs.IndexMap.{keys, index_map_len};
-ghost use Rattle.versioned_book.specs.Books.{CanSet, IsBookOf, IsPlaceIn, IsSomeBook, has_several, kept_of};
+ghost use Rattle.versioned_book.specs.Books.{CanSet, IsBookOf, IsPlaceIn, IsSomeBook, kept_of};
 ghost use Rattle.versioned_book.specs.Settings.{Setting, settings_after, keys_of, own, until};
 ghost use Rattle.versioned_book.specs.Versions.{AreFewSteps, IsRisingTo, newest_of, versions_from, value_at};
 
 use crate::Chain;
-use crate::halving::at;
 use crate::hashing::KeyHashing;
+use crate::past::Pasts;
 use crate::place::KeyPlace;
 use indexmap::IndexMap;
 use outside_io::Steps;
@@ -20,8 +20,7 @@ pub struct VersionedBook<V: Copy> {
     chains: IndexMap<u32, Chain<V>, KeyHashing>,
     // The position at which each key was first set.
     firsts: Vec<u32>,
-    // The places of the keys that have several versions.
-    several: Vec<u32>,
+    pasts: Pasts<V>,
     floor: u32,
     last: u32,
     kept: u32,
@@ -37,7 +36,7 @@ impl<V: Copy> VersionedBook<V> {
         VersionedBook {
             chains: IndexMap::with_hasher(alloc, KeyHashing),
             firsts: Vec::new(alloc),
-            several: Vec::new(alloc),
+            pasts: Pasts::new(alloc),
             floor: 0,
             last: 0,
             kept: 0,
@@ -75,9 +74,8 @@ impl<V: Copy> VersionedBook<V> {
     {
         match place.index {
             Some(index) => {
-                self.several.reserve(1)?;
-                let (_key, chain) = self.chains.pair_mut(index);
-                chain.reserve()
+                let (_key, chain) = self.chains.get_index(index).unwrap();
+                self.pasts.reserve(place.key, chain.past)
             }
             None => {
                 self.firsts.reserve(1)?;
@@ -121,13 +119,22 @@ impl<V: Copy> VersionedBook<V> {
         match place.index {
             Some(index) => {
                 let (_key, chain) = self.chains.pair_mut(index);
-                chain.push(position, value);
-                if chain.len() == 2 {
-                    self.several.push_reserved(index as u32);
-                }
+                let version = (chain.position, chain.value);
+                let past = self
+                    .pasts
+                    .push(self.alloc, place.key, index as u32, chain.past, version);
+                *chain = Chain {
+                    past,
+                    position,
+                    value,
+                };
             }
             None => {
-                let chain = Chain::of(self.alloc, position, value);
+                let chain = Chain {
+                    past: 0,
+                    position,
+                    value,
+                };
                 self.chains.insert(place.key, chain).unwrap();
                 self.firsts.push_reserved(position);
             }
@@ -158,7 +165,7 @@ impl<V: Copy> VersionedBook<V> {
         match place.index {
             Some(index) => {
                 let (_key, chain) = self.chains.get_index(index).unwrap();
-                Some(chain.newest().1)
+                Some(chain.value)
             }
             None => None,
         }
@@ -180,8 +187,11 @@ impl<V: Copy> VersionedBook<V> {
         ensures value { (sets : List (Setting V)) (key : ℕ) → IsBookOf self.now sets → slice_get (keys_of sets) index ≡ Some key → value_at p (own key sets) ≡ Some result }
         ensures looks { (sets : List (Setting V)) (key : ℕ) → IsBookOf self.now sets → slice_get (keys_of sets) index ≡ Some key → AreFewSteps steps.old steps.new (length (versions_from self.now.floor (own key sets))) }
     {
-        let (_key, chain) = self.chains.get_index(index as usize).unwrap();
-        at(chain, p, steps).unwrap()
+        let (key, chain) = self.chains.get_index(index as usize).unwrap();
+        if chain.position <= p {
+            return chain.value;
+        }
+        self.pasts.value_at(*key, chain.past, p, steps).unwrap()
     }
 
     /// The position from which on each value is kept.
@@ -210,31 +220,14 @@ impl<V: Copy> VersionedBook<V> {
         if new_floor == self.floor {
             return;
         }
-        for place in 0..self.several.len() {
-            let index = self.several[place] as usize;
-            let (_key, chain) = self.chains.pair_mut(index);
-            let dropped = chain.cut(new_floor);
-            self.kept -= dropped as u32;
-        }
+        self.kept -= self.pasts.cut(&self.chains, new_floor);
         self.floor = new_floor;
-        keep_several(&self.chains, &mut self.several);
-    }
-}
-
-// Keeps those of the places whose entries have several versions.
-fn keep_several<V: Copy>(chains: &IndexMap<u32, Chain<V>, KeyHashing>, several: &mut Vec<u32>)
-    ensures { several.new.items ≡ filter (λ i. has_several (slice_get chains.now.entries i)) several.old.items }
-{
-    several.retain(|index| has_more(chains, *index));
-}
-
-// Whether the entry at a place has several versions.
-fn has_more<V: Copy>(chains: &IndexMap<u32, Chain<V>, KeyHashing>, index: u32) -> bool
-    ensures { result ≡ has_several (slice_get chains.now.entries index) }
-{
-    match chains.get_index(index as usize) {
-        Some((_key, chain)) => chain.len() > 1,
-        None => false,
+        if self.kept as usize != self.chains.len() {
+            return;
+        }
+        // No older version is left, so what entries tell of pasts holds no more. Until then a past that was emptied keeps
+        // its place for its key's next version: 32 bytes, and a look of each trim.
+        self.pasts.clear();
     }
 }
 

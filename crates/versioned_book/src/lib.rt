@@ -5,9 +5,11 @@ mod book;
 mod chain;
 mod halving;
 mod hashing;
+mod past;
 mod place;
 
 pub use book::VersionedBook;
 pub use chain::Chain;
 pub use hashing::{KeyHasher, KeyHashing};
+pub use past::{Past, Pasts};
 pub use place::KeyPlace;

@@ -31,6 +31,13 @@ any_fault_only bytes at answer e (inr h) =
     let same : h.1.0 ≡ at = one_longest bytes h.1.0 at h.1.1 (longest_nested bytes at (sym e)) in
     h.1.2 ∙ ap (λ (n : ℕ). Err (Bad n NotDocument)) same
 
+pub any_fault_told : (bytes : List ℕ) (at : ℕ) (fault : TableFault) → Some at ≡ fault_at bytes → fault ≡ Bad at NotDocument → Unless fault (IsAnyAnswer bytes (Err fault))
+any_fault_told bytes at fault e is = subst (λ (f : TableFault). Unless f (IsAnyAnswer bytes (Err f))) (sym is) (any_fault_due bytes at e)
+
+pub any_gives_fault : (bytes : List ℕ) (at : ℕ) (fault : TableFault) (answer : Result AnyTable TableFault) → Some at ≡ fault_at bytes → fault ≡ Bad at NotDocument → IsAnyAnswer bytes answer
+    → GivesAny (Err fault) answer
+any_gives_fault bytes at fault answer e is due = subst (λ (f : TableFault). GivesAny (Err f) answer) (sym is) (any_fault_only bytes at answer e due)
+
 -- ---- a document
 
 same_any_parts : (bytes : List ℕ) (f : Found) (others : List Found) (root : Node) → elements_at 0 None bytes ≡ f ∷ others → IsDocument bytes root

@@ -43,6 +43,13 @@ fault_only bytes at answer e (inr h) =
     let same : h.1.0 ≡ at = one_longest bytes h.1.0 at h.1.1 (longest_nested bytes at (sym e)) in
     h.1.2 ∙ ap (λ (n : ℕ). Err (Bad n NotDocument)) same
 
+pub fault_told : (bytes : List ℕ) (at : ℕ) (fault : TableFault) → Some at ≡ fault_at bytes → fault ≡ Bad at NotDocument → Unless fault (IsTableAnswer bytes (Err fault))
+fault_told bytes at fault e is = subst (λ (f : TableFault). Unless f (IsTableAnswer bytes (Err f))) (sym is) (fault_due bytes at e)
+
+pub gives_fault : (bytes : List ℕ) (at : ℕ) (fault : TableFault) (answer : Result Rates TableFault) → Some at ≡ fault_at bytes → fault ≡ Bad at NotDocument → IsTableAnswer bytes answer
+    → Gives (Err fault) answer
+gives_fault bytes at fault answer e is due = subst (λ (f : TableFault). Gives (Err f) answer) (sym is) (fault_only bytes at answer e due)
+
 -- ---- a document
 
 pub heads_are : (f g : Found) (fs gs : List Found) → f ∷ fs ≡ g ∷ gs → f ≡ g

@@ -1,13 +1,21 @@
-ghost use Rattle.std.specs.Prelude.{◌≡◌, ℕ, ◌≤◌, ◌⊎◌, length, IfOk, IfErr, Ok, Err, Result};
+ghost use Rattle.std.specs.Prelude.{◌≡◌, ℕ, ◌≤◌, ◌⊎◌, ◌∷◌, length, IfOk, OnOk, IfErr, Ok, Err, Result, Some, None};
 ghost use Rattle.rate_table.specs.Rates.{Rates};
 ghost use Rattle.select_rates.specs.declared.any.AnyTable.{AnyTable};
 ghost use Rattle.xtbml_subset.specs.declared.fault.TableFault.{TableFault};
 ghost use Rattle.xtbml_subset.specs.Answers.{SpellsTable, IsTableAnswer, Gives, Unless};
 ghost use Rattle.xtbml_subset.specs.AnyChecks.{SpellsAny, IsAnyAnswer, GivesAny, SaysSelect, aggregated};
+ghost use Rattle.xtbml_subset.specs.declared.fault.TableFault.TheVariants.{Bad};
+ghost use Rattle.xtbml_subset.specs.declared.fault.TableKind.TheVariants.{NotDocument};
+ghost use Rattle.xtbml_subset.specs.inside.Elements.{depth_in, elements_at};
+ghost use Rattle.xtbml_subset.specs.inside.Searches.{IsFound};
+ghost use Rattle.xtbml_subset.specs.inside.Views.{found_of, path_of};
+ghost use Rattle.xtbml_subset.specs.inside.Walk.{fault_at};
 
 use crate::any::any_of;
 use crate::fault::{TableFault, TableKind};
+use crate::found::Element;
 use crate::nesting::survey;
+use crate::path::ElementPath;
 use crate::search::Search;
 use crate::table::table_of;
 use rate_table::RateTable;
@@ -29,18 +37,7 @@ pub fn read_table(alloc: Global, bytes: &[u8]) -> Result<RateTable, TableFault>
     // Whatever answer is due is given, unless memory runs out.
     ensures due { (answer : Result Rates TableFault) → IsTableAnswer bytes.now answer → Gives result answer }
 {
-    let path = match survey(bytes) {
-        Ok(path) => path,
-        Err(at) => {
-            return Err(TableFault::Bad {
-                at: at as u32,
-                kind: TableKind::NotDocument,
-            });
-        }
-    };
-    let Search::Hit(root) = path.root else {
-        unreachable!()
-    };
+    let (root, path) = document_of(bytes)?;
     table_of(alloc, &root, &path, bytes.len() as u32)
 }
 
@@ -62,6 +59,19 @@ pub fn read_any(alloc: Global, bytes: &[u8]) -> Result<AnyTable, TableFault>
     ensures aggregate { (answer : Result Rates TableFault) → IsTableAnswer bytes.now answer
         → SaysSelect answer ⊎ GivesAny result (aggregated answer) }
 {
+    let (root, path) = document_of(bytes)?;
+    any_of(alloc, &root, &path, bytes.len() as u32)
+}
+
+// The root of the document that a file is, and the elements on the way to its table.
+fn document_of(bytes: &[u8]) -> Result<(Element<'_>, ElementPath<'_>), TableFault>
+    requires { length bytes.now ≤ 4194304 }
+    ensures document { OnOk result (None ≡ fault_at bytes.now) }
+    ensures root { IfOk result (λ found. let root = found_of found.0 in
+        elements_at 0 None bytes.now ≡ root ∷ elements_at (depth_in root.is_open) None root.rest) }
+    ensures path { IfOk result (λ found. IsFound (found_of found.0) (path_of found.1)) }
+    ensures fault { IfErr result (λ fault. (at : ℕ) × (Some at ≡ fault_at bytes.now) × (fault ≡ Bad at NotDocument)) }
+{
     let path = match survey(bytes) {
         Ok(path) => path,
         Err(at) => {
@@ -74,5 +84,5 @@ pub fn read_any(alloc: Global, bytes: &[u8]) -> Result<AnyTable, TableFault>
     let Search::Hit(root) = path.root else {
         unreachable!()
     };
-    any_of(alloc, &root, &path, bytes.len() as u32)
+    Ok((root, path))
 }

@@ -1,5 +1,5 @@
 -- The portions of a list of policies, and what the workers of a projection make of them
-use Rattle.std.specs.Prelude.{◌≡◌, ℕ, ◌≤◌, List, [], ◌∷◌, ◌++◌, length, ℤ}
+use Rattle.std.specs.Prelude.{ℕ, ◌≤◌, List, [], ◌∷◌, ◌++◌, length, ℤ}
 use Rattle.std.specs.List.{AllByRecursion, AllZip}
 use Rattle.policy_types.specs.Limits.{most_commands}
 use Rattle.policy_types.specs.declared.policy.Policy.{Policy}
@@ -28,10 +28,10 @@ abbrev pub GivesTally : Projector → Portion → Tally → Type 0
 GivesTally projector portion tally =
     IsTallyOf projector.basis.now projector.on projector.years portion.policies.now tally
 
--- the worker is right for this basis, day and number of years
+-- the worker takes portions, and is right for this basis, day and number of years
 pub record IsProjectorFor (basis : List Dated) (on : ℤ) (years : ℕ) (projector : Projector) : Type 0 where
-  pub right : ArePaths projector.basis.now projector.paths
-  pub many : projector.years ≡ years
+  pub takes : (portion : Portion) → AllByRecursion IsOfIssue portion.policies.now → length portion.policies.now ≤ most_commands
+      → TakesPortion projector portion
   pub by : (portion : Portion) (tally : Tally) → GivesTally projector portion tally
       → IsTallyOf basis on years portion.policies.now tally
 

@@ -1,5 +1,5 @@
 -- The worked run over both disks holds what its cases say.
-use Rattle.std.proofs.Common.{◌≡◌, ◌⊎◌, ℕ, ◌≤◌, true, List, [], ◌∷◌, ◌++◌, length, take, drop, get_or, refl, sym, ◌∙◌, ap, subst, inl, inr, lit≤, lit<, arith, codes, None, Some, String, Global, append-nil}
+use Rattle.std.proofs.Common.{◌≡◌, ◌⊎◌, ℕ, ◌≤◌, true, List, [], ◌∷◌, ◌++◌, length, take, drop, get_or, refl, sym, ◌∙◌, ap, subst, inl, inr, lit≤, lit<, arith, codes, None, Some, append-nil}
 use Rattle.std.specs.Fmt.{digits}
 use Rattle.std.proofs.lemmas.Bool.{cases_eq}
 use Rattle.std.proofs.lemmas.List.{take_at}
@@ -20,8 +20,7 @@ use Rattle.stating_modes.specs.Stated.{EndsStateKept, snapshot_text}
 use Rattle.stating_modes.specs.Saved.{EndsCheckpoint, IsNoneOrEarlierOrHeld}
 use Rattle.stating_modes.specs.TwoDisks.{AreTrue, IsHeldWhereTrue, IsMadeSafe, TellsTruth}
 use Rattle.life_args.specs.declared.mode.Mode.TheVariants.{Checkpoint, State}
-use Rattle.life_args.proofs.WorkedWords.{asks, asks_nothing}
-use Rattle.life_args.specs.Words.{AskFor}
+use Rattle.life_args.specs.Words.{AreWords}
 use Rattle.office_state.specs.declared.faults.StartCause.TheVariants.{NotAJournal}
 use Rattle.office_state.specs.Journals.{IsShown}
 use Rattle.office_state.specs.Worked.{hand_issue, hand_premium}
@@ -42,7 +41,7 @@ use Rattle.life_app.proofs.ProgramSteps.{due}
 use Rattle.life_app.proofs.KeptRunLaws.{two_left}
 use Rattle.life_app.specs.WorkedRun.Due.{letters, letters_filing, no_input}
 use Rattle.life_app.specs.WorkedRun.Calls.{CalledDisk, called, cut_disk, cut_file, called_disk, empty_disk, last_disk, puts, reopening}
-use Rattle.life_app.specs.WorkedRun.Promise.{AreTyped, output_of, shelf_that_told, two_auditors}
+use Rattle.life_app.specs.WorkedRun.Promise.{output_of, shelf_that_told, two_auditors}
 use Rattle.life_app.specs.WorkedRun.Runs.{both_commands, looked_disk, second_opening}
 use Rattle.life_app.specs.WorkedRun.Both.{DueOfBothByHand, DueOfTheSaving, LeftOfTwoByHand, OtherwiseByHand, PartsOfTwoByHand, RowOfTwoByHand, SavedByHand, StatedByHand, TrustedByHand, cut_of_two, empty_filing, issue_books, letters_disks, looked_filing, read_disk, runs_of_two, saved_disk, saved_file, saved_filing, saved_of_two, saving, saving_disks, second_disk, stating_disks, whole_of_two}
 use Rattle.life_app.proofs.WorkedRun.Calls.{Left, reads}
@@ -179,11 +178,11 @@ neither Rise none (inr rose) = none rose
 saving_journal : HasJournal looked_filing saved_filing (hand_issue ∷ [])
 saving_journal = record { trusted = (honest_looked, honest_saved, truth_of_none cut_file); opens = inl (journal_of_issue cut_file cut); held = neither _ none_failed }
 
-asks_save : (words : List (String Global)) → AreTyped words (codes "checkpoint" ∷ []) → AskForCheckpoint words
-asks_save words same = asks _ Checkpoint (refl, refl) words same
+asks_save : AskForCheckpoint (codes "checkpoint" ∷ [])
+asks_save = (refl, refl)
 
-asks_books : (words : List (String Global)) → AreTyped words (codes "state" ∷ []) → AskFor words (State None)
-asks_books words same = asks _ (State None) (refl, record { pieces = []; spells = refl; only = tt; id_is = refl }) words same
+asks_books : AreWords (codes "state" ∷ []) (State None)
+asks_books = (refl, record { pieces = []; spells = refl; only = tt; id_is = refl })
 
 module _ (shown : IsShown letters NotAJournal) where
   no_journal : HasNoJournal letters_filing empty_filing
@@ -198,8 +197,8 @@ module _ (shown : IsShown letters NotAJournal) where
     saving_journal,
     record { trusted = (honest_looked, (((tt, tt), refl), refl), truth_of_saved); opens = inl (journal_of_issue cut_file cut); held = neither _ none_failed },
     no_journal,
-    λ words same. (Checkpoint, asks_save words same, tt, (hand_issue ∷ [], saving_journal), none_failed),
-    λ words same. (State None, asks_books words same, tt, no_journal),
+    (Checkpoint, asks_save, tt, (hand_issue ∷ [], saving_journal), none_failed),
+    (State None, asks_books, tt, no_journal),
   )
 
 -- ---- the call
@@ -222,7 +221,7 @@ pub saved_by_hand : SavedByHand
 saved_by_hand = (
   saved,
   saved,
-  λ words same. record { ending = Done; exits = refl; does = inl (Checkpoint, asks_save words same, (tt, tt, saved)) },
+  record { ending = Done; exits = refl; does = inl (Checkpoint, asks_save, (tt, tt, saved)) },
 )
 
 -- ---- the runs
@@ -300,6 +299,7 @@ first_of_both = record {
 
 pub left_by_hand : LeftOfTwoByHand
 left_by_hand = (
+  inl refl,
   λ image file left may.
       two_left called called facts facts empty_disk empty_disk [] runs_of_two last_disk second_disk (found_safe []) (found_safe [])
       (inr (refl, inl (lit≤ tt))) no_saved rows image file left may,
@@ -377,24 +377,25 @@ stated_by_hand = (
   stated_alone,
   stated,
   stated,
-  λ words same. record { ending = Done; exits = refl; does = inl (State None, asks_books words same, (tt, tt, stated)) },
+  record { ending = Done; exits = refl; does = inl (State None, asks_books, (tt, tt, stated)) },
 )
 
 -- ---- other words
 
-says_usage : (words : List (String Global)) → AreTyped words [] → SaysUnasked words (output_of (codes "usage" ++ 10 ∷ [])) Usage
-says_usage words same = (asks_nothing [] (λ mode are. are) words same, inl refl)
+says_usage : SaysUnasked [] (output_of (codes "usage" ++ 10 ∷ [])) Usage
+says_usage = ((λ mode are. are), inl refl)
 
 pub otherwise_by_hand : OtherwiseByHand
 otherwise_by_hand = (
   asks_save,
+  (λ mode are. are),
   says_usage,
-  λ words same. record { disk = refl; other = refl; input = tt; shelf = tt; says = says_usage words same },
+  record { disk = refl; other = refl; input = tt; shelf = tt; says = says_usage },
   λ words. record { disk = refl; other = refl; input = tt; shelf = tt; says = inl refl },
 )
 
 pub due_of_the_saving : DueOfTheSaving
-due_of_the_saving words same ending is =
-    due called called cut_disk looked_disk (Some empty_disk) (Some saved_disk) two_auditors words no_input (output_of (codes "checkpoint,1" ++ 10 ∷ []))
-    (shelf_that_told []) (Unit {0}) (Unit {0}) Done (inl (Checkpoint, asks_save words same, (tt, tt, saved)))
+due_of_the_saving ending is =
+    due called called cut_disk looked_disk (Some empty_disk) (Some saved_disk) two_auditors (codes "checkpoint" ∷ []) no_input (output_of (codes "checkpoint,1" ++ 10 ∷ []))
+    (shelf_that_told []) (Unit {0}) (Unit {0}) Done (inl (Checkpoint, asks_save, (tt, tt, saved)))
     (λ rose. absurd (omega (arith, rose))) (λ rose. absurd (omega (arith, rose))) ending is

@@ -1,14 +1,13 @@
 -- Worked cases have what is due.
-use Rattle.std.proofs.Common.{◌≡◌, ◌≤◌, ◌⊎◌, List, [], ◌∷◌, refl, inr, lit≤, arith, codes, pos, Option, None, Some, String, Global}
+use Rattle.std.proofs.Common.{◌≡◌, ◌≤◌, ◌<◌, ◌+◌, ◌⊎◌, ℕ, replicate, List, [], ◌∷◌, refl, inl, inr, lit≤, arith, codes, Option, None, Some}
 use Rattle.std.proofs.lemmas.Int.{ints}
 use Rattle.std.proofs.lemmas.List.Elements.{All-nil}
 use Rattle.basis_shelf.specs.Worked.{BasisOfOneRow, FirstBadFiles, certain_death, one_row, shelf_with}
 use Rattle.command_csv.specs.Worked.{NoClerk, ValueLine}
-use Rattle.life_args.specs.declared.mode.Mode.TheVariants.{Run, State, Value}
+use Rattle.life_args.specs.declared.mode.Mode.TheVariants.{Run, State}
 use Rattle.life_args.specs.Pieces.{bare}
-use Rattle.policy_types.specs.declared.entry.At.TheVariants.{Now}
 use Rattle.policy_value.specs.declared.worth.Measure.TheVariants.{Terminal}
-use Rattle.life_args.proofs.WorkedWords.{asks, asks_nothing, new_year}
+use Rattle.life_args.proofs.WorkedWords.{new_year}
 use Rattle.office_state.specs.declared.faults.StartCause.TheVariants.{NotAJournal}
 use Rattle.office_state.specs.Journals.{IsShown}
 use Rattle.office_state.specs.Worked.{hand_issue}
@@ -17,11 +16,15 @@ use Rattle.life_app.specs.Due.{HasBasis, HasJournal, HasNoBasis, HasNoJournal, H
 use Rattle.program_endings.specs.Status.{status_of}
 use Rattle.program_endings.specs.declared.ending.Ending.{Ending}
 use Rattle.program_endings.specs.declared.ending.Ending.TheVariants.{Done}
+use Rattle.outside_io.specs.Streams.{GivesMore}
+use Rattle.script_run.specs.Script.{most_script_bytes}
+use Rattle.script_run.specs.Worked.{input_that_gave}
+use Rattle.std.proofs.lemmas.List.{length-replicate}
 use Rattle.life_app.specs.Needs.{Without}
 use Rattle.life_app.proofs.BooksSteps.{second_between}
 use Rattle.life_app.proofs.ProgramSteps.{due}
 use Rattle.life_app.specs.WorkedRun.Calls.{CalledDisk, called, cut_disk, last_disk}
-use Rattle.life_app.specs.WorkedRun.Promise.{AreTyped, given_script, output_of, premium_lanes, premium_script, premium_text, shelf_that_told, two_auditors}
+use Rattle.life_app.specs.WorkedRun.Promise.{given_script, output_of, premium_lanes, premium_script, premium_text, shelf_that_told, two_auditors}
 use Rattle.life_app.specs.WorkedRun.Due.{BasisByHand, DueByHand, DueOfTheRun, NeedsByHand, basisless_shelf, cut_filing, faulty_script, letters, letters_filing, stocked_shelf, value_lanes, value_script}
 use Rattle.life_app.proofs.WorkedRun.Promise.{asks_run, did, reads_premium}
 use Rattle.life_app.proofs.WorkedRun.First.{honest_last}
@@ -35,6 +38,15 @@ script = record { bytes = premium_script; whole = inr (refl, tt); read = (lit≤
 
 journal : HasJournal cut_filing Without (hand_issue ∷ [])
 journal = record { trusted = honest_last; opens = second_left.opened honest_last; held = none_failed }
+
+-- one byte more than a script may have
+long_script : (n : ℕ) → most_script_bytes < n
+    → (bytes : List ℕ) × GivesMore most_script_bytes [] bytes × HasNoScript (input_that_gave bytes ⊥ 0)
+long_script n many =
+    let bytes = replicate n 0 in
+    let more : GivesMore most_script_bytes [] bytes =
+    (bytes, refl, (let long = length-replicate {A = ℕ} n 0 in omega (arith, long, many))) in
+    (bytes, more, record { unreadable = inl more; held = none_failed })
 
 module _ (clerk : NoClerk) (line : ValueLine) (basis : BasisOfOneRow) (bad : FirstBadFiles) (shown : IsShown letters NotAJournal) where
   values : HasScript value_script value_lanes
@@ -53,7 +65,7 @@ module _ (clerk : NoClerk) (line : ValueLine) (basis : BasisOfOneRow) (bad : Fir
   no_journal = record { trusted = ((((tt, tt), refl), refl), refl); none = shown_opens_to_none letters NotAJournal tt shown; held = none_failed }
 
   pub needs_by_hand : NeedsByHand
-  needs_by_hand = ((premium_lanes, (lit≤ tt, reads_premium)), inr (1, (1, clerk)), script, values, no_script, has_basis, no_basis, journal, no_journal)
+  needs_by_hand = ((premium_lanes, (lit≤ tt, reads_premium)), inr (1, (1, clerk)), script, values, no_script, long_script (most_script_bytes + 1) (omega arith), has_basis, no_basis, journal, no_journal)
 
   pub basis_by_hand : BasisByHand
   basis_by_hand = (
@@ -66,20 +78,20 @@ module _ (clerk : NoClerk) (line : ValueLine) (basis : BasisOfOneRow) (bad : Fir
   due_by_hand = (
     (premium_lanes, script, λ asks. cc),
     (hand_issue ∷ [], journal),
-    λ words same. (Run (codes "basis.csv"), asks_run words same, (premium_lanes, script, λ asks. cc), (hand_issue ∷ [], journal), none_failed),
-    λ words same. (State None, asks _ (State None) (refl, record { pieces = []; spells = refl; only = tt; id_is = refl }) words same, tt, no_journal),
-    λ words same. asks_nothing [] (λ mode are. are) words same,
-    λ words same. (codes "basis.csv", asks_run words same, no_script),
+    (Run (codes "basis.csv"), asks_run, (premium_lanes, script, λ asks. cc), (hand_issue ∷ [], journal), none_failed),
+    (State None, (refl, record { pieces = []; spells = refl; only = tt; id_is = refl }), tt, no_journal),
+    (λ mode are. are),
+    (codes "basis.csv", asks_run, no_script),
     (value_lanes, values, refl, no_basis),
     no_basis,
     has_basis,
     (hand_issue ∷ [], journal, lit≤ tt),
     no_journal,
-    λ words same. (
+    (
       1,
       (
         Terminal,
-        asks _ (Value (pos 18628) Now 1 (codes "basis.csv") Terminal) (
+        (
           refl,
           record {
             pieces = bare (codes "2021-01-01") ∷ [];
@@ -93,17 +105,17 @@ module _ (clerk : NoClerk) (line : ValueLine) (basis : BasisOfOneRow) (bad : Fir
             basis_is = refl;
             measure_is = refl;
           },
-        ) words same,
+        ),
       ),
     ),
   )
 
 -- whatever the second disk, which stays
-pub due_beside : (second : Option CalledDisk) (words : List (String Global)) → AreTyped words (codes "run" ∷ []) → (ending : Ending)
-    → IsDueEnding words given_script (output_of premium_text) (shelf_that_told []) cut_filing (second_between called second second) ending
+pub due_beside : (second : Option CalledDisk) (ending : Ending)
+    → IsDueEnding (codes "run" ∷ []) given_script (output_of premium_text) (shelf_that_told []) cut_filing (second_between called second second) ending
     → (status_of Done ≡ status_of ending) ⊎ (status_of Done ≡ 9)
-due_beside second words same ending is = due called called cut_disk last_disk second second two_auditors words given_script (output_of premium_text) (shelf_that_told []) ⊥ (Unit {0}) Done
-    (did words second same) (λ rose. absurd (omega (arith, rose))) (λ rose. absurd (omega (arith, rose))) ending is
+due_beside second ending is = due called called cut_disk last_disk second second two_auditors (codes "run" ∷ []) given_script (output_of premium_text) (shelf_that_told []) ⊥ (Unit {0}) Done
+    (did second) (λ rose. absurd (omega (arith, rose))) (λ rose. absurd (omega (arith, rose))) ending is
 
 pub due_of_the_run : DueOfTheRun
-due_of_the_run words same ending is = due_beside None words same ending is
+due_of_the_run = due_beside None

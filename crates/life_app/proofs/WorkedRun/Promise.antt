@@ -1,5 +1,5 @@
 -- The worked run is as the headline says.
-use Rattle.std.proofs.Common.{◌≡◌, ◌+◌, ◌++◌, ℕ, List, [], ◌∷◌, length, arith, refl, ap, sym, subst, inl, inr, lit≤, lit<, codes, Option, None, String, Global}
+use Rattle.std.proofs.Common.{◌≡◌, ◌+◌, ◌++◌, ℕ, List, [], ◌∷◌, length, arith, refl, ap, sym, subst, inl, inr, lit≤, lit<, codes, Option, None}
 use Rattle.std.specs.Fmt.{digits}
 use Rattle.std.specs.Prelude.{take}
 use Rattle.std.specs.List.{IsDistinct, flat_map}
@@ -11,7 +11,6 @@ use Rattle.command_csv.proofs.WorkedScripts.{says_one}
 use Rattle.policy_types.specs.declared.entry.Reply.TheVariants.{Accepted}
 use Rattle.policy_types.specs.declared.script.Line.TheVariants.{Post}
 use Rattle.life_args.specs.declared.mode.Mode.TheVariants.{Run}
-use Rattle.life_args.proofs.WorkedWords.{asks}
 use Rattle.lane_runner.specs.AnsweredLines.{AnsweredLine, AreLinesOf}
 use Rattle.policy_machine.specs.Merge.{IsMerge, Placed}
 use Rattle.policy_types.specs.declared.command.Command.{Command}
@@ -24,7 +23,7 @@ use Rattle.program_endings.specs.declared.ending.Ending.{Ending}
 use Rattle.program_endings.specs.declared.ending.Ending.TheVariants.{Done, BadScript, BadBasis, BadJournal, ReadFault, DiskFault, NoMemory}
 use Rattle.program_endings.specs.Status.{status_of}
 use Rattle.program_endings.specs.Replies.{AreAnswered}
-use Rattle.program_endings.specs.Writing.{IsWholeInput, WroteAll}
+use Rattle.program_endings.specs.Writing.{IsWholeInput}
 use Rattle.script_run.specs.Outcome.{IsRunOf}
 use Rattle.script_run.specs.Texts.{WroteWhole}
 use Rattle.script_run.specs.Running.{EndsLanes, EndsRead, EndsRun}
@@ -32,19 +31,21 @@ use Rattle.transcript_text.specs.Transcript.{posting_text, reports_text}
 use Rattle.watcher_set.specs.Noted.{reports_of}
 use Rattle.life_app.specs.Headline.{IsPromised, IsUnrun, SaysUnrun}
 use Rattle.life_app.specs.Obeys.{Does, Obeys}
+use Rattle.life_app.specs.TableReserves.{table_reserves}
+use Rattle.life_app.specs.Texts.{run_wording}
 use Rattle.life_app.specs.Words.{AskForRun}
 use Rattle.life_app.proofs.HeadlineLaws.{by_script, headline}
 use Rattle.life_app.specs.WorkedRun.Calls.{CalledDisk, Unsynced, called, cut_disk, cut_file, last_disk, untorn}
 use Rattle.life_app.specs.WorkedRun.Runs.{second_turns}
-use Rattle.life_app.specs.WorkedRun.Promise.{AreTyped, GivenByHand, HeadlineByHand, ObeyedByHand, PromisedByHand, ToldOnceSafe, given_script, output_of, premium_lanes, premium_line, premium_script, premium_text, shelf_that_told, two_auditors}
+use Rattle.life_app.specs.WorkedRun.Promise.{GivenByHand, HeadlineByHand, ObeyedByHand, PromisedByHand, ToldOnceSafe, given_script, output_of, premium_lanes, premium_line, premium_script, premium_text, shelf_that_told, two_auditors}
 use Rattle.outside_io.specs.FileCalls.{FileCall, FileLeft}
 use Rattle.outside_io.specs.Streams.{TakenPiece}
 use Rattle.office_state.proofs.JournalLaws.{opens_to_one}
 use Rattle.life_app.proofs.WorkedRun.First.{honest_last}
 use Rattle.life_app.proofs.WorkedRun.Row.{both_now, facts, found_by_hand, legal_second, second_left}
 
-pub asks_run : (words : List (String Global)) → AreTyped words (codes "run" ∷ []) → AskForRun words (codes "basis.csv")
-asks_run words same = asks _ (Run (codes "basis.csv")) (refl, record { pieces = []; spells = refl; only = tt; alone = refl; basis_is = refl }) words same
+pub asks_run : AskForRun (codes "run" ∷ []) (codes "basis.csv")
+asks_run = (refl, record { pieces = []; spells = refl; only = tt; alone = refl; basis_is = refl })
 
 pub reads_premium : Reads premium_script premium_lanes
 unfolding csv_on_literals digits day_text date_of date_at year_of month_of days_before days_before_year days_of_months
@@ -167,13 +168,13 @@ read = record {
 run_ended : EndsRun called cut_disk last_disk (codes "basis.csv") two_auditors given_script (output_of premium_text) (shelf_that_told []) (Unit {0}) Done
 run_ended = inl read
 
-pub did : (words : List (String Global)) (second : Option CalledDisk) → AreTyped words (codes "run" ∷ [])
-    → Does called called cut_disk last_disk second second words two_auditors given_script (output_of premium_text) (shelf_that_told []) ⊥ (Unit {0}) Done
-did words second same = inl (Run (codes "basis.csv"), asks_run words same, (refl, run_ended))
+pub did : (second : Option CalledDisk)
+    → Does called called cut_disk last_disk second second (codes "run" ∷ []) two_auditors given_script (output_of premium_text) (shelf_that_told []) ⊥ (Unit {0}) Done
+did second = inl (Run (codes "basis.csv"), asks_run, (refl, run_ended))
 
-pub obeyed : (words : List (String Global)) (second : Option CalledDisk) → AreTyped words (codes "run" ∷ [])
-    → Obeys called called cut_disk last_disk second second words two_auditors given_script (output_of premium_text) (shelf_that_told []) ⊥ (Unit {0}) 0
-obeyed words second same = record { ending = Done; exits = refl; does = did words second same }
+pub obeyed : (second : Option CalledDisk)
+    → Obeys called called cut_disk last_disk second second (codes "run" ∷ []) two_auditors given_script (output_of premium_text) (shelf_that_told []) ⊥ (Unit {0}) 0
+obeyed second = record { ending = Done; exits = refl; does = did second }
 
 pub obeyed_by_hand : ObeyedByHand
 obeyed_by_hand = (ran, ran, ended, read, run_ended, obeyed)
@@ -194,11 +195,11 @@ no_unrun : IsUnrun called Opens cut_disk last_disk (codes "basis.csv") given_scr
 no_unrun unrun = unrun_fails unrun.ending unrun.says unrun.exits
 
 pub headline_by_hand : HeadlineByHand
-headline_by_hand words same = headline called cut_disk last_disk (output_of premium_text) (codes "basis.csv") given_script (shelf_that_told [])
-    facts.only_now called None None premium_lanes [] two_auditors premium_script words ⊥ (Unit {0}) 0
-    (obeyed words None same) (asks_run words same) whole reads_premium (inl (refl, refl))
+headline_by_hand = headline called cut_disk last_disk (output_of premium_text) (codes "basis.csv") given_script (shelf_that_told [])
+    facts.only_now called None None premium_lanes [] two_auditors premium_script (codes "run" ∷ []) ⊥ (Unit {0}) 0
+    (obeyed None) asks_run whole reads_premium (inl (refl, refl))
 
-promised : IsPromised called Opens cut_disk last_disk premium_lanes [] two_auditors (output_of premium_text) 0
+promised : IsPromised called Opens run_wording table_reserves cut_disk last_disk premium_lanes [] two_auditors (output_of premium_text) 0
 promised = elim (by_script called cut_disk last_disk (output_of premium_text) (codes "basis.csv") given_script (shelf_that_told [])
     facts.only_now premium_lanes [] two_auditors premium_script (Unit {0}) Done whole reads_premium (inl (refl, refl)) run_ended) [
       | inl told ↦ told

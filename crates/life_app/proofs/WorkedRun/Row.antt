@@ -21,7 +21,7 @@ use Rattle.life_app.specs.Runs.{AreLeft, AreRuns}
 use Rattle.life_app.proofs.CrashLaws.{afterwards, during, next_commands, opened_again}
 use Rattle.life_app.proofs.RunLaws.{Facts, runs_left}
 use Rattle.life_app.specs.WorkedRun.Calls.{CalledDisk, Unsynced, called, cut_disk, cut_file, called_disk, empty_disk, last_disk, paid_disk, second_calls, reopening, untorn}
-use Rattle.life_app.specs.WorkedRun.Runs.{CrashesByHand, FoundByHand, LeftByHand, OpenedByHand, RanByHand, RowByHand, both_commands, cut_run, first_opening, first_turns, looked_disk, second_opening, second_turns, whole_run}
+use Rattle.life_app.specs.WorkedRun.Runs.{CrashesByHand, ImagesByHand, FoundByHand, LeftByHand, OpenedByHand, RanByHand, RowByHand, both_commands, cut_run, first_opening, first_turns, looked_disk, second_opening, second_turns, whole_run}
 use Rattle.life_app.proofs.WorkedRun.Calls.{Left, posted_left, posting_leaves}
 use Rattle.life_app.proofs.WorkedRun.First.{answered_some, cut, first_left, first_ran, found_safe, honest_last, honest_paid, journal_of_both, journal_of_issue, least_issue, only_now, paid_again, paid_again_safe, premium_size, reopened_allowed, reopened_safe, was_cut}
 
@@ -194,6 +194,9 @@ row_by_hand = (was_cut, answered_some, record { handed = refl; all = refl }, in_
 
 cut_held : HoldsOnce first_opening first_turns cut_file
 cut_held = during called empty_disk paid_disk first_opening first_turns first_ran cut_file (inl (inl (inr (lit≤ tt, refl))))
+
+pub images_by_hand : ImagesByHand
+images_by_hand = (was_cut.left, inr (lit≤ tt, refl), refl)
 
 pub crashes_by_hand : CrashesByHand
 crashes_by_hand = (

@@ -1,5 +1,5 @@
 -- What the laws and the contract conclude holds of small values.
-use Rattle.std.proofs.Common.{◌≡◌, List, [], ◌∷◌, ◌++◌, refl, inl, inr, lit≤, arith, codes, pos, String, Global}
+use Rattle.std.proofs.Common.{◌≡◌, List, [], ◌∷◌, ◌++◌, refl, inl, inr, lit≤, arith, codes, pos}
 use Rattle.std.specs.Fmt.{digits}
 use Rattle.std.specs.List.{AllZip}
 use Rattle.std.specs.Prelude.{◌<ℤ◌}
@@ -18,12 +18,10 @@ use Rattle.policy_value.specs.declared.worth.Worth.TheVariants.{Bounds, Word}
 use Rattle.report_text.specs.Block.{block_text, row_text, total_text, heading_text}
 use Rattle.command_csv.specs.Worked.{ValueLine}
 use Rattle.life_args.specs.Pieces.{bare, joined}
-use Rattle.life_args.specs.declared.mode.Mode.TheVariants.{Load, Project, Value}
-use Rattle.life_args.proofs.WorkedWords.{asks, new_year}
+use Rattle.life_args.proofs.WorkedWords.{new_year}
 use Rattle.office_state.specs.Journals.{Opens}
 use Rattle.office_state.specs.Worked.{hand_issue, hand_premium}
 use Rattle.policy_machine.specs.Book.{book}
-use Rattle.policy_types.specs.declared.entry.At.TheVariants.{Position}
 use Rattle.policy_types.specs.declared.policy.Status.TheVariants.{InForce, PaidUp}
 use Rattle.policy_value.specs.Rows.{IsInsured}
 use Rattle.policy_value.specs.declared.worth.Measure.TheVariants.{Terminal}
@@ -37,8 +35,10 @@ use Rattle.life_app.specs.Headline.{IsEnclosingRow, IsEnclosingText, IsUnrun}
 use Rattle.life_app.specs.Needs.{HasBadFile}
 use Rattle.life_app.specs.WorkedRun.Calls.{called, cut_disk}
 use Rattle.life_app.specs.WorkedRun.Due.{value_lanes, value_script}
-use Rattle.life_app.specs.WorkedRun.Promise.{AreTyped, given_script, output_of, shelf_that_told}
+use Rattle.life_app.specs.WorkedRun.Promise.{given_script, output_of, shelf_that_told}
 use Rattle.life_app.specs.WorkedRun.Told.{EnclosedByHand, EndedByHand, ModesByHand, ReasonsByHand, absent_basis, first_endowment, first_value, five_text, two_bases, unstocked_shelf}
+use Rattle.life_app.specs.TableReserves.{table_reserves}
+use Rattle.life_app.specs.Texts.{run_wording}
 use Rattle.life_app.proofs.HeadlineLaws.{each_pair, enclosing}
 use Rattle.life_app.proofs.WorkedRun.Promise.{asks_run}
 use Rattle.life_app.proofs.WorkedRun.First.{honest_last}
@@ -71,16 +71,19 @@ module _ (line : ValueLine) where
     asks = refl;
   }
 
-  bad_file : (words : List (String Global)) → AreTyped words (codes "run" ∷ []) → HasBadFile words value_script unstocked_shelf (output_of absent_basis)
+  bad_file : HasBadFile (codes "run" ∷ []) value_script unstocked_shelf (output_of absent_basis)
   unfolding digits bad_basis_text
-  bad_file words same = (codes "basis.csv", (no_basis.0, inr (inl (asks_run words same, reads_values)), no_basis.1, no_basis.2))
+  bad_file = (codes "basis.csv", (no_basis.0, inr (inl (asks_run, reads_values)), no_basis.1, no_basis.2))
 
   pub reasons_by_hand : ReasonsByHand
   unfolding digits
   reasons_by_hand = (
-    λ words same. ((Done, refl, tt), inr (inl (asks_run words same, reads_values)), bad_file words same, bad_file words same),
+    (Done, refl, tt),
+    inr (inl (asks_run, reads_values)),
+    bad_file,
+    bad_file,
     reads_values,
-    λ words same. (
+    (
       pos 18628,
       (
         5,
@@ -90,7 +93,7 @@ module _ (line : ValueLine) where
             1,
             (
               Terminal,
-              asks _ (Value (pos 18628) (Position 5) 1 (codes "basis.csv") Terminal) (
+              (
                 refl,
                 record {
                   pieces = bare (codes "2021-01-01") ∷ joined (codes "at") (codes "5") ∷ [];
@@ -104,16 +107,16 @@ module _ (line : ValueLine) where
                   basis_is = refl;
                   measure_is = refl;
                 },
-              ) words same,
+              ),
             ),
           ),
           (λ honest. (hand_issue ∷ [], second_left.opened honest_last, lit≤ tt)),
         ),
       ),
     ),
-    λ words same. (
+    (
       1,
-      asks _ (Project (pos 18628) 1 1 (codes "basis.csv")) (
+      (
         refl,
         record {
           pieces = bare (codes "2021-01-01") ∷ bare (codes "1") ∷ [];
@@ -126,9 +129,9 @@ module _ (line : ValueLine) where
           workers_are = refl;
           basis_is = refl;
         },
-      ) words same,
+      ),
     ),
-    λ words same. (
+    (
       7,
       (
         5,
@@ -136,7 +139,7 @@ module _ (line : ValueLine) where
           2,
           (
             1,
-            asks _ (Load 7 5 2 1) (
+            (
               refl,
               record {
                 spells = refl;
@@ -145,7 +148,7 @@ module _ (line : ValueLine) where
                 lanes_in = (lit≤ tt, lit≤ tt);
                 workers_in = (lit≤ tt, lit≤ tt);
               },
-            ) words same,
+            ),
           ),
         ),
       ),
@@ -171,14 +174,14 @@ block : five_text ≡ block_text 0 (pos 18628) 8 Terminal rows
 unfolding rows row_text heading_text total_text day_text date_of date_at year_of month_of days_before days_before_year days_of_months digits
 block = refl
 
-text : IsEnclosingText 0 (pos 18628) five_endowments two_bases 8 five_text
+text : IsEnclosingText run_wording table_reserves 0 (pos 18628) five_endowments two_bases 8 five_text
 text = (
   rows,
-  each_pair (IsValuedRow two_bases (pos 18628) Terminal) (IsEnclosingRow two_bases (pos 18628)) (enclosing two_bases (pos 18628)) (book five_endowments) rows each_valued,
+  each_pair (IsValuedRow two_bases (pos 18628) Terminal) (IsEnclosingRow table_reserves two_bases (pos 18628)) (enclosing two_bases (pos 18628)) (book five_endowments) rows each_valued,
   block,
 )
 
-row : IsEnclosingRow two_bases (pos 18628) first_endowment first_value
+row : IsEnclosingRow table_reserves two_bases (pos 18628) first_endowment first_value
 row = enclosing two_bases (pos 18628) first_endowment first_value first_row
 
 insured : IsInsured first_endowment (pos 18628)

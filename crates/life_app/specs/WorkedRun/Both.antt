@@ -1,6 +1,5 @@
 -- The worked run over both disks: the cut run, then one that saves the books and is cut once they are saved, and the premium
-use Rattle.std.specs.Prelude.{◌≡◌, ◌⊎◌, ℕ, true, List, [], ◌∷◌, ◌++◌, Some, codes, length, String}
-use Rattle.std.specs.Global.{Global}
+use Rattle.std.specs.Prelude.{◌≡◌, ◌⊎◌, ℕ, true, List, [], ◌∷◌, ◌++◌, Some, codes, length}
 use Rattle.checkpoint_store.specs.Checkpoints.{CheckpointBytes}
 use Rattle.checkpoint_store.specs.Spelling.{snapshot_bytes}
 use Rattle.checkpoint_store.specs.Worked.{issued_snapshot}
@@ -20,10 +19,10 @@ use Rattle.life_app.specs.Due.{HasJournal, HasNoJournal, IsDueEnding}
 use Rattle.life_app.specs.KeptRuns.{AreRunsOfTwo, IsLeftByCall, IsRunOfTwo, IsSnapshotOfFirst, KeepsSecond, LeavesSaved, LeavesSecond, OneRunOfTwo, SavedOfFirst, SavesBooks, WasCutAfter, WasCutBefore, WasLeftOf}
 use Rattle.life_app.specs.Obeys.{EndsBooks, EndsSave, EndsUnasked, Obeys, SaysUnasked}
 use Rattle.life_app.specs.Needs.{Filing, Second, With, filing_between}
-use Rattle.life_app.specs.Words.{AskForCheckpoint}
+use Rattle.life_app.specs.Words.{AskForCheckpoint, AreNoWords}
 use Rattle.life_app.specs.WorkedRun.Due.{letters, letters_disk, letters_filing, no_input}
 use Rattle.life_app.specs.WorkedRun.Calls.{CalledDisk, called, cut_disk, called_disk, empty_disk, last_disk, puts, untorn}
-use Rattle.life_app.specs.WorkedRun.Promise.{AreTyped, output_of, shelf_that_told, two_auditors}
+use Rattle.life_app.specs.WorkedRun.Promise.{output_of, shelf_that_told, two_auditors}
 use Rattle.life_app.specs.WorkedRun.Runs.{both_commands, cut_run, looked_disk, second_opening, whole_run}
 
 -- an empty second file is made safe; its gate is closed, all else is written, and the gate is opened
@@ -94,17 +93,14 @@ empty_filing = With (filing_between called empty_disk empty_disk)
 abbrev pub DueOfBothByHand : Type 0
 DueOfBothByHand = HasJournal looked_filing saved_filing (hand_issue ∷ []) × HasJournal looked_filing read_filing (hand_issue ∷ [])
     × HasNoJournal letters_filing empty_filing
-    × ((words : List (String Global)) → AreTyped words (codes "checkpoint" ∷ [])
-    → IsDueEnding words no_input (output_of (codes "checkpoint,1" ++ 10 ∷ [])) (shelf_that_told []) looked_filing saved_filing Done)
-    × ((words : List (String Global)) → AreTyped words (codes "state" ∷ [])
-    → IsDueEnding words no_input (output_of []) (shelf_that_told []) letters_filing empty_filing BadJournal)
+    × IsDueEnding (codes "checkpoint" ∷ []) no_input (output_of (codes "checkpoint,1" ++ 10 ∷ [])) (shelf_that_told []) looked_filing saved_filing Done
+    × IsDueEnding (codes "state" ∷ []) no_input (output_of []) (shelf_that_told []) letters_filing empty_filing BadJournal
 
 -- `checkpoint` saved the books, and the words are obeyed
 abbrev pub SavedByHand : Type 0
 SavedByHand = EndsCheckpoint called called saving_disks (output_of (codes "checkpoint,1" ++ 10 ∷ [])) Done
     × EndsSave called called cut_disk looked_disk (Some empty_disk) (Some saved_disk) (output_of (codes "checkpoint,1" ++ 10 ∷ [])) Done
-    × ((words : List (String Global)) → AreTyped words (codes "checkpoint" ∷ [])
-    → Obeys called called cut_disk looked_disk (Some empty_disk) (Some saved_disk) words two_auditors no_input (output_of (codes "checkpoint,1" ++ 10 ∷ [])) (shelf_that_told []) (Unit {0}) (Unit {0}) 0)
+    × Obeys called called cut_disk looked_disk (Some empty_disk) (Some saved_disk) (codes "checkpoint" ∷ []) two_auditors no_input (output_of (codes "checkpoint,1" ++ 10 ∷ [])) (shelf_that_told []) (Unit {0}) (Unit {0}) 0
 
 -- each run is one over both disks, and they follow one another
 abbrev pub RowOfTwoByHand : Type 0
@@ -117,8 +113,8 @@ RowOfTwoByHand = IsRunOfTwo called called empty_disk empty_disk cut_of_two
 
 -- and so the call that saved them, which ended with 0, ended as is due
 abbrev pub DueOfTheSaving : Type 0
-DueOfTheSaving = (words : List (String Global)) → AreTyped words (codes "checkpoint" ∷ []) → (ending : Ending)
-    → IsDueEnding words no_input (output_of (codes "checkpoint,1" ++ 10 ∷ [])) (shelf_that_told []) looked_filing saved_filing ending
+DueOfTheSaving = (ending : Ending)
+    → IsDueEnding (codes "checkpoint" ∷ []) no_input (output_of (codes "checkpoint,1" ++ 10 ∷ [])) (shelf_that_told []) looked_filing saved_filing ending
     → (status_of Done ≡ status_of ending) ⊎ (status_of Done ≡ 9)
 
 -- what these runs are made of
@@ -138,20 +134,20 @@ abbrev pub StatedByHand : Type 0
 StatedByHand = EndsState called cut_disk looked_disk books_text (output_of issue_books) Done
     × EndsStateKept called called stating_disks (output_of issue_books) Done
     × EndsBooks called called cut_disk looked_disk (Some second_disk) (Some read_disk) (output_of issue_books) Done
-    × ((words : List (String Global)) → AreTyped words (codes "state" ∷ [])
-    → Obeys called called cut_disk looked_disk (Some second_disk) (Some read_disk) words two_auditors no_input (output_of issue_books)
-    (shelf_that_told []) (Unit {0}) (Unit {0}) 0)
+    × Obeys called called cut_disk looked_disk (Some second_disk) (Some read_disk) (codes "state" ∷ []) two_auditors no_input (output_of issue_books)
+    (shelf_that_told []) (Unit {0}) (Unit {0}) 0
 
 -- no words ask for nothing, and there may be no memory to read them
 abbrev pub OtherwiseByHand : Type 0
-OtherwiseByHand = ((words : List (String Global)) → AreTyped words (codes "checkpoint" ∷ []) → AskForCheckpoint words)
-    × ((words : List (String Global)) → AreTyped words [] → SaysUnasked words (output_of (codes "usage" ++ 10 ∷ [])) Usage)
-    × ((words : List (String Global)) → AreTyped words [] → EndsUnasked cut_disk cut_disk (Some second_disk) (Some second_disk) words (output_of (codes "usage" ++ 10 ∷ [])) (Unit {0}) (Unit {0}) Usage)
-    × ((words : List (String Global)) → EndsUnasked cut_disk cut_disk (Some second_disk) (Some second_disk) words (output_of (codes "nomemory" ++ 10 ∷ [])) (Unit {0}) (Unit {0}) NoMemory)
+OtherwiseByHand = AskForCheckpoint (codes "checkpoint" ∷ []) × AreNoWords []
+    × SaysUnasked [] (output_of (codes "usage" ++ 10 ∷ [])) Usage
+    × EndsUnasked cut_disk cut_disk (Some second_disk) (Some second_disk) [] (output_of (codes "usage" ++ 10 ∷ [])) (Unit {0}) (Unit {0}) Usage
+    × ((words : List (List ℕ)) → EndsUnasked cut_disk cut_disk (Some second_disk) (Some second_disk) words (output_of (codes "nomemory" ++ 10 ∷ [])) (Unit {0}) (Unit {0}) NoMemory)
 
 -- so the second file's checkpoint is of the first of the commands, and tells the truth of the journal
 abbrev pub LeftOfTwoByHand : Type 0
-LeftOfTwoByHand = ((image file : List ℕ) → called.may_leave last_disk image → called.may_leave second_disk file
+LeftOfTwoByHand = called.may_leave second_disk saved_file
+    × ((image file : List ℕ) → called.may_leave last_disk image → called.may_leave second_disk file
     → (held : List Command) × Opens image held × SavedOfFirst file held × TellsTruth file image)
     × CheckpointBytes saved_file issued_snapshot
     × IsSnapshotOfFirst both_commands issued_snapshot

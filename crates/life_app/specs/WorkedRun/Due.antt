@@ -1,12 +1,12 @@
 -- Which endings are due in worked cases, of the run's script and of files by hand, so that what is due can come about
-use Rattle.std.specs.Prelude.{◌≡◌, ◌⊎◌, ℕ, true, List, [], ◌∷◌, None, Some, codes, pos, replicate, String}
-use Rattle.std.specs.Global.{Global}
+use Rattle.std.specs.Prelude.{◌≡◌, ◌⊎◌, ℕ, true, List, [], ◌∷◌, None, Some, codes, pos, replicate}
 use Rattle.basis_book.specs.Dated.{Dated, IsPicked}
 use Rattle.basis_shelf.specs.Bases.{IsBasis}
 use Rattle.basis_shelf.specs.Worked.{certain_death, one_row}
 use Rattle.command_csv.specs.Reads.{lane_of}
 use Rattle.outside_io.specs.FileCalls.{Measured, ReadFrom, Synced}
 use Rattle.outside_io.specs.Shelves.{Absent, Found}
+use Rattle.outside_io.specs.Streams.{GivesMore}
 use Rattle.policy_types.specs.declared.entry.At.TheVariants.{Now, Position}
 use Rattle.policy_types.specs.declared.script.Lane.{Lane}
 use Rattle.policy_types.specs.declared.script.Line.TheVariants.{Value}
@@ -17,14 +17,14 @@ use Rattle.program_endings.specs.Status.{status_of}
 use Rattle.program_endings.specs.Writing.{Input, Shelving}
 use Rattle.program_endings.specs.declared.ending.Ending.{Ending}
 use Rattle.program_endings.specs.declared.ending.Ending.TheVariants.{Done, Usage, BadScript, BadJournal}
-use Rattle.script_run.specs.Script.{IsReadable, IsUnreadable}
+use Rattle.script_run.specs.Script.{IsReadable, IsUnreadable, most_script_bytes}
 use Rattle.script_run.specs.Worked.{input_that_gave}
 use Rattle.life_app.specs.Due.{HasBasis, HasItsJournal, HasItsNeeds, HasJournal, HasNoBasis, HasNoJournal, HasNoScript, HasScript, IsDueEnding, LacksItsBasis, LacksItsJournal}
 use Rattle.life_app.specs.Headline.{IsGivenBasis}
 use Rattle.life_app.specs.Needs.{Filing, Without, filing_between}
 use Rattle.life_app.specs.Words.{AskForValue}
 use Rattle.life_app.specs.WorkedRun.Calls.{CalledDisk, called, cut_disk, called_disk, last_disk}
-use Rattle.life_app.specs.WorkedRun.Promise.{AreTyped, given_script, output_of, premium_lanes, premium_script, premium_text, shelf_that_told}
+use Rattle.life_app.specs.WorkedRun.Promise.{given_script, output_of, premium_lanes, premium_script, premium_text, shelf_that_told}
 
 -- the journal's file, as it was cut and as it is after the premium
 abbrev pub cut_filing : Filing
@@ -68,6 +68,7 @@ NeedsByHand = IsReadable premium_script
     × HasScript given_script premium_lanes
     × HasScript value_script value_lanes
     × HasNoScript faulty_script
+    × ((bytes : List ℕ) × GivesMore most_script_bytes [] bytes × HasNoScript (input_that_gave bytes ⊥ 0))
     × HasBasis stocked_shelf (codes "b.csv")
     × HasNoBasis basisless_shelf (codes "a.csv")
     × HasJournal cut_filing Without (hand_issue ∷ [])
@@ -81,19 +82,19 @@ BasisByHand = (entry : Dated) × IsGivenBasis IsBasis value_lanes (codes "b.csv"
 abbrev pub DueByHand : Type 0
 DueByHand = HasItsNeeds (Run (codes "basis.csv")) given_script (shelf_that_told []) Without
     × HasItsJournal (Run (codes "basis.csv")) cut_filing Without
-    × ((words : List (String Global)) → AreTyped words (codes "run" ∷ []) → IsDueEnding words given_script (output_of premium_text) (shelf_that_told []) cut_filing Without Done)
-    × ((words : List (String Global)) → AreTyped words (codes "state" ∷ []) → IsDueEnding words no_input (output_of []) (shelf_that_told []) letters_filing Without BadJournal)
-    × ((words : List (String Global)) → AreTyped words [] → IsDueEnding words no_input (output_of []) (shelf_that_told []) cut_filing Without Usage)
-    × ((words : List (String Global)) → AreTyped words (codes "run" ∷ []) → IsDueEnding words faulty_script (output_of []) (shelf_that_told []) cut_filing Without BadScript)
+    × IsDueEnding (codes "run" ∷ []) given_script (output_of premium_text) (shelf_that_told []) cut_filing Without Done
+    × IsDueEnding (codes "state" ∷ []) no_input (output_of []) (shelf_that_told []) letters_filing Without BadJournal
+    × IsDueEnding [] no_input (output_of []) (shelf_that_told []) cut_filing Without Usage
+    × IsDueEnding (codes "run" ∷ []) faulty_script (output_of []) (shelf_that_told []) cut_filing Without BadScript
     × LacksItsBasis (Run (codes "a.csv")) value_script basisless_shelf
     × LacksItsBasis (ToValue (pos 18262) Now 1 (codes "a.csv") Terminal) no_input basisless_shelf
     × HasItsNeeds (ToValue (pos 18262) Now 1 (codes "b.csv") Terminal) no_input stocked_shelf Without
     × HasItsJournal (ToValue (pos 18262) (Position 1) 1 (codes "b.csv") Terminal) cut_filing Without
     × LacksItsJournal (State None) letters_filing Without
-    × ((words : List (String Global)) → AreTyped words (codes "value" ∷ codes "2021-01-01" ∷ []) → AskForValue words (pos 18628) Now (codes "basis.csv"))
+    × AskForValue (codes "value" ∷ codes "2021-01-01" ∷ []) (pos 18628) Now (codes "basis.csv")
 
 -- and so the run of the premium, which ended with 0, ended as is due
 abbrev pub DueOfTheRun : Type 0
-DueOfTheRun = (words : List (String Global)) → AreTyped words (codes "run" ∷ []) → (ending : Ending)
-    → IsDueEnding words given_script (output_of premium_text) (shelf_that_told []) cut_filing Without ending
+DueOfTheRun = (ending : Ending)
+    → IsDueEnding (codes "run" ∷ []) given_script (output_of premium_text) (shelf_that_told []) cut_filing Without ending
     → (status_of Done ≡ status_of ending) ⊎ (status_of Done ≡ 9)

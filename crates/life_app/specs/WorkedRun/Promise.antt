@@ -1,6 +1,5 @@
 -- What the headline says of the worked run's second half: the script, what is written, and the basis that is given
-use Rattle.std.specs.Prelude.{◌≡◌, ◌⊎◌, ◌==◌, ℕ, false, length, List, [], ◌∷◌, ◌++◌, Option, Some, codes, map, string_bytes, String}
-use Rattle.std.specs.Global.{Global}
+use Rattle.std.specs.Prelude.{◌⊎◌, ◌==◌, ℕ, false, length, List, [], ◌∷◌, ◌++◌, Option, Some, codes}
 use Rattle.basis_shelf.specs.Bases.{IsBasis}
 use Rattle.command_csv.specs.Reads.{Reads, lane_of}
 use Rattle.outside_io.specs.Shelves.{Agrees, Answer}
@@ -22,6 +21,8 @@ use Rattle.watcher_set.specs.Noted.{Auditor}
 use Rattle.watcher_set.specs.Premiums.{premiums_of}
 use Rattle.life_app.specs.Headline.{IsGivenBasis, IsPromised, IsPromisedFromStart, IsUnrun}
 use Rattle.life_app.specs.Obeys.{Obeys}
+use Rattle.life_app.specs.TableReserves.{table_reserves}
+use Rattle.life_app.specs.Texts.{run_wording}
 use Rattle.life_app.specs.Words.{AskForRun}
 use Rattle.life_app.specs.WorkedRun.Calls.{CalledDisk, called, cut_disk, cut_file, last_disk}
 use Rattle.life_app.specs.WorkedRun.Runs.{second_turns}
@@ -60,12 +61,9 @@ shelf_that_told answers = record { faults_before = 0; faults_after = 0; Agrees =
 abbrev pub given_script : Input
 given_script = input_that_gave premium_script (Unit {0}) 0
 
-abbrev pub AreTyped : List (String Global) → List (List ℕ) → Type 0
-AreTyped words typed = map string_bytes words ≡ typed
-
 -- the words `run` ask for a run, of the whole input, which is read as the lane; no line asks for values
 abbrev pub GivenByHand : Type 0
-GivenByHand = ((words : List (String Global)) → AreTyped words (codes "run" ∷ []) → AskForRun words (codes "basis.csv"))
+GivenByHand = AskForRun (codes "run" ∷ []) (codes "basis.csv")
     × IsWholeInput given_script premium_script × Reads premium_script premium_lanes
     × IsGivenBasis IsBasis premium_lanes (codes "basis.csv") (shelf_that_told []) []
 
@@ -76,19 +74,17 @@ ObeyedByHand = IsRunOf called cut_disk last_disk premium_lanes [] two_auditors (
     × EndsLanes called cut_disk last_disk premium_lanes (codes "basis.csv") two_auditors (shelf_that_told []) (output_of premium_text) (Unit {0}) Done
     × EndsRead called cut_disk last_disk (codes "basis.csv") two_auditors given_script (output_of premium_text) (shelf_that_told []) (Unit {0}) Done
     × EndsRun called cut_disk last_disk (codes "basis.csv") two_auditors given_script (output_of premium_text) (shelf_that_told []) (Unit {0}) Done
-    × ((words : List (String Global)) (second : Option CalledDisk) → AreTyped words (codes "run" ∷ [])
-    → Obeys called called cut_disk last_disk second second words two_auditors given_script (output_of premium_text) (shelf_that_told []) ⊥ (Unit {0}) 0)
+    × ((second : Option CalledDisk) → Obeys called called cut_disk last_disk second second (codes "run" ∷ []) two_auditors given_script (output_of premium_text) (shelf_that_told []) ⊥ (Unit {0}) 0)
 
 -- so the headline says of it what is promised, or that no line was answered
 abbrev pub HeadlineByHand : Type 0
-HeadlineByHand = (words : List (String Global)) → AreTyped words (codes "run" ∷ [])
-    → IsPromised called Opens cut_disk last_disk premium_lanes [] two_auditors (output_of premium_text) 0
+HeadlineByHand = IsPromised called Opens run_wording table_reserves cut_disk last_disk premium_lanes [] two_auditors (output_of premium_text) 0
     ⊎ IsUnrun called Opens cut_disk last_disk (codes "basis.csv") given_script (output_of premium_text) (shelf_that_told []) 0
 
 -- and it is the first, from the start of that disk on
 abbrev pub PromisedByHand : Type 0
-PromisedByHand = IsPromised called Opens cut_disk last_disk premium_lanes [] two_auditors (output_of premium_text) 0
-    × IsPromisedFromStart called Opens cut_file last_disk premium_lanes (codes "basis.csv") [] two_auditors given_script
+PromisedByHand = IsPromised called Opens run_wording table_reserves cut_disk last_disk premium_lanes [] two_auditors (output_of premium_text) 0
+    × IsPromisedFromStart called Opens run_wording table_reserves cut_file last_disk premium_lanes (codes "basis.csv") [] two_auditors given_script
     (output_of premium_text) (shelf_that_told []) 0
     × (IsUnrun called Opens cut_disk last_disk (codes "basis.csv") given_script (output_of premium_text) (shelf_that_told []) 0 → ⊥)
 

@@ -53,6 +53,15 @@ abbrev pub RowByHand : Type 0
 RowByHand = WasCut called empty_disk cut_run × HasAnsweredSome called empty_disk cut_run × HasReturned whole_run
     × AreRuns called empty_disk (cut_run ∷ whole_run ∷ []) last_disk
 
+-- a disk on which the office is opened and nothing is posted
+abbrev pub looked_disk : CalledDisk
+looked_disk = called_disk cut_file reopening
+
+-- a crash may have left the cut file, and at last it leaves what is read
+abbrev pub ImagesByHand : Type 0
+ImagesByHand = called.left_since paid_disk 0 cut_file × called.left_since looked_disk 0 cut_file
+    × called.may_leave last_disk (called.reads last_disk)
+
 -- what a crash leaves of the first run: a front of the two commands; and what the second was opened on is one
 abbrev pub CrashesByHand : Type 0
 CrashesByHand = ((image : List ℕ) → called.left_since paid_disk 0 image → HoldsOnce first_opening first_turns image)
@@ -60,10 +69,7 @@ CrashesByHand = ((image : List ℕ) → called.left_since paid_disk 0 image → 
     × AreHeld first_opening first_turns (hand_issue ∷ [])
     × ((image : List ℕ) → called.may_leave last_disk image → Opens image both_commands × AreAllHeld second_opening second_turns both_commands)
 
--- a disk on which the office is opened and nothing is posted is left alone, and holds what it held
-abbrev pub looked_disk : CalledDisk
-looked_disk = called_disk cut_file reopening
-
+-- the looked disk is left alone, and holds what it held
 abbrev pub OpenedByHand : Type 0
 OpenedByHand = HasRun called cut_disk looked_disk second_opening [] × IsLeftAlone called cut_disk looked_disk
     × ((image : List ℕ) → called.left_since looked_disk 0 image → HoldsOnce first_opening first_turns image)

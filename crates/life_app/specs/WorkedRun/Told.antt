@@ -1,10 +1,8 @@
 -- What the laws and the contract conclude, of the worked run and of small values by hand
-use Rattle.std.specs.Prelude.{ℕ, List, None, [], ◌∷◌, ◌++◌, codes, pos, String}
-use Rattle.std.specs.Global.{Global}
+use Rattle.std.specs.Prelude.{ℕ, List, None, [], ◌∷◌, ◌++◌, codes, pos}
 use Rattle.basis_book.specs.Dated.{Dated, IsPicked}
 use Rattle.valuing_modes.specs.Worked.Valued.{five_endowments, from_2000, from_2020}
 use Rattle.outside_io.specs.Shelves.{Absent}
-use Rattle.plan_benefits.specs.Shapes.{shape_of}
 use Rattle.policy_types.specs.declared.entry.Reply.TheVariants.{Faulted}
 use Rattle.policy_machine.specs.Rules.{issued}
 use Rattle.policy_types.specs.declared.command.Plan.TheVariants.{Endowment}
@@ -30,11 +28,13 @@ use Rattle.life_app.specs.Headline.{IsEnclosingRow, IsEnclosingText, IsUnrun, Is
 use Rattle.life_app.specs.Needs.{HasBadFile, IsPastTheEnd, NeedBasis, Without}
 use Rattle.life_app.specs.Reasons.{HasReason, IsReasoned}
 use Rattle.life_app.specs.Runs.{AddsCommands}
+use Rattle.life_app.specs.TableReserves.{table_reserves}
+use Rattle.life_app.specs.Texts.{run_wording}
 use Rattle.life_app.specs.Words.{AskForLoad, AskForProject}
 use Rattle.life_app.specs.WorkedRun.Both.{issue_books, looked_filing, saved_filing}
 use Rattle.life_app.specs.WorkedRun.Calls.{called, cut_disk}
 use Rattle.life_app.specs.WorkedRun.Due.{cut_filing, no_input, value_script}
-use Rattle.life_app.specs.WorkedRun.Promise.{AreTyped, given_script, output_of, premium_text, shelf_that_told, two_auditors}
+use Rattle.life_app.specs.WorkedRun.Promise.{given_script, output_of, premium_text, shelf_that_told, two_auditors}
 use Rattle.life_app.specs.WorkedRun.Runs.{cut_run, looked_disk}
 
 -- the cut run added the issue, of a posting that faulted none was accepted before, and a run may answer no line
@@ -53,16 +53,15 @@ absent_basis = codes "badbasis,basis.csv,0,absent" ++ 10 ∷ []
 
 -- statuses and endings with their reasons
 abbrev pub ReasonsByHand : Type 0
-ReasonsByHand = ((words : List (String Global)) → AreTyped words (codes "run" ∷ [])
-    → IsReasoned words given_script (output_of premium_text) (shelf_that_told []) cut_filing Without 0
-    × NeedBasis words value_script (codes "basis.csv")
-    × HasBadFile words value_script unstocked_shelf (output_of absent_basis)
-    × HasReason words value_script (output_of absent_basis) unstocked_shelf cut_filing Without BadBasis)
+ReasonsByHand = IsReasoned (codes "run" ∷ []) given_script (output_of premium_text) (shelf_that_told []) cut_filing Without 0
+    × NeedBasis (codes "run" ∷ []) value_script (codes "basis.csv")
+    × HasBadFile (codes "run" ∷ []) value_script unstocked_shelf (output_of absent_basis)
+    × HasReason (codes "run" ∷ []) value_script (output_of absent_basis) unstocked_shelf cut_filing Without BadBasis
     × ReadsForValues value_script
-    × ((words : List (String Global)) → AreTyped words (codes "value" ∷ codes "2021-01-01" ∷ codes "--at=5" ∷ []) → IsPastTheEnd words cut_filing)
-    × ((words : List (String Global)) → AreTyped words (codes "project" ∷ codes "2021-01-01" ∷ codes "1" ∷ []) → AskForProject words (pos 18628) 1 (codes "basis.csv"))
-    × ((words : List (String Global)) → AreTyped words (codes "load" ∷ codes "7" ∷ codes "5" ∷ codes "2" ∷ codes "1" ∷ []) → AskForLoad words)
-    × ((words : List (String Global)) → IsReasoned words no_input (output_of (codes "checkpoint,1" ++ 10 ∷ [])) (shelf_that_told []) looked_filing saved_filing 0)
+    × IsPastTheEnd (codes "value" ∷ codes "2021-01-01" ∷ codes "--at=5" ∷ []) cut_filing
+    × AskForProject (codes "project" ∷ codes "2021-01-01" ∷ codes "1" ∷ []) (pos 18628) 1 (codes "basis.csv")
+    × AskForLoad (codes "load" ∷ codes "7" ∷ codes "5" ∷ codes "2" ∷ codes "1" ∷ [])
+    × ((words : List (List ℕ)) → IsReasoned words no_input (output_of (codes "checkpoint,1" ++ 10 ∷ [])) (shelf_that_told []) looked_filing saved_filing 0)
 
 -- the modes that need a basis end so where it isn't there, `generate` where there is no memory, and `state` with its books
 abbrev pub ModesByHand : Type 0
@@ -91,8 +90,8 @@ five_text = codes "0,value,2021-01-01,8,5" ++ (10 ∷ []) ++ codes "row,7001,inf
 
 -- the rows enclose the exact reserves; the first is insured, and its worth is by the rates from 2000 on
 abbrev pub EnclosedByHand : Type 0
-EnclosedByHand = IsEnclosingText 0 (pos 18628) five_endowments two_bases 8 five_text
-    × IsEnclosingRow two_bases (pos 18628) first_endowment first_value
+EnclosedByHand = IsEnclosingText run_wording table_reserves 0 (pos 18628) five_endowments two_bases 8 five_text
+    × IsEnclosingRow table_reserves two_bases (pos 18628) first_endowment first_value
     × IsInsured first_endowment (pos 18628)
     × IsPicked two_bases (pos 18262) 0 from_2000
-    × IsWorthBy first_endowment from_2000 (pos 18628) (shape_of Endowment 0 3 from_2000.table) 1 (Bounds 12722 12723)
+    × IsWorthBy table_reserves first_endowment from_2000 (pos 18628) 1 (Bounds 12722 12723)

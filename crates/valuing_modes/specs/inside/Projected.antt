@@ -7,7 +7,6 @@ use Rattle.life_dates.specs.Calendar.{IsTermDay}
 use Rattle.policy_types.specs.declared.command.Command.{Command}
 use Rattle.basis_book.specs.Dated.{Dated}
 use Rattle.snapshot_value.specs.declared.valuation.ValueFault.{ValueFault}
-use Rattle.snapshot_value.specs.declared.valuation.ValueFault.TheVariants.{Pin, NoMemory as NoValues}
 use Rattle.cash_projection.specs.Text.{IsTellable, projection_text}
 use Rattle.cash_projection.specs.declared.printing.Projection.{Projection}
 use Rattle.program_endings.specs.Writing.{Stream, WroteAll, WroteLine}
@@ -21,19 +20,13 @@ pub record CanBePrinted (projection : Projection) : Type 0 where
   pub few : length projection.years ≤ 131
   pub bounded : All IsTellable projection.years
 
--- the only answers of an office that nobody else calls: the projection, which can be printed, or want of memory
-abbrev pub IsLoneProjection : Result Projection ValueFault → Type 0
-IsLoneProjection (Ok projection) = CanBePrinted projection
-IsLoneProjection (Err (Pin refusal)) = ⊥
-IsLoneProjection (Err NoValues) = Unit {0}
-
 -- how the answer is written
 abbrev pub EndsPrinted : Result Projection ValueFault → Stream → Ending → Type 0
 EndsPrinted (Ok projection) output Done = WroteAll output (projection_text projection)
 EndsPrinted (Ok projection) output WriteFault =
     Rose output.faults_before output.faults_after × AppendsPart output.before output.after (projection_text projection)
 EndsPrinted (Ok projection) output NoMemory = WroteLine output (codes "nomemory")
-EndsPrinted (Err NoValues) output NoMemory = WroteLine output (codes "nomemory")
+EndsPrinted (Err fault) output NoMemory = WroteLine output (codes "nomemory")
 EndsPrinted _ _ _ = ⊥
 
 -- how the projection of these commands' policies is written

@@ -5,13 +5,12 @@ use Rattle.outside_io.specs.Streams.{AppendsPart}
 use Rattle.policy_types.specs.declared.command.Command.{Command}
 use Rattle.policy_types.specs.declared.entry.At.{At}
 use Rattle.basis_book.specs.Dated.{Dated}
-use Rattle.policy_types.specs.declared.entry.PinRefusal.TheVariants.{Ahead as PastTheEnd, Trimmed, PinsFull}
+use Rattle.policy_types.specs.declared.entry.PinRefusal.TheVariants.{Ahead as PastTheEnd}
 use Rattle.policy_value.specs.declared.worth.Measure.{Measure}
 use Rattle.report_text.specs.Block.{block_text}
 use Rattle.snapshot_value.specs.declared.valuation.Valuation.{Valuation}
 use Rattle.snapshot_value.specs.declared.valuation.ValueFault.{ValueFault}
-use Rattle.snapshot_value.specs.declared.valuation.ValueFault.TheVariants.{Pin, NoMemory as NoValues}
-use Rattle.program_endings.specs.Blocks.{IsWritableBlock}
+use Rattle.snapshot_value.specs.declared.valuation.ValueFault.TheVariants.{Pin}
 use Rattle.program_endings.specs.Writing.{Stream, WroteAll, WroteLine}
 use Rattle.program_endings.specs.declared.ending.Ending.{Ending}
 use Rattle.program_endings.specs.declared.ending.Ending.TheVariants.{Ahead, Done, NoMemory, WriteFault}
@@ -33,15 +32,6 @@ EndsValued commands on at measure basis output Ahead = IsBeyond commands at outp
 EndsValued commands on at measure basis output NoMemory = WroteLine output (codes "nomemory")
 EndsValued commands on at measure basis output _ = ⊥
 
--- the only answers of an office that nobody else calls: the values, which can be written, or that there are fewer commands
--- than are asked for, or want of memory
-abbrev pub IsLoneAnswer : Result Valuation ValueFault → Type 0
-IsLoneAnswer (Ok valuation) = IsWritableBlock valuation
-IsLoneAnswer (Err (Pin (PastTheEnd count))) = Unit {0}
-IsLoneAnswer (Err (Pin (Trimmed floor))) = ⊥
-IsLoneAnswer (Err (Pin PinsFull)) = ⊥
-IsLoneAnswer (Err NoValues) = Unit {0}
-
 -- how the answer is written
 abbrev pub EndsAnswer : ℤ → Result Valuation ValueFault → Stream → Ending → Type 0
 EndsAnswer on (Ok valuation) output Done = WroteAll output (block_text 0 on valuation.position valuation.measure valuation.rows)
@@ -50,5 +40,5 @@ EndsAnswer on (Ok valuation) output WriteFault =
     × AppendsPart output.before output.after (block_text 0 on valuation.position valuation.measure valuation.rows)
 EndsAnswer on (Ok valuation) output NoMemory = WroteLine output (codes "nomemory")
 EndsAnswer on (Err (Pin (PastTheEnd count))) output ending = SaysAhead count output ending
-EndsAnswer on (Err NoValues) output NoMemory = WroteLine output (codes "nomemory")
+EndsAnswer on (Err fault) output NoMemory = WroteLine output (codes "nomemory")
 EndsAnswer _ _ _ _ = ⊥

@@ -1,4 +1,4 @@
-use Rattle.std.proofs.Common.{◌≡◌, ◌+◌, ◌∙◌, refl, sym, subst, length-append, ap, length, arith, rules}
+use Rattle.std.proofs.Common.{◌≡◌, ◌+◌, ◌∙◌, sym, subst, length-append, ap, length, arith, rules}
 use Rattle.std.specs.List.{AllByRecursion}
 use Rattle.cash_projection.specs.inside.Portions.{IsProjectorFor}
 use Rattle.cash_projection.proofs.Portioning.{all_behind}
@@ -12,5 +12,8 @@ loop-preserved c = record {
       ap length c.push_reserved.ensures.items ∙ length-append c.loop.projectors.items _ in omega (arith, c.loop.invariant.many, longer);
   each = subst (AllByRecursion (IsProjectorFor c.args.basis.now _ c.args.years)) (sym c.push_reserved.ensures.items)
       (all_behind (IsProjectorFor c.args.basis.now _ c.args.years) c.loop.projectors.items _ c.loop.invariant.each
-      (record { right = c.in_ok-paths.ensures _; many = refl; by = λ portion tally given. given }));
+      (record {
+        takes = λ portion sound few. record { years = c.requires.years; right = c.in_ok-paths.ensures _; sound = sound; few = few };
+        by = λ portion tally given. given;
+      }));
 }

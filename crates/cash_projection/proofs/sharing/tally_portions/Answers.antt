@@ -6,7 +6,7 @@ use Rattle.cash_projection.proofs.sharing.tally_portions.Goals as goal
 
 pub map_into-requires-clause-taken : goal.map_into-requires-clause-taken
 map_into-requires-clause-taken g c κs within =
-    all_take c.requires.each.0 c.requires.each.1.0 c.args.years c.requires.years c.args.projectors.now c.args.portions.now c.requires.each.1.1
+    all_take c.requires.each.0 c.requires.each.1.0 c.args.years c.args.projectors.now c.args.portions.now c.requires.each.1.1
     c.requires.sound c.requires.few
 
 pub map_into-requires-send-P : goal.map_into-requires-send-P
@@ -22,7 +22,7 @@ joined-requires-clause-few g c = record {
   few = c.requires.few;
 }
 
-pub returns : goal.returns
-returns g c = λ basis on each.
+pub returns-clause-tally : goal.returns-clause-tally
+returns-clause-tally g c = λ basis on each.
     c.joined.ensures basis on c.args.portions.now
     (all_tallied basis on c.args.years c.args.projectors.now c.args.portions.now c.map_into.new.values each c.map_into.ensures.values)

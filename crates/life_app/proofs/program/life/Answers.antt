@@ -1,4 +1,4 @@
-use Rattle.std.proofs.Common.{None}
+use Rattle.std.proofs.Common.{None, map, string_bytes}
 use Rattle.life_app.proofs.ProgramSteps as step
 use Rattle.life_app.proofs.ReasonSteps.{reason}
 use Rattle.life_app.proofs.program.life.Goals as goal
@@ -14,15 +14,15 @@ pub returns-clause-reason : goal.returns-clause-reason
 returns-clause-reason g c = (
   c.obey-left.result.ending,
   c.status.ensures,
-  reason g.D.Disk g.D.Disk c.args.disk c.obey-left.result.disk c.args.words.now _ _ _ None _ _ _ _ c.obey-left.result.ending c.obey-left.ensures.does,
+  reason g.D.Disk g.D.Disk c.args.disk c.obey-left.result.disk (map string_bytes c.args.words.now) _ _ _ None _ _ _ _ c.obey-left.result.ending c.obey-left.ensures.does,
 )
 
 pub returns-clause-due : goal.returns-clause-due
 returns-clause-due g c = rw c.status.ensures
-    (step.due g.D.Disk g.D.Disk c.args.disk c.obey-left.result.disk None _ _ c.args.words.now _ _ _ _ _ c.obey-left.result.ending
+    (step.due g.D.Disk g.D.Disk c.args.disk c.obey-left.result.disk None _ _ (map string_bytes c.args.words.now) _ _ _ _ _ c.obey-left.result.ending
     c.obey-left.ensures.does c.obey-left.ensures.counted c.obey-left.ensures.heard)
 
 pub returns-clause-unopened : goal.returns-clause-unopened
 returns-clause-unopened g c =
-    step.unopened g.D.Disk g.D.Disk c.args.disk c.obey-left.result.disk None _ _ c.args.words.now _ _ _ _ _ c.obey-left.result.ending
+    step.unopened g.D.Disk g.D.Disk c.args.disk c.obey-left.result.disk None _ _ (map string_bytes c.args.words.now) _ _ _ _ _ c.obey-left.result.ending
     c.obey-left.ensures.does

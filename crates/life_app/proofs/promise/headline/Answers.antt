@@ -1,7 +1,8 @@
 use Rattle.std.proofs.Common.{inl, inr, lit≤, refl}
 use Rattle.basis_shelf.proofs.OneBasis.{one_basis}
 use Rattle.office_state.proofs.JournalLaws.{opens_to_one}
-use Rattle.life_app.proofs.HeadlineLaws.{headline}
+use Rattle.life_app.proofs.HeadlineLaws.{headline, once}
+use Rattle.life_app.proofs.TextLaws.{tells_apart}
 use Rattle.life_app.proofs.promise.headline.Goals as goal
 
 pub returns : goal.returns
@@ -12,4 +13,6 @@ returns g c = record {
   one = opens_to_one;
   empty = inr (refl, inl (lit≤ tt));
   one_basis = one_basis;
+  one_reserve = once;
+  told = tells_apart;
 }

@@ -6,5 +6,5 @@ returns g c = record {
   words = both_words;
   faults = two_filings;
   refused = λ disks output are reads ends. both_refuse g.D.Disk g.E.Disk disks output are reads ends;
-  unread = no_words _ _;
+  unread = no_words;
 }

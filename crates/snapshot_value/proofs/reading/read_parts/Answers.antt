@@ -1,7 +1,7 @@
 use Rattle.std.proofs.Common.{◌≤◌, rules, arith}
 use Rattle.snapshot_value.specs.inside.Reads.{reads_needed}
 use Rattle.snapshot_value.proofs.PinSteps.{known}
-use Rattle.snapshot_value.proofs.ReadSteps.{first_all, first_left, first_more, first_none, has_all, lacking, made_of_reads, part_sound, some_more, some_none}
+use Rattle.snapshot_value.proofs.ReadSteps.{first_all, first_few, first_left, first_more, first_none, has_all, lacking, made_of_reads, part_few, part_sound, some_more, some_none}
 use Rattle.snapshot_value.proofs.reading.read_parts.Goals as goal
 
 pub returns-in_err-batch-clause-made : goal.returns-in_err-batch-clause-made
@@ -26,7 +26,17 @@ read_part-requires-clause-left g c =
     (omega (arith, c.loop-k-test.true, c.parts_of-k-end.ensures, c.policies.ensures)) (omega (arith, c.requires.left))
 
 pub part-requires-clause-begun : goal.part-requires-clause-begun
-part-requires-clause-begun g c = (c.args.plan, (_, c.loop-k.invariant.read.has))
+part-requires-clause-begun g c = (
+  c.args.plan,
+  (
+    _,
+    c.loop-k.invariant.read.has,
+    rw c.policies-in-loop-k.ensures
+        (part_few c.args.pin.now (g.T.Reader.has_read c.args.plan c.loop-k.reader) c.loop-k.k c.args.pass.now c.loop-k.pass
+        (known c.args.pass.now c.args.pin.now c.requires.facts c.requires.held) c.loop-k.invariant.read c.read_part.new.batch c.read_part.new.pass
+        c.read_part.ensures.read),
+  ),
+)
 
 pub part-requires-clause-sound : goal.part-requires-clause-sound
 part-requires-clause-sound g c =
@@ -54,7 +64,9 @@ loop-k-preserved g c = record {
 }
 
 pub make-requires-clause-read : goal.make-requires-clause-read
-make-requires-clause-read g c κs within = (c.args.plan, (_, c.loop-k.invariant.read.has))
+make-requires-clause-read g c κs within =
+    let is = known c.args.pass.now c.args.pin.now c.requires.facts c.requires.held in
+    (c.args.plan, (_, c.loop-k.invariant.read.has, first_few c.args.pin.now c.loop-k.k c.args.pass.now is))
 
 pub returns-clause-made : goal.returns-clause-made
 returns-clause-made g c =

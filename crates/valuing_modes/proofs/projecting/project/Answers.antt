@@ -3,7 +3,7 @@ use Rattle.std.proofs.lemmas.Int.{to_z-of_z}
 use Rattle.lone_office.proofs.BeginningSteps.{ends_not_begun}
 use Rattle.program_endings.proofs.ReadOnlySteps.{ends_refused}
 use Rattle.valuing_modes.specs.Projecting.{EndsProjecting, IsProjected}
-use Rattle.valuing_modes.proofs.ProjectingSteps.{ends_alone, is_lone_projection}
+use Rattle.valuing_modes.proofs.ProjectingSteps.{ends_alone, projected_printable}
 use Rattle.valuing_modes.proofs.projecting.project.Goals as goal
 
 pub returns-in-Err-clause-ends : goal.returns-in-Err-clause-ends
@@ -19,9 +19,8 @@ pub write_answer-ending-requires : goal.write_answer-ending-requires
 write_answer-ending-requires g c =
     let on : to_z w32 (of_z w32 c.args.on) ≡ c.args.on = to_z-of_z w32 c.args.on c.ranges.on in
     record {
-      lone = is_lone_projection g.D.Disk _ c.args.disk c.close-disk.result.0 _ c.args.on c.args.years c.project-projected.result.turn
-          c.in-Ok.begun.basis c.in-Ok.begun.pass c.project-projected.new.pass _ _ c.project-projected.result.answer c.in-Ok.ensures.opened.started
-          c.close-disk.ensures.facts c.close-disk.ensures.closed (rw on at c.project-projected.ensures.projected) c.requires.day c.requires.years.1;
+      printable = projected_printable c.in-Ok.begun.basis c.args.on c.args.years c.requires.day c.requires.years.1 c.in-Ok.begun.pass
+          c.project-projected.new.pass c.project-projected.result.turn c.project-projected.result.answer (rw on at c.project-projected.ensures.projected);
     }
 
 pub returns-clause-ends : goal.returns-clause-ends

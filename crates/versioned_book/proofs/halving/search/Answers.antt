@@ -1,24 +1,17 @@
-use Rattle.std.proofs.Common.{◌+◌, ◌-◌, ◌*◌, ◌/◌, length, refl, sym, arith}
-use Rattle.std.proofs.lemmas.List.{length_push}
-use Rattle.versioned_book.specs.Versions.{versions}
-use Rattle.versioned_book.proofs.VersionSteps.{doubled, few_rising, halved, value_at-more, value_at-older, value_at-take}
+use Rattle.std.proofs.Common.{◌+◌, ◌-◌, ◌*◌, ◌/◌, length, refl, sym, ap, arith}
+use Rattle.std.proofs.lemmas.List.{take_all}
+use Rattle.versioned_book.specs.Versions.{value_at}
+use Rattle.versioned_book.proofs.VersionSteps.{doubled, halved, value_at-more, value_at-take}
 use Rattle.versioned_book.proofs.halving.search.Goals as goal
-
-pub overflow_cast-high : goal.overflow_cast-high
-overflow_cast-high g c =
-    let chain = c.args.chain.now in
-    let few = few_rising 0 chain.older.items (chain.position, chain.value) c.requires.rising in
-    omega (arith, few, length_push chain.older.items (chain.position, chain.value), c.len.ensures)
 
 pub loop-low-init : goal.loop-low-init
 loop-low-init g c =
-    let chain = c.args.chain.now in
-    let many = length_push chain.older.items (chain.position, chain.value) in (
+    let items = c.args.past.now.older.items in (
       omega arith,
-      omega (arith, many, c.len.ensures),
+      omega (arith, c.len-high.ensures),
       refl,
-      value_at-older c.args.p (c.len.result - 1) chain.older.items (chain.position, chain.value) (omega (arith, many, c.len.ensures)) c.requires.before,
-      (0, omega arith, omega (arith, many, c.len.ensures), omega arith),
+      ap (value_at c.args.p) (take_all c.len-high.result items (omega (arith, c.len-high.ensures))),
+      (0, omega arith, omega (arith, c.len-high.ensures), omega arith),
     )
 
 pub loop-low-preserved-then-position-p : goal.loop-low-preserved-then-position-p
@@ -28,11 +21,11 @@ loop-low-preserved-then-position-p g c =
     let s = i.4 in
     let wide = c.loop-low-test.true in
     let middle = c.loop-low.low + (c.loop-low.high - c.loop-low.low) / 2 in
-    let n = 2 * length (versions c.args.chain.now) + 1 in
+    let n = 2 * length c.args.past.now.older.items + 1 in
     let left = c.loop-low.high - (middle + 1) in (
       omega (arith, wide),
       i.1,
-      sym (value_at-more c.args.p middle (versions c.args.chain.now) c.look-position.result at.version c.if-position-p.true),
+      sym (value_at-more c.args.p middle c.args.past.now.older.items c.look-position.result at.version c.if-position-p.true),
       i.3,
       (
         s.0 + 1,
@@ -49,11 +42,11 @@ loop-low-preserved g c =
     let s = i.4 in
     let wide = c.loop-low-test.true in
     let middle = c.loop-low.low + (c.loop-low.high - c.loop-low.low) / 2 in
-    let n = 2 * length (versions c.args.chain.now) + 1 in (
+    let n = 2 * length c.args.past.now.older.items + 1 in (
       omega (arith, wide),
       omega (arith, wide, i.1),
       i.2,
-      value_at-take c.args.p middle 0 (versions c.args.chain.now) c.look-position.result at.version c.if-position-p.false c.requires.rising,
+      value_at-take c.args.p middle 0 c.args.past.now.older.items c.look-position.result at.version c.if-position-p.false c.requires,
       (
         s.0 + 1,
         omega (arith, at.step, s.1),

@@ -22,7 +22,7 @@ returns-in-Err c = λ rows row three h.
       count = omega (arith, h.count);
       right = λ few never. absurd (cc);
       wrong = λ fault few e.
-          let found = c.in-Err.ensures rows row three (h.right (omega arith) none) (omega (arith, h.count)) c.if-self-gt-MOST_ROWS-2.false in
+          let found = c.in-Err.ensures rows row three (h.right (omega arith) none) (omega (arith, h.count)) c.if-self-2.false in
           let same : c.in-Err.fault ≡ fault = cc in
           subst (λ f. IsRowsFault (rows ++ row ∷ []) f) same found;
     }

@@ -1,4 +1,4 @@
-use Rattle.std.proofs.Common.{◌≡◌, arith, ap, sym, ◌∙◌, ◌<◌, length, true≢false}
+use Rattle.std.proofs.Common.{arith, ap, sym, ◌∙◌, ◌<◌, length, true≢false}
 use Rattle.std.proofs.lemmas.List.{length-set, get_or_read}
 use Rattle.std.proofs.lemmas.List.Elements.{All-set}
 use Rattle.cash_projection.specs.inside.Paths.{IsRightPath}

@@ -1,26 +1,72 @@
-use Rattle.std.proofs.Common.{◌≡◌, ℕ, List, refl, sym, ◌∙◌, Err, subst}
+use Rattle.std.proofs.Common.{◌≡◌, ℕ, List, refl, ap, sym, ◌∙◌, subst, Err, Ok, length, rules}
 use Rattle.policy_types.specs.declared.entry.Entry.{Entry}
 use Rattle.policy_types.specs.declared.entry.Reply.TheVariants.{Refused}
+use Rattle.policy_types.specs.declared.refusal.Refusal.TheVariants.{Full}
 use Rattle.policy_machine.specs.Book.{judged_after}
 use Rattle.policy_machine.specs.History.{commands_after}
+use Rattle.posting_journal.specs.States.{disk_of}
+use Rattle.moment_ring.specs.Ends.{TellsOne}
 use Rattle.office_state.specs.Standing.{StandsFor}
-use Rattle.office_state.specs.States.{opening_of}
-use Rattle.office_state.specs.inside.Books.{commands_in}
-use Rattle.office_state.proofs.HistorySteps.{is_refused, posting}
+use Rattle.office_state.specs.States.{commands_of, opening_of}
+use Rattle.office_state.proofs.HistorySteps.{is_full, is_refused, posting}
 use Rattle.office_state.proofs.PostedPins.{posted_floor, posted_pins}
 use Rattle.office_state.proofs.SafeSteps.{outlet_itself}
-use Rattle.office_state.proofs.TurnSteps.{stands_still}
+use Rattle.office_state.proofs.TurnSteps.{crash_accepted, crash_faulted, stands_accepted, stands_faulted, stands_still}
 use Rattle.office_state.proofs.state.OfficeState.decide_ready.Goals as goal
 
 pub returns-in-Err-clause-stands : goal.returns-in-Err-clause-stands
 returns-in-Err-clause-stands g c = λ (history : List Entry) (caller : ℕ) (stands : StandsFor c.args.self.now history).
     let old = c.args.self.now in
     let command = c.args.command.now in
-    let found : judged_after (commands_in old.books) command ≡ Err c.in-Err.refusal =
-    sym {b = judged_after (commands_in old.books) command} c.judgement.ensures ∙ c.in-Err.is in
-    let decided = subst (λ cs. judged_after cs command ≡ Err c.in-Err.refusal) stands.listed found in
-    stands_still old history stands old.books old.counted (posting caller command (Refused c.in-Err.refusal)) refl refl refl
-    (is_refused (commands_after (opening_of old) history) command c.in-Err.refusal decided)
-    old.pins (stands.pins ∙ posted_pins history caller command (Refused c.in-Err.refusal) refl)
-    (stands.floor ∙ posted_floor history caller command (Refused c.in-Err.refusal) refl)
+    let reply = Refused c.in-Err.refusal in
+    let found : judged_after (commands_of old) command ≡ Err c.in-Err.refusal =
+    sym {b = judged_after (commands_of old) command} c.judgement.ensures ∙ c.in-Err.is in
+    stands_still old history stands old.books old.counted (posting caller command reply) refl refl refl
+    (is_refused (commands_after (opening_of old) history) command c.in-Err.refusal
+    (subst (λ cs. judged_after cs command ≡ Err c.in-Err.refusal) stands.listed found))
+    old.pins (stands.pins ∙ posted_pins history caller command reply refl)
+    (stands.floor ∙ posted_floor history caller command reply refl)
     old.watchers (λ before heard told. told) old.outlet (outlet_itself old.outlet.ring) refl
+
+pub returns-then-count-eq-MOST_COMMANDS-clause-stands : goal.returns-then-count-eq-MOST_COMMANDS-clause-stands
+returns-then-count-eq-MOST_COMMANDS-clause-stands g c = λ (history : List Entry) (caller : ℕ) (stands : StandsFor c.args.self.now history).
+    let old = c.args.self.now in
+    let command = c.args.command.now in
+    let decided : judged_after (commands_of old) command ≡ Ok c.in-Ok.after =
+    sym {b = judged_after (commands_of old) command} c.judgement.ensures ∙ c.in-Ok.is in
+    stands_still old history stands old.books old.counted (posting caller command (Refused Full)) refl refl refl
+    (is_full (commands_after (opening_of old) history) command c.in-Ok.after
+    (subst (λ cs. judged_after cs command ≡ Ok c.in-Ok.after) stands.listed decided)
+    (sym (ap length stands.listed) ∙ sym c.count.ensures ∙ c.if-count-eq-MOST_COMMANDS.true))
+    old.pins (stands.pins ∙ posted_pins history caller command (Refused Full) refl)
+    (stands.floor ∙ posted_floor history caller command (Refused Full) refl)
+    old.watchers (λ before heard told. told) old.outlet (outlet_itself old.outlet.ring) refl
+
+pub returns-in-Ok-record-clause-stands : goal.returns-in-Ok-record-clause-stands
+returns-in-Ok-record-clause-stands g c = λ (history : List Entry) (caller : ℕ) (stands : StandsFor c.args.self.now history).
+    let told : TellsOne c.args.self.now.outlet.ring c.tell.new.self.ring (g.D.Disk.clock (disk_of c.record.new.journal)) = search (rules) in
+    stands_accepted c.args.self.now history stands c.args.command.now c.in-Ok.after c.record.new.journal c.record.result c.requires.valid
+    (sym {b = judged_after (commands_of c.args.self.now) c.args.command.now} c.judgement.ensures ∙ c.in-Ok.is)
+    c.record.ensures.disk.honesty (rw c.encode.ensures at c.record.ensures.records) c.keep.new.self _ c.count-position.result c.in-Ok-record.field-0
+    c.keep.ensures.floor c.in-Ok-record.ensures.disk.quiet c.keep.ensures.commands (λ full. c.if-count-eq-MOST_COMMANDS.false (c.count.ensures ∙ full))
+    c.in-Ok-record.is c.count-position.ensures c.note.new.self c.note.ensures.told c.tell.new.self told g.met.D.Disk.only_now caller
+
+pub returns-in-Ok-record-clause-crash : goal.returns-in-Ok-record-clause-crash
+returns-in-Ok-record-clause-crash g c = λ (history : List Entry) (stands : StandsFor c.args.self.now history).
+    crash_accepted c.args.self.now history stands c.args.command.now c.in-Ok.after c.record.new.journal c.record.result c.requires.valid
+    (sym {b = judged_after (commands_of c.args.self.now) c.args.command.now} c.judgement.ensures ∙ c.in-Ok.is)
+    c.record.ensures.disk.honesty (rw c.encode.ensures at c.record.ensures.records) c.in-Ok-record.field-0 c.in-Ok-record.is c.count-position.result
+
+pub returns-in-Err-record-clause-stands : goal.returns-in-Err-record-clause-stands
+returns-in-Err-record-clause-stands g c = λ (history : List Entry) (caller : ℕ) (stands : StandsFor c.args.self.now history).
+    stands_faulted c.args.self.now history stands c.args.command.now c.in-Ok.after c.record.new.journal c.record.result c.requires.valid
+    (sym {b = judged_after (commands_of c.args.self.now) c.args.command.now} c.judgement.ensures ∙ c.in-Ok.is)
+    c.record.ensures.disk.honesty (rw c.encode.ensures at c.record.ensures.records) _ c.in-Err-record.fault.count c.in-Err-record.fault
+    (λ full. c.if-count-eq-MOST_COMMANDS.false (c.count.ensures ∙ full)) c.in-Err-record.ensures.disk.fault.0 c.record.ensures.disk.later
+    c.in-Err-record.ensures.disk.fault.1 c.in-Err-record.is caller
+
+pub returns-in-Err-record-clause-crash : goal.returns-in-Err-record-clause-crash
+returns-in-Err-record-clause-crash g c = λ (history : List Entry) (stands : StandsFor c.args.self.now history).
+    crash_faulted c.args.self.now history stands c.args.command.now c.in-Ok.after c.record.new.journal c.record.result c.requires.valid
+    (sym {b = judged_after (commands_of c.args.self.now) c.args.command.now} c.judgement.ensures ∙ c.in-Ok.is)
+    c.record.ensures.disk.honesty (rw c.encode.ensures at c.record.ensures.records) c.in-Err-record.fault.count

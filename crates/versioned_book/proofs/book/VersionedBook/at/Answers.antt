@@ -1,11 +1,13 @@
-use Rattle.std.proofs.Common.{◌≡◌, Some, sym, ap, ◌∙◌, subst, length, IsSome, IfSome, nat_eq}
+use Rattle.std.proofs.Common.{◌≡◌, Some, sym, ap, ◌∙◌, subst, length, IsSome, IfSome, nat_eq, arith}
+use Rattle.std.proofs.lemmas.List.{length_push}
 use Rattle.std.specs.Option.{option_map}
 use Rattle.std.specs.Map.Iter.{deref_pair}
 use Rattle.indexmap.specs.IndexMap.{get}
+use Rattle.versioned_book.specs.Pasts.{newest, older_of, olders_in}
 use Rattle.versioned_book.specs.Settings.{own}
-use Rattle.versioned_book.specs.Versions.{AreFewSteps, versions_from, value_at}
+use Rattle.versioned_book.specs.Versions.{IsRising, versions_from, value_at}
 use Rattle.versioned_book.proofs.Looking.{chain_at, has_value, within_keys}
-use Rattle.versioned_book.proofs.VersionSteps.{some_same}
+use Rattle.versioned_book.proofs.VersionSteps.{some_same, value_at-within}
 use Rattle.versioned_book.proofs.book.VersionedBook.at.Goals as goal
 
 pub unwrap-requires : goal.unwrap-requires
@@ -13,13 +15,26 @@ unwrap-requires g c =
     let s = c.requires.stands in
     c.get_index.ensures.found.1 (within_keys c.args.self.now s.0 c.args.p c.args.index s.1 s.2)
 
-pub at-requires : goal.at-requires
-at-requires g c =
+pub returns-then-chain-p-clause-value : goal.returns-then-chain-p-clause-value
+returns-then-chain-p-clause-value g c sets key h place =
+    let pair = c.unwrap.result in
+    let entry = sym c.get_index.ensures.entry ∙ ap (option_map deref_pair) c.unwrap.ensures in
+    let found = subst (λ o. IfSome o (λ p. get nat_eq c.args.self.now.chains p.0.now ≡ Some p.1.now)) c.unwrap.ensures c.get_index.ensures.value in
+    let there = chain_at c.args.self.now sets c.args.index pair.0.now pair.1.now h entry found in
+    ap (λ k. value_at c.args.p (own k sets)) (some_same key pair.0.now (sym place ∙ there.place)) ∙ sym (there.value c.args.p c.requires.floor)
+    ∙ value_at-within c.args.p (older_of pair.0.now (olders_in c.args.self.now.pasts)) pair.1.now.position pair.1.now.value c.if-chain-p.true
+
+pub returns-then-chain-p-clause-looks : goal.returns-then-chain-p-clause-looks
+returns-then-chain-p-clause-looks g c sets key h place = (0, omega arith, omega arith)
+
+pub value_at-requires : goal.value_at-requires
+value_at-requires g c =
     let s = c.requires.stands in
     let pair = c.unwrap.result in
     let entry = sym c.get_index.ensures.entry ∙ ap (option_map deref_pair) c.unwrap.ensures in
     let found = subst (λ o. IfSome o (λ p. get nat_eq c.args.self.now.chains p.0.now ≡ Some p.1.now)) c.unwrap.ensures c.get_index.ensures.value in
-    (chain_at c.args.self.now s.0 c.args.index pair.0.now pair.1.now s.1 entry found).rising
+    let there = chain_at c.args.self.now s.0 c.args.index pair.0.now pair.1.now s.1 entry found in
+    subst (IsRising 0) (sym there.older) there.rising
 
 pub unwrap-requires-2 : goal.unwrap-requires-2
 unwrap-requires-2 g c =
@@ -28,7 +43,8 @@ unwrap-requires-2 g c =
     let entry = sym c.get_index.ensures.entry ∙ ap (option_map deref_pair) c.unwrap.ensures in
     let found = subst (λ o. IfSome o (λ p. get nat_eq c.args.self.now.chains p.0.now ≡ Some p.1.now)) c.unwrap.ensures c.get_index.ensures.value in
     let there = chain_at c.args.self.now s.0 c.args.index pair.0.now pair.1.now s.1 entry found in
-    subst IsSome (sym (c.at.ensures.value ∙ there.value c.args.p c.requires.floor)) (has_value c.args.self.now s.0 c.args.p c.args.index pair.0.now s.1 there.place s.2)
+    subst IsSome (sym (c.value_at.ensures.value ∙ there.before c.args.p c.requires.floor c.if-chain-p.false))
+    (has_value c.args.self.now s.0 c.args.p c.args.index pair.0.now s.1 there.place s.2)
 
 pub returns-clause-value : goal.returns-clause-value
 returns-clause-value g c sets key h place =
@@ -36,8 +52,8 @@ returns-clause-value g c sets key h place =
     let entry = sym c.get_index.ensures.entry ∙ ap (option_map deref_pair) c.unwrap.ensures in
     let found = subst (λ o. IfSome o (λ p. get nat_eq c.args.self.now.chains p.0.now ≡ Some p.1.now)) c.unwrap.ensures c.get_index.ensures.value in
     let there = chain_at c.args.self.now sets c.args.index pair.0.now pair.1.now h entry found in
-    let same = some_same key pair.0.now (sym place ∙ there.place) in
-    ap (λ k. value_at c.args.p (own k sets)) same ∙ sym (there.value c.args.p c.requires.floor) ∙ sym c.at.ensures.value ∙ c.unwrap-2.ensures
+    ap (λ k. value_at c.args.p (own k sets)) (some_same key pair.0.now (sym place ∙ there.place))
+    ∙ sym (c.value_at.ensures.value ∙ there.before c.args.p c.requires.floor c.if-chain-p.false) ∙ c.unwrap-2.ensures
 
 pub returns-clause-looks : goal.returns-clause-looks
 returns-clause-looks g c sets key h place =
@@ -46,4 +62,15 @@ returns-clause-looks g c sets key h place =
     let found = subst (λ o. IfSome o (λ p. get nat_eq c.args.self.now.chains p.0.now ≡ Some p.1.now)) c.unwrap.ensures c.get_index.ensures.value in
     let there = chain_at c.args.self.now sets c.args.index pair.0.now pair.1.now h entry found in
     let same = some_same key pair.0.now (sym place ∙ there.place) in
-    subst (λ n. AreFewSteps c.args.steps.now c.at.new.steps n) (ap length there.kept ∙ ap (λ k. length (versions_from c.args.self.now.floor (own k sets))) (sym same)) c.at.ensures.looks
+    let looks = c.value_at.ensures.looks in (
+      looks.0,
+      looks.1,
+      omega (
+        arith,
+        looks.2,
+        ap length there.older,
+        length_push (older_of pair.0.now (olders_in c.args.self.now.pasts)) (newest pair.1.now),
+        ap length there.kept,
+        ap (λ k. length (versions_from c.args.self.now.floor (own k sets))) same,
+      ),
+    )

@@ -17,6 +17,6 @@ returns-clause-book g c = λ sets h.
       counts = h.counts;
       count = h.count;
       bound = omega (arith, h.bound, later);
-      several = h.several;
-      listed = h.listed;
+      told = h.told;
+      few = omega (arith, h.few, later);
     }

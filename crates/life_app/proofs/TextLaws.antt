@@ -1,0 +1,340 @@
+-- The text of a line is read back as its fields, and a block as its rows
+use Rattle.std.proofs.Common.{◌≡◌, ℕ, zero, suc, ◌+◌, ◌/◌, ◌%◌, ◌^◌, ◌<◌, ◌≤◌, ℤ, List, [], ◌∷◌, ◌++◌, drop, length, map, get_or, refl, ap, ap₂, sym, ◌∙◌, subst, arith, codes, lit<, Bool, true, nat_le, ◌&&◌}
+use Rattle.std.specs.Prelude.{decimal, if◌then◌else◌, ◌==◌}
+use Rattle.std.specs.List.{AllByRecursion, flat_map}
+use Rattle.std.specs.Int.Digits.{digits_of}
+use Rattle.std.proofs.lemmas.Bool.{and_parts, leb-true}
+use Rattle.std.proofs.lemmas.Fmt.{decimal_digit, decimal-digits_of, decimal_injective}
+use Rattle.std.proofs.lemmas.List.{append_assoc}
+use Rattle.life_dates.specs.Calendar.{Date, date_of}
+use Rattle.life_dates.specs.DayText.{date_text, day_text, two_digits}
+use Rattle.money_core.specs.CentsText.{cents_text, hundredths_text}
+use Rattle.money_core.proofs.CentsTextLemmas.{cents_text_injective}
+use Rattle.plan_benefits.specs.declared.fault.NotValued.{NotValued}
+use Rattle.plan_benefits.specs.declared.fault.NotValued.TheVariants.{NoBasis, BelowTable, PastTable, RateHigh}
+use Rattle.policy_types.specs.Words.{kind_word, status_word}
+use Rattle.policy_types.specs.declared.policy.Status.{Status}
+use Rattle.policy_types.specs.declared.policy.Status.TheVariants.{InForce, Lapsed, Claimed, Matured, Expired, Settled, PaidUp}
+use Rattle.policy_value.specs.declared.worth.Measure.TheVariants.{Terminal}
+use Rattle.policy_value.specs.declared.worth.Row.{Row}
+use Rattle.policy_value.specs.declared.worth.Worth.{Worth}
+use Rattle.policy_value.specs.declared.worth.Worth.TheVariants.{Bounds, Both, Word}
+use Rattle.report_text.specs.Block.{block_text, heading_text, reason_word, row_text, total_text, worth_fields}
+use Rattle.text_lines.specs.Lines.{behind_commas, line_of}
+use Rattle.policy_types.specs.Valid.{id_of}
+use Rattle.policy_types.specs.declared.command.Command.{Command}
+use Rattle.policy_types.specs.declared.command.Command.TheVariants.{Issue, Premium, Alter, Lapse, Reinstate, Claim, Settle, Mature, PaidUp as PaidUpCommand, Upgrade}
+use Rattle.policy_types.specs.declared.entry.Reply.{Reply}
+use Rattle.policy_types.specs.declared.entry.Reply.TheVariants.{Accepted, Refused, Faulted, Blank}
+use Rattle.transcript_text.specs.Transcript.{reply_fields}
+use Rattle.life_app.specs.Texts.{AreAlike, IsPlainReply, IsPlainRow, IsPlainWorth, TellsApart, run_wording}
+
+-- ---- fields without a comma and a line feed
+
+-- each byte is `-` or above, so none is a comma, 44, or a line feed, 10
+abbrev pub IsBare : List ℕ → Type 0
+IsBare field = AllByRecursion (λ b. 45 ≤ b) field
+
+abbrev is_bare : List ℕ → Bool
+is_bare [] = true
+is_bare (b ∷ bs) = nat_le 45 b && is_bare bs
+
+bare_by : (field : List ℕ) → is_bare field ≡ true → IsBare field
+bare_by [] all = tt
+bare_by (b ∷ bs) all = let parts = and_parts (nat_le 45 b) (is_bare bs) all in (leb-true 45 b parts.0, bare_by bs parts.1)
+
+bare_both : (xs ys : List ℕ) → IsBare xs → IsBare ys → IsBare (xs ++ ys)
+bare_both [] ys one two = two
+bare_both (x ∷ xs) ys one two = (one.0, bare_both xs ys one.1 two)
+
+bare_digits : (digits : List ℕ) → IsBare (map (λ d. 48 + d) digits)
+bare_digits [] = tt
+bare_digits (d ∷ digits) = (omega arith, bare_digits digits)
+
+pub bare_number : (n : ℕ) → n < 2 ^ 64 → IsBare (decimal n)
+bare_number zero small = subst IsBare (sym (decimal_digit 0 (omega arith))) (omega arith, tt)
+bare_number (suc n) small = subst IsBare (sym (decimal-digits_of (suc n) (omega arith) small)) (bare_digits (digits_of 10 (suc n)))
+
+bare_hundredths : (n : ℕ) → IsBare (hundredths_text n)
+bare_hundredths n = (omega arith, (omega arith, (omega arith, tt)))
+
+bare_cents : (n : ℕ) → n < 2 ^ 64 → IsBare (cents_text n)
+bare_cents n small =
+    bare_both (decimal (n / 100)) (hundredths_text (n % 100)) (bare_number (n / 100) (omega (arith, small))) (bare_hundredths (n % 100))
+
+bare_two : (n : ℕ) → IsBare (two_digits n)
+bare_two n = (omega arith, (omega arith, tt))
+
+bare_date : (date : Date) → IsBare (date_text date)
+bare_date date = bare_both (two_digits (date.year / 100) ++ two_digits (date.year % 100) ++ (45 ∷ two_digits date.month)) (45 ∷ two_digits date.day)
+    (bare_both (two_digits (date.year / 100) ++ two_digits (date.year % 100)) (45 ∷ two_digits date.month)
+    (bare_both (two_digits (date.year / 100)) (two_digits (date.year % 100)) (bare_two _) (bare_two _)) (omega arith, bare_two date.month))
+    (omega arith, bare_two date.day)
+
+bare_day : (day : ℤ) → IsBare (day_text day)
+unfolding day_text
+bare_day day = bare_date (date_of day)
+
+-- ---- a line is read as its fields
+
+-- it begins with a byte below `-`
+abbrev IsEnd : List ℕ → Type 0
+IsEnd [] = ⊥
+IsEnd (byte ∷ more) = byte < 45
+
+tail : List ℕ → List ℕ
+tail [] = []
+tail (byte ∷ more) = more
+
+heads : (c d : ℕ) (xs ys : List ℕ) → c ∷ xs ≡ d ∷ ys → c ≡ d
+heads c d xs ys same = ap (λ (l : List ℕ). get_or l 0 0) same
+
+tails : (c d : ℕ) (xs ys : List ℕ) → c ∷ xs ≡ d ∷ ys → xs ≡ ys
+unfolding tail
+tails c d xs ys same = ap tail same
+
+-- the same field, and the same rest
+same_front : (a b x y : List ℕ) → IsBare a → IsBare b → IsEnd x → IsEnd y → a ++ x ≡ b ++ y → (a ≡ b) × (x ≡ y)
+same_front [] [] x y one two low other same = (refl, same)
+same_front [] (d ∷ b) [] y one two low other same = absurd low
+same_front [] (d ∷ b) (c ∷ x) y one two low other same =
+    absurd (let first = heads c d x (b ++ y) same in let high = two.0 in omega (arith, first, high, low))
+same_front (c ∷ a) [] x [] one two low other same = absurd other
+same_front (c ∷ a) [] x (d ∷ y) one two low other same =
+    absurd (let first = heads c d (a ++ x) y same in let high = one.0 in omega (arith, first, high, other))
+same_front (c ∷ a) (d ∷ b) x y one two low other same =
+    let rest = same_front a b x y one.1 two.1 low other (tails c d (a ++ x) (b ++ y) same) in
+    (ap₂ (λ (e : ℕ) (es : List ℕ). e ∷ es) (heads c d (a ++ x) (b ++ y) same) rest.0, rest.1)
+
+abbrev pub AreBare : List (List ℕ) → Type 0
+AreBare fields = AllByRecursion IsBare fields
+
+ends : (fields : List (List ℕ)) (x : List ℕ) → IsEnd (behind_commas fields ++ 10 ∷ x)
+ends [] x = lit< tt
+ends (field ∷ fields) x = lit< tt
+
+behind_first : (f g : List ℕ) (fs gs : List (List ℕ)) (x y : List ℕ)
+    → behind_commas (f ∷ fs) ++ 10 ∷ x ≡ behind_commas (g ∷ gs) ++ 10 ∷ y
+    → f ++ (behind_commas fs ++ 10 ∷ x) ≡ g ++ (behind_commas gs ++ 10 ∷ y)
+behind_first f g fs gs x y same =
+    sym (append_assoc f (behind_commas fs) (10 ∷ x)) ∙ tails 44 44 _ _ same ∙ append_assoc g (behind_commas gs) (10 ∷ y)
+
+-- fields behind commas, and then a line feed
+same_fields : (fs gs : List (List ℕ)) (x y : List ℕ) → AreBare fs → AreBare gs
+    → behind_commas fs ++ 10 ∷ x ≡ behind_commas gs ++ 10 ∷ y → (fs ≡ gs) × (x ≡ y)
+same_fields [] [] x y one two same = (refl, tails 10 10 x y same)
+same_fields [] (g ∷ gs) x y one two same = absurd (let first = heads 10 44 x _ same in omega (arith, first))
+same_fields (f ∷ fs) [] x y one two same = absurd (let first = heads 44 10 _ y same in omega (arith, first))
+same_fields (f ∷ fs) (g ∷ gs) x y one two same =
+    let front = same_front f g _ _ one.0 two.0 (ends fs x) (ends gs y) (behind_first f g fs gs x y same) in
+    let rest = same_fields fs gs x y one.1 two.1 front.1 in
+    (ap₂ (λ (e : List ℕ) (es : List (List ℕ)). e ∷ es) front.0 rest.0, rest.1)
+
+line_before : (a : List ℕ) (fs : List (List ℕ)) (x : List ℕ) → line_of a fs ++ x ≡ a ++ (behind_commas fs ++ 10 ∷ x)
+line_before a fs x =
+    append_assoc (a ++ behind_commas fs) (10 ∷ []) x ∙ append_assoc a (behind_commas fs) (10 ∷ x)
+
+-- a line, and what stands behind it
+pub same_line : (a b : List ℕ) (fs gs : List (List ℕ)) (x y : List ℕ) → IsBare a → IsBare b → AreBare fs → AreBare gs
+    → line_of a fs ++ x ≡ line_of b gs ++ y → (a ≡ b) × (fs ≡ gs) × (x ≡ y)
+same_line a b fs gs x y first other one two same =
+    let joined = sym (line_before a fs x) ∙ same ∙ line_before b gs y in
+    let front = same_front a b _ _ first other (ends fs x) (ends gs y) joined in
+    let rest = same_fields fs gs x y one two front.1 in
+    (front.0, rest.0, rest.1)
+
+-- ---- the row of a policy
+
+bare_status : (status : Status) → IsBare (status_word status)
+bare_status InForce = bare_by (codes "inforce") refl
+bare_status Lapsed = bare_by (codes "lapsed") refl
+bare_status Claimed = bare_by (codes "claimed") refl
+bare_status Matured = bare_by (codes "matured") refl
+bare_status Expired = bare_by (codes "expired") refl
+bare_status Settled = bare_by (codes "settled") refl
+bare_status PaidUp = bare_by (codes "paidup") refl
+
+status_by : ℕ → Status
+status_by letter =
+    if letter == 105 then InForce else if letter == 108 then Lapsed else if letter == 99 then Claimed
+    else if letter == 109 then Matured else if letter == 101 then Expired else if letter == 115 then Settled else PaidUp
+
+status_again : (status : Status) → status_by (get_or (status_word status) 0 0) ≡ status
+unfolding status_by
+status_again InForce = refl
+status_again Lapsed = refl
+status_again Claimed = refl
+status_again Matured = refl
+status_again Expired = refl
+status_again Settled = refl
+status_again PaidUp = refl
+
+same_status : (status other : Status) → status_word status ≡ status_word other → status ≡ other
+same_status status other same =
+    sym (status_again status) ∙ ap (λ (word : List ℕ). status_by (get_or word 0 0)) same ∙ status_again other
+
+-- ---- a block
+
+bare_worth : (worth : Worth) → IsPlainWorth worth → AreBare (worth_fields worth)
+bare_worth (Bounds lo hi) plain = (bare_cents lo plain.0, (bare_cents hi plain.1, tt))
+bare_worth (Word NoBasis) plain = (bare_by (codes "nobasis") refl, tt)
+bare_worth (Word BelowTable) plain = (bare_by (codes "belowtable") refl, tt)
+bare_worth (Word PastTable) plain = (bare_by (codes "pasttable") refl, tt)
+bare_worth (Word RateHigh) plain = (bare_by (codes "ratehigh") refl, tt)
+bare_worth (Both lo hi min_lo min_hi test) plain = absurd plain
+
+reason_by : ℕ → NotValued
+reason_by letter =
+    if letter == 110 then NoBasis else if letter == 98 then BelowTable else if letter == 112 then PastTable else RateHigh
+
+reason_again : (why : NotValued) → reason_by (get_or (reason_word why) 0 0) ≡ why
+unfolding reason_by
+reason_again NoBasis = refl
+reason_again BelowTable = refl
+reason_again PastTable = refl
+reason_again RateHigh = refl
+
+same_worth : (worth other : Worth) → IsPlainWorth worth → IsPlainWorth other → worth_fields worth ≡ worth_fields other → worth ≡ other
+same_worth (Bounds lo hi) (Bounds low high) plain bare same =
+    let lower = cents_text_injective lo low (small lo plain.0) (small low bare.0) (ap (λ (fs : List (List ℕ)). get_or fs 0 []) same) in
+    let upper = cents_text_injective hi high (small hi plain.1) (small high bare.1) (ap (λ (fs : List (List ℕ)). get_or fs 1 []) same) in
+    ap₂ (λ (l h : ℕ). Bounds l h) lower upper
+  where
+    small : (n : ℕ) → n < 2 ^ 64 → n < 10 ^ 64
+    small n below = omega (arith, below)
+same_worth (Bounds lo hi) (Word why) plain bare same =
+    absurd (let long = ap (λ (fs : List (List ℕ)). length fs) same in omega (arith, long))
+same_worth (Word why) (Bounds lo hi) plain bare same =
+    absurd (let long = ap (λ (fs : List (List ℕ)). length fs) same in omega (arith, long))
+same_worth (Word why) (Word other) plain bare same =
+    let words : reason_word why ≡ reason_word other = ap (λ (fs : List (List ℕ)). get_or fs 0 []) same in
+    let reasons = sym (reason_again why) ∙ ap (λ (word : List ℕ). reason_by (get_or word 0 0)) words ∙ reason_again other in
+    ap (λ (w : NotValued). Word w) reasons
+same_worth (Both lo hi min_lo min_hi test) other plain bare same = absurd plain
+same_worth worth (Both lo hi min_lo min_hi test) plain bare same = absurd bare
+
+abbrev row_fields : Row → List (List ℕ)
+row_fields row = decimal row.id ∷ status_word row.status ∷ decimal row.t ∷ worth_fields row.worth
+
+bare_row : (row : Row) → IsPlainRow row → AreBare (row_fields row)
+bare_row row plain = (bare_number row.id plain.0, (bare_status row.status, (bare_number row.t plain.1, bare_worth row.worth plain.2)))
+
+abbrev row_with : ℕ → Status → ℕ → Worth → Row
+row_with id status t worth = record { id = id; status = status; t = t; worth = worth }
+
+made : (id other : ℕ) (status state : Status) (t year : ℕ) (worth value : Worth) → id ≡ other → status ≡ state → t ≡ year
+    → worth ≡ value → row_with id status t worth ≡ row_with other state year value
+made id other status state t year worth value a b c d = cc
+
+same_row : (row other : Row) → IsPlainRow row → IsPlainRow other → row_fields row ≡ row_fields other → row ≡ other
+same_row row other plain bare same =
+    let id : row.id ≡ other.id = decimal_injective row.id other.id plain.0 bare.0 (ap (λ (fs : List (List ℕ)). get_or fs 0 []) same) in
+    let status : row.status ≡ other.status = same_status row.status other.status (ap (λ (fs : List (List ℕ)). get_or fs 1 []) same) in
+    let t : row.t ≡ other.t = decimal_injective row.t other.t plain.1 bare.1 (ap (λ (fs : List (List ℕ)). get_or fs 2 []) same) in
+    let worth : row.worth ≡ other.worth = same_worth row.worth other.worth plain.2 bare.2 (ap (λ (fs : List (List ℕ)). drop 3 fs) same) in
+    made row.id other.id row.status other.status row.t other.t row.worth other.worth id status t worth
+
+same_rows : (rows others : List Row) (x y : List ℕ) → length rows ≡ length others → AllByRecursion IsPlainRow rows
+    → AllByRecursion IsPlainRow others → flat_map row_text rows ++ x ≡ flat_map row_text others ++ y → rows ≡ others
+unfolding row_text
+same_rows [] [] x y long plain bare same = refl
+same_rows [] (other ∷ others) x y long plain bare same = absurd (omega (arith, long))
+same_rows (row ∷ rows) [] x y long plain bare same = absurd (omega (arith, long))
+same_rows (row ∷ rows) (other ∷ others) x y long plain bare same =
+    let joined = sym (append_assoc (row_text row) (flat_map row_text rows) x) ∙ same ∙ append_assoc (row_text other) (flat_map row_text others) y in
+    let first = same_line (codes "row") (codes "row") (row_fields row) (row_fields other) _ _ (bare_by (codes "row") refl)
+    (bare_by (codes "row") refl) (bare_row row plain.0) (bare_row other bare.0) joined in
+    let rest = same_rows rows others x y (omega (arith, long)) plain.1 bare.1 first.2 in
+    ap₂ (λ (r : Row) (rs : List Row). r ∷ rs) (same_row row other plain.0 bare.0 first.1) rest
+
+abbrev heading_fields : ℤ → ℕ → ℕ → List (List ℕ)
+heading_fields on position policies = codes "value" ∷ day_text on ∷ decimal position ∷ decimal policies ∷ []
+
+bare_heading : (on : ℤ) (position policies : ℕ) → position < 2 ^ 64 → policies < 2 ^ 64 → AreBare (heading_fields on position policies)
+bare_heading on position policies low few =
+    (bare_by (codes "value") refl, (bare_day on, (bare_number position low, (bare_number policies few, tt))))
+
+rows_told : (clerk other : ℕ) (on day : ℤ) (position place : ℕ) (rows others : List Row) → clerk < 2 ^ 64 → other < 2 ^ 64
+    → position < 2 ^ 64 → place < 2 ^ 64 → length rows < 2 ^ 64 → length others < 2 ^ 64
+    → AllByRecursion IsPlainRow rows → AllByRecursion IsPlainRow others
+    → block_text clerk on position Terminal rows ≡ block_text other day place Terminal others → (position ≡ place) × (rows ≡ others)
+unfolding heading_text
+rows_told clerk other on day position place rows others small_clerk small_other small_position small_place few many plain bare same =
+    let before : (c : ℕ) (d : ℤ) (p : ℕ) (rs : List Row) → block_text c d p Terminal rs
+    ≡ line_of (decimal c) (heading_fields d p (length rs)) ++ (flat_map row_text rs ++ total_text Terminal rs) =
+    λ c d p rs. append_assoc (line_of (decimal c) (heading_fields d p (length rs))) (flat_map row_text rs) (total_text Terminal rs) in
+    let joined = sym (before clerk on position rows) ∙ same ∙ before other day place others in
+    let heading = same_line (decimal clerk) (decimal other) (heading_fields on position (length rows)) (heading_fields day place (length others)) _ _
+    (bare_number clerk small_clerk) (bare_number other small_other) (bare_heading on position (length rows) small_position few)
+    (bare_heading day place (length others) small_place many) joined in
+    let at = decimal_injective position place small_position small_place (ap (λ (fs : List (List ℕ)). get_or fs 2 []) heading.1) in
+    let long = decimal_injective (length rows) (length others) few many (ap (λ (fs : List (List ℕ)). get_or fs 3 []) heading.1) in
+    (at, same_rows rows others (total_text Terminal rows) (total_text Terminal others) long plain bare heading.2)
+
+-- ---- the line of a posting
+
+bare_kind : (command : Command) → IsBare (kind_word command)
+bare_kind (Issue id day plan age years amount premium) = bare_by (codes "issue") refl
+bare_kind (Premium id day amount) = bare_by (codes "premium") refl
+bare_kind (Alter id day amount premium) = bare_by (codes "alter") refl
+bare_kind (Lapse id day) = bare_by (codes "lapse") refl
+bare_kind (Reinstate id day amount) = bare_by (codes "reinstate") refl
+bare_kind (Claim id day) = bare_by (codes "claim") refl
+bare_kind (Settle id day amount) = bare_by (codes "settle") refl
+bare_kind (Mature id day) = bare_by (codes "mature") refl
+bare_kind (PaidUpCommand id day amount) = bare_by (codes "paidup") refl
+bare_kind Upgrade = bare_by (codes "upgrade") refl
+
+-- other letters behind the comma
+letters : (n m : ℕ) (xs ys : List ℕ) → (n ≡ m → ⊥) → 44 ∷ n ∷ xs ≡ 44 ∷ m ∷ ys → ⊥
+letters n m xs ys differ same = differ (ap (λ (l : List ℕ). get_or l 1 0) same)
+
+alike : (reply answer : Reply) → IsPlainReply reply → IsPlainReply answer → AreAlike reply reply → AreAlike answer answer
+    → behind_commas (reply_fields reply) ++ 10 ∷ [] ≡ behind_commas (reply_fields answer) ++ 10 ∷ [] → AreAlike reply answer
+alike (Accepted position) (Accepted other) plain bare one two same =
+    let accepted = bare_by (codes "accepted") refl in
+    let fields = same_fields (codes "accepted" ∷ decimal position ∷ []) (codes "accepted" ∷ decimal other ∷ []) [] []
+    (accepted, (bare_number position plain, tt)) (accepted, (bare_number other bare, tt)) same in
+    decimal_injective position other plain bare (ap (λ (fs : List (List ℕ)). get_or fs 1 []) fields.0)
+alike (Accepted position) (Refused refusal) plain bare one two same = letters 97 114 _ _ (λ e. omega (arith, e)) same
+alike (Accepted position) (Faulted count) plain bare one two same = letters 97 102 _ _ (λ e. omega (arith, e)) same
+alike (Accepted position) Blank plain bare one two same = letters 97 110 _ _ (λ e. omega (arith, e)) same
+alike (Refused refusal) (Accepted position) plain bare one two same = letters 114 97 _ _ (λ e. omega (arith, e)) same
+alike (Refused refusal) (Refused other) plain bare one two same = tt
+alike (Refused refusal) (Faulted count) plain bare one two same = letters 114 102 _ _ (λ e. omega (arith, e)) same
+alike (Refused refusal) Blank plain bare one two same = letters 114 110 _ _ (λ e. omega (arith, e)) same
+alike (Faulted count) (Accepted position) plain bare one two same = letters 102 97 _ _ (λ e. omega (arith, e)) same
+alike (Faulted count) (Refused refusal) plain bare one two same = letters 102 114 _ _ (λ e. omega (arith, e)) same
+alike (Faulted count) (Faulted other) plain bare one two same = tt
+alike (Faulted count) Blank plain bare one two same = letters 102 110 _ _ (λ e. omega (arith, e)) same
+alike Blank (Accepted position) plain bare one two same = letters 110 97 _ _ (λ e. omega (arith, e)) same
+alike Blank (Refused refusal) plain bare one two same = letters 110 114 _ _ (λ e. omega (arith, e)) same
+alike Blank (Faulted count) plain bare one two same = letters 110 102 _ _ (λ e. omega (arith, e)) same
+alike Blank Blank plain bare one two same = tt
+alike (Accepted position) _ plain bare one two same = absurd two
+alike (Refused refusal) _ plain bare one two same = absurd two
+alike (Faulted count) _ plain bare one two same = absurd two
+alike Blank _ plain bare one two same = absurd two
+alike _ _ plain bare one two same = absurd one
+
+pub tells_apart : TellsApart run_wording
+tells_apart = record {
+  posting = λ clerk other command another reply answer small_clerk small_other small_id small_another plain bare one two same.
+      let fields : (c : Command) (r : Reply) → List (List ℕ) = λ c r. kind_word c ∷ decimal (id_of c) ∷ reply_fields r in
+      let joined = sym (append_assoc (decimal clerk) (behind_commas (fields command reply)) (10 ∷ [])) ∙ same
+      ∙ append_assoc (decimal other) (behind_commas (fields another answer)) (10 ∷ []) in
+      let first = same_front (decimal clerk) (decimal other) _ _ (bare_number clerk small_clerk) (bare_number other small_other)
+      (ends (fields command reply) []) (ends (fields another answer) []) joined in
+      let kind = same_front (kind_word command) (kind_word another) _ _ (bare_kind command) (bare_kind another)
+      (ends (decimal (id_of command) ∷ reply_fields reply) []) (ends (decimal (id_of another) ∷ reply_fields answer) [])
+      (behind_first (kind_word command) (kind_word another) (decimal (id_of command) ∷ reply_fields reply)
+      (decimal (id_of another) ∷ reply_fields answer) [] [] first.1) in
+      let id = same_front (decimal (id_of command)) (decimal (id_of another)) _ _ (bare_number _ small_id) (bare_number _ small_another)
+      (ends (reply_fields reply) []) (ends (reply_fields answer) [])
+      (behind_first (decimal (id_of command)) (decimal (id_of another)) (reply_fields reply) (reply_fields answer) [] [] kind.1) in (
+        decimal_injective clerk other small_clerk small_other first.0,
+        decimal_injective (id_of command) (id_of another) small_id small_another id.0,
+        alike reply answer plain bare one two id.1,
+      );
+  rows = rows_told;
+}

@@ -1,0 +1,56 @@
+-- The texts of the program, as the headline is given them
+use Rattle.std.specs.Prelude.{◌≡◌, ℕ, ◌<◌, ◌^◌, ℤ, List, length}
+use Rattle.std.specs.List.{AllByRecursion}
+use Rattle.policy_types.specs.Valid.{id_of}
+use Rattle.policy_types.specs.declared.command.Command.{Command}
+use Rattle.policy_types.specs.declared.entry.Reply.{Reply}
+use Rattle.policy_types.specs.declared.entry.Reply.TheVariants.{Accepted, Refused, Faulted, Blank}
+use Rattle.policy_value.specs.declared.worth.Measure.TheVariants.{Terminal}
+use Rattle.policy_value.specs.declared.worth.Row.{Row}
+use Rattle.policy_value.specs.declared.worth.Worth.{Worth}
+use Rattle.policy_value.specs.declared.worth.Worth.TheVariants.{Bounds, Word}
+use Rattle.report_text.specs.Block.{block_text}
+use Rattle.transcript_text.specs.Transcript.{posting_text, reports_text, trim_text, unpinned_text, unvalued_text}
+use Rattle.life_app.specs.Given.{Wording}
+
+abbrev pub run_wording : Wording
+run_wording = record {
+  posting = posting_text;
+  trim = trim_text;
+  unpinned = unpinned_text;
+  unvalued = unvalued_text;
+  block = λ clerk on position rows. block_text clerk on position Terminal rows;
+  reports = reports_text;
+}
+
+-- numbers below 2^64, which the texts hold
+abbrev pub IsPlainReply : Reply → Type 0
+IsPlainReply (Accepted position) = position < 2 ^ 64
+IsPlainReply _ = Unit {0}
+
+abbrev pub IsPlainWorth : Worth → Type 0
+IsPlainWorth (Bounds lo hi) = (lo < 2 ^ 64) × (hi < 2 ^ 64)
+IsPlainWorth (Word why) = Unit {0}
+IsPlainWorth _ = ⊥
+
+abbrev pub IsPlainRow : Row → Type 0
+IsPlainRow row = (row.id < 2 ^ 64) × (row.t < 2 ^ 64) × IsPlainWorth row.worth
+
+-- both replies are a posting's, of one kind, and accepted at one position
+abbrev pub AreAlike : Reply → Reply → Type 0
+AreAlike (Accepted position) (Accepted other) = position ≡ other
+AreAlike (Refused refusal) (Refused other) = Unit {0}
+AreAlike (Faulted count) (Faulted other) = Unit {0}
+AreAlike Blank Blank = Unit {0}
+AreAlike _ _ = ⊥
+
+-- The line of a posting tells the clerk, the policy, and what became of it; and a valuation its position and all its rows.
+pub record TellsApart (wording : Wording) : Type 0 where
+  pub posting : (clerk other : ℕ) (command another : Command) (reply answer : Reply) → clerk < 2 ^ 64 → other < 2 ^ 64
+      → id_of command < 2 ^ 64 → id_of another < 2 ^ 64 → IsPlainReply reply → IsPlainReply answer
+      → AreAlike reply reply → AreAlike answer answer → wording.posting clerk command reply ≡ wording.posting other another answer
+      → (clerk ≡ other) × (id_of command ≡ id_of another) × AreAlike reply answer
+  pub rows : (clerk other : ℕ) (on day : ℤ) (position place : ℕ) (rows others : List Row) → clerk < 2 ^ 64 → other < 2 ^ 64
+      → position < 2 ^ 64 → place < 2 ^ 64 → length rows < 2 ^ 64 → length others < 2 ^ 64
+      → AllByRecursion IsPlainRow rows → AllByRecursion IsPlainRow others
+      → wording.block clerk on position rows ≡ wording.block other day place others → (position ≡ place) × (rows ≡ others)
