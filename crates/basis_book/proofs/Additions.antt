@@ -1,15 +1,9 @@
 -- One more row.
-use Rattle.std.proofs.Common.{◌≡◌, ℕ, suc, ◌+◌, ◌-◌, ◌≤◌, ◌<ℤ◌, ◌≤ℤ◌, ℤ, Bool, true, false, List, [], ◌∷◌, ◌++◌, length, Option, Some, None, is_some, Result, Ok, Err, is_ok, OnOk, All, MatchBool, refl, sym, ap, ◌∙◌, subst, arith}
+use Rattle.basis_book.proofs.Names.{◌≡◌, ℕ, suc, ◌+◌, ◌-◌, ◌≤◌, ◌<ℤ◌, ◌≤ℤ◌, ℤ, Bool, true, false, List, [], ◌∷◌, ◌++◌, length, Option, Some, None, is_some, Result, Ok, Err, is_ok, OnOk, All, MatchBool, refl, sym, ap, ◌∙◌, subst, arith, BasisRow, TooManyRows, BadBasisRow, NotRising, NoMemory, All-nil, All-cons, AreBounded, IsRow, DaysRise, IsAfter, Falls, AreRows, StopsAt, IsFirstFall, IsRowsFault}
 use Rattle.std.specs.List.{AllZip, slice_get}
 use Rattle.std.specs.Int.Signed.{lt_z, lt_z_yes, lt_z_no}
 use Rattle.std.proofs.lemmas.List.{length_push, append_assoc}
-use Rattle.basis_book.specs.declared.row.BasisRow.{BasisRow}
 use Rattle.basis_book.specs.declared.fault.BasisFault.{BasisFault}
-use Rattle.basis_book.specs.declared.fault.BasisFault.TheVariants.{TooManyRows, BadBasisRow, NotRising, NoMemory}
-use Rattle.std.proofs.lemmas.List.Elements.{All-nil, All-cons}
-use Rattle.basis_book.specs.Dated.{AreBounded}
-use Rattle.basis_book.specs.Row.{IsRow}
-use Rattle.basis_book.specs.Rows.{DaysRise, IsAfter, Falls, AreRows, StopsAt, IsFirstFall, IsRowsFault}
 
 DaysRise-push : (rows : List BasisRow) (row : BasisRow) → DaysRise rows → IsAfter rows row.from_day → DaysRise (rows ++ row ∷ [])
 DaysRise-push [] row h a = tt

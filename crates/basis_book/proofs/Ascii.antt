@@ -1,8 +1,7 @@
 -- A name is text.
-use Rattle.std.proofs.Common.{ℕ, ◌<◌, inl, inr, List, length, get_or, arith}
+use Rattle.basis_book.proofs.Names.{ℕ, ◌<◌, inl, inr, List, length, get_or, arith, get_or_past}
 use Rattle.std.specs.Str.{IsUtf8}
 use Rattle.std.proofs.lemmas.Str.{IsUtf8-from_ascii}
-use Rattle.std.proofs.lemmas.List.{get_or_past}
 use Rattle.std.proofs.lemmas.Bool.{cases_lt}
 use Rattle.basis_book.specs.Name.{IsName, IsNameByte}
 

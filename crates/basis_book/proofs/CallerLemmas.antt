@@ -1,8 +1,5 @@
 -- For callers: a day of issue picks one row at most.
-use Rattle.std.proofs.Common.{◌≡◌, ◌<ℤ◌, ◌≤ℤ◌, ℕ, ℤ, inl, inr, List, ◌∷◌, ◌++◌, length, All, sym, ap, ◌∙◌, subst, refl, length-append, append_assoc, arith}
-use Rattle.std.proofs.lemmas.Int.{ints}
-use Rattle.std.proofs.lemmas.List.{get_or_at, append_cancel_left}
-use Rattle.basis_book.specs.Dated.{Dated, IsPicked}
+use Rattle.basis_book.proofs.Names.{◌≡◌, ◌<ℤ◌, ◌≤ℤ◌, ℕ, ℤ, inl, inr, List, ◌∷◌, ◌++◌, length, All, sym, ap, ◌∙◌, subst, refl, length-append, append_assoc, arith, ints, get_or_at, append_cancel_left, Dated, IsPicked}
 use Rattle.basis_book.proofs.ListCuts.{compare_cuts}
 
 -- the entry at a place of a list of which all hold a fact

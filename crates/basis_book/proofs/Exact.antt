@@ -1,21 +1,14 @@
 -- A basis file has one answer at most.
-use Rattle.std.proofs.Common.{◌≡◌, ℕ, ◌+◌, ◌<◌, ◌≤◌, ◌⊎◌, inl, inr, ◌<ℤ◌, ℤ, List, [], ◌∷◌, ◌++◌, length, Some, None, Result, Ok, Err, IfOk, IfErr, refl, sym, ap, ◌∙◌, subst, arith}
+use Rattle.basis_book.proofs.Names.{◌≡◌, ℕ, ◌+◌, ◌<◌, ◌≤◌, ◌⊎◌, inl, inr, ◌<ℤ◌, ℤ, List, [], ◌∷◌, ◌++◌, length, Some, None, Result, Ok, Err, IfOk, IfErr, refl, sym, ap, ◌∙◌, subst, arith, ints, AreRecords, Reached, default_config, strip_bom, BasisRow, TooManyRows, BadBasisRow, NotRising, NoMemory, IsPoints, IsRow, DaysRise, IsAfter, Falls, AreRows, StopsAt, IsFirstBad, IsFirstFall, IsRowsFault}
 use Rattle.std.specs.List.{AllZip}
-use Rattle.std.proofs.lemmas.Int.{ints}
 use Rattle.csv.specs.Machine.{Read, next_record}
-use Rattle.csv.specs.Reading.{AreRecords, Reached, default_config, strip_bom}
 use Rattle.csv.specs.declared.parser.Config.{Config}
 use Rattle.csv.specs.declared.parser.State.{State}
 use Rattle.csv.specs.declared.parser.State.TheVariants as st
 use Rattle.life_dates.specs.Calendar.{Date, IsDay, IsDate, day_number, days_in_month}
 use Rattle.life_dates.specs.DayText.{IsDayText}
 use Rattle.life_dates.proofs.TextLemmas.{read_exact}
-use Rattle.basis_book.specs.declared.row.BasisRow.{BasisRow}
 use Rattle.basis_book.specs.declared.fault.BasisFault.{BasisFault}
-use Rattle.basis_book.specs.declared.fault.BasisFault.TheVariants.{TooManyRows, BadBasisRow, NotRising, NoMemory}
-use Rattle.basis_book.specs.Points.{IsPoints}
-use Rattle.basis_book.specs.Row.{IsRow}
-use Rattle.basis_book.specs.Rows.{DaysRise, IsAfter, Falls, AreRows, StopsAt, IsFirstBad, IsFirstFall, IsRowsFault}
 use Rattle.basis_book.proofs.ListCuts.{compare_cuts}
 use Rattle.basis_book.specs.File.{HasRows, IsBasisFile, IsFileFault, IsBookAnswer, GivesBook}
 

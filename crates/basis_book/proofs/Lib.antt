@@ -1,3 +1,4 @@
+pub mod Names
 pub mod Ascii
 pub mod Digits
 pub mod Additions

@@ -1,11 +1,7 @@
 -- The row that a day of issue picks.
-use Rattle.std.proofs.Common.{◌≡◌, ℕ, ◌+◌, ◌<◌, ◌<ℤ◌, ◌≤ℤ◌, ℤ, List, ◌∷◌, ◌++◌, length, map, take, drop, get_or, Option, None, Some, IsSome, All, unwrap_or, slice_get, option_map, [], sym, ap, ◌∙◌, subst, arith}
-use Rattle.std.proofs.lemmas.List.{take-append-drop, take_more, drop_more, map-append, map_push, length-map, length-take-le}
+use Rattle.basis_book.proofs.Names.{◌≡◌, ℕ, ◌+◌, ◌<◌, ◌<ℤ◌, ◌≤ℤ◌, ℤ, List, ◌∷◌, ◌++◌, length, map, take, drop, get_or, Option, None, Some, IsSome, All, unwrap_or, slice_get, option_map, [], sym, ap, ◌∙◌, subst, arith, take-append-drop, take_more, drop_more, map-append, map_push, length-map, length-take-le, All-cons, All-map, BasisRow, Dated, dated, IsPicked, IsFirstMissing}
 use Rattle.std.proofs.lemmas.Option.{slice_get-get_or, slice_get-map, slice_get_within}
-use Rattle.std.proofs.lemmas.List.Elements.{All-cons, All-map}
 use Rattle.select_rates.specs.declared.any.AnyTable.{AnyTable}
-use Rattle.basis_book.specs.declared.row.BasisRow.{BasisRow}
-use Rattle.basis_book.specs.Dated.{Dated, dated, IsPicked, IsFirstMissing}
 use Rattle.basis_book.specs.inside.Placed.{ArePlaces}
 
 -- a list at a place

@@ -1,6 +1,5 @@
 -- Why a read fails where rows of any lengths are taken
-use Rattle.std.proofs.Common.{◌≡◌, List, ℕ, Option, true, false, refl, sym, ◌∙◌}
-use Rattle.csv.specs.Reading.{ExplainsRead, is_flexible, stops_reader}
+use Rattle.basis_book.proofs.Names.{◌≡◌, List, ℕ, Option, true, false, refl, sym, ◌∙◌, ExplainsRead, is_flexible, stops_reader}
 use Rattle.csv.specs.declared.error.ErrorKind.{ErrorKind}
 use Rattle.csv.specs.declared.error.ErrorKind.TheVariants as kind
 use Rattle.csv.specs.declared.reader.Reader.{Reader}

@@ -1,6 +1,5 @@
 -- The fields of a row by their places.
-use Rattle.std.proofs.Common.{◌≡◌, ℕ, suc, zero, ◌<◌, List, [], ◌∷◌, length, Some, None, arith}
-use Rattle.csv.specs.Records.{field_at}
+use Rattle.basis_book.proofs.Names.{◌≡◌, ℕ, suc, zero, ◌<◌, List, [], ◌∷◌, length, Some, None, arith, field_at}
 
 pub not_three : (row : List (List ℕ)) (i : ℕ) → i < 3 → field_at row i ≡ None → (day table points : List ℕ) → row ≡ day ∷ table ∷ points ∷ [] → ⊥
 unfolding field_at

@@ -1,18 +1,10 @@
 -- What worked basis files are computed from.
-use Rattle.std.proofs.Common.{◌≡◌, ◌⊎◌, ◌≤◌, ◌+◌, ℕ, ℤ, suc, zero, ◌<◌, List, [], ◌∷◌, length, get_or, All, refl, inl, inr, codes, pos, lit≤, lit<, arith, true, Bool}
+use Rattle.basis_book.proofs.Names.{◌≡◌, ◌⊎◌, ◌≤◌, ◌+◌, ℕ, ℤ, suc, zero, ◌<◌, List, [], ◌∷◌, length, get_or, All, refl, inl, inr, codes, pos, lit≤, lit<, arith, true, Bool, All-nil, All-cons, ints, BasisRow, IsPoints, IsRow, BadBasisRow, csv_on_literals, Reached}
 use Rattle.std.specs.Prelude.{replicate}
-use Rattle.std.proofs.lemmas.List.Elements.{All-nil, All-cons}
-use Rattle.std.proofs.lemmas.Int.{ints}
 use Rattle.life_dates.specs.Calendar.{Date, IsDate, IsDay, ymd, day_number, days_before, days_before_year, days_of_months}
 use Rattle.life_dates.specs.DayText.{IsDayText}
-use Rattle.basis_book.specs.declared.row.BasisRow.{BasisRow}
 use Rattle.basis_book.specs.Name.{IsName, IsNameByte}
-use Rattle.basis_book.specs.Points.{IsPoints}
-use Rattle.basis_book.specs.Row.{IsRow}
 use Rattle.basis_book.specs.File.{IsBasisFile, IsFileFault}
-use Rattle.basis_book.specs.declared.fault.BasisFault.TheVariants.{BadBasisRow}
-use Rattle.csv.proofs.OnLiterals.{csv_on_literals}
-use Rattle.csv.specs.Reading.{Reached}
 
 -- three days
 pub first_text : IsDayText (codes "2000-01-01") (pos 10957)

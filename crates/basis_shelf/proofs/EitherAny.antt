@@ -1,22 +1,8 @@
 -- Each file spells a table of either kind, or has a first fault.
-use Rattle.std.proofs.Common.{◌≡◌, ◌⊎◌, inl, inr, ℕ, ◌+◌, Bool, true, false, List, [], ◌∷◌, Option, Some, None, Result, Ok, Err, refl, sym, codes}
-use Rattle.std.specs.Prelude.{MatchBool}
-use Rattle.rate_table.specs.Rates.{Rates}
+use Rattle.basis_shelf.proofs.Names.{◌≡◌, ◌⊎◌, inl, inr, ℕ, ◌+◌, Bool, true, false, List, [], ◌∷◌, Option, Some, None, Result, Ok, Err, refl, sym, codes, MatchBool, Rates, AnyTable, Aggregate, Select, TableKind, NotDocument, BadAge, AgeGap, BadRate, BadDuration, NoUltimate, UltimateGap, TableFault, Bad, NoMemory, fault_at, Node, IsDocument, node_asks, RateElement, path, rates_of, aggregate_parts, age_of, is_due, ReadsRate, first_age, IsScale, AnyParts, aggregate, selected, parts_by_axes, any_parts_of, IsAnyTable, SpellsAny, IsAnyAnswer, whole_document, any_fault_due}
 use Rattle.select_rates.specs.Select.{Selected}
-use Rattle.select_rates.specs.declared.any.AnyTable.{AnyTable}
-use Rattle.select_rates.specs.declared.any.AnyTable.TheVariants.{Aggregate, Select}
 use Rattle.xtbml_subset.specs.declared.period.Attained.{Attained}
-use Rattle.xtbml_subset.specs.declared.fault.TableKind.{TableKind}
-use Rattle.xtbml_subset.specs.declared.fault.TableKind.TheVariants.{NotDocument, BadAge, AgeGap, BadRate, BadDuration, NoUltimate, UltimateGap}
-use Rattle.xtbml_subset.specs.declared.fault.TableFault.{TableFault}
-use Rattle.xtbml_subset.specs.declared.fault.TableFault.TheVariants.{Bad, NoMemory}
-use Rattle.xtbml_subset.specs.inside.Walk.{fault_at}
-use Rattle.xtbml_subset.specs.Documents.{Node, IsDocument, node_asks}
-use Rattle.xtbml_subset.specs.Checks.{RateElement, path, rates_of, aggregate_parts, age_of, is_due, ReadsRate, first_age, IsScale}
 use Rattle.xtbml_subset.specs.SelectChecks.{Issue, SelectParts, InTurn, ReadsAll, duration_of, is_duration, timed, IsTimed, ReadsDuration, ReadsPeriod, IsIssuedAt, ReadsIssue, first_issue_age, ReadsUltimate, first_gap, without_gap, IsJoinedBy, IsSelectTable}
-use Rattle.xtbml_subset.specs.AnyChecks.{AnyParts, aggregate, selected, parts_by_axes, any_parts_of, IsAnyTable, SpellsAny, IsAnyAnswer}
-use Rattle.xtbml_subset.proofs.Sounding.{whole_document}
-use Rattle.xtbml_subset.proofs.AnyFinal.{any_fault_due}
 use Rattle.basis_shelf.proofs.EitherTable.{Answered, scale, reads, rows_read, IsPlaced, placed_then, placed_path, placed_rates, table}
 
 -- ---- one check after the other

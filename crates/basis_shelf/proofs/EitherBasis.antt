@@ -1,23 +1,8 @@
 -- Each name on a shelf has a basis, or a first bad file.
-use Rattle.std.proofs.Common.{◌≡◌, ◌⊎◌, inl, inr, ℕ, ◌+◌, ◌<◌, ◌≤◌, List, [], ◌∷◌, ◌++◌, length, All, Option, Some, None, IsSomeAnd, Err, refl, sym, subst, append_assoc}
-use Rattle.std.specs.List.{AllZip}
-use Rattle.std.proofs.lemmas.Bool.{cases_lt}
-use Rattle.std.proofs.lemmas.List.Elements.{All-nil, All-push}
-use Rattle.select_rates.specs.declared.any.AnyTable.{AnyTable}
-use Rattle.xtbml_subset.specs.declared.fault.TableKind.{TableKind}
+use Rattle.basis_shelf.proofs.Names.{◌≡◌, ◌⊎◌, inl, inr, ℕ, ◌+◌, ◌<◌, ◌≤◌, List, [], ◌∷◌, ◌++◌, length, All, Option, Some, None, IsSomeAnd, Err, refl, sym, subst, append_assoc, AllZip, cases_lt, All-nil, All-push, AnyTable, TableKind, SpellsAny, IsAnyAnswer, BasisRow, Dated, IsBasisFile, BadBasis, BasisWord, IsAbsent, IsTooLong, IsFile, HasTable, AreRowsNamed, IsEntry, IsBasis, IsNoTable, IsBadBook, IsBadTable, IsFirstBadRow, IsFirstBadFile, word_of}
 use Rattle.xtbml_subset.specs.declared.fault.TableKind.TheVariants as kind
 use Rattle.xtbml_subset.specs.declared.fault.TableFault.TheVariants as table
-use Rattle.xtbml_subset.specs.AnyChecks.{SpellsAny, IsAnyAnswer}
-use Rattle.basis_book.specs.declared.row.BasisRow.{BasisRow}
-use Rattle.basis_book.specs.Dated.{Dated}
-use Rattle.basis_book.specs.File.{IsBasisFile}
-use Rattle.basis_shelf.specs.declared.fault.BadBasis.{BadBasis}
-use Rattle.basis_shelf.specs.declared.fault.BasisWord.{BasisWord}
 use Rattle.basis_shelf.specs.declared.fault.BasisWord.TheVariants.{Absent, TooLong, BadRow, NotRising, TooManyRows}
-use Rattle.basis_shelf.specs.Files.{IsAbsent, IsTooLong, IsFile}
-use Rattle.basis_shelf.specs.Bases.{HasTable, AreRowsNamed, IsEntry, IsBasis}
-use Rattle.basis_shelf.specs.FirstBad.{IsNoTable, IsBadBook, IsBadTable, IsFirstBadRow, IsFirstBadFile}
-use Rattle.basis_shelf.specs.inside.Parts.{word_of}
 use Rattle.basis_shelf.proofs.EitherAny.{any_or_fault}
 use Rattle.basis_shelf.proofs.ToldTable.{bad_table}
 use Rattle.basis_shelf.proofs.EitherBook.{HasFault, rows_or_fault}

@@ -1,14 +1,10 @@
 -- Each file is a right basis file, or has a first fault.
-use Rattle.std.proofs.Common.{◌≡◌, ◌≢◌, ◌⊎◌, inl, inr, ℕ, zero, suc, ◌+◌, ◌-◌, ◌<◌, ◌≤◌, Bool, true, false, cond, List, [], ◌∷◌, ◌++◌, length, All, Option, Some, None, refl, sym, ap, ◌∙◌, subst, arith, append_assoc, ℤ, pos, negsuc, ◌+ℤ◌, ◌-ℤ◌, ◌≤ℤ◌, ◌<ℤ◌}
-use Rattle.std.specs.Prelude.{slice_index}
+use Rattle.basis_shelf.proofs.Names.{◌≡◌, ◌≢◌, ◌⊎◌, inl, inr, ℕ, zero, suc, ◌+◌, ◌-◌, ◌<◌, ◌≤◌, Bool, true, false, cond, List, [], ◌∷◌, ◌++◌, length, All, Option, Some, None, refl, sym, ap, ◌∙◌, subst, arith, append_assoc, ℤ, pos, negsuc, ◌+ℤ◌, ◌-ℤ◌, ◌≤ℤ◌, ◌<ℤ◌, slice_index, cases_eq, cases_lt, cases_Bool, append-nil, All-nil, All-cons, All-head, All-tail, BasisRow, HasRows, IsBasisFile, IsFileFault}
 use Rattle.std.specs.Char.{IsAsciiAlphanumeric, digit_value}
 use Rattle.std.specs.Int.{IsInRange}
 use Rattle.std.specs.Int.Signed.{lt_z}
 use Rattle.std.specs.Str.Parse.{AllDigits, digits_value}
-use Rattle.std.proofs.lemmas.Bool.{cases_eq, cases_lt, cases_Bool}
 use Rattle.std.proofs.lemmas.Int.{ints}
-use Rattle.std.proofs.lemmas.List.{append-nil}
-use Rattle.std.proofs.lemmas.List.Elements.{All-nil, All-cons, All-head, All-tail}
 use Rattle.csv.specs.Machine.{Read, next_record, step, is_end, ends_at_end, fields_after, field_after}
 use Rattle.csv.specs.Reading.{Reached, AreRecords, default_config, strip_bom}
 use Rattle.csv.specs.declared.parser.State.{State}
@@ -16,13 +12,11 @@ use Rattle.csv.specs.declared.parser.State.TheVariants as st
 use Rattle.life_dates.specs.Calendar.{IsDay, IsTermDay}
 use Rattle.life_dates.specs.DayText.{day_text, IsDayText}
 use Rattle.life_dates.proofs.TextLemmas.{IsDayText-day_text, day_text-only}
-use Rattle.basis_book.specs.declared.row.BasisRow.{BasisRow}
 use Rattle.basis_book.specs.declared.fault.BasisFault.TheVariants.{TooManyRows, BadBasisRow, NotRising}
 use Rattle.basis_book.specs.Name.{IsName, IsNameByte}
 use Rattle.basis_book.specs.Points.{IsPoints}
 use Rattle.basis_book.specs.Row.{IsRow}
 use Rattle.basis_book.specs.Rows.{IsAfter, Falls, AreRows, IsFirstBad, IsFirstFall}
-use Rattle.basis_book.specs.File.{HasRows, IsBasisFile, IsFileFault}
 use Rattle.basis_book.proofs.Additions.{AreRows-push, lt_true, lt_false}
 use Rattle.basis_shelf.proofs.EitherRate.{Decided, both, either, at_most, below}
 

@@ -1,8 +1,6 @@
 -- Each text is a rate, or none.
-use Rattle.std.proofs.Common.{◌≡◌, ◌⊎◌, inl, inr, ℕ, zero, suc, ◌+◌, ◌*◌, ◌<◌, ◌≤◌, List, [], ◌∷◌, length, take, drop, refl, sym, ap, subst, arith}
+use Rattle.basis_shelf.proofs.Names.{◌≡◌, ◌⊎◌, inl, inr, ℕ, zero, suc, ◌+◌, ◌*◌, ◌<◌, ◌≤◌, List, [], ◌∷◌, length, take, drop, refl, sym, ap, subst, arith, prefix_len, cases_eq, cases_lt}
 use Rattle.std.specs.Char.{is_ascii_digit, IsAsciiDigit}
-use Rattle.std.specs.List.{prefix_len}
-use Rattle.std.proofs.lemmas.Bool.{cases_eq, cases_lt}
 use Rattle.decimal_text.specs.Decimal.{AreDigits, AreFewDigits, Decimal, IsSigned, IsExponent, Spells, number, point, plus_sign, minus, upper_e, lower_e}
 use Rattle.decimal_text.specs.Rate.{IsRate, IsInUnits, numerator, denominator}
 use Rattle.decimal_text.specs.inside.Splits.{SplitsDigits, SplitsFraction}

@@ -1,20 +1,8 @@
 -- Each file spells a table, or has a first fault.
-use Rattle.std.proofs.Common.{◌≡◌, ◌⊎◌, inl, inr, ℕ, ◌+◌, Bool, true, false, cond, List, [], ◌∷◌, Option, Some, None, Result, Ok, Err, refl, sym, codes}
-use Rattle.std.specs.Prelude.{MatchBool}
-use Rattle.std.specs.Str.{bytes_eq}
-use Rattle.rate_table.specs.Rates.{Rates}
+use Rattle.basis_shelf.proofs.Names.{◌≡◌, ◌⊎◌, inl, inr, ℕ, ◌+◌, Bool, true, false, cond, List, [], ◌∷◌, Option, Some, None, Result, Ok, Err, refl, sym, codes, MatchBool, bytes_eq, Rates, TableKind, NotDocument, NoTable, Scaled, BadAge, AgeGap, BadRate, TableFault, Bad, NoMemory, fault_at, Node, IsDocument, node_asks, RateElement, first, or_fault, ◌>=>◌, within, rooted, path, rates_in, rates_of, age_of, is_due, ReadsRate, rated, IsAged, ReadsRow, ReadsRows, first_age, IsUnscaled, IsScale, Parts, parts_of, IsTable, SpellsTable, IsTableAnswer, whole_document}
 use Rattle.xtbml_subset.specs.declared.class.Class.TheVariants.{White}
-use Rattle.xtbml_subset.specs.declared.fault.TableKind.{TableKind}
-use Rattle.xtbml_subset.specs.declared.fault.TableKind.TheVariants.{NotDocument, NoTable, Scaled, BadAge, AgeGap, BadRate}
-use Rattle.xtbml_subset.specs.declared.fault.TableFault.{TableFault}
-use Rattle.xtbml_subset.specs.declared.fault.TableFault.TheVariants.{Bad, NoMemory}
 use Rattle.xtbml_subset.specs.Classes.{is_in, InClass}
 use Rattle.xtbml_subset.specs.Texts.{trimmed}
-use Rattle.xtbml_subset.specs.inside.Walk.{fault_at}
-use Rattle.xtbml_subset.specs.Documents.{Node, IsDocument, node_asks}
-use Rattle.xtbml_subset.specs.Checks.{RateElement, first, or_fault, ◌>=>◌, within, rooted, path, rates_in, rates_of, age_of, is_due, ReadsRate, rated, IsAged, ReadsRow, ReadsRows, first_age, IsUnscaled, IsScale, Parts, parts_of, IsTable}
-use Rattle.xtbml_subset.specs.Answers.{SpellsTable, IsTableAnswer}
-use Rattle.xtbml_subset.proofs.Sounding.{whole_document}
 use Rattle.xtbml_subset.proofs.Final.{fault_due}
 use Rattle.basis_shelf.proofs.EitherRate.{Decided, both, either, rate_or_none, is_rate_or_not}
 

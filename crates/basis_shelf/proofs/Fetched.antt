@@ -1,21 +1,8 @@
 -- What was fetched so far, of files that the shelf's answers agree with.
-use Rattle.std.proofs.Common.{◌≡◌, ◌⊎◌, inl, inr, ℕ, ◌+◌, ◌<◌, ◌≤◌, Bool, true, false, cond, List, [], ◌∷◌, ◌++◌, length, map, take, drop, get_or, All, Option, Some, None, IsSome, IfSome, unwrap_or, Result, Ok, Err, IfOk, IfErr, refl, sym, ap, ◌∙◌, subst, arith}
-use Rattle.std.specs.List.{AllZip}
+use Rattle.basis_shelf.proofs.Names.{◌≡◌, ◌⊎◌, inl, inr, ℕ, ◌+◌, ◌<◌, ◌≤◌, Bool, true, false, cond, List, [], ◌∷◌, ◌++◌, length, map, take, drop, get_or, All, Option, Some, None, IsSome, IfSome, unwrap_or, Result, Ok, Err, IfOk, IfErr, refl, sym, ap, ◌∙◌, subst, arith, AllZip, cases_lt, take-append-drop, drop_more, length-take-le, All-head, All-tail, All-weaker, AnyTable, Aggregate, BasisRow, Dated, dated, IsFirstMissing, BadBasis, IsTableNamed, HasTable, AreRowsNamed, IsEntry, IsBasis, IsBadTable, IsFirstBadRow, IsFirstBadFile, IsBasisAnswer, GivesBasis, IfBad, IsBadTableFile, AreTables}
 use Rattle.std.specs.Bool.{Decides}
-use Rattle.std.proofs.lemmas.Bool.{cases_lt}
-use Rattle.std.proofs.lemmas.List.{take-append-drop, drop_more, length-take-le}
-use Rattle.std.proofs.lemmas.List.Elements.{All-head, All-tail, All-weaker}
-use Rattle.select_rates.specs.declared.any.AnyTable.{AnyTable}
-use Rattle.select_rates.specs.declared.any.AnyTable.TheVariants.{Aggregate}
-use Rattle.basis_book.specs.declared.row.BasisRow.{BasisRow}
-use Rattle.basis_book.specs.Dated.{Dated, dated, IsFirstMissing}
-use Rattle.basis_shelf.specs.declared.fault.BadBasis.{BadBasis}
 use Rattle.basis_shelf.specs.declared.fault.NoBasis.{NoBasis}
 use Rattle.basis_shelf.specs.declared.fault.NoBasis.TheVariants.{Bad, ReadFault, NoMemory}
-use Rattle.basis_shelf.specs.Bases.{IsTableNamed, HasTable, AreRowsNamed, IsEntry, IsBasis}
-use Rattle.basis_shelf.specs.FirstBad.{IsBadTable, IsFirstBadRow, IsFirstBadFile}
-use Rattle.basis_shelf.specs.Answers.{IsBasisAnswer, GivesBasis, IfBad}
-use Rattle.basis_shelf.specs.inside.Parts.{IsBadTableFile, AreTables}
 use Rattle.basis_shelf.proofs.OneBasis.{one_answer, at_cut}
 
 -- ---- a call that succeeded

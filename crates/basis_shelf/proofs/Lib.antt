@@ -1,3 +1,4 @@
+pub mod Names
 pub mod OneTable
 pub mod OneBook
 pub mod OneBasis

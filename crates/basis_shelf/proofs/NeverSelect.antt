@@ -1,20 +1,8 @@
 -- That a table is select is no fault of a table of either kind.
-use Rattle.std.proofs.Common.{◌≡◌, ◌⊎◌, inl, inr, ℕ, ◌+◌, Bool, true, false, cond, List, [], ◌∷◌, Option, Some, None, Result, Ok, Err, refl, sym, subst, codes}
-use Rattle.std.specs.Prelude.{MatchBool}
-use Rattle.std.specs.Str.{bytes_eq}
-use Rattle.rate_table.specs.Rates.{Rates}
+use Rattle.basis_shelf.proofs.Names.{◌≡◌, ◌⊎◌, inl, inr, ℕ, ◌+◌, Bool, true, false, cond, List, [], ◌∷◌, Option, Some, None, Result, Ok, Err, refl, sym, subst, codes, MatchBool, bytes_eq, Rates, AnyTable, NotDocument, NoTable, Scaled, BadAge, AgeGap, BadRate, BadDuration, NoUltimate, UltimateGap, TableFault, Bad, NoMemory, Node, node_asks, RateElement, first, or_fault, ◌>=>◌, within, rooted, path, rates_in, rates_of, aggregate_parts, age_of, is_due, ReadsRate, rated, IsAged, ReadsRow, Continues, with_rate, ReadsRows, first_age, IsScale, Parts, IsScaledTable, IsTable, AnyParts, aggregate, selected, parts_by_axes, any_parts_of, aggregated, as_select, IsAnyTable, IsAnyAnswer, Unless, IsFaultOfAny}
 use Rattle.select_rates.specs.Select.{Selected}
-use Rattle.select_rates.specs.declared.any.AnyTable.{AnyTable}
 use Rattle.xtbml_subset.specs.declared.period.Attained.{Attained}
-use Rattle.xtbml_subset.specs.declared.fault.TableKind.TheVariants.{NotDocument, NoTable, Scaled, BadAge, AgeGap, BadRate, BadDuration, NoUltimate, UltimateGap}
-use Rattle.xtbml_subset.specs.declared.fault.TableFault.{TableFault}
-use Rattle.xtbml_subset.specs.declared.fault.TableFault.TheVariants.{Bad, NoMemory}
-use Rattle.xtbml_subset.specs.Documents.{Node, node_asks}
-use Rattle.xtbml_subset.specs.Checks.{RateElement, first, or_fault, ◌>=>◌, within, rooted, path, rates_in, rates_of, aggregate_parts, age_of, is_due, ReadsRate, rated, IsAged, ReadsRow, Continues, with_rate, ReadsRows, first_age, IsScale, Parts, IsScaledTable, IsTable}
 use Rattle.xtbml_subset.specs.SelectChecks.{Issue, SelectParts, InTurn, ReadsAll, duration_of, is_duration, timed, IsTimed, ReadsDuration, ReadsPeriod, IsIssuedAt, ReadsIssue, ReadsUltimate, first_gap, first_issue_age, without_gap, IsJoinedBy, IsSelectTable}
-use Rattle.xtbml_subset.specs.AnyChecks.{AnyParts, aggregate, selected, parts_by_axes, any_parts_of, aggregated, as_select, IsAnyTable, IsAnyAnswer}
-use Rattle.xtbml_subset.specs.Answers.{Unless}
-use Rattle.basis_shelf.specs.inside.Parts.{IsFaultOfAny}
 
 -- a fault isn't that the table is select
 abbrev Told : {A : Type 0} → Result A TableFault → Type 0

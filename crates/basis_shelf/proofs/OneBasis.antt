@@ -1,16 +1,6 @@
 -- A name has one basis, or one first bad file.
-use Rattle.std.proofs.Common.{◌≡◌, ℕ, ◌+◌, inl, inr, List, [], ◌∷◌, ◌++◌, length, All, ℤ, Option, Result, Ok, Err, refl, sym, ap, ◌∙◌, subst}
-use Rattle.std.specs.List.{AllZip}
-use Rattle.std.proofs.lemmas.List.Elements.{All-head, All-tail}
-use Rattle.select_rates.specs.declared.any.AnyTable.{AnyTable}
-use Rattle.basis_book.specs.declared.row.BasisRow.{BasisRow}
-use Rattle.basis_book.specs.Dated.{Dated}
+use Rattle.basis_shelf.proofs.Names.{◌≡◌, ℕ, ◌+◌, inl, inr, List, [], ◌∷◌, ◌++◌, length, All, ℤ, Option, Result, Ok, Err, refl, sym, ap, ◌∙◌, subst, AllZip, All-head, All-tail, AnyTable, BasisRow, Dated, BadBasis, BasisWord, HasTable, IsEntry, IsBasis, IsBadTable, IsFirstBadRow, IsFirstBadFile, IsBasisAnswer}
 use Rattle.basis_book.proofs.ListCuts.{compare_cuts}
-use Rattle.basis_shelf.specs.declared.fault.BadBasis.{BadBasis}
-use Rattle.basis_shelf.specs.declared.fault.BasisWord.{BasisWord}
-use Rattle.basis_shelf.specs.Bases.{HasTable, IsEntry, IsBasis}
-use Rattle.basis_shelf.specs.FirstBad.{IsBadTable, IsFirstBadRow, IsFirstBadFile}
-use Rattle.basis_shelf.specs.Answers.{IsBasisAnswer}
 use Rattle.basis_shelf.proofs.OneTable.{one_table, one_bad_table, table_or_bad}
 use Rattle.basis_shelf.proofs.OneBook.{one_rows, one_bad_book, rows_or_bad}
 

@@ -1,15 +1,9 @@
 -- A basis file has one list of rows, or is bad in one way.
-use Rattle.std.proofs.Common.{◌≡◌, ℕ, ◌⊎◌, inl, inr, List, Option, Result, Ok, Err, refl, sym, ap, ◌∙◌, subst}
-use Rattle.basis_book.specs.declared.row.BasisRow.{BasisRow}
+use Rattle.basis_shelf.proofs.Names.{◌≡◌, ℕ, ◌⊎◌, inl, inr, List, Option, Result, Ok, Err, refl, sym, ap, ◌∙◌, subst, BasisRow, IsBasisFile, IsFileFault, IsBookAnswer, GivesBook, BasisWord, IsAbsent, IsTooLong, AreRowsNamed, AreNoRows, IsBadBook}
 use Rattle.basis_book.specs.declared.fault.BasisFault.{BasisFault}
 use Rattle.basis_book.specs.declared.fault.BasisFault.TheVariants as fault
-use Rattle.basis_book.specs.File.{IsBasisFile, IsFileFault, IsBookAnswer, GivesBook}
 use Rattle.basis_book.proofs.Exact.{gives_due}
-use Rattle.basis_shelf.specs.declared.fault.BasisWord.{BasisWord}
 use Rattle.basis_shelf.specs.declared.fault.BasisWord.TheVariants.{Absent, TooLong, BadRow, NotRising, TooManyRows, NotDocument, NoTable, Scaled, BadAge, AgeGap, BadRate, BadDuration, NoUltimate, UltimateGap}
-use Rattle.basis_shelf.specs.Files.{IsAbsent, IsTooLong}
-use Rattle.basis_shelf.specs.Bases.{AreRowsNamed}
-use Rattle.basis_shelf.specs.FirstBad.{AreNoRows, IsBadBook}
 use Rattle.basis_shelf.proofs.OneTable.{one_file, not_absent, not_too_long, not_both}
 
 -- ---- the bytes of a basis file

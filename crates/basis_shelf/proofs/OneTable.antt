@@ -1,23 +1,11 @@
 -- A file is there, absent or too long; it spells one table, or is bad in one way.
-use Rattle.std.proofs.Common.{◌≡◌, ℕ, ◌<◌, ◌⊎◌, inl, inr, List, length, Option, Some, None, Result, Ok, Err, IsSomeAnd, refl, sym, ap, ◌∙◌, subst, arith}
-use Rattle.select_rates.specs.declared.any.AnyTable.{AnyTable}
-use Rattle.xtbml_subset.specs.declared.fault.TableKind.{TableKind}
+use Rattle.basis_shelf.proofs.Names.{◌≡◌, ℕ, ◌<◌, ◌⊎◌, inl, inr, List, length, Option, Some, None, Result, Ok, Err, IsSomeAnd, refl, sym, ap, ◌∙◌, subst, arith, AnyTable, TableKind, TableFault, any_parts_of, IsAnyAnswer, fault_at, whole_document, any_fault_only, any_due_by, BasisWord, IsAbsent, IsTooLong, IsFile, IsTableNamed, HasTable, IsNoTable, IsBadTable, word_of}
 use Rattle.xtbml_subset.specs.declared.fault.TableKind.TheVariants as kind
-use Rattle.xtbml_subset.specs.declared.fault.TableFault.{TableFault}
 use Rattle.xtbml_subset.specs.declared.fault.TableFault.TheVariants as table
-use Rattle.xtbml_subset.specs.AnyChecks.{any_parts_of, IsAnyAnswer}
 use Rattle.xtbml_subset.specs.inside.Rows.{found_asks}
-use Rattle.xtbml_subset.specs.inside.Walk.{fault_at}
-use Rattle.xtbml_subset.proofs.Sounding.{whole_document}
 use Rattle.xtbml_subset.proofs.Matching.{finds_root}
 use Rattle.xtbml_subset.proofs.SelectSingle.{any_single}
-use Rattle.xtbml_subset.proofs.AnyFinal.{any_fault_only, any_due_by}
-use Rattle.basis_shelf.specs.declared.fault.BasisWord.{BasisWord}
 use Rattle.basis_shelf.specs.declared.fault.BasisWord.TheVariants.{Absent, TooLong, BadRow, NotRising, TooManyRows, NotDocument, NoTable, Scaled, BadAge, AgeGap, BadRate, BadDuration, NoUltimate, UltimateGap}
-use Rattle.basis_shelf.specs.Files.{IsAbsent, IsTooLong, IsFile}
-use Rattle.basis_shelf.specs.Bases.{IsTableNamed, HasTable}
-use Rattle.basis_shelf.specs.FirstBad.{IsNoTable, IsBadTable}
-use Rattle.basis_shelf.specs.inside.Parts.{word_of}
 
 -- ---- a file
 

@@ -1,18 +1,9 @@
 -- What is told of a table file is what is wrong with it.
-use Rattle.std.proofs.Common.{◌≡◌, ℕ, List, Option, Err, refl, sym, subst}
-use Rattle.xtbml_subset.specs.declared.fault.TableKind.{TableKind}
+use Rattle.basis_shelf.proofs.Names.{◌≡◌, ℕ, List, Option, Err, refl, sym, subst, TableKind, TableFault, Unless, IsAnyAnswer, BadBasis, IfBad, IsFile, IsNoTable, IsBadTable, IsBadTableFile, TellsTable, word_of}
 use Rattle.xtbml_subset.specs.declared.fault.TableKind.TheVariants as kind
-use Rattle.xtbml_subset.specs.declared.fault.TableFault.{TableFault}
 use Rattle.xtbml_subset.specs.declared.fault.TableFault.TheVariants as table
-use Rattle.xtbml_subset.specs.Answers.{Unless}
-use Rattle.xtbml_subset.specs.AnyChecks.{IsAnyAnswer}
-use Rattle.basis_shelf.specs.declared.fault.BadBasis.{BadBasis}
 use Rattle.basis_shelf.specs.declared.fault.NoBasis.{NoBasis}
 use Rattle.basis_shelf.specs.declared.fault.NoBasis.TheVariants.{Bad, ReadFault, NoMemory}
-use Rattle.basis_shelf.specs.Answers.{IfBad}
-use Rattle.basis_shelf.specs.Files.{IsFile}
-use Rattle.basis_shelf.specs.FirstBad.{IsNoTable, IsBadTable}
-use Rattle.basis_shelf.specs.inside.Parts.{IsBadTableFile, TellsTable, word_of}
 use Rattle.basis_shelf.proofs.NeverSelect.{told_fault}
 
 -- the word of a fault, at its place

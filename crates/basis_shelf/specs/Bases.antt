@@ -1,10 +1,7 @@
 -- The basis that a basis file and the tables it names make.
 use Rattle.std.specs.Prelude.{◌≡◌, ℕ, List, Option}
 use Rattle.std.specs.List.{AllZip}
-use Rattle.select_rates.specs.declared.any.AnyTable.{AnyTable}
-use Rattle.xtbml_subset.specs.AnyChecks.{SpellsAny}
-use Rattle.basis_book.specs.declared.row.BasisRow.{BasisRow}
-use Rattle.basis_book.specs.Dated.{Dated}
+use Rattle.basis_shelf.specs.Names.{AnyTable, SpellsAny, BasisRow, Dated}
 use Rattle.basis_book.specs.File.{IsBasisFile}
 use Rattle.basis_shelf.specs.Files.{IsFile}
 

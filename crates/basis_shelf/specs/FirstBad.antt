@@ -1,14 +1,12 @@
 -- The first file of a basis that is absent, too long or refused: the basis file, or the table of the first row that
 -- has none.
 use Rattle.std.specs.Prelude.{◌≡◌, ℕ, ◌+◌, ◌⊎◌, List, ◌∷◌, ◌++◌, length, All, Option, Err}
-use Rattle.basis_book.specs.declared.row.BasisRow.{BasisRow}
+use Rattle.basis_shelf.specs.Names.{BasisRow, TableKind, IsAnyAnswer}
 use Rattle.basis_book.specs.declared.fault.BasisFault.{BasisFault}
 use Rattle.basis_book.specs.declared.fault.BasisFault.TheVariants as fault
 use Rattle.basis_book.specs.File.{IsFileFault}
-use Rattle.xtbml_subset.specs.declared.fault.TableKind.{TableKind}
 use Rattle.xtbml_subset.specs.declared.fault.TableKind.TheVariants as kind
 use Rattle.xtbml_subset.specs.declared.fault.TableFault.TheVariants as table
-use Rattle.xtbml_subset.specs.AnyChecks.{IsAnyAnswer}
 use Rattle.basis_shelf.specs.declared.fault.BadBasis.{BadBasis}
 use Rattle.basis_shelf.specs.declared.fault.BasisWord.{BasisWord}
 use Rattle.basis_shelf.specs.declared.fault.BasisWord.TheVariants.{Absent, TooLong, BadRow, NotRising, TooManyRows, NotDocument, NoTable, Scaled, BadAge, AgeGap, BadRate, BadDuration, NoUltimate, UltimateGap}

@@ -1,7 +1,5 @@
 ghost use Rattle.std.specs.Prelude.{◌≡◌, ◌<◌, ◌≤◌, List, Result, IfOk, IfErr, IsErrOf};
-ghost use Rattle.outside_io.specs.Faults.{Rose};
-ghost use Rattle.outside_io.specs.Shelves.{Files};
-ghost use Rattle.basis_book.specs.Dated.{Dated};
+ghost use Rattle.basis_shelf.specs.Names.{Rose, Files, Dated};
 ghost use Rattle.basis_shelf.specs.declared.fault.BadBasis.{BadBasis as ABadBasis};
 ghost use Rattle.basis_shelf.specs.Bases.{IsBasis};
 ghost use Rattle.basis_shelf.specs.FirstBad.{IsFirstBadFile};

@@ -1,12 +1,9 @@
 // What the definitions have to mean, as functions that do nothing.
 ghost use Rattle.std.specs.Prelude.{◌≡◌, ◌⊎◌, ℕ, List, Option, Err};
 ghost use Rattle.rate_table.specs.Rates.{Rates};
-ghost use Rattle.select_rates.specs.declared.any.AnyTable.{AnyTable};
-ghost use Rattle.xtbml_subset.specs.declared.fault.TableKind.{TableKind};
+ghost use Rattle.basis_shelf.specs.Names.{AnyTable, TableKind, IsAnyAnswer, SpellsAny, Dated};
 ghost use Rattle.xtbml_subset.specs.declared.fault.TableFault.TheVariants.{Bad};
 ghost use Rattle.xtbml_subset.specs.Answers.{IsTableAnswer, SpellsTable};
-ghost use Rattle.xtbml_subset.specs.AnyChecks.{IsAnyAnswer, SpellsAny};
-ghost use Rattle.basis_book.specs.Dated.{Dated};
 ghost use Rattle.basis_shelf.specs.declared.fault.BadBasis.{BadBasis};
 ghost use Rattle.basis_shelf.specs.Bases.{HasTable, IsBasis, IsTableNamed};
 ghost use Rattle.basis_shelf.specs.FirstBad.{IsBadTable, IsFirstBadFile};

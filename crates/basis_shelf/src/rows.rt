@@ -1,8 +1,6 @@
 // The basis file.
 ghost use Rattle.std.specs.Prelude.{◌≡◌, ◌<◌, ◌≤◌, List, IfOk, IfErr, IsErrOf};
-ghost use Rattle.outside_io.specs.Faults.{Rose};
-ghost use Rattle.outside_io.specs.Shelves.{Files};
-ghost use Rattle.basis_book.specs.Dated.{AreBounded};
+ghost use Rattle.basis_shelf.specs.Names.{Rose, Files, AreBounded};
 ghost use Rattle.basis_shelf.specs.Bases.{AreRowsNamed};
 ghost use Rattle.basis_shelf.specs.Answers.{IfBad};
 ghost use Rattle.basis_shelf.specs.inside.Parts.{IsBadBookFile, TellsRows};

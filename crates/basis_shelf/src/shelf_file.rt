@@ -1,7 +1,6 @@
 // One file of a shelf.
 ghost use Rattle.std.specs.Prelude.{◌≡◌, ◌<◌, ◌≤◌, vec_len, IfOk, IfErr, IsErrOf};
-ghost use Rattle.outside_io.specs.Faults.{Rose};
-ghost use Rattle.outside_io.specs.Shelves.{Files};
+ghost use Rattle.basis_shelf.specs.Names.{Rose, Files};
 ghost use Rattle.basis_shelf.specs.Files.{IsFile};
 ghost use Rattle.basis_shelf.specs.Answers.{IfBad};
 ghost use Rattle.basis_shelf.specs.inside.Parts.{IsToldOfTable, IsUnread};

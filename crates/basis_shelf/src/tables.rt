@@ -1,9 +1,7 @@
 // The tables that the rows of a basis file name.
 ghost use Rattle.std.specs.Prelude.{◌≡◌, ◌≤◌, ◌+◌, ◌<◌, ℕ, List, length, All, IsSome, IfOk, OnOk, IfErr, IsErrOf};
 ghost use Rattle.indexmap.specs.IndexMap.{get_by_text};
-ghost use Rattle.outside_io.specs.Faults.{Rose};
-ghost use Rattle.outside_io.specs.Shelves.{Files};
-ghost use Rattle.basis_book.specs.declared.row.BasisRow.{BasisRow as ARow};
+ghost use Rattle.basis_shelf.specs.Names.{Rose, Files, ARow};
 ghost use Rattle.basis_shelf.specs.Bases.{IsTableNamed};
 ghost use Rattle.basis_shelf.specs.FirstBad.{IsFirstBadRow};
 ghost use Rattle.basis_shelf.specs.Answers.{IfBad};

@@ -1,23 +1,8 @@
 -- What a policy adds to a tally.
-use Rattle.std.proofs.Common.{◌≡◌, ℕ, ◌+◌, ◌-◌, ◌*◌, ◌<◌, ◌≤◌, inl, inr, refl, ap, ap₂, subst, ◌∙◌, arith, List, length, Bool, true, false, if◌then◌else◌, nat_eq, le_trans}
-use Rattle.std.proofs.lemmas.Bool.Decides.{eqb_tells}
-use Rattle.policy_types.specs.declared.policy.Policy.{Policy}
+use Rattle.cash_projection.proofs.Names.{◌≡◌, ℕ, ◌+◌, ◌-◌, ◌*◌, ◌<◌, ◌≤◌, inl, inr, refl, ap, ap₂, subst, ◌∙◌, arith, List, length, Bool, true, false, if◌then◌else◌, nat_eq, le_trans, eqb_tells, Policy, Rates, AreRates, UNIT, down, up, pair_at, Pair, alive_by, dying_by, Prospect, IsSmall, due, premium_due, death_due, maturity_due, premium_by, death_by, maturity_by, nothing_ahead, prospect_of, charged, IsOfIssue, rates_after, alive_pair, dying_pair, IsSurvivalPath, Fits, HasAdded, HasGained, HasRisen, IsIdle, sum_at, Sums, SurvivalPath, Tally}
 use Rattle.policy_types.specs.declared.policy.Status.{Status}
 use Rattle.policy_types.specs.declared.policy.Status.TheVariants.{InForce, Lapsed, Claimed, Matured, Expired, Settled, PaidUp}
-use Rattle.rate_table.specs.Rates.{Rates, AreRates}
 use Rattle.rate_table.specs.declared.shape.Shape.{Shape}
-use Rattle.present_value.specs.Rounding.{UNIT, down, up}
-use Rattle.present_value.specs.Values.{pair_at}
-use Rattle.present_value.specs.declared.pair.Pair.{Pair}
-use Rattle.cash_projection.specs.Survival.{alive_by, dying_by}
-use Rattle.cash_projection.specs.Prospects.{Prospect, IsSmall, due, premium_due, death_due, maturity_due}
-use Rattle.cash_projection.specs.Cash.{premium_by, death_by, maturity_by}
-use Rattle.cash_projection.specs.Policies.{nothing_ahead, prospect_of, charged, IsOfIssue}
-use Rattle.cash_projection.specs.inside.Paths.{rates_after, alive_pair, dying_pair, IsSurvivalPath}
-use Rattle.cash_projection.specs.inside.Tallies.{Fits, HasAdded, HasGained, HasRisen, IsIdle, sum_at}
-use Rattle.cash_projection.specs.declared.column.Sums.{Sums}
-use Rattle.cash_projection.specs.declared.path.SurvivalPath.{SurvivalPath}
-use Rattle.cash_projection.specs.declared.tally.Tally.{Tally}
 use Rattle.cash_projection.proofs.Survivors.{alive_lo_most, alive_hi_most, dying_lo_most, dying_hi_most}
 use Rattle.cash_projection.proofs.Dues.{due_cases, due_same, due_shifted, maturity_is}
 

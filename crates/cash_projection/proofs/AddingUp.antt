@@ -1,11 +1,7 @@
 -- Deaths and survivors add up.
-use Rattle.std.proofs.Common.{◌≡◌, ℕ, zero, suc, ◌+◌, ◌-◌, ◌*◌, ◌^◌, ◌<◌, ◌≤◌, inl, inr, refl, sym, ap, ◌∙◌, arith, true, add-one, mul-zero}
+use Rattle.cash_projection.proofs.Names.{◌≡◌, ℕ, zero, suc, ◌+◌, ◌-◌, ◌*◌, ◌^◌, ◌<◌, ◌≤◌, inl, inr, refl, sym, ap, ◌∙◌, arith, true, add-one, mul-zero, eqb_tells, ONE, alive, dying, Prospect, death_due, maturity_due}
 use Rattle.std.proofs.Math.Nat.{mul-le-mul_left, pow-succ', pow-zero, mul-add}
-use Rattle.std.proofs.lemmas.Bool.Decides.{eqb_tells}
-use Rattle.rate_table.specs.Rates.{ONE}
 use Rattle.present_value.specs.Sums.{sum_below}
-use Rattle.cash_projection.specs.Survival.{alive, dying}
-use Rattle.cash_projection.specs.Prospects.{Prospect, death_due, maturity_due}
 use Rattle.cash_projection.specs.Laws.{NeverRiseLaw, AddUpLaw, deaths_of}
 use Rattle.cash_projection.proofs.Dues.{due_cases}
 

@@ -1,15 +1,6 @@
 -- For callers: what the years of a list of policies are.
-use Rattle.std.proofs.Common.{ℕ, ◌*◌, ◌<◌, ◌≤◌, arith, List, length, get_or, All, ℤ, subst, le_trans, le_of_mul-le-mul_right}
-use Rattle.std.proofs.lemmas.List.{get_or_default}
-use Rattle.policy_types.specs.Limits.{most_commands}
-use Rattle.policy_types.specs.declared.policy.Policy.{Policy}
+use Rattle.cash_projection.proofs.Names.{ℕ, ◌*◌, ◌<◌, ◌≤◌, arith, List, length, get_or, All, ℤ, subst, le_trans, le_of_mul-le-mul_right, get_or_default, most_commands, Policy, Pair, Dated, IsCash, no_year, IsCashOf, IsProspect, IsTellable, Year}
 use Rattle.present_value.specs.Fractions.{Fraction}
-use Rattle.present_value.specs.declared.pair.Pair.{Pair}
-use Rattle.basis_book.specs.Dated.{Dated}
-use Rattle.cash_projection.specs.Cash.{IsCash, no_year}
-use Rattle.cash_projection.specs.Policies.{IsCashOf, IsProspect}
-use Rattle.cash_projection.specs.Text.{IsTellable}
-use Rattle.cash_projection.specs.declared.years.Year.{Year}
 use Rattle.cash_projection.proofs.Tallying.{zip_length}
 
 -- bounds of at most 4,000,000 policies

@@ -1,13 +1,6 @@
 -- The sums of a column, year by year.
-use Rattle.std.proofs.Common.{◌≡◌, ◌≢◌, ℕ, zero, suc, ◌+◌, ◌*◌, ◌<◌, ◌≤◌, refl, ap, ◌∙◌, arith, List, length, slice_set, inl, inr}
+use Rattle.cash_projection.proofs.Names.{◌≡◌, ◌≢◌, ℕ, zero, suc, ◌+◌, ◌*◌, ◌<◌, ◌≤◌, refl, ap, ◌∙◌, arith, List, length, slice_set, inl, inr, get_or-set_same, get_or-set_other, length-set, cases_eq, pair_at, Pair, due, HasRisen, AreBothSums, sum_at, sums_of, Sums}
 use Rattle.std.specs.Prelude.{replicate}
-use Rattle.std.proofs.lemmas.List.{get_or-set_same, get_or-set_other, length-set}
-use Rattle.std.proofs.lemmas.Bool.{cases_eq}
-use Rattle.present_value.specs.Values.{pair_at}
-use Rattle.present_value.specs.declared.pair.Pair.{Pair}
-use Rattle.cash_projection.specs.Prospects.{due}
-use Rattle.cash_projection.specs.inside.Tallies.{HasRisen, AreBothSums, sum_at, sums_of}
-use Rattle.cash_projection.specs.declared.column.Sums.{Sums}
 use Rattle.cash_projection.proofs.Dues.{due_cases, due_same}
 
 pub empty_sum : (count k : ℕ) → sum_at (replicate count (sums_of 0 0)) k ≡ sums_of 0 0

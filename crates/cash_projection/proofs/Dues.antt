@@ -1,7 +1,5 @@
 -- In which years something is due.
-use Rattle.std.proofs.Common.{◌≡◌, ℕ, suc, ◌+◌, ◌-◌, ◌<◌, ◌≤◌, ◌⊎◌, inl, inr, min, refl, sym, ◌∙◌, arith, Bool, true, false, if◌then◌else◌, nat_eq}
-use Rattle.std.proofs.lemmas.Bool.Decides.{leb_tells, eqb_tells}
-use Rattle.cash_projection.specs.Prospects.{Prospect, due, maturity_due}
+use Rattle.cash_projection.proofs.Names.{◌≡◌, ℕ, suc, ◌+◌, ◌-◌, ◌<◌, ◌≤◌, ◌⊎◌, inl, inr, min, refl, sym, ◌∙◌, arith, Bool, true, false, if◌then◌else◌, nat_eq, leb_tells, eqb_tells, Prospect, due, maturity_due}
 
 pub due_cases : (from to cents y : ℕ) → ((from ≤ y) × (y < to) × (due from to cents y ≡ cents)) ⊎ ((from ≤ y → to ≤ y) × (due from to cents y ≡ 0))
 due_cases from to cents y = elim (leb_tells from y) [

@@ -1,3 +1,4 @@
+pub mod Names
 pub mod Survivors
 pub mod Dues
 pub mod Totals

@@ -1,17 +1,6 @@
 -- A path, one year after the other.
-use Rattle.std.proofs.Common.{◌≡◌, ℕ, zero, suc, ◌+◌, ◌-◌, ◌*◌, ◌/◌, ◌%◌, ◌<◌, ◌≤◌, refl, ap, sym, ◌∙◌, arith, List, length, slice_set, slice_index_or, subst, inl, inr, add-one, All, le_refl}
+use Rattle.cash_projection.proofs.Names.{◌≡◌, ℕ, zero, suc, ◌+◌, ◌-◌, ◌*◌, ◌/◌, ◌%◌, ◌<◌, ◌≤◌, refl, ap, sym, ◌∙◌, arith, List, length, slice_set, slice_index_or, subst, inl, inr, add-one, All, le_refl, get_or-set_same, get_or-set_other, length-replicate, length-set, cases_eq, Rates, ONE, UNIT, down, up, pair_of, pair_at, Pair, table_along, Dated, alive_by, alive_pair, dying_pair, KnowsYears, AreRatesOf, IsSurvivalPath, IsPathAt, IsRightPath, SurvivalPath}
 use Rattle.std.specs.Prelude.{replicate}
-use Rattle.std.proofs.lemmas.List.{get_or-set_same, get_or-set_other, length-replicate, length-set}
-use Rattle.std.proofs.lemmas.Bool.{cases_eq}
-use Rattle.rate_table.specs.Rates.{Rates, ONE}
-use Rattle.present_value.specs.Rounding.{UNIT, down, up}
-use Rattle.present_value.specs.Values.{pair_of, pair_at}
-use Rattle.present_value.specs.declared.pair.Pair.{Pair}
-use Rattle.select_rates.specs.Along.{table_along}
-use Rattle.basis_book.specs.Dated.{Dated}
-use Rattle.cash_projection.specs.Survival.{alive_by}
-use Rattle.cash_projection.specs.inside.Paths.{alive_pair, dying_pair, KnowsYears, AreRatesOf, IsSurvivalPath, IsPathAt, IsRightPath}
-use Rattle.cash_projection.specs.declared.path.SurvivalPath.{SurvivalPath}
 use Rattle.cash_projection.specs.declared.path.PathKey.{PathKey}
 
 -- a part of a number, of what a division gives and of what it leaves

@@ -1,19 +1,9 @@
 -- The portions of a list of policies, and their tallies.
-use Rattle.std.proofs.Common.{◌≡◌, ℕ, zero, suc, ◌+◌, ◌<◌, ◌≤◌, arith, List, [], ◌∷◌, ◌++◌, length, take, get_or, refl, sym, ap, ◌∙◌, subst, append-nil, append_assoc, length-append, inl, inr, ℤ}
-use Rattle.std.specs.List.{AllByRecursion, AllZip}
-use Rattle.std.proofs.lemmas.List.{take_all}
+use Rattle.cash_projection.proofs.Names.{◌≡◌, ℕ, zero, suc, ◌+◌, ◌<◌, ◌≤◌, arith, List, [], ◌∷◌, ◌++◌, length, take, get_or, refl, sym, ap, ◌∙◌, subst, append-nil, append_assoc, length-append, inl, inr, ℤ, AllByRecursion, AllZip, take_all, most_commands, Policy, Dated, AreValues, MayGive, TakeAll, IsOfIssue, AreTallies, AreTalliesOfFew, GivesTally, IsProjectorFor, TakesPortion, policies_of_portions, IsSized, IsTallyOf, Tally}
 use Rattle.std.proofs.lemmas.Slice.Zip.{AllZip-long}
-use Rattle.policy_types.specs.Limits.{most_commands}
-use Rattle.policy_types.specs.declared.policy.Policy.{Policy}
-use Rattle.basis_book.specs.Dated.{Dated}
-use Rattle.parallel_value.specs.Pieces.{AreValues, MayGive, TakeAll}
 use Rattle.parallel_value.proofs.PieceSteps.{all_back, all_front, all_more, zip_more}
-use Rattle.cash_projection.specs.Policies.{IsOfIssue}
-use Rattle.cash_projection.specs.inside.Portions.{AreTallies, AreTalliesOfFew, GivesTally, IsProjectorFor, TakesPortion, policies_of_portions}
-use Rattle.cash_projection.specs.inside.Tallies.{IsSized, IsTallyOf}
 use Rattle.cash_projection.specs.declared.portions.Portion.{Portion}
 use Rattle.cash_projection.specs.declared.projector.Projector.{Projector}
-use Rattle.cash_projection.specs.declared.tally.Tally.{Tally}
 use Rattle.cash_projection.proofs.Tallying.{tally_sized}
 
 policies_append : (xs ys : List Portion) → policies_of_portions (xs ++ ys) ≡ policies_of_portions xs ++ policies_of_portions ys

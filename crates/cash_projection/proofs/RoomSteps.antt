@@ -1,25 +1,15 @@
 -- What a projection has at hand, before and after it reads and tallies.
-use Rattle.std.proofs.Common.{◌≡◌, ℕ, ◌+◌, ◌≤◌, ℤ, List, [], ◌∷◌, ◌++◌, length, sym, ap, ◌∙◌, subst, append-nil, append_assoc, length-append, arith, Vec, Global}
+use Rattle.cash_projection.proofs.Names.{◌≡◌, ℕ, ◌+◌, ◌≤◌, ℤ, List, [], ◌∷◌, ◌++◌, length, sym, ap, ◌∙◌, subst, append-nil, append_assoc, length-append, arith, Vec, Global, AllByRecursion, with_items_is, most_commands, Policy, Dated, AreAsBefore, IsAsBefore, IsCashOf, IsOfIssue, GivesTally, IsProjectorFor, TakesPortion, IsSized, IsTallyOf, Tally}
 use Rattle.std.specs.Vec.{with_items}
-use Rattle.std.specs.List.{AllByRecursion}
-use Rattle.std.proofs.lemmas.List.{with_items_is}
 use Rattle.std.proofs.lemmas.Slice.Zip.{AllZip-long}
-use Rattle.policy_types.specs.Limits.{most_commands}
-use Rattle.policy_types.specs.declared.policy.Policy.{Policy}
 use Rattle.policy_machine.specs.Rules.{IsSound}
-use Rattle.basis_book.specs.Dated.{Dated}
-use Rattle.parallel_value.specs.Pieces.{AreAsBefore, IsAsBefore}
 use Rattle.parallel_value.proofs.PieceSteps.{all_more}
 use Rattle.snapshot_value.proofs.RowSteps.{all_append}
 use Rattle.cash_projection.specs.Pinned.{IsProjectionAt}
-use Rattle.cash_projection.specs.Policies.{IsCashOf, IsOfIssue}
-use Rattle.cash_projection.specs.inside.Portions.{GivesTally, IsProjectorFor, TakesPortion}
 use Rattle.cash_projection.specs.inside.Rooms.{CanTally, HasTallied}
-use Rattle.cash_projection.specs.inside.Tallies.{IsSized, IsTallyOf}
 use Rattle.cash_projection.specs.declared.printing.Projection.{Projection}
 use Rattle.cash_projection.specs.declared.projector.Projector.{Projector}
 use Rattle.cash_projection.specs.declared.tallier.Tallier.{Tallier}
-use Rattle.cash_projection.specs.declared.tally.Tally.{Tally}
 use Rattle.cash_projection.proofs.CallerLemmas.{cash_tellable}
 use Rattle.cash_projection.proofs.Portioning.{CanJoin}
 use Rattle.cash_projection.proofs.Tallying.{tally_sized}

@@ -1,10 +1,7 @@
 -- The rounded survivors and deaths enclose the exact ones.
-use Rattle.std.proofs.Common.{ℕ, zero, suc, ◌+◌, ◌-◌, ◌*◌, ◌^◌, ◌<◌, ◌≤◌, arith, add-one}
+use Rattle.cash_projection.proofs.Names.{ℕ, zero, suc, ◌+◌, ◌-◌, ◌*◌, ◌^◌, ◌<◌, ◌≤◌, arith, add-one, ONE, UNIT, down, up, alive, alive_by, dying, dying_by}
 use Rattle.std.proofs.Math.Nat.{mul-le-mul_left, mul-le-mul_right, pow-succ', one-le-pow, le_trans, le_of_mul-le-mul_right}
-use Rattle.rate_table.specs.Rates.{ONE}
-use Rattle.present_value.specs.Rounding.{UNIT, down, up}
 use Rattle.present_value.proofs.Quotients.{down-le, le-up, apart, up-le}
-use Rattle.cash_projection.specs.Survival.{alive, alive_by, dying, dying_by}
 
 pub one_pos : 0 < ONE
 one_pos = omega arith

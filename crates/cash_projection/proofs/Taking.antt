@@ -1,20 +1,11 @@
 -- Each way in which a policy is taken into a tally.
-use Rattle.std.proofs.Common.{◌≡◌, ℕ, refl, ap, sym, arith, List, [], ◌∷◌, ◌++◌, length, All, ℤ, ◌<ℤ◌, Result, Ok, Err, Some}
-use Rattle.std.specs.List.{slice_get}
-use Rattle.policy_types.specs.declared.policy.Policy.{Policy}
+use Rattle.cash_projection.proofs.Names.{◌≡◌, ℕ, refl, ap, sym, arith, List, [], ◌∷◌, ◌++◌, length, All, ℤ, ◌<ℤ◌, Result, Ok, Err, Some, slice_get, Policy, table_along, Dated, IsPicked, IsSmall, nothing_ahead, prospect_of, IsTableOfRow, HasAdded, HasCounted, HasCountedBy, Tally}
 use Rattle.rate_table.specs.declared.shape.Shape.{Shape}
-use Rattle.select_rates.specs.Along.{table_along}
 use Rattle.select_rates.specs.declared.any.AnyTable.{AnyTable}
 use Rattle.plan_benefits.specs.Shapes.{shape_of}
 use Rattle.plan_benefits.specs.declared.fault.NotValued.{NotValued}
-use Rattle.basis_book.specs.Dated.{Dated, IsPicked}
 use Rattle.basis_book.proofs.CallerLemmas.{none_picked, one_picked}
 use Rattle.policy_value.specs.Rows.{IsInsured, IsYear}
-use Rattle.cash_projection.specs.Prospects.{IsSmall}
-use Rattle.cash_projection.specs.Policies.{nothing_ahead, prospect_of}
-use Rattle.cash_projection.specs.inside.Paths.{IsTableOfRow}
-use Rattle.cash_projection.specs.inside.Tallies.{HasAdded, HasCounted, HasCountedBy}
-use Rattle.cash_projection.specs.declared.tally.Tally.{Tally}
 use Rattle.cash_projection.proofs.Adding.{nothing_small}
 
 pub taken_by : (policy : Policy) (table : AnyTable) (on : ℤ) (shape : Shape) (t : ℕ) (r : Result Shape NotValued) (old new : Tally) → r ≡ Ok shape

@@ -1,22 +1,5 @@
 -- Tallies of lists.
-use Rattle.std.proofs.Common.{◌≡◌, ℕ, zero, suc, ◌+◌, ◌*◌, ◌^◌, ◌<◌, ◌≤◌, refl, ap, ap₂, sym, subst, ◌∙◌, arith, List, [], ◌∷◌, ◌++◌, length, take, get_or, ℤ, le_trans, le_of_mul-le-mul_right, length-append, length-take-le}
-use Rattle.std.specs.List.{AllByRecursion, AllZip}
-use Rattle.std.proofs.lemmas.List.{take_more}
-use Rattle.policy_types.specs.Limits.{most_commands}
-use Rattle.policy_types.specs.declared.policy.Policy.{Policy}
-use Rattle.rate_table.specs.Rates.{ONE}
-use Rattle.present_value.specs.Rounding.{UNIT, down, up}
-use Rattle.present_value.specs.Values.{pair_of}
-use Rattle.present_value.specs.declared.pair.Pair.{Pair}
-use Rattle.basis_book.specs.Dated.{Dated}
-use Rattle.cash_projection.specs.Survival.{alive, dying}
-use Rattle.cash_projection.specs.Prospects.{Prospect, IsSmall, premium_due, death_due, maturity_due}
-use Rattle.cash_projection.specs.Cash.{total_of, premium_by, death_by, maturity_by, rounded_year, no_year}
-use Rattle.cash_projection.specs.Policies.{IsProspect, IsCashOf}
-use Rattle.cash_projection.specs.inside.Tallies.{AreSums, HasAdded, HasGained, TakesOneMore, HasCounted, AreBothSums, IsRoomy, IsSized, IsTally, IsTallyOf, sum_at}
-use Rattle.cash_projection.specs.declared.column.Sums.{Sums}
-use Rattle.cash_projection.specs.declared.tally.Tally.{Tally}
-use Rattle.cash_projection.specs.declared.years.Year.{Year}
+use Rattle.cash_projection.proofs.Names.{◌≡◌, ℕ, zero, suc, ◌+◌, ◌*◌, ◌^◌, ◌<◌, ◌≤◌, refl, ap, ap₂, sym, subst, ◌∙◌, arith, List, [], ◌∷◌, ◌++◌, length, take, get_or, ℤ, le_trans, le_of_mul-le-mul_right, length-append, length-take-le, AllByRecursion, AllZip, take_more, most_commands, Policy, ONE, UNIT, down, up, pair_of, Pair, Dated, alive, dying, Prospect, IsSmall, premium_due, death_due, maturity_due, total_of, premium_by, death_by, maturity_by, rounded_year, no_year, IsProspect, IsCashOf, AreSums, HasAdded, HasGained, TakesOneMore, HasCounted, AreBothSums, IsRoomy, IsSized, IsTally, IsTallyOf, sum_at, Sums, Tally, Year}
 use Rattle.cash_projection.proofs.Survivors.{power_pos}
 use Rattle.cash_projection.proofs.Totals.{IsPart, list_part, premium_part, death_part, maturity_part, year_encloses}
 

@@ -1,16 +1,9 @@
 -- The totals of policies enclose the exact ones.
-use Rattle.std.proofs.Common.{◌≡◌, ℕ, ◌+◌, ◌*◌, ◌^◌, ◌<◌, ◌≤◌, inl, inr, subst, arith, List, [], ◌∷◌, length, lit<, one-mul, lt_of_mul-lt-mul_right}
+use Rattle.cash_projection.proofs.Names.{◌≡◌, ℕ, ◌+◌, ◌*◌, ◌^◌, ◌<◌, ◌≤◌, inl, inr, subst, arith, List, [], ◌∷◌, length, lit<, one-mul, lt_of_mul-lt-mul_right, AllByRecursion, ONE, UNIT, down, up, pair_of, alive, alive_by, dying, dying_by, Prospect, IsSmall, premium_due, death_due, maturity_due, total_of, premium_by, death_by, maturity_by, rounded_year, IsCash, EnclosesExpected}
 use Rattle.std.proofs.Math.Nat.{mul-le-mul_left, mul-le-mul, le_trans}
-use Rattle.std.specs.List.{AllByRecursion}
-use Rattle.rate_table.specs.Rates.{ONE}
 use Rattle.present_value.specs.Fractions.{Between}
-use Rattle.present_value.specs.Rounding.{UNIT, down, up}
-use Rattle.present_value.specs.Values.{pair_of}
 use Rattle.present_value.proofs.Fractions.{scaled-between}
 use Rattle.present_value.proofs.Quotients.{lt-down, up-lt, up-le}
-use Rattle.cash_projection.specs.Survival.{alive, alive_by, dying, dying_by}
-use Rattle.cash_projection.specs.Prospects.{Prospect, IsSmall, premium_due, death_due, maturity_due}
-use Rattle.cash_projection.specs.Cash.{total_of, premium_by, death_by, maturity_by, rounded_year, IsCash, EnclosesExpected}
 use Rattle.cash_projection.specs.inside.Parts.{MOST_PART}
 use Rattle.cash_projection.proofs.Survivors.{power_pos, alive_above, alive_below, alive_near, alive_hi_most, dying_above, dying_below, dying_near, dying_hi_most}
 use Rattle.cash_projection.proofs.Dues.{due_cases, due_most, maturity_most}

@@ -1,7 +1,5 @@
 -- The lines of the years, one after the other.
-use Rattle.std.proofs.Common.{◌≡◌, ℕ, zero, suc, ◌+◌, ◌<◌, refl, ap, sym, ◌∙◌, arith, List, [], ◌∷◌, ◌++◌, length, take, get_or, append_assoc, append-nil, add-one}
-use Rattle.cash_projection.specs.Text.{year_text, years_text}
-use Rattle.cash_projection.specs.declared.years.Year.{Year}
+use Rattle.cash_projection.proofs.Names.{◌≡◌, ℕ, zero, suc, ◌+◌, ◌<◌, refl, ap, sym, ◌∙◌, arith, List, [], ◌∷◌, ◌++◌, length, take, get_or, append_assoc, append-nil, add-one, year_text, years_text, Year}
 
 longer : (first : ℕ) (ys : List Year) (j : ℕ) (d : Year) → j < length ys
     → years_text first (take (suc j) ys) ≡ years_text first (take j ys) ++ year_text (first + j) (get_or ys j d)

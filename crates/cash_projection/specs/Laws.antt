@@ -1,7 +1,6 @@
 -- Laws of the expected totals.
 use Rattle.std.specs.Prelude.{◌≡◌, ℕ, ◌+◌, ◌-◌, ◌*◌, ◌^◌, ◌<◌, ◌≤◌, List, true}
-use Rattle.std.specs.List.{AllByRecursion}
-use Rattle.rate_table.specs.Rates.{ONE}
+use Rattle.cash_projection.specs.Names.{AllByRecursion, ONE}
 use Rattle.present_value.specs.Sums.{sum_below}
 use Rattle.cash_projection.specs.Survival.{alive, dying}
 use Rattle.cash_projection.specs.Prospects.{Prospect, IsSmall, death_due, maturity_due}

@@ -1,3 +1,4 @@
+pub mod Names
 pub mod Survival
 pub mod Prospects
 pub mod Cash

@@ -1,9 +1,7 @@
 -- The projection of the policies at a pinned position.
 use Rattle.std.specs.Prelude.{◌≡◌, ℕ, List, length, ℤ, Result}
-use Rattle.std.specs.List.{All}
-use Rattle.policy_types.specs.declared.policy.Policy.{Policy}
+use Rattle.cash_projection.specs.Names.{All, Policy, Dated}
 use Rattle.policy_types.specs.declared.entry.At.{At}
-use Rattle.basis_book.specs.Dated.{Dated}
 use Rattle.turn_lock.specs.Passes.{Holding}
 use Rattle.shared_office.specs.Offices.{OfficeOpening}
 use Rattle.snapshot_value.specs.Reading.{HasMadeOfBook}

@@ -1,17 +1,12 @@
 -- The prospect of a policy on a day by a basis, and the cash of a list of policies.
 use Rattle.std.specs.Prelude.{◌≡◌, ℕ, ◌+◌, List, All, ℤ, ◌<ℤ◌, Result, Ok, Err, false, ◌<◌, slice_index_or}
-use Rattle.std.specs.List.{AllZip}
+use Rattle.cash_projection.specs.Names.{AllZip, Policy, Rates, rate_at, table_along, AnyTable, Dated, IsPicked}
 use Rattle.policy_types.specs.Valid.{IsIssue}
-use Rattle.policy_types.specs.declared.policy.Policy.{Policy}
 use Rattle.policy_types.specs.declared.policy.Status.{Status}
 use Rattle.policy_types.specs.declared.policy.Status.TheVariants.{InForce}
-use Rattle.rate_table.specs.Rates.{Rates, rate_at}
 use Rattle.rate_table.specs.declared.shape.Shape.{Shape}
-use Rattle.select_rates.specs.Along.{table_along}
-use Rattle.select_rates.specs.declared.any.AnyTable.{AnyTable}
 use Rattle.plan_benefits.specs.Shapes.{shape_of}
 use Rattle.plan_benefits.specs.declared.fault.NotValued.{NotValued}
-use Rattle.basis_book.specs.Dated.{Dated, IsPicked}
 use Rattle.policy_value.specs.Rows.{IsInsured, IsYear}
 use Rattle.cash_projection.specs.Prospects.{Prospect}
 use Rattle.cash_projection.specs.Cash.{EnclosesExpected, RoundedCash, no_year, total_of}

@@ -1,7 +1,6 @@
 -- How many of a great number of the same age are still alive, year by year.
 use Rattle.std.specs.Prelude.{ℕ, zero, suc, ◌-◌, ◌*◌}
-use Rattle.rate_table.specs.Rates.{ONE}
-use Rattle.present_value.specs.Rounding.{UNIT}
+use Rattle.cash_projection.specs.Names.{ONE, UNIT}
 
 -- those alive after so many years, by the rate of death in each year: the product of 10^9 less the rate, which is their
 -- part times 10^9 to the power of the years

@@ -1,7 +1,6 @@
 // The sums of one kind of payment, by year.
 ghost use Rattle.std.specs.Prelude.{◌≡◌, ℕ, ◌≤◌, ◌<◌, ◌+◌, length};
-ghost use Rattle.present_value.specs.Rounding.{UNIT, down, up};
-ghost use Rattle.present_value.specs.Values.{pair_at, pair_of};
+ghost use Rattle.cash_projection.specs.Names.{UNIT, down, up, pair_at, pair_of};
 ghost use Rattle.cash_projection.specs.inside.Tallies.{HasRisen, IsRoomy, AreBothSums, sum_at};
 
 use present_value::{Pair, UNITS_IN_ONE, quotient_down, quotient_up};

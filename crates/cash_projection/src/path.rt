@@ -1,8 +1,6 @@
 // Those alive of one age, year by year.
 ghost use Rattle.std.specs.Prelude.{◌≡◌, ℕ, ◌<◌, ◌≤◌, ◌+◌, ◌*◌, IsTrue, length};
-ghost use Rattle.rate_table.specs.Rates.{ONE, HoldsAge};
-ghost use Rattle.present_value.specs.Rounding.{UNIT, down, up};
-ghost use Rattle.present_value.specs.Values.{pair_at};
+ghost use Rattle.cash_projection.specs.Names.{ONE, HoldsAge, UNIT, down, up, pair_at};
 ghost use Rattle.cash_projection.specs.inside.Paths.{IsSurvivalPath};
 
 use present_value::{Pair, UNITS_IN_ONE};

@@ -1,7 +1,6 @@
 // The paths that are kept for policies to come.
 ghost use Rattle.std.specs.Prelude.{◌≡◌, ◌≤◌, ◌<◌, IfOk, List, length, slice_index_or};
-ghost use Rattle.rate_table.specs.Rates.{HoldsAge};
-ghost use Rattle.basis_book.specs.Dated.{Dated};
+ghost use Rattle.cash_projection.specs.Names.{HoldsAge, Dated};
 ghost use Rattle.cash_projection.specs.inside.Paths.{ArePaths, AreRatesOf, IsPathKept, IsPathAt, path_slot};
 ghost use Rattle.cash_projection.specs.declared.path.SurvivalPath.{SurvivalPath as APath};
 

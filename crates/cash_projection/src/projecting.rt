@@ -1,7 +1,6 @@
 // The tally of a list of policies.
 ghost use Rattle.std.specs.Prelude.{◌≤◌, length};
-ghost use Rattle.std.specs.List.{AllByRecursion};
-ghost use Rattle.policy_types.specs.Limits.{most_commands};
+ghost use Rattle.cash_projection.specs.Names.{AllByRecursion, most_commands};
 ghost use Rattle.cash_projection.specs.Policies.{IsOfIssue};
 ghost use Rattle.cash_projection.specs.inside.Paths.{ArePaths};
 ghost use Rattle.cash_projection.specs.inside.Tallies.{IsTallyOf};

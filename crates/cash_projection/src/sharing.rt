@@ -1,9 +1,7 @@
 // The tally of a list of policies, by several workers at the same time.
 ghost use Rattle.std.specs.Prelude.{◌≡◌, ◌≤◌, ◌+◌, ◌*◌, IfOk, OnOk, length, ℤ, List};
-ghost use Rattle.std.specs.List.{AllByRecursion};
-ghost use Rattle.basis_book.specs.Dated.{Dated};
+ghost use Rattle.cash_projection.specs.Names.{AllByRecursion, Dated, most_commands};
 ghost use Rattle.parallel_value.specs.Pieces.{AreAsBefore};
-ghost use Rattle.policy_types.specs.Limits.{most_commands};
 ghost use Rattle.cash_projection.specs.Policies.{IsOfIssue};
 ghost use Rattle.cash_projection.specs.inside.Portions.{AreTallies, AreTalliesOfFew, GivesTally, IsProjectorFor, TakesPortion, policies_of_portions};
 ghost use Rattle.cash_projection.specs.inside.Tallies.{IsTallyOf};

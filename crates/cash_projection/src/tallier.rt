@@ -1,9 +1,7 @@
 // The policies at a position are tallied as they are read, room after room.
 ghost use Rattle.std.specs.Prelude.{◌≡◌, ◌≤◌, ◌<◌, ℕ, ℤ, List, [], ◌++◌, OnOk, length};
-ghost use Rattle.std.specs.List.{AllByRecursion};
-ghost use Rattle.basis_book.specs.Dated.{Dated};
+ghost use Rattle.cash_projection.specs.Names.{AllByRecursion, Dated, APolicy};
 ghost use Rattle.policy_machine.specs.Rules.{IsSound};
-ghost use Rattle.policy_types.specs.declared.policy.Policy.{Policy as APolicy};
 ghost use Rattle.cash_projection.specs.Pinned.{IsProjectionAt};
 ghost use Rattle.cash_projection.specs.inside.Rooms.{CanTally, HasTallied};
 

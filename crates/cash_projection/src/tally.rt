@@ -1,9 +1,6 @@
 // What a list of policies adds up to.
 ghost use Rattle.std.specs.Prelude.{◌≡◌, ◌≤◌, ◌<◌, ◌≤ℤ◌, ◌+◌, ◌-◌, ◌++◌, if◌then◌else◌, ℕ, ℤ, [], List, IfOk};
-ghost use Rattle.basis_book.specs.Dated.{Dated};
-ghost use Rattle.policy_types.specs.Limits.{most_commands};
-ghost use Rattle.policy_types.specs.declared.policy.Policy.{Policy as APolicy};
-ghost use Rattle.select_rates.specs.Along.{IsBelow, table_along};
+ghost use Rattle.cash_projection.specs.Names.{Dated, most_commands, APolicy, IsBelow, table_along};
 ghost use Rattle.plan_benefits.specs.Shapes.{shape_of};
 ghost use Rattle.cash_projection.specs.Prospects.{IsSmall, Prospect as AProspect, due};
 ghost use Rattle.cash_projection.specs.Policies.{IsCashOf, IsOfIssue, charged, prospect_of};

@@ -1,7 +1,6 @@
 -- Two balances that a call was given.
-use Rattle.std.proofs.Common.{Bool, IsTrue, ◌↔◌, subst, ℕ, ℤ, FitsSigned, w64, to_z, of_z}
+use Rattle.checkpoint_store.proofs.Names.{Bool, IsTrue, ◌↔◌, subst, ℕ, ℤ, FitsSigned, w64, to_z, of_z, IsWithin}
 use Rattle.std.proofs.lemmas.Int.{to_z-of_z}
-use Rattle.policy_types.specs.Accounts.{IsWithin}
 
 pub both_within : (most : ℕ) (one other : ℤ) (is : Bool) → FitsSigned w64 one → FitsSigned w64 other
     → IsTrue is ↔ (IsWithin most (to_z w64 (of_z w64 one)) × IsWithin most (to_z w64 (of_z w64 other))) → IsTrue is ↔ (IsWithin most one × IsWithin most other)

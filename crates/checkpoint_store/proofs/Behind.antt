@@ -1,16 +1,7 @@
 -- What stands behind the gate of a file, and what an open gate makes of it.
-use Rattle.std.proofs.Common.{◌≡◌, ◌⊎◌, inl, inr, ℕ, ◌+◌, ◌*◌, ◌≤◌, List, [], ◌∷◌, ◌++◌, length, take, drop, get_or, refl, sym, ◌∙◌, ap, subst, arith, append_assoc, length-append}
-use Rattle.std.proofs.lemmas.Bool.{cases_eq}
+use Rattle.checkpoint_store.proofs.Names.{◌≡◌, ◌⊎◌, inl, inr, ℕ, ◌+◌, ◌*◌, ◌≤◌, List, [], ◌∷◌, ◌++◌, length, take, drop, get_or, refl, sym, ◌∙◌, ap, subst, arith, append_assoc, length-append, cases_eq, take-append-drop, take-take, drop-drop, drop-take, length-take-le, take_at, flat_map, Holds, Torn, Policy, Snapshot, CheckpointBytes, IsNoCheckpoint, IsSoundSnapshot, policy_bytes, snapshot_bytes, StandBehindGate, IsShut}
 use Rattle.std.proofs.lemmas.Grind.{flat_map-append}
-use Rattle.std.proofs.lemmas.List.{take-append-drop, take-take, drop-drop, drop-take, length-take-le, take_at}
-use Rattle.std.specs.List.{flat_map}
-use Rattle.outside_io.specs.Disks.{Holds, Torn}
-use Rattle.policy_types.specs.declared.policy.Policy.{Policy}
 use Rattle.posting_journal.proofs.Bytes.{same_byte, same_part, written}
-use Rattle.checkpoint_store.specs.declared.snapshot.Snapshot.{Snapshot}
-use Rattle.checkpoint_store.specs.Checkpoints.{CheckpointBytes, IsNoCheckpoint, IsSoundSnapshot}
-use Rattle.checkpoint_store.specs.Spelling.{policy_bytes, snapshot_bytes, StandBehindGate}
-use Rattle.checkpoint_store.specs.Stores.{IsShut}
 
 -- the bytes that stood there, and those that were written right behind them
 pub behind_more : (part bytes old new : List ℕ) (at : ℕ) → at ≡ 1 + length part → at ≤ length old → StandBehindGate part old → Holds old at bytes new → StandBehindGate (part ++ bytes) new

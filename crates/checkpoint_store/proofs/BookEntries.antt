@@ -1,22 +1,10 @@
 -- The entries of a book by number, in order of issue: what is found in them, and what one more command does to them.
-use Rattle.std.proofs.Common.{◌≡◌, ◌⊎◌, inl, inr, nat_eq, ◌==◌, ℕ, ◌+◌, ◌≤◌, Bool, true, false, cond, List, [], ◌∷◌, ◌++◌, length, filter_map, refl, sym, ap, subst, ◌∙◌, arith, Option, None, Some, Ok, Err, IfSome}
-use Rattle.std.specs.List.{AllByRecursion, IsDistinct, cons_option, fold}
-use Rattle.std.specs.Map.{keys_of, lookup}
-use Rattle.std.proofs.lemmas.Bool.{eqb-false, eqb-true, eq-eqb, ne_eqb}
-use Rattle.std.proofs.lemmas.List.{map-append}
-use Rattle.indexmap.specs.IndexMap.{IndexMap, index_of, insert_entry, set_value_at}
+use Rattle.checkpoint_store.proofs.Names.{◌≡◌, ◌⊎◌, inl, inr, nat_eq, ◌==◌, ℕ, ◌+◌, ◌≤◌, Bool, true, false, cond, List, [], ◌∷◌, ◌++◌, length, filter_map, refl, sym, ap, subst, ◌∙◌, arith, Option, None, Some, Ok, Err, IfSome, AllByRecursion, IsDistinct, cons_option, fold, keys_of, lookup, eqb-false, eqb-true, eq-eqb, ne_eqb, map-append, IndexMap, index_of, insert_entry, set_value_at, Command, Policy, id_of, IsSound, next, IsAccepted, book, issue_id, kept, own, policy_of, policy_ids, AreKeyed, Entries, numbered_policies}
 use Rattle.indexmap.proofs.MapLemmas.{Found-position, insert_entry-first}
-use Rattle.policy_types.specs.declared.command.Command.{Command}
-use Rattle.policy_types.specs.declared.policy.Policy.{Policy}
 use Rattle.policy_types.specs.declared.refusal.Refusal.TheVariants.{Taken, Unknown}
-use Rattle.policy_types.specs.Valid.{id_of}
-use Rattle.policy_machine.specs.Rules.{IsSound, next}
-use Rattle.policy_machine.specs.Book.{IsAccepted, book, issue_id, kept, own, policy_of}
 use Rattle.policy_machine.proofs.AcceptedLemmas.{IsIssueHere, NeedsPolicy, issue_or_other}
 use Rattle.policy_machine.proofs.BookGrowth.{IsThere, book-ids, book-push_change, book-push_issue, distinct_issues, policies_there}
 use Rattle.policy_machine.proofs.BookLemmas.{policy_of-own}
-use Rattle.checkpoint_store.specs.Checkpoints.{policy_ids}
-use Rattle.checkpoint_store.specs.inside.Books.{AreKeyed, Entries, numbered_policies}
 
 -- a number that wasn't issued has no policy
 all_tail : (P : ℕ → Type 0) (first : Option ℕ) (ids : List ℕ) → AllByRecursion P (cons_option first ids) → AllByRecursion P ids

@@ -1,10 +1,6 @@
 -- The worked checkpoint is one.
-use Rattle.std.proofs.Common.{◌≡◌, ℕ, List, [], ◌∷◌, ◌++◌, refl, sym, subst, ap, ◌∙◌, arith, length, take, true≢false}
-use Rattle.std.proofs.lemmas.Int.{ints}
+use Rattle.checkpoint_store.proofs.Names.{◌≡◌, ℕ, List, [], ◌∷◌, ◌++◌, refl, sym, subst, ap, ◌∙◌, arith, length, take, true≢false, ints, IsDistinct, CheckpointBytes, IsSoundSnapshot, balance_bytes, policy_bytes, position_bytes, snapshot_bytes, StandBehindGate}
 use Rattle.std.proofs.lemmas.List.{append-nil, take_at}
-use Rattle.std.specs.List.{IsDistinct}
-use Rattle.checkpoint_store.specs.Checkpoints.{CheckpointBytes, IsSoundSnapshot}
-use Rattle.checkpoint_store.specs.Spelling.{balance_bytes, policy_bytes, position_bytes, snapshot_bytes, StandBehindGate}
 use Rattle.checkpoint_store.specs.Worked.{claimed_bytes, claimed_snapshot, issued_file, issued_snapshot}
 
 pub claimed_spelled : snapshot_bytes claimed_snapshot ≡ claimed_bytes

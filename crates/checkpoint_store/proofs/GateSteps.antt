@@ -1,11 +1,5 @@
 -- What the writes of a store do to its disk.
-use Rattle.std.proofs.Common.{◌≡◌, inl, ℕ, ◌≤◌, List, [], ◌∷◌, length, drop, ◌∙◌, ap, arith, Result, Ok, Err, OnOk}
-use Rattle.outside_io.specs.Disks.{Syncs, Writes}
-use Rattle.outside_io.specs.declared.disks.Disk.{Ghosts}
-use Rattle.posting_journal.specs.Runs.{IsSafe, Passes}
-use Rattle.posting_journal.proofs.Moments.{goes_on, wider}
-use Rattle.checkpoint_store.specs.Stores.{AreShut, IsShut}
-use Rattle.checkpoint_store.specs.inside.Steps.{GatesOn, HasOtherGate, StaysShut}
+use Rattle.checkpoint_store.proofs.Names.{◌≡◌, inl, ℕ, ◌≤◌, List, [], ◌∷◌, length, drop, ◌∙◌, ap, arith, Result, Ok, Err, OnOk, Syncs, Writes, Ghosts, IsSafe, Passes, goes_on, wider, AreShut, IsShut, GatesOn, HasOtherGate, StaysShut}
 use Rattle.checkpoint_store.proofs.Behind.{shut_torn}
 
 module _ {D : Type 0} (g : Ghosts D) where

@@ -1,29 +1,10 @@
 -- What stands in a checkpoint's file, in parts.
-use Rattle.money_ledgers.specs.Balances.{balances}
-use Rattle.std.proofs.Common.{◌≡◌, nat_eq, ℕ, zero, suc, ◌+◌, ◌-◌, ◌*◌, ◌/◌, ◌<◌, ◌≤◌, min, Bool, true, false, cond, List, [], ◌∷◌, ◌++◌, length, take, drop, get_or, refl, sym, ap, subst, ◌∙◌, arith, append-nil, length-append, length-drop, Option, Some, None, is_some, true≢false, Result, Ok, Err, IfOk, IfSome, ℤ, FitsSigned, w64}
-use Rattle.std.proofs.lemmas.Bool.{eqb-false, ne_eqb}
+use Rattle.checkpoint_store.proofs.Names.{balances, ◌≡◌, nat_eq, ℕ, zero, suc, ◌+◌, ◌-◌, ◌*◌, ◌/◌, ◌<◌, ◌≤◌, min, Bool, true, false, cond, List, [], ◌∷◌, ◌++◌, length, take, drop, get_or, refl, sym, ap, subst, ◌∙◌, arith, append-nil, length-append, length-drop, Option, Some, None, is_some, true≢false, Result, Ok, Err, IfOk, IfSome, ℤ, FitsSigned, w64, eqb-false, ne_eqb, ints, drop-drop, drop-take, drop_at, get_or-take, length-take, map-append, take-append-drop, take-take, take_at, take_more, AllByRecursion, IsDistinct, flat_map, keys_of, lookup, IsSound, AreWithin, IsWithin, Policy, insert_entry, Front, NumberedBooks, Snapshot, CheckpointBytes, IsSoundSnapshot, policy_ids, balance_bytes, policy_bytes, position_bytes, AreKeyed, Entries, numbered_policies, AreSoundBooks, as_snapshot, IsFrontInRange, front_of, policy_of_bytes, AreBegun, AreBooksBehind, AreBytesOf, AreUpTo, BegunNext, DoFit, HasBooks, HasFront, HasPolicies, IsAddedTo, IsFrontOn, IsStored, UpToNext, WasAdded}
 use Rattle.std.proofs.lemmas.Grind.{flat_map-append}
-use Rattle.std.proofs.lemmas.Int.{ints}
-use Rattle.std.proofs.lemmas.List.{drop-drop, drop-take, drop_at, get_or-take, length-take, map-append, take-append-drop, take-take, take_at, take_more}
 use Rattle.std.proofs.Math.Seq.{drop-append-add, drop-cons}
-use Rattle.std.specs.List.{AllByRecursion, IsDistinct, flat_map}
-use Rattle.std.specs.Map.{keys_of, lookup}
-use Rattle.policy_machine.specs.Rules.{IsSound}
-use Rattle.policy_types.specs.Accounts.{AreWithin, IsWithin}
-use Rattle.policy_types.specs.declared.policy.Policy.{Policy}
 use Rattle.indexmap.proofs.CallerLemmas.{insert_entry-new}
-use Rattle.indexmap.specs.IndexMap.{insert_entry}
 use Rattle.posting_journal.proofs.Bytes.{same_part}
 use Rattle.checkpoint_store.specs.declared.faults.ReopenFault.{ReopenFault}
-use Rattle.checkpoint_store.specs.declared.front.Front.{Front}
-use Rattle.checkpoint_store.specs.declared.numbered.NumberedBooks.{NumberedBooks}
-use Rattle.checkpoint_store.specs.declared.snapshot.Snapshot.{Snapshot}
-use Rattle.checkpoint_store.specs.Checkpoints.{CheckpointBytes, IsSoundSnapshot, policy_ids}
-use Rattle.checkpoint_store.specs.Spelling.{balance_bytes, policy_bytes, position_bytes}
-use Rattle.checkpoint_store.specs.inside.Books.{AreKeyed, Entries, numbered_policies}
-use Rattle.checkpoint_store.specs.inside.Numbered.{AreSoundBooks, as_snapshot}
-use Rattle.checkpoint_store.specs.inside.Parsing.{IsFrontInRange, front_of, policy_of_bytes}
-use Rattle.checkpoint_store.specs.inside.Storing.{AreBegun, AreBooksBehind, AreBytesOf, AreUpTo, BegunNext, DoFit, HasBooks, HasFront, HasPolicies, IsAddedTo, IsFrontOn, IsStored, UpToNext, WasAdded}
 use Rattle.checkpoint_store.proofs.Behind.{gate_first, length-policies, length-policy_bytes}
 use Rattle.checkpoint_store.proofs.BookEntries.{keyed_ids}
 use Rattle.checkpoint_store.proofs.Reading.{policy_read}

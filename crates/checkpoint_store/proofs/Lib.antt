@@ -1,3 +1,4 @@
+pub mod Names
 pub mod BookEntries
 pub mod Taking
 pub mod Balances

@@ -1,22 +1,9 @@
 -- A file has one snapshot, and so has a journal.
-use Rattle.std.proofs.Common.{◌≡◌, ◌⊎◌, inl, inr, ℕ, zero, suc, ◌*◌, ◌<◌, ◌≤◌, List, [], ◌∷◌, ◌++◌, length, map, take, drop, get_or, refl, sym, ap, subst, ◌∙◌, arith, append-nil, None}
-use Rattle.std.proofs.lemmas.List.{get_or-map, get_or-take, length-map, take-append-drop, take-append-le, take-map, take-take, take_at, drop_at}
+use Rattle.checkpoint_store.proofs.Names.{◌≡◌, ◌⊎◌, inl, inr, ℕ, zero, suc, ◌*◌, ◌<◌, ◌≤◌, List, [], ◌∷◌, ◌++◌, length, map, take, drop, get_or, refl, sym, ap, subst, ◌∙◌, arith, append-nil, None, get_or-map, get_or-take, length-map, take-append-drop, take-append-le, take-map, take-take, take_at, drop_at, AllByRecursion, flat_map, balances, IsAccepted, judge, IsSound, Command, Policy, IsValid, Front, Snapshot, CheckpointBytes, IsSnapshotOf, IsFirstBadBody, IsSnapshotOfAll, IsSnapshotOfFront, IsTrueCheckpoint, policy_bytes}
 use Rattle.std.proofs.Math.Seq.{drop-cons}
-use Rattle.std.specs.List.{AllByRecursion, flat_map}
-use Rattle.money_ledgers.specs.Balances.{balances}
-use Rattle.policy_machine.specs.Book.{IsAccepted, judge}
-use Rattle.policy_machine.specs.Rules.{IsSound}
 use Rattle.policy_machine.proofs.JudgeLemmas.{accepted_at}
-use Rattle.policy_types.specs.declared.command.Command.{Command}
-use Rattle.policy_types.specs.declared.policy.Policy.{Policy}
-use Rattle.policy_types.specs.Valid.{IsValid}
 use Rattle.record_codec.specs.Spelling.{spelling_of}
 use Rattle.record_codec.proofs.SpellingLemmas.{one_command}
-use Rattle.checkpoint_store.specs.declared.front.Front.{Front}
-use Rattle.checkpoint_store.specs.declared.snapshot.Snapshot.{Snapshot}
-use Rattle.checkpoint_store.specs.Checkpoints.{CheckpointBytes, IsSnapshotOf}
-use Rattle.checkpoint_store.specs.Reopening.{IsFirstBadBody, IsSnapshotOfAll, IsSnapshotOfFront, IsTrueCheckpoint}
-use Rattle.checkpoint_store.specs.Spelling.{policy_bytes}
 use Rattle.checkpoint_store.proofs.Behind.{length-policy_bytes}
 use Rattle.checkpoint_store.proofs.InStore.{checkpoint_parts, front_for, one_policy}
 use Rattle.checkpoint_store.proofs.StartSteps.{one_front}

@@ -1,9 +1,8 @@
 -- Arrays that are put together.
-use Rattle.std.proofs.Common.{◌≡◌, ℕ, List, [], ◌∷◌, ◌++◌, length, take, drop, get_or, refl, ◌∙◌, ap, arith, length-append}
+use Rattle.checkpoint_store.proofs.Names.{◌≡◌, ℕ, List, [], ◌∷◌, ◌++◌, length, take, drop, get_or, refl, ◌∙◌, ap, arith, length-append, balance_bytes, checkpoint_header, position_bytes}
 use Rattle.std.proofs.lemmas.List.{append-nil, drop_all, length-drop, take_at}
 use Rattle.std.specs.Int.{w64, to_be_bytes, cast_unsigned}
 use Rattle.money_ledgers.specs.declared.ledger.Ledger.{Ledger}
-use Rattle.checkpoint_store.specs.Spelling.{balance_bytes, checkpoint_header, position_bytes}
 use borrow.Rule.Slice.PartMut.{put_mid}
 
 -- eight bytes are those at their places

@@ -1,18 +1,12 @@
 -- What bytes say is what they were spelled from.
-use Rattle.std.proofs.Common.{◌≡◌, ℕ, List, ◌∷◌, get_or, Some, refl, sym, ap, subst, ◌∙◌, arith, ℤ, FitsSigned, to_z-of_z}
+use Rattle.checkpoint_store.proofs.Names.{◌≡◌, ℕ, List, ◌∷◌, get_or, Some, refl, sym, ap, subst, ◌∙◌, arith, ℤ, FitsSigned, to_z-of_z, ints, IsSound, Policy, Front, balance_bytes, policy_bytes, position_bytes, status_byte, IsFrontInRange, eight_bytes_at, four_bytes_at, front_in, front_of, plan_of_byte, policy_of_bytes, status_of_byte}
 use Rattle.std.specs.Int.{w32, w64, from_be_bytes, to_be_bytes, cast_signed, cast_unsigned}
-use Rattle.std.proofs.lemmas.Int.{ints}
 use Rattle.std.proofs.lemmas.Nat.{from_be_bytes-to_be_bytes_4, from_be_bytes-to_be_bytes_8}
-use Rattle.policy_machine.specs.Rules.{IsSound}
 use Rattle.policy_types.specs.declared.command.Plan.{Plan}
 use Rattle.policy_types.specs.declared.command.Plan.TheVariants.{Term, Whole, Endowment, Limited}
-use Rattle.policy_types.specs.declared.policy.Policy.{Policy}
 use Rattle.policy_types.specs.declared.policy.Status.{Status}
 use Rattle.policy_types.specs.declared.policy.Status.TheVariants.{InForce, Lapsed, Claimed, Matured, Expired, Settled, PaidUp}
 use Rattle.record_codec.specs.Fields.{plan_byte}
-use Rattle.checkpoint_store.specs.declared.front.Front.{Front}
-use Rattle.checkpoint_store.specs.Spelling.{balance_bytes, policy_bytes, position_bytes, status_byte}
-use Rattle.checkpoint_store.specs.inside.Parsing.{IsFrontInRange, eight_bytes_at, four_bytes_at, front_in, front_of, plan_of_byte, policy_of_bytes, status_of_byte}
 
 day_back : (day : ℤ) → FitsSigned w32 day → cast_signed w32 (from_be_bytes w32 (to_be_bytes w32 (cast_unsigned w32 day))) ≡ day
 day_back day h = ap (cast_signed w32) (from_be_bytes-to_be_bytes_4 (cast_unsigned w32 day) (omega (arith, ints))) ∙ to_z-of_z h

@@ -1,15 +1,5 @@
 -- The stages of a store: what its disk may leave after each.
-use Rattle.std.proofs.Common.{◌≡◌, ◌⊎◌, ◌↔◌, inl, inr, ⊎_elim, ℕ, Bool, true, false, IsTrue, List, ◌∷◌, length, drop, get_or, refl, sym, ◌∙◌, ap, subst, arith, Result, Ok, Err, IfOk, OnOk, MatchResult}
-use Rattle.std.proofs.lemmas.Bool.{cases_eq, cases_lt}
-use Rattle.outside_io.specs.Disks.{Syncs}
-use Rattle.outside_io.specs.declared.disks.Disk.{Ghosts}
-use Rattle.posting_journal.specs.Runs.{IsSafe, Leaves, LooksOn, Passes}
-use Rattle.posting_journal.proofs.Moments.{leaves, leaves_more, leaves_on, wider}
-use Rattle.checkpoint_store.specs.declared.snapshot.Snapshot.{Snapshot}
-use Rattle.checkpoint_store.specs.Checkpoints.{CheckpointBytes, IsNoCheckpoint, IsSoundSnapshot}
-use Rattle.checkpoint_store.specs.Spelling.{snapshot_bytes, StandBehindGate}
-use Rattle.checkpoint_store.specs.Stores.{AreShut, DifferInGate, IsNoneOrEarlier, IsNoneOrEarlierOrNew, IsShut, KnowsGate, MightBeLeft}
-use Rattle.checkpoint_store.specs.inside.Steps.{GatesOn, HasOtherGate, LooksAtGate, OpensGateOn, StaysShut}
+use Rattle.checkpoint_store.proofs.Names.{◌≡◌, ◌⊎◌, ◌↔◌, inl, inr, ⊎_elim, ℕ, Bool, true, false, IsTrue, List, ◌∷◌, length, drop, get_or, refl, sym, ◌∙◌, ap, subst, arith, Result, Ok, Err, IfOk, OnOk, MatchResult, cases_eq, cases_lt, Syncs, Ghosts, IsSafe, Leaves, LooksOn, Passes, leaves, leaves_more, leaves_on, wider, Snapshot, CheckpointBytes, IsNoCheckpoint, IsSoundSnapshot, snapshot_bytes, StandBehindGate, AreShut, DifferInGate, IsNoneOrEarlier, IsNoneOrEarlierOrNew, IsShut, KnowsGate, MightBeLeft, GatesOn, HasOtherGate, LooksAtGate, OpensGateOn, StaysShut}
 use Rattle.checkpoint_store.proofs.Behind.{alone_none, gate_first, gate_or, opened, shut_none}
 
 -- what an answer has, it has more of

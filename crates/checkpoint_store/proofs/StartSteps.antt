@@ -1,8 +1,5 @@
 -- From where records are decided, and what stands there.
-use Rattle.std.proofs.Common.{◌≡◌, ℕ, ◌≤◌, List, [], length, take, sym, ap, refl, ◌∙◌, subst, None, Err, arith}
-use Rattle.outside_io.specs.declared.disks.Disk.{Ghosts}
-use Rattle.policy_machine.specs.Book.{judge}
-use Rattle.policy_types.specs.declared.command.Command.{Command}
+use Rattle.checkpoint_store.proofs.Names.{◌≡◌, ℕ, ◌≤◌, List, [], length, take, sym, ap, refl, ◌∙◌, subst, None, Err, arith, Ghosts, judge, Command, Front, NumberedBooks, Snapshot, CheckpointBytes, AreDecided, IsReopened, IsSnapshotOfAll, IsSnapshotOfFront, IsSnapshotRead, IsStartOf, AreBooksOf, as_snapshot}
 use Rattle.posting_journal.specs.States.{StandsFor, count_of}
 use Rattle.posting_journal.specs.declared.journal.Journal.{Journal}
 use Rattle.journal_replay.specs.Keeping.{AreKept}
@@ -12,12 +9,6 @@ use Rattle.journal_replay.specs.declared.replaying.ReplayFault.TheVariants as re
 use Rattle.journal_replay.proofs.ReplaySteps.{Stops-wider, all_replayed}
 use Rattle.checkpoint_store.specs.declared.faults.ReopenFault.{ReopenFault}
 use Rattle.checkpoint_store.specs.declared.faults.ReopenFault.TheVariants.{DiskFault, BadRecord, NoMemory}
-use Rattle.checkpoint_store.specs.declared.front.Front.{Front}
-use Rattle.checkpoint_store.specs.declared.numbered.NumberedBooks.{NumberedBooks}
-use Rattle.checkpoint_store.specs.declared.snapshot.Snapshot.{Snapshot}
-use Rattle.checkpoint_store.specs.Checkpoints.{CheckpointBytes}
-use Rattle.checkpoint_store.specs.Reopening.{AreDecided, IsReopened, IsSnapshotOfAll, IsSnapshotOfFront, IsSnapshotRead, IsStartOf}
-use Rattle.checkpoint_store.specs.inside.Numbered.{AreBooksOf, as_snapshot}
 use Rattle.checkpoint_store.specs.inside.Reading.{HasStoreCause, as_reopen_fault}
 use Rattle.checkpoint_store.proofs.InStore.{checkpoint_parts, front_for, front_range}
 use Rattle.checkpoint_store.proofs.Reading.{front_read}

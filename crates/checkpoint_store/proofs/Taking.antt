@@ -1,29 +1,15 @@
 -- The books by number after one more command.
-use Rattle.std.proofs.Common.{◌≡◌, nat_eq, ℕ, ◌+◌, ◌*◌, ◌<◌, ◌^◌, ◌-◌, Bool, true, false, cond, List, [], ◌∷◌, ◌++◌, length, refl, sym, ap, subst, ◌∙◌, arith, length-append, Option, None, Some, Result, Ok, Err, IfErr, IfOk, IfSome, OnOk, MatchResult}
-use Rattle.std.specs.List.{AllByRecursion, IsDistinct}
-use Rattle.std.specs.Map.{lookup}
-use Rattle.std.proofs.lemmas.Bool.{eqb-true}
-use Rattle.indexmap.specs.IndexMap.{insert_entry}
-use Rattle.money_ledgers.specs.Balances.{HasRoom, balances}
-use Rattle.policy_machine.specs.Book.{IsAccepted, judge, judged, judged_after, policy_of, refusal_in, upgrade_of}
-use Rattle.policy_machine.specs.Rules.{IsSound, next}
+use Rattle.checkpoint_store.proofs.Names.{◌≡◌, nat_eq, ℕ, ◌+◌, ◌*◌, ◌<◌, ◌^◌, ◌-◌, Bool, true, false, cond, List, [], ◌∷◌, ◌++◌, length, refl, sym, ap, subst, ◌∙◌, arith, length-append, Option, None, Some, Result, Ok, Err, IfErr, IfOk, IfSome, OnOk, MatchResult, AllByRecursion, IsDistinct, lookup, eqb-true, insert_entry, HasRoom, balances, IsAccepted, judge, judged, judged_after, policy_of, refusal_in, upgrade_of, IsSound, next, AreWithin, added, booking_of, IsValid, id_of, is_upgrade, Command, Policy, NumberedBooks, AreKeyed, Entries, numbered_policies, AreBooksOf, AreSoundBooks, HasSetPolicy}
 use Rattle.policy_machine.proofs.AcceptedLemmas.{next-own}
 use Rattle.policy_machine.proofs.BookLemmas.{IsAccepted-push, book-upgrade}
 use Rattle.policy_machine.proofs.JudgeLemmas.{accepted_upgrade, judged_none, judged_some, next-no_upgrade, upgrade_from-first, upgrade_from-other}
 use Rattle.policy_machine.proofs.LedgerLemmas.{AreWithin-wider, ledger_of-push, ledger_of-upgrade, within_added}
-use Rattle.policy_types.specs.Accounts.{AreWithin, added, booking_of}
 use Rattle.policy_types.specs.Limits.{most_commands}
-use Rattle.policy_types.specs.Valid.{IsValid, id_of, is_upgrade}
-use Rattle.policy_types.specs.declared.command.Command.{Command}
 use Rattle.policy_types.specs.declared.command.Command.TheVariants.{Upgrade}
-use Rattle.policy_types.specs.declared.policy.Policy.{Policy}
 use Rattle.policy_types.specs.declared.refusal.Refusal.{Refusal}
 use Rattle.journal_replay.specs.Keeping.{IsUnkept}
 use Rattle.journal_replay.specs.declared.keeper.Unkept.{Unkept}
 use Rattle.journal_replay.specs.declared.keeper.Unkept.TheVariants.{NoMemory}
-use Rattle.checkpoint_store.specs.declared.numbered.NumberedBooks.{NumberedBooks}
-use Rattle.checkpoint_store.specs.inside.Books.{AreKeyed, Entries, numbered_policies}
-use Rattle.checkpoint_store.specs.inside.Numbered.{AreBooksOf, AreSoundBooks, HasSetPolicy}
 use Rattle.checkpoint_store.proofs.BookEntries.{book_lookup, book_more, insert_few, insert_keyed, insert_sound, keyed_ids}
 
 pub look_own : (k : ℕ) (es : Entries) → AreKeyed es → IfSome (lookup (nat_eq k) es) (λ (p : Policy). p.id ≡ k)

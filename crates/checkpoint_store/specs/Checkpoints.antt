@@ -1,14 +1,7 @@
 -- Which bytes are a checkpoint, and of which snapshot
 use Rattle.std.specs.Prelude.{◌≡◌, nat_eq, ℕ, ◌*◌, ◌≤◌, List, length, map, slice_index}
-use Rattle.std.specs.List.{AllByRecursion, IsDistinct}
-use Rattle.money_ledgers.specs.Balances.{balances}
+use Rattle.checkpoint_store.specs.Names.{AllByRecursion, IsDistinct, balances, book, upgrade_of, IsSound, AreWithin, most_commands, Command, Policy}
 use Rattle.policy_machine.specs.Accounts.{ledger_of}
-use Rattle.policy_machine.specs.Book.{book, upgrade_of}
-use Rattle.policy_machine.specs.Rules.{IsSound}
-use Rattle.policy_types.specs.Accounts.{AreWithin}
-use Rattle.policy_types.specs.Limits.{most_commands}
-use Rattle.policy_types.specs.declared.command.Command.{Command}
-use Rattle.policy_types.specs.declared.policy.Policy.{Policy}
 use Rattle.checkpoint_store.specs.declared.snapshot.Snapshot.{Snapshot}
 use Rattle.checkpoint_store.specs.Spelling.{snapshot_bytes, StandBehindGate}
 

@@ -1,3 +1,4 @@
+pub mod Names
 pub mod Spelling
 pub mod Checkpoints
 pub mod Stores

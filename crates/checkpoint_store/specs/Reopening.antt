@@ -1,13 +1,7 @@
 -- What reopening answers: the snapshot of a journal, or why there is none
 use Rattle.std.specs.Prelude.{◌≡◌, ◌⊎◌, ℕ, ◌+◌, ◌-◌, ◌<◌, ◌≤◌, List, [], length, map, take, None, slice_index_or, IfOk, OnOk, Result, Ok, Err}
-use Rattle.std.specs.List.{AllByRecursion}
-use Rattle.outside_io.specs.Faults.{Rose}
-use Rattle.outside_io.specs.declared.disks.Disk.{Ghosts}
-use Rattle.policy_machine.specs.Book.{IsAccepted, judge}
-use Rattle.policy_types.specs.declared.command.Command.{Command}
-use Rattle.policy_types.specs.Valid.{IsValid}
+use Rattle.checkpoint_store.specs.Names.{AllByRecursion, Rose, Ghosts, IsAccepted, judge, Command, IsValid, LooksOn}
 use Rattle.journal_replay.specs.Replays.{BodiesHave, StaysAs, bodies_of}
-use Rattle.posting_journal.specs.Runs.{LooksOn}
 use Rattle.posting_journal.specs.States.{StandsFor, count_of, disk_of}
 use Rattle.posting_journal.specs.declared.journal.Journal.{Journal}
 use Rattle.record_codec.specs.Spelling.{spelling_of}

@@ -3,10 +3,8 @@
 -- high byte first.
 use Rattle.std.specs.Prelude.{◌≡◌, ℕ, List, [], ◌∷◌, ◌++◌, length, take, drop, replicate}
 use Rattle.std.specs.Int.{w32, w64, to_be_bytes, cast_unsigned}
-use Rattle.std.specs.List.{flat_map}
-use Rattle.policy_types.specs.declared.policy.Policy.{Policy}
+use Rattle.checkpoint_store.specs.Names.{flat_map, Policy, InForce, Lapsed, Claimed, Matured, Expired, Settled, PaidUp}
 use Rattle.policy_types.specs.declared.policy.Status.{Status}
-use Rattle.policy_types.specs.declared.policy.Status.TheVariants.{InForce, Lapsed, Claimed, Matured, Expired, Settled, PaidUp}
 use Rattle.money_ledgers.specs.declared.ledger.Ledger.{Ledger}
 use Rattle.record_codec.specs.Fields.{plan_byte}
 use Rattle.checkpoint_store.specs.declared.snapshot.Snapshot.{Snapshot}

@@ -1,7 +1,6 @@
 -- What starting a store answers
 use Rattle.std.specs.Prelude.{◌⊎◌, ℕ, List, Result, Ok, Err}
-use Rattle.outside_io.specs.declared.disks.Disk.{Ghosts}
-use Rattle.posting_journal.specs.Runs.{IsSafe}
+use Rattle.checkpoint_store.specs.Names.{Ghosts, IsSafe}
 use Rattle.checkpoint_store.specs.Checkpoints.{IsNoCheckpoint}
 use Rattle.checkpoint_store.specs.Stores.{Knows, MightLeave, store_disk}
 use Rattle.checkpoint_store.specs.declared.faults.StoreFault.{StoreFault}

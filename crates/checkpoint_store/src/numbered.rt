@@ -1,11 +1,7 @@
 // The books by number, while records are decided anew.
 ghost use Rattle.std.specs.Prelude.{◌≡◌, ◌<◌, [], nat_eq, false, IfErr, IfOk, IfSome, OnOk};
-ghost use Rattle.std.specs.Map.{lookup};
+ghost use Rattle.checkpoint_store.specs.Names.{lookup, most_commands, IsValid, id_of, is_upgrade, judged, IsSound};
 ghost use Rattle.indexmap.specs.IndexMap.{index_of};
-ghost use Rattle.policy_types.specs.Limits.{most_commands};
-ghost use Rattle.policy_types.specs.Valid.{IsValid, id_of, is_upgrade};
-ghost use Rattle.policy_machine.specs.Book.{judged};
-ghost use Rattle.policy_machine.specs.Rules.{IsSound};
 ghost use Rattle.journal_replay.specs.declared.keeper.Unkept.TheVariants.{NoMemory};
 ghost use Rattle.checkpoint_store.specs.inside.Numbered.{AreBooksOf, AreSoundBooks, HasSetPolicy};
 

@@ -1,7 +1,6 @@
 // A policy is read from its bytes.
 ghost use Rattle.std.specs.Prelude.{◌≡◌, Some, IfSome};
-ghost use Rattle.policy_types.specs.declared.policy.Policy.{Policy as APolicy};
-ghost use Rattle.policy_machine.specs.Rules.{IsSound};
+ghost use Rattle.checkpoint_store.specs.Names.{APolicy, IsSound};
 ghost use Rattle.checkpoint_store.specs.Spelling.{policy_bytes};
 ghost use Rattle.checkpoint_store.specs.inside.Parsing.{plan_of_byte, policy_of_bytes, status_of_byte};
 

@@ -1,10 +1,8 @@
 // A snapshot is saved.
 ghost use Rattle.std.specs.Prelude.{◌≡◌, ◌⊎◌, ℕ, ◌+◌, ◌*◌, ◌≤◌, ◌<◌, ◌++◌, false, List, length, IsTrue, IfOk, OnOk, MatchResult, Ok, Err};
-ghost use Rattle.std.specs.List.{flat_map};
+ghost use Rattle.checkpoint_store.specs.Names.{flat_map, IsSafe, Leaves, most_commands};
 ghost use Rattle.outside_io.specs.Disks.{HasDiskCause};
 ghost use Rattle.posting_journal.specs.Faults.{TellsFaults};
-ghost use Rattle.posting_journal.specs.Runs.{IsSafe, Leaves};
-ghost use Rattle.policy_types.specs.Limits.{most_commands};
 ghost use Rattle.checkpoint_store.specs.Checkpoints.{CheckpointBytes, IsNoCheckpoint, IsSoundSnapshot};
 ghost use Rattle.checkpoint_store.specs.Spelling.{policy_bytes, snapshot_bytes, StandBehindGate};
 ghost use Rattle.checkpoint_store.specs.Stores.{AreShut, IsKeptBy, IsKeptOrSavedBy, Knows, MightLeave, store_disk};

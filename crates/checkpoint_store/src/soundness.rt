@@ -1,9 +1,6 @@
 // Whether the parts of a snapshot are sound.
 ghost use Rattle.std.specs.Prelude.{◌≡◌, ◌<◌, ◌≤◌, ◌↔◌, ◌≤ℤ◌, IsTrue};
-ghost use Rattle.money_ledgers.specs.Balances.{balances};
-ghost use Rattle.policy_machine.specs.Rules.{IsSound, awaits_settlement, payments_of};
-ghost use Rattle.policy_types.specs.Accounts.{AreWithin, IsWithin};
-ghost use Rattle.policy_types.specs.Valid.{IsCommandDay, IsIssue};
+ghost use Rattle.checkpoint_store.specs.Names.{balances, IsSound, awaits_settlement, payments_of, AreWithin, IsWithin, IsCommandDay, IsIssue};
 
 use money_ledgers::Ledger;
 use policy_types::{Command, END_AGE, FIRST_DAY, LAST_DAY, Plan, Policy, Status};

@@ -1,7 +1,6 @@
 // A store is started on a disk, and gives it back.
 ghost use Rattle.std.specs.Prelude.{◌≡◌, IfOk, IfErr};
-ghost use Rattle.outside_io.specs.Faults.{Rose};
-ghost use Rattle.posting_journal.specs.Runs.{LooksOn};
+ghost use Rattle.checkpoint_store.specs.Names.{Rose, LooksOn};
 ghost use Rattle.checkpoint_store.specs.Starts.{HasLookedAt, second_disk_back};
 ghost use Rattle.checkpoint_store.specs.Stores.{store_disk};
 

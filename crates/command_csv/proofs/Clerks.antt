@@ -1,13 +1,6 @@
 -- The lines of rows, the lanes where all are of clerk 1, and the room for valuations
-use Rattle.std.proofs.Common.{◌≡◌, ℕ, zero, suc, ◌+◌, ◌≤◌, Bool, true, false, eqb, cond, List, [], ◌∷◌, length, map, refl, ap, ◌∙◌, arith}
-use Rattle.std.specs.List.{AllZip, AllByRecursion, filter}
-use Rattle.std.proofs.lemmas.Bool.{ne_eqb}
+use Rattle.command_csv.proofs.Names.{◌≡◌, ℕ, zero, suc, ◌+◌, ◌≤◌, Bool, true, false, eqb, cond, List, [], ◌∷◌, length, map, refl, ap, ◌∙◌, arith, AllZip, AllByRecursion, filter, ne_eqb, Line, Post, Value, Trim, ClerkLine, by_first, IsScriptLine, IsLineRow, MayStandBehind, is_valuation, valuations_in, all_lines, lines_of, lane_of, lanes_of, lanes_up_to, most_valuations}
 use Rattle.std.proofs.lemmas.List.{append-nil}
-use Rattle.policy_types.specs.declared.script.Line.{Line}
-use Rattle.policy_types.specs.declared.script.Line.TheVariants.{Post, Value, Trim}
-use Rattle.command_csv.specs.declared.row.ClerkLine.{ClerkLine}
-use Rattle.command_csv.specs.Spelling.{by_first}
-use Rattle.command_csv.specs.Reads.{IsScriptLine, IsLineRow, MayStandBehind, is_valuation, valuations_in, all_lines, lines_of, lane_of, lanes_of, lanes_up_to, most_valuations}
 
 pub lines_of_first : (lines : List Line) → lines_of 1 (map by_first lines) ≡ lines
 lines_of_first [] = refl

@@ -1,12 +1,9 @@
 -- A script has one answer
-use Rattle.std.proofs.Common.{ℕ, List, ap, Result, Ok, Err}
-use Rattle.std.specs.Prelude.{IfOk, IfErr}
-use Rattle.policy_types.specs.declared.script.Lane.{Lane}
+use Rattle.command_csv.proofs.Names.{ℕ, List, ap, Result, Ok, Err, IfOk, IfErr, Lane, Reads}
 use Rattle.command_csv.specs.declared.fault.ScriptFault.{ScriptFault}
 use Rattle.command_csv.specs.declared.fault.ScriptFault.TheVariants.{BadRow, NoMemory}
 use Rattle.command_csv.specs.Answers.{GivesScript, IsScriptAnswer}
 use Rattle.command_csv.specs.Cause.{HasScriptCause}
-use Rattle.command_csv.specs.Reads.{Reads}
 use Rattle.command_csv.proofs.Faults.{fault_excludes, one_fault}
 use Rattle.command_csv.proofs.OneReading.{one_reading}
 

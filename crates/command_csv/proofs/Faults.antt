@@ -1,12 +1,5 @@
 -- A script with a first fault isn't read, and has no other first fault
-use Rattle.std.proofs.Common.{◌≡◌, ℕ, ◌+◌, ◌-◌, ◌≤◌, List, [], ◌∷◌, ◌++◌, length, take, suc, refl, ap, sym, ◌∙◌, subst, inl, inr, arith}
-use Rattle.std.specs.List.{AllZip}
-use Rattle.std.proofs.lemmas.Bool.{cases_order}
-use Rattle.std.proofs.lemmas.List.{take-take}
-use Rattle.policy_types.specs.declared.script.Lane.{Lane}
-use Rattle.command_csv.specs.declared.row.ClerkLine.{ClerkLine}
-use Rattle.command_csv.specs.Spelling.{row_fields}
-use Rattle.command_csv.specs.Reads.{IsLineRow, MayStandBehind, Reads, FitsUpTo, IsFirstBadField, IsFirstScriptFault, all_lines, valuations_in, most_valuations}
+use Rattle.command_csv.proofs.Names.{◌≡◌, ℕ, ◌+◌, ◌-◌, ◌≤◌, List, [], ◌∷◌, ◌++◌, length, take, suc, refl, ap, sym, ◌∙◌, subst, inl, inr, arith, AllZip, cases_order, take-take, Lane, ClerkLine, row_fields, IsLineRow, MayStandBehind, Reads, FitsUpTo, IsFirstBadField, IsFirstScriptFault, all_lines, valuations_in, most_valuations}
 use Rattle.command_csv.proofs.Clerks.{valuations-cons, room_first, room_behind}
 use Rattle.command_csv.proofs.OneReading.{one_entry}
 

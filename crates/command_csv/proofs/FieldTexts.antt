@@ -1,18 +1,9 @@
 -- What a field is the text of
-use Rattle.std.proofs.Common.{◌≡◌, ◌≢◌, ℕ, zero, suc, ◌+◌, ◌<◌, ◌≤◌, ◌^◌, List, [], ◌∷◌, drop, take, ap, sym, ◌∙◌, subst, refl, arith, Option, Some, None, Bor, ℤ}
+use Rattle.command_csv.proofs.Names.{◌≡◌, ◌≢◌, ℕ, zero, suc, ◌+◌, ◌<◌, ◌≤◌, ◌^◌, List, [], ◌∷◌, drop, take, ap, sym, ◌∙◌, subst, refl, arith, Option, Some, None, Bor, ℤ, decimal_injective, ints, Plan, Term, Whole, Endowment, Limited, AreYears, IsCommandDay, IsIssueAge, IsDay, IsTermDay, day_text, IsDayText, LineFields, Took, Missed, left_of}
 use Rattle.std.specs.Prelude.{decimal, option_map, IfSome, IfNone, IsTrue, ◌↔◌, Bool, true, false}
-use Rattle.std.proofs.lemmas.Fmt.{decimal_injective}
-use Rattle.std.proofs.lemmas.Int.{ints}
 use Rattle.std.proofs.lemmas.Option.{none-some}
 use Rattle.csv.specs.Records.{field_at}
-use Rattle.policy_types.specs.declared.command.Plan.{Plan}
-use Rattle.policy_types.specs.declared.command.Plan.TheVariants.{Term, Whole, Endowment, Limited}
-use Rattle.policy_types.specs.Valid.{AreYears, IsCommandDay, IsIssueAge}
-use Rattle.life_dates.specs.Calendar.{IsDay, IsTermDay}
-use Rattle.life_dates.specs.DayText.{day_text, IsDayText}
 use Rattle.life_dates.proofs.TextLemmas.{IsDayText-day_text, day_text-only}
-use Rattle.command_csv.specs.declared.fields.LineFields.{LineFields}
-use Rattle.command_csv.specs.inside.Cursor.{Took, Missed, left_of}
 
 -- the field at a place, and those behind it
 field_some : (xs : List (List ℕ)) (i : ℕ) (text : List ℕ) → Some text ≡ field_at xs i → drop i xs ≡ text ∷ drop (suc i) xs

@@ -1,23 +1,6 @@
 -- Where the fields of a row leave a form
-use Rattle.std.proofs.Common.{◌≡◌, ◌≢◌, ℕ, suc, List, [], ◌∷◌, take, refl, ap, sym, ◌∙◌, subst, arith, lit≤, ℤ, pos}
-use Rattle.std.specs.Prelude.{decimal, ⊤}
-use Rattle.std.proofs.lemmas.Fmt.{decimal_injective}
-use Rattle.std.proofs.lemmas.Int.{ints}
-use Rattle.policy_types.specs.declared.command.Plan.{Plan}
-use Rattle.policy_types.specs.declared.command.Plan.TheVariants.{Term, Whole, Endowment, Limited}
-use Rattle.policy_types.specs.Valid.{IsId, IsCommandDay, IsAmount, IsReinstatement, IsIssueAge, AreYears}
-use Rattle.life_dates.specs.DayText.{day_text}
-use Rattle.money_core.specs.CentsText.{cents_text}
-use Rattle.command_csv.specs.declared.fields.LineFields.{LineFields}
-use Rattle.command_csv.specs.declared.kind.Kind.{Kind}
+use Rattle.command_csv.proofs.Names.{◌≡◌, ◌≢◌, ℕ, suc, List, [], ◌∷◌, take, refl, ap, sym, ◌∙◌, subst, arith, lit≤, ℤ, pos, decimal, ⊤, decimal_injective, ints, Plan, Term, Whole, Endowment, Limited, IsId, IsCommandDay, IsAmount, IsReinstatement, IsIssueAge, AreYears, day_text, cents_text, LineFields, Kind, At, Now, at_text, plan_word, IsClerk, IsPosition, AreWorkers, Took, Missed, StopsIn, left_of, Ends, Then, Amount, Reinstatement, PolicyAndDay, YearsOn, AgeOn, PlanOn, WorkersOn, PositionOn, KindMayStandBehind, KindForm, RowForm, kind_spelling, form_of, StopsAfter}
 use Rattle.command_csv.specs.declared.kind.Kind.TheVariants.{Issue, Premium, Alter, Lapse, Reinstate, Claim, Settle, Mature, PaidUp, Upgrade, Value, Trim}
-use Rattle.policy_types.specs.declared.entry.At.{At}
-use Rattle.policy_types.specs.declared.entry.At.TheVariants.{Now}
-use Rattle.command_csv.specs.Spelling.{at_text}
-use Rattle.policy_types.specs.Words.{plan_word}
-use Rattle.command_csv.specs.Reads.{IsClerk, IsPosition, AreWorkers}
-use Rattle.command_csv.specs.inside.Cursor.{Took, Missed, StopsIn, left_of}
-use Rattle.command_csv.specs.inside.Forms.{Ends, Then, Amount, Reinstatement, PolicyAndDay, YearsOn, AgeOn, PlanOn, WorkersOn, PositionOn, KindMayStandBehind, KindForm, RowForm, kind_spelling, form_of, StopsAfter}
 use Rattle.command_csv.proofs.Words.{plan_word_injective, kind_word_injective}
 
 -- what may follow one value may follow another of the same text

@@ -1,26 +1,7 @@
 -- Every script is read or has a first fault
-use Rattle.std.proofs.Common.{◌≡◌, ◌≢◌, ◌⊎◌, inl, inr, ℕ, suc, zero, ◌+◌, ◌<◌, ◌≤◌, List, [], ◌∷◌, ◌++◌, length, take, get_or, refl, ap, sym, ◌∙◌, subst, arith, ℤ, pos, negsuc, ◌+ℤ◌, ◌-ℤ◌, ◌≤ℤ◌}
-use Rattle.std.specs.Prelude.{decimal, ⊤}
-use Rattle.std.specs.List.{AllZip}
-use Rattle.std.proofs.lemmas.Bool.{cases_eq, cases_lt}
-use Rattle.std.proofs.lemmas.Int.{ints}
-use Rattle.policy_types.specs.declared.command.Plan.{Plan}
-use Rattle.policy_types.specs.declared.command.Plan.TheVariants.{Term, Whole, Endowment, Limited}
-use Rattle.policy_types.specs.declared.entry.At.{At}
-use Rattle.policy_types.specs.declared.entry.At.TheVariants.{Now, Position}
-use Rattle.policy_types.specs.declared.script.Lane.{Lane}
+use Rattle.command_csv.proofs.Names.{◌≡◌, ◌≢◌, ◌⊎◌, inl, inr, ℕ, suc, zero, ◌+◌, ◌<◌, ◌≤◌, List, [], ◌∷◌, ◌++◌, length, take, get_or, refl, ap, sym, ◌∙◌, subst, arith, ℤ, pos, negsuc, ◌+ℤ◌, ◌-ℤ◌, ◌≤ℤ◌, decimal, ⊤, AllZip, cases_eq, cases_lt, ints, Plan, Term, Whole, Endowment, Limited, At, Now, Position, Lane, IsId, IsCommandDay, IsAmount, IsReinstatement, IsIssueAge, AreYears, day_text, cents_text, Kind, rows_of, ClerkLine, at_text, plan_word, IsClerk, IsPosition, AreWorkers, IsLineRow, IsFirstBadField, IsFirstScriptFault, Reads, all_lines, valuations_in, most_valuations, last_lane, lanes_of, Ends, Then, Amount, Reinstatement, PolicyAndDay, YearsOn, AgeOn, PlanOn, WorkersOn, PositionOn, KindMayStandBehind, KindForm, RowForm, kind_spelling, form_of, StopsAfter}
 use Rattle.policy_types.specs.Limits.{most_commands}
-use Rattle.policy_types.specs.Valid.{IsId, IsCommandDay, IsAmount, IsReinstatement, IsIssueAge, AreYears}
-use Rattle.life_dates.specs.DayText.{day_text}
-use Rattle.money_core.specs.CentsText.{cents_text}
-use Rattle.command_csv.specs.declared.kind.Kind.{Kind}
 use Rattle.command_csv.specs.declared.kind.Kind.TheVariants as kind
-use Rattle.command_csv.specs.Rows.{rows_of}
-use Rattle.command_csv.specs.declared.row.ClerkLine.{ClerkLine}
-use Rattle.command_csv.specs.Spelling.{at_text}
-use Rattle.policy_types.specs.Words.{plan_word}
-use Rattle.command_csv.specs.Reads.{IsClerk, IsPosition, AreWorkers, IsLineRow, IsFirstBadField, IsFirstScriptFault, Reads, all_lines, valuations_in, most_valuations, last_lane, lanes_of}
-use Rattle.command_csv.specs.inside.Forms.{Ends, Then, Amount, Reinstatement, PolicyAndDay, YearsOn, AgeOn, PlanOn, WorkersOn, PositionOn, KindMayStandBehind, KindForm, RowForm, kind_spelling, form_of, StopsAfter}
 use Rattle.command_csv.proofs.Forms.{workers_possible, Carries, IsPossible, carries_all, kind_carries, plan_carries, age_carries, goes_on, stops, end_possible, amount_possible, reinstatement_possible, day_possible, policy_possible, years_possible, age_possible, plan_possible, position_possible, any_kind_possible, row_possible}
 use Rattle.command_csv.proofs.Clerks.{valuations-cons, room_counted}
 use Rattle.command_csv.proofs.Lines.{of_row_form, bad_field}

@@ -1,17 +1,9 @@
 -- What holds of the lanes of any script
-use Rattle.std.proofs.Common.{◌≡◌, ℕ, zero, suc, ◌+◌, ◌≤◌, ◌<◌, ◌==◌, Bool, true, false, cond, List, [], ◌∷◌, ◌++◌, length, refl, ap, sym, ◌∙◌, subst, arith, append-nil, length-append}
-use Rattle.std.specs.List.{AllByRecursion, AllZip, filter}
-use Rattle.std.proofs.lemmas.Bool.{cond-false, cond-true, eqb-false, eqb-true, ne_eqb}
+use Rattle.command_csv.proofs.Names.{◌≡◌, ℕ, zero, suc, ◌+◌, ◌≤◌, ◌<◌, ◌==◌, Bool, true, false, cond, List, [], ◌∷◌, ◌++◌, length, refl, ap, sym, ◌∙◌, subst, arith, append-nil, length-append, AllByRecursion, AllZip, filter, cond-false, cond-true, eqb-false, eqb-true, ne_eqb, length-map, map-append, Line, Lane, ClerkLine, IsClerk, IsLineRow, IsScriptLine, Reads, all_lines, is_valuation, lane_of, lanes_up_to, last_lane, lines_of, rows_of}
 use Rattle.std.proofs.lemmas.Grind.{flat_map-append}
-use Rattle.std.proofs.lemmas.List.{length-map, map-append}
 use Rattle.std.proofs.lemmas.List.Elements.{filter-append}
-use Rattle.policy_types.specs.declared.script.Line.{Line}
-use Rattle.policy_types.specs.declared.script.Lane.{Lane}
-use Rattle.command_csv.specs.declared.row.ClerkLine.{ClerkLine}
 use Rattle.command_csv.specs.Lanes.{AreLanesOf, IsLane}
 use Rattle.policy_types.specs.Lanes.{AreRising, numbers_of, lines_in}
-use Rattle.command_csv.specs.Reads.{IsClerk, IsLineRow, IsScriptLine, Reads, all_lines, is_valuation, lane_of, lanes_up_to, last_lane, lines_of}
-use Rattle.command_csv.specs.Rows.{rows_of}
 use Rattle.command_csv.proofs.Clerks.{all_right}
 
 all_and : {A : Type 0} (P : A → Type 0) (xs ys : List A) → AllByRecursion P xs → AllByRecursion P ys → AllByRecursion P (xs ++ ys)

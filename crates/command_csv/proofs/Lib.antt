@@ -1,3 +1,4 @@
+pub mod Names
 pub mod Clerks
 pub mod Exact
 pub mod Faults

@@ -1,20 +1,9 @@
 -- The rows of lines, by the form of a row
-use Rattle.std.proofs.Common.{◌≡◌, ◌≢◌, ℕ, suc, ◌+◌, ◌-◌, ◌≤◌, List, [], ◌∷◌, ◌++◌, length, take, drop, refl, ap, sym, ◌∙◌, subst, arith, length-append}
-use Rattle.std.specs.Prelude.{decimal}
+use Rattle.command_csv.proofs.Names.{◌≡◌, ◌≢◌, ℕ, suc, ◌+◌, ◌-◌, ◌≤◌, List, [], ◌∷◌, ◌++◌, length, take, drop, refl, ap, sym, ◌∙◌, subst, arith, length-append, decimal, Line, Post, Value, Trim, IsValid, LineFields, Kind, ClerkLine, command_fields, line_fields, row_fields, IsClerk, IsScriptLine, IsClerkLine, MayStandBehind, FitsUpTo, IsFirstBadField, Took, StopsIn, HoldsLine, IsNextRow, left_of, KindForm, RowForm, KindMayStandBehind, kind_spelling, form_of, FitsIn, StopsAfter}
 use Rattle.std.proofs.lemmas.List.{append-nil, length-take, take-append-le, take-take}
 use Rattle.policy_types.specs.declared.command.Command.{Command}
 use Rattle.policy_types.specs.declared.command.Command.TheVariants as command
-use Rattle.policy_types.specs.declared.script.Line.{Line}
-use Rattle.policy_types.specs.declared.script.Line.TheVariants.{Post, Value, Trim}
-use Rattle.policy_types.specs.Valid.{IsValid}
-use Rattle.command_csv.specs.declared.fields.LineFields.{LineFields}
-use Rattle.command_csv.specs.declared.kind.Kind.{Kind}
 use Rattle.command_csv.specs.declared.kind.Kind.TheVariants as kind
-use Rattle.command_csv.specs.declared.row.ClerkLine.{ClerkLine}
-use Rattle.command_csv.specs.Spelling.{command_fields, line_fields, row_fields}
-use Rattle.command_csv.specs.Reads.{IsClerk, IsScriptLine, IsClerkLine, MayStandBehind, FitsUpTo, IsFirstBadField}
-use Rattle.command_csv.specs.inside.Cursor.{Took, StopsIn, HoldsLine, IsNextRow, left_of}
-use Rattle.command_csv.specs.inside.Forms.{KindForm, RowForm, KindMayStandBehind, kind_spelling, form_of, FitsIn, StopsAfter}
 use Rattle.command_csv.proofs.Words.{kind_word_injective}
 use Rattle.command_csv.proofs.Forms.{then_is}
 

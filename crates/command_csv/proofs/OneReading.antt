@@ -1,33 +1,15 @@
 -- A script is read in one way
-use Rattle.std.proofs.Common.{◌≡◌, ℕ, ◌≤◌, cond, Bool, true, false, List, [], ◌∷◌, Some, take, refl, ap, sym, ◌∙◌, subst, arith, lit≤, ℤ, pos}
+use Rattle.command_csv.proofs.Names.{◌≡◌, ℕ, ◌≤◌, cond, Bool, true, false, List, [], ◌∷◌, Some, take, refl, ap, sym, ◌∙◌, subst, arith, lit≤, ℤ, pos, AllZip, decimal_injective, decimal_is_IsNumeral, Plan, Term, Line, At, Now, Position, Post, Value, Trim, Lane, IsValid, IsId, id_of, day_of, IsDay, days_in_month, is_leap_year, day_number, day_text, IsDayText, cents_text, Kind, rows_of, ClerkLine, at_text, command_fields, line_fields, IsPosition, IsScriptLine, IsLineRow, Reads, lanes_of}
 use Rattle.std.specs.Prelude.{decimal, ◌==◌, ◌||◌}
-use Rattle.std.specs.List.{AllZip}
 use Rattle.std.specs.Str.Parse.{AllDigits}
-use Rattle.std.proofs.lemmas.Fmt.{decimal_injective, decimal_is_IsNumeral}
 use Rattle.std.proofs.lemmas.Str.Parse.{digit_from_value}
 use Rattle.std.proofs.lemmas.List.{append-nil}
 use Rattle.policy_types.specs.declared.command.Command.{Command}
 use Rattle.policy_types.specs.declared.command.Command.TheVariants as command
-use Rattle.policy_types.specs.declared.command.Plan.{Plan}
-use Rattle.policy_types.specs.declared.command.Plan.TheVariants.{Term}
-use Rattle.policy_types.specs.declared.script.Line.{Line}
-use Rattle.policy_types.specs.declared.entry.At.{At}
-use Rattle.policy_types.specs.declared.entry.At.TheVariants.{Now, Position}
-use Rattle.policy_types.specs.declared.script.Line.TheVariants.{Post, Value, Trim}
-use Rattle.policy_types.specs.declared.script.Lane.{Lane}
-use Rattle.policy_types.specs.Valid.{IsValid, IsId, id_of, day_of}
 use Rattle.std.specs.Option.{unwrap_or}
-use Rattle.life_dates.specs.Calendar.{IsDay, days_in_month, is_leap_year, day_number}
-use Rattle.life_dates.specs.DayText.{day_text, IsDayText}
 use Rattle.life_dates.proofs.TextLemmas.{IsDayText-day_text, read_exact}
-use Rattle.money_core.specs.CentsText.{cents_text}
 use Rattle.money_core.proofs.CentsTextLemmas.{cents_text_injective}
-use Rattle.command_csv.specs.declared.kind.Kind.{Kind}
 use Rattle.command_csv.specs.declared.kind.Kind.TheVariants as kind
-use Rattle.command_csv.specs.Rows.{rows_of}
-use Rattle.command_csv.specs.declared.row.ClerkLine.{ClerkLine}
-use Rattle.command_csv.specs.Spelling.{at_text, command_fields, line_fields}
-use Rattle.command_csv.specs.Reads.{IsPosition, IsScriptLine, IsLineRow, Reads, lanes_of}
 use Rattle.command_csv.proofs.FieldTexts.{term_day, years_within}
 use Rattle.command_csv.proofs.Lines.{kind_in, kind_of, one_kind}
 use Rattle.command_csv.proofs.Words.{plan_word_injective}

@@ -1,22 +1,13 @@
 -- How far a script is read: these rows are behind, and these lines were on them
-use Rattle.std.proofs.Common.{◌≡◌, ℕ, ◌+◌, List, [], ◌∷◌, ◌++◌, length, Option, Some, Bor, true, false, inl, Bool, ◌≤◌, ap, sym, ◌∙◌, append_assoc, length-append, arith, subst}
+use Rattle.command_csv.proofs.Names.{◌≡◌, ℕ, ◌+◌, List, [], ◌∷◌, ◌++◌, length, Option, Some, Bor, true, false, inl, Bool, ◌≤◌, ap, sym, ◌∙◌, append_assoc, length-append, arith, subst, AllZip, filter, map-append, Reached, ReadRecord, Ready, default_config, is_flexible, strip_bom, source_of, reader_config, reader_state, reader_trim, took_first, Line, Lane, rows_of, ClerkLine, IsLineRow, AreLineRows, IsFirstBadField, IsFirstScriptFault, Reads, is_valuation, valuations_in, all_lines, most_valuations, lanes_of, IsNextRow}
 use Rattle.std.specs.Prelude.{Result, IfOk}
-use Rattle.std.specs.List.{AllZip, filter}
-use Rattle.std.proofs.lemmas.List.{map-append}
 use Rattle.std.proofs.lemmas.List.Elements.{filter-append}
 use Rattle.std.proofs.lemmas.Result.{IfOk-weaker}
-use Rattle.csv.specs.Reading.{Reached, ReadRecord, Ready, default_config, is_flexible, strip_bom, source_of, reader_config, reader_state, reader_trim, took_first}
 use Rattle.csv.proofs.ReadFacts.{rows-more, rows-end as csv_end}
 use Rattle.csv.specs.declared.parser.State.TheVariants as st
 use Rattle.csv.specs.declared.reader.Reader.{Reader}
 use Rattle.csv.specs.declared.reader.Trim.TheVariants as trim
-use Rattle.policy_types.specs.declared.script.Line.{Line}
-use Rattle.policy_types.specs.declared.script.Lane.{Lane}
 use Rattle.command_csv.specs.declared.fault.ScriptFault.{ScriptFault}
-use Rattle.command_csv.specs.Rows.{rows_of}
-use Rattle.command_csv.specs.declared.row.ClerkLine.{ClerkLine}
-use Rattle.command_csv.specs.Reads.{IsLineRow, AreLineRows, IsFirstBadField, IsFirstScriptFault, Reads, is_valuation, valuations_in, all_lines, most_valuations, lanes_of}
-use Rattle.command_csv.specs.inside.Cursor.{IsNextRow}
 use Rattle.command_csv.proofs.Clerks.{room_counted}
 use Rattle.command_csv.proofs.Records.{rows_begin, rows_end, rows_few}
 

@@ -1,12 +1,7 @@
 -- A word stands for one plan, or for one kind
-use Rattle.std.proofs.Common.{◌≡◌, ℕ, List, get_or, refl, ap, sym, ◌∙◌}
+use Rattle.command_csv.proofs.Names.{◌≡◌, ℕ, List, get_or, refl, ap, sym, ◌∙◌, Plan, Term, Whole, Endowment, Limited, Kind, plan_word, kind_spelling}
 use Rattle.std.specs.Prelude.{if◌then◌else◌, ◌==◌}
-use Rattle.policy_types.specs.declared.command.Plan.{Plan}
-use Rattle.policy_types.specs.declared.command.Plan.TheVariants.{Term, Whole, Endowment, Limited}
-use Rattle.command_csv.specs.declared.kind.Kind.{Kind}
 use Rattle.command_csv.specs.declared.kind.Kind.TheVariants.{Issue, Premium, Alter, Lapse, Reinstate, Claim, Settle, Mature, PaidUp, Upgrade, Value, Trim}
-use Rattle.policy_types.specs.Words.{plan_word}
-use Rattle.command_csv.specs.inside.Forms.{kind_spelling}
 
 -- the plan whose word begins with this letter
 abbrev pub plan_by : ℕ → Plan

@@ -1,21 +1,7 @@
 -- What the worked scripts rest on
-use Rattle.std.proofs.Common.{◌≡◌, ℕ, zero, suc, ◌<◌, ◌≤◌, List, [], ◌∷◌, ◌++◌, map, refl, sym, subst, arith, lit≤, codes, pos}
-use Rattle.std.specs.Prelude.{decimal, replicate}
-use Rattle.std.specs.List.{AllZip}
-use Rattle.std.proofs.lemmas.Fmt.{decimal_injective}
-use Rattle.std.proofs.lemmas.Int.{ints}
-use Rattle.policy_types.specs.declared.entry.At.TheVariants.{Now}
-use Rattle.policy_types.specs.declared.script.Line.{Line}
-use Rattle.policy_types.specs.declared.script.Line.TheVariants.{Post, Value, Trim}
-use Rattle.policy_types.specs.Valid.{IsId, IsCommandDay}
-use Rattle.life_dates.specs.DayText.{day_text}
+use Rattle.command_csv.proofs.Names.{◌≡◌, ℕ, zero, suc, ◌<◌, ◌≤◌, List, [], ◌∷◌, ◌++◌, map, refl, sym, subst, arith, lit≤, codes, pos, decimal, replicate, AllZip, decimal_injective, ints, Now, Line, Post, Value, Trim, IsId, IsCommandDay, day_text, ClerkLine, rows_of, by_first, at_text, row_fields, IsClerk, IsPosition, AreWorkers, IsScriptLine, IsLineRow, AreLineRows, IsFirstBadField, Reads, lanes_of, most_valuations, valuations_in, Ends, Then, WorkersOn, PositionOn, KindMayStandBehind, KindForm, kind_spelling, form_of}
 use Rattle.command_csv.specs.declared.kind.Kind.TheVariants as kind
-use Rattle.command_csv.specs.declared.row.ClerkLine.{ClerkLine}
-use Rattle.command_csv.specs.Rows.{rows_of}
-use Rattle.command_csv.specs.Spelling.{by_first, at_text, row_fields}
-use Rattle.command_csv.specs.Reads.{IsClerk, IsPosition, AreWorkers, IsScriptLine, IsLineRow, AreLineRows, IsFirstBadField, Reads, lanes_of, most_valuations, valuations_in}
 use Rattle.command_csv.specs.Worked.{SaysLines}
-use Rattle.command_csv.specs.inside.Forms.{Ends, Then, WorkersOn, PositionOn, KindMayStandBehind, KindForm, kind_spelling, form_of}
 use Rattle.command_csv.proofs.Clerks.{lanes_of_first}
 use Rattle.command_csv.proofs.Forms.{carries_all, kind_carries, day_possible, end_possible, workers_possible, any_kind_possible, row_possible, goes_on, stops}
 use Rattle.command_csv.proofs.Lines.{bad_field, entry_of}

@@ -1,8 +1,7 @@
 -- What holds of the lanes of any script
 use Rattle.std.specs.Prelude.{◌≡◌, ℕ, ◌≤◌, List, length}
-use Rattle.std.specs.List.{AllByRecursion}
+use Rattle.command_csv.specs.Names.{AllByRecursion, Lane}
 use Rattle.policy_types.specs.Lanes.{AreRising, lines_in, numbers_of}
-use Rattle.policy_types.specs.declared.script.Lane.{Lane}
 use Rattle.command_csv.specs.Reads.{IsClerk, IsScriptLine, most_valuations, valuations_in}
 
 -- a clerk's lane, with a line or more, each of which a script may hold

@@ -1,13 +1,7 @@
 -- What a script says: its lines, lane by lane, or the first field that doesn't fit
 use Rattle.std.specs.Prelude.{◌≡◌, ℕ, zero, suc, ◌+◌, ◌-◌, ◌<◌, ◌≤◌, ◌==◌, Bool, true, false, List, [], ◌∷◌, ◌++◌, length, take, map, filter, ⊤}
-use Rattle.std.specs.List.{AllZip}
-use Rattle.policy_types.specs.declared.entry.At.{At}
-use Rattle.policy_types.specs.declared.entry.At.TheVariants.{Now, Position}
-use Rattle.policy_types.specs.declared.script.Line.{Line}
-use Rattle.policy_types.specs.declared.script.Line.TheVariants.{Post, Value, Trim}
-use Rattle.policy_types.specs.declared.script.Lane.{Lane}
+use Rattle.command_csv.specs.Names.{AllZip, At, Now, Position, Line, Post, Value, Trim, Lane, IsValid, IsCommandDay}
 use Rattle.policy_types.specs.Limits.{most_commands}
-use Rattle.policy_types.specs.Valid.{IsValid, IsCommandDay}
 use Rattle.command_csv.specs.declared.row.ClerkLine.{ClerkLine}
 use Rattle.command_csv.specs.Rows.{rows_of}
 use Rattle.command_csv.specs.Spelling.{row_fields}

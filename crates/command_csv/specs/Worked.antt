@@ -1,11 +1,8 @@
 -- Scripts, and what they say: each kind of line as a clerk writes it, and some first faults
 use Rattle.std.specs.Prelude.{ℕ, List, [], ◌∷◌, ◌++◌, pos, codes, replicate}
-use Rattle.std.specs.List.{flat_map}
+use Rattle.command_csv.specs.Names.{flat_map, Now, Position, Line, Post, Value, Trim}
 use Rattle.policy_types.specs.declared.command.Command.TheVariants.{Issue, Premium, Alter, Lapse, Reinstate, Claim, Settle, Mature, PaidUp, Upgrade}
 use Rattle.policy_types.specs.declared.command.Plan.TheVariants.{Endowment}
-use Rattle.policy_types.specs.declared.entry.At.TheVariants.{Now, Position}
-use Rattle.policy_types.specs.declared.script.Line.{Line}
-use Rattle.policy_types.specs.declared.script.Line.TheVariants.{Post, Value, Trim}
 use Rattle.command_csv.specs.Reads.{Reads, IsFirstScriptFault, lane_of}
 
 -- the script says these lines, all of clerk 1

@@ -1,16 +1,11 @@
 // The next field of a row, where it is what it has to be.
 ghost use Rattle.std.specs.Prelude.{◌≡◌, ◌≢◌, ℕ, ℤ, ◌≤◌, ◌<◌, ◌+◌, ◌∷◌, [], ⊤, take, decimal, ◌↔◌, IsTrue, IfSome, IfNone};
-ghost use Rattle.csv.specs.Records.{fields_of};
-ghost use Rattle.policy_types.specs.Valid.{IsId, IsCommandDay, IsAmount, IsReinstatement, IsIssueAge, AreYears};
+ghost use Rattle.command_csv.specs.Names.{fields_of, IsId, IsCommandDay, IsAmount, IsReinstatement, IsIssueAge, AreYears, APosition, day_text, cents_text, plan_word};
 ghost use Rattle.policy_types.specs.declared.command.Plan.{Plan as APlan};
-ghost use Rattle.policy_types.specs.declared.entry.At.{At as APosition};
-ghost use Rattle.life_dates.specs.DayText.{day_text};
-ghost use Rattle.money_core.specs.CentsText.{cents_text};
 ghost use Rattle.command_csv.specs.declared.kind.Kind.{Kind as AKind};
 ghost use Rattle.command_csv.specs.inside.Forms.{KindMayStandBehind, kind_spelling};
 ghost use Rattle.command_csv.specs.Reads.{AreWorkers, IsClerk, IsPosition};
 ghost use Rattle.command_csv.specs.Spelling.{at_text};
-ghost use Rattle.policy_types.specs.Words.{plan_word};
 
 use crate::kind::{Kind, kind_of};
 use csv::ByteRecord;

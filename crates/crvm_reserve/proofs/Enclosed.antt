@@ -1,19 +1,8 @@
 -- The rounded premium and reserve enclose the exact ones, and lie close together.
-use Rattle.std.proofs.Common.{ℕ, ◌+◌, ◌-◌, ◌*◌, ◌<◌, ◌≤◌, arith}
+use Rattle.crvm_reserve.proofs.Names.{ℕ, ◌+◌, ◌-◌, ◌*◌, ◌<◌, ◌≤◌, arith, Between, over, Cover, year, death, ben, ann, term_premium, level_premium, excess, beta, reserve, Encloses, UNIT, ben_lo, ben_hi, ann_lo, ann_hi, down-le, le-up, apart, plus-between, less-between, lesser-between, over-between, times-between, scaled-between, ben-between, ann-between, ben-narrow, ann-narrow, ben_hi-most, ben_lo-most, ann_lo-most, ann_lo-least, ordered, term_lo, term_hi, level_lo, level_hi, excess_lo, excess_hi, beta_lo, beta_hi, reserve_lo, reserve_hi, amount_lo, amount_hi, IsReserved, AreClose}
 use Rattle.std.proofs.Math.Nat.{mul-le-mul_right, mul-le-mul_left}
 use Rattle.rate_table.specs.Rates.{ONE}
-use Rattle.present_value.specs.Fractions.{Between, over}
-use Rattle.present_value.specs.Sums.{Cover, year, death, ben, ann}
-use Rattle.present_value.specs.Premium.{term_premium, level_premium, excess, beta}
-use Rattle.present_value.specs.Reserve.{reserve, Encloses}
-use Rattle.present_value.specs.Rounding.{UNIT}
-use Rattle.present_value.specs.Recursion.{ben_lo, ben_hi, ann_lo, ann_hi}
-use Rattle.present_value.proofs.Quotients.{down-le, le-up, apart}
-use Rattle.present_value.proofs.Fractions.{plus-between, less-between, lesser-between, over-between, times-between, scaled-between}
 use Rattle.present_value.proofs.Enclosing.{year_pos}
-use Rattle.present_value.proofs.Steps.{ben-between, ann-between, ben-narrow, ann-narrow, ben_hi-most, ben_lo-most, ann_lo-most, ann_lo-least, ordered}
-use Rattle.crvm_reserve.specs.Rounded.{term_lo, term_hi, level_lo, level_hi, excess_lo, excess_hi, beta_lo, beta_hi, reserve_lo, reserve_hi, amount_lo, amount_hi}
-use Rattle.crvm_reserve.specs.Made.{IsReserved, AreClose}
 use Rattle.crvm_reserve.proofs.Narrow.{level_most, level_up_most, level_narrow, product_narrow}
 use Rattle.crvm_reserve.proofs.Renewal.{renewal-between}
 

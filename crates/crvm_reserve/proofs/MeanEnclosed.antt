@@ -1,19 +1,8 @@
 -- The rounded mean reserve encloses the exact one, and its bounds lie close together.
-use Rattle.std.proofs.Common.{◌≡◌, ℕ, zero, suc, ◌+◌, ◌*◌, ◌<◌, ◌≤◌, refl, ap₂, inl, inr, arith}
+use Rattle.crvm_reserve.proofs.Names.{◌≡◌, ℕ, zero, suc, ◌+◌, ◌*◌, ◌<◌, ◌≤◌, refl, ap₂, inl, inr, arith, Fraction, Between, whole, plus, Cover, ben, reserve, Encloses, UNIT, down, up, ben_lo, ben_hi, plus-between, less-between, scaled-between, apart, up-le, ben-between, ben-narrow, rounded, rounded_paid_up, net_lo, net_hi, double_lo, double_hi, mean_lo, mean_hi, rounded_mean, paid_up_mean_lo, paid_up_mean_hi, rounded_paid_up_mean, IsReserved, AreClose}
 use Rattle.std.proofs.Math.Nat.{mul-le-mul_left, mul-le-mul_right}
 use Rattle.std.proofs.lemmas.Bool.Decides.{leb_tells}
-use Rattle.present_value.specs.Fractions.{Fraction, Between, whole, plus}
-use Rattle.present_value.specs.Sums.{Cover, ben}
-use Rattle.present_value.specs.Reserve.{reserve, Encloses}
 use Rattle.present_value.specs.Mean.{half, net_premium, mean_reserve, paid_up_mean}
-use Rattle.present_value.specs.Rounding.{UNIT, down, up}
-use Rattle.present_value.specs.Recursion.{ben_lo, ben_hi}
-use Rattle.present_value.proofs.Fractions.{plus-between, less-between, scaled-between}
-use Rattle.present_value.proofs.Quotients.{apart, up-le}
-use Rattle.present_value.proofs.Steps.{ben-between, ben-narrow}
-use Rattle.crvm_reserve.specs.Rounded.{rounded, rounded_paid_up}
-use Rattle.crvm_reserve.specs.RoundedMean.{net_lo, net_hi, double_lo, double_hi, mean_lo, mean_hi, rounded_mean, paid_up_mean_lo, paid_up_mean_hi, rounded_paid_up_mean}
-use Rattle.crvm_reserve.specs.Made.{IsReserved, AreClose}
 use Rattle.crvm_reserve.proofs.Enclosed.{excess-between, excess-narrow, beta-between, beta-narrow, reserve-between, reserve-narrow, amount-encloses}
 use Rattle.crvm_reserve.proofs.PaidUp.{paid_up-encloses}
 

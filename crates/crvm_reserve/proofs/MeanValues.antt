@@ -1,16 +1,6 @@
 -- The parts of a mean reserve are those of its cover.
-use Rattle.std.proofs.Common.{◌≡◌, ℕ, zero, suc, ◌+◌, ◌-◌, ◌*◌, ◌<◌, ◌≤◌, refl, inl, inr, arith}
+use Rattle.crvm_reserve.proofs.Names.{◌≡◌, ℕ, zero, suc, ◌+◌, ◌-◌, ◌*◌, ◌<◌, ◌≤◌, refl, inl, inr, arith, Cover, AreValuesAt, ben_lo, ben_hi, UNIT, Columns, Values, ben_hi-most, ben_lo-most, reserve_lo, reserve_hi, net_lo, net_hi, double_lo, double_hi, AreMadeFor, ArePaidUpFor, IsMadeFor, premium_of}
 use Rattle.std.proofs.lemmas.Bool.Decides.{leb_tells}
-use Rattle.present_value.specs.Sums.{Cover}
-use Rattle.present_value.specs.Ends.{AreValuesAt}
-use Rattle.present_value.specs.Recursion.{ben_lo, ben_hi}
-use Rattle.present_value.specs.Rounding.{UNIT}
-use Rattle.present_value.specs.declared.pair.Columns.{Columns}
-use Rattle.present_value.specs.declared.pair.Values.{Values}
-use Rattle.present_value.proofs.Steps.{ben_hi-most, ben_lo-most}
-use Rattle.crvm_reserve.specs.Rounded.{reserve_lo, reserve_hi}
-use Rattle.crvm_reserve.specs.RoundedMean.{net_lo, net_hi, double_lo, double_hi}
-use Rattle.crvm_reserve.specs.Made.{AreMadeFor, ArePaidUpFor, IsMadeFor, premium_of}
 use Rattle.crvm_reserve.specs.MeanMade.{AreMeanPartsOf, ArePaidUpMeanOf}
 use Rattle.crvm_reserve.specs.declared.mean.MeanParts.{MeanParts}
 use Rattle.crvm_reserve.specs.declared.premium.Premium.{Premium}

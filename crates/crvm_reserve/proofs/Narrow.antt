@@ -1,8 +1,6 @@
 -- How far apart the bounds of a premium and of a reserve lie.
-use Rattle.std.proofs.Common.{ℕ, ◌+◌, ◌*◌, ◌<◌, ◌≤◌, arith}
+use Rattle.crvm_reserve.proofs.Names.{ℕ, ◌+◌, ◌*◌, ◌<◌, ◌≤◌, arith, down, up, down-le, lt-down, up-lt, apart, up-le}
 use Rattle.std.proofs.Math.Nat.{mul-le-mul_left, mul-le-mul_right, le_of_mul-le-mul_right, lt_of_mul-lt-mul_right}
-use Rattle.present_value.specs.Rounding.{down, up}
-use Rattle.present_value.proofs.Quotients.{down-le, lt-down, up-lt, apart, up-le}
 
 -- a premium is at most the benefits, where the payments are worth at least 1
 pub level_most : (u n d k : ℕ) → 0 < u → u ≤ d → n ≤ k * u → down (n * u) d ≤ k * u

@@ -1,19 +1,7 @@
 -- The bounds of a paid-up amount enclose the value of its benefits.
-use Rattle.std.proofs.Common.{◌≡◌, ℕ, ◌+◌, ◌*◌, ◌<◌, ◌≤◌, ap, arith}
+use Rattle.crvm_reserve.proofs.Names.{◌≡◌, ℕ, ◌+◌, ◌*◌, ◌<◌, ◌≤◌, ap, arith, Encloses, UNIT, down, up, Cover, ben, ben_lo, ben_hi, AreValuesAt, Columns, Values, scaled-between, apart, up-le, ben-between, ben-narrow, ben_lo-most, ben_hi-most, paid_up_lo, paid_up_hi, ArePaidUpFor, IsPaidUpFor}
 use Rattle.std.proofs.Math.Nat.{mul-le-mul_left}
-use Rattle.present_value.specs.Reserve.{Encloses}
-use Rattle.present_value.specs.Rounding.{UNIT, down, up}
-use Rattle.present_value.specs.Sums.{Cover, ben}
-use Rattle.present_value.specs.Recursion.{ben_lo, ben_hi}
-use Rattle.present_value.specs.Ends.{AreValuesAt}
-use Rattle.present_value.specs.declared.pair.Columns.{Columns}
 use Rattle.present_value.specs.declared.pair.Pair.{Pair}
-use Rattle.present_value.specs.declared.pair.Values.{Values}
-use Rattle.present_value.proofs.Fractions.{scaled-between}
-use Rattle.present_value.proofs.Quotients.{apart, up-le}
-use Rattle.present_value.proofs.Steps.{ben-between, ben-narrow, ben_lo-most, ben_hi-most}
-use Rattle.crvm_reserve.specs.Rounded.{paid_up_lo, paid_up_hi}
-use Rattle.crvm_reserve.specs.Made.{ArePaidUpFor, IsPaidUpFor}
 
 pub paid_up_lo_is : (c : Cover) (amount t : ℕ) (values : Values) → AreValuesAt c t values → down (amount * values.ben.lo) UNIT ≡ paid_up_lo c amount t
 unfolding paid_up_lo

@@ -1,15 +1,8 @@
 -- The level premium after the first year is that of the benefits and the premiums from the second year on.
-use Rattle.std.proofs.Common.{◌≡◌, ℕ, suc, ◌+◌, ◌-◌, ◌*◌, ◌^◌, ◌<◌, ◌≤◌, refl, arith}
+use Rattle.crvm_reserve.proofs.Names.{◌≡◌, ℕ, suc, ◌+◌, ◌-◌, ◌*◌, ◌^◌, ◌<◌, ◌≤◌, refl, arith, Between, whole, less, over, Cover, year, survival, death, ben, ann, term_premium, renewal_premium, UNIT, ann_lo, positive_num, equal-between, ann-between, ann_lo-least}
 use Rattle.std.proofs.Math.Nat.{mul-pos, pow-succ'}
-use Rattle.present_value.specs.Fractions.{Between, whole, less, over}
-use Rattle.present_value.specs.Sums.{Cover, year, survival, death, ben, ann}
-use Rattle.present_value.specs.Premium.{term_premium, renewal_premium}
-use Rattle.present_value.specs.Rounding.{UNIT}
-use Rattle.present_value.specs.Recursion.{ann_lo}
-use Rattle.present_value.proofs.Fractions.{positive_num, equal-between}
 use Rattle.present_value.proofs.Years.{ben_num, ann_num, ben_step, ann_step, ben_is, ann_is}
 use Rattle.present_value.proofs.Enclosing.{year_pos, power_pos}
-use Rattle.present_value.proofs.Steps.{ann-between, ann_lo-least}
 
 -- the two quotients are one: d is what the first year's deaths are worth, s a survivor, w a year, p the later years
 same : (w p d s b a : ℕ) → (b * p) * (((w * p) * w) * (s * a)) ≡ (((d * p + s * b) * w - d * (w * p)) * ((w * p) * 1)) * (p * a)

@@ -1,6 +1,5 @@
 -- A division by 10^16 is two by 10^8.
-use Rattle.std.proofs.Common.{◌≡◌, ℕ, ◌+◌, ◌*◌, ◌/◌, ◌%◌, arith, ap, ◌∙◌}
-use Rattle.present_value.specs.Rounding.{UNIT, down, up}
+use Rattle.crvm_reserve.proofs.Names.{◌≡◌, ℕ, ◌+◌, ◌*◌, ◌/◌, ◌%◌, arith, ap, ◌∙◌, UNIT, down, up}
 
 -- the amount times the units by the upper and the lower half of their digits
 parts : (amount units : ℕ) → amount * units ≡ amount * (units / 100000000) * 100000000 + amount * (units % 100000000)

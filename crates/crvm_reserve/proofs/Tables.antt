@@ -1,19 +1,9 @@
 -- What a table and the columns made from it say of the covers.
-use Rattle.std.proofs.Common.{◌≡◌, ℕ, ◌+◌, ◌-◌, ◌*◌, ◌<◌, ◌≤◌, refl, arith, min, length, add-zero}
+use Rattle.crvm_reserve.proofs.Names.{◌≡◌, ℕ, ◌+◌, ◌-◌, ◌*◌, ◌<◌, ◌≤◌, refl, arith, min, length, add-zero, UNIT, down, up, Cover, cover_of, cap_of, cap_shape, AreValuesAt, Columns, Values, up-le, ben_hi-most, ben_lo-most, ann_lo-least, ann_lo-most, ann_hi-most, term_lo, term_hi, level_lo, level_hi, excess_lo, excess_hi, beta_lo, beta_hi, reserve_lo, reserve_hi, amount_lo, amount_hi, CanReserve, IsReserved, ArePremiumPartsOf, IsMadeFor, AreMadeFor, premium_of}
 use Rattle.std.proofs.Math.Nat.{le_trans, mul-le-mul_left, mul-le-mul_right}
 use Rattle.std.proofs.lemmas.Nat.{mul-le}
 use Rattle.rate_table.specs.Rates.{Rates, ONE, AreRates, HoldsAge}
 use Rattle.rate_table.specs.declared.shape.Shape.{Shape}
-use Rattle.present_value.specs.Rounding.{UNIT, down, up}
-use Rattle.present_value.specs.Sums.{Cover, cover_of}
-use Rattle.present_value.specs.Premium.{cap_of, cap_shape}
-use Rattle.present_value.specs.Ends.{AreValuesAt}
-use Rattle.present_value.specs.declared.pair.Columns.{Columns}
-use Rattle.present_value.specs.declared.pair.Values.{Values}
-use Rattle.present_value.proofs.Quotients.{up-le}
-use Rattle.present_value.proofs.Steps.{ben_hi-most, ben_lo-most, ann_lo-least, ann_lo-most, ann_hi-most}
-use Rattle.crvm_reserve.specs.Rounded.{term_lo, term_hi, level_lo, level_hi, excess_lo, excess_hi, beta_lo, beta_hi, reserve_lo, reserve_hi, amount_lo, amount_hi}
-use Rattle.crvm_reserve.specs.Made.{CanReserve, IsReserved, ArePremiumPartsOf, IsMadeFor, AreMadeFor, premium_of}
 use Rattle.crvm_reserve.specs.declared.premium.Premium.{Premium}
 use Rattle.crvm_reserve.specs.declared.premium.PremiumParts.{PremiumParts}
 use Rattle.crvm_reserve.proofs.Enclosed.{IsCover, own, cap_cover, ann-order, beta_lo-most, beta_hi-most}

@@ -1,3 +1,4 @@
+pub mod Names
 pub mod Rounded
 pub mod RoundedMean
 pub mod Made

@@ -1,11 +1,7 @@
 use Rattle.std.specs.Prelude.{◌≡◌, ℕ, ◌+◌, ◌*◌, ◌<◌, ◌≤◌}
-use Rattle.rate_table.specs.Rates.{Rates, ONE, rate_at}
+use Rattle.crvm_reserve.specs.Names.{Rates, ONE, rate_at, Fraction, Between, Cover, UNIT, AreValuesAt}
 use Rattle.rate_table.specs.declared.shape.Shape.{Shape}
-use Rattle.present_value.specs.Fractions.{Fraction, Between}
-use Rattle.present_value.specs.Sums.{Cover}
-use Rattle.present_value.specs.Rounding.{UNIT}
 use Rattle.present_value.specs.Values.{CanValue, AreColumns}
-use Rattle.present_value.specs.Ends.{AreValuesAt}
 use Rattle.present_value.specs.declared.pair.Columns.{Columns}
 use Rattle.present_value.specs.declared.pair.Pair.{Pair}
 use Rattle.present_value.specs.declared.pair.Values.{Values}

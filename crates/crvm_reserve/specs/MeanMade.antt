@@ -1,8 +1,6 @@
 -- What a mean reserve is made from.
 use Rattle.std.specs.Prelude.{◌≡◌, ℕ, ◌+◌, ◌<◌, ◌≤◌}
-use Rattle.rate_table.specs.Rates.{ONE}
-use Rattle.present_value.specs.Sums.{Cover}
-use Rattle.present_value.specs.Ends.{AreValuesAt}
+use Rattle.crvm_reserve.specs.Names.{ONE, Cover, AreValuesAt}
 use Rattle.present_value.specs.declared.pair.Values.{Values}
 use Rattle.crvm_reserve.specs.Made.{IsReserved, premium_of}
 use Rattle.crvm_reserve.specs.declared.mean.MeanParts.{MeanParts}

@@ -1,11 +1,6 @@
 ghost use Rattle.std.specs.Prelude.{◌≡◌, ◌+◌, ◌-◌, ◌<◌, ◌≤◌, min, length};
-ghost use Rattle.rate_table.specs.Rates.{ONE, AreRates, HoldsAge, rate_at, last_age_of};
-ghost use Rattle.present_value.specs.Fractions.{Between};
-ghost use Rattle.present_value.specs.Rounding.{UNIT};
-ghost use Rattle.present_value.specs.Sums.{cover_of};
-ghost use Rattle.present_value.specs.Premium.{beta, cap_of, cap_shape};
+ghost use Rattle.crvm_reserve.specs.Names.{ONE, AreRates, HoldsAge, rate_at, last_age_of, Between, UNIT, cover_of, beta, cap_of, cap_shape, AreValuesAt};
 ghost use Rattle.present_value.specs.Values.{AreColumns};
-ghost use Rattle.present_value.specs.Ends.{AreValuesAt};
 ghost use Rattle.crvm_reserve.specs.Made.{CanReserve, AreMadeFor, premium_of};
 
 use crate::cap::shape_of_cap;

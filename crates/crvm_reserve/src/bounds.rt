@@ -1,7 +1,5 @@
 ghost use Rattle.std.specs.Prelude.{◌≡◌, ◌+◌, ◌*◌, ◌-◌, ◌<◌, ◌≤◌, ℕ};
-ghost use Rattle.present_value.specs.Reserve.{reserve, Encloses};
-ghost use Rattle.present_value.specs.Rounding.{UNIT};
-ghost use Rattle.present_value.specs.Sums.{Cover};
+ghost use Rattle.crvm_reserve.specs.Names.{reserve, Encloses, UNIT, Cover};
 ghost use Rattle.crvm_reserve.specs.Rounded.{reserve_lo, reserve_hi, rounded};
 ghost use Rattle.crvm_reserve.specs.Made.{AreMade, AreMadeFor, AreClose, IsMadeAt, IsMadeFor, IsUnitAt, IsUnitFor};
 

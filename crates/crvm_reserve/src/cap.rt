@@ -1,7 +1,6 @@
 // The cover whose level premium limits that of the renewal years.
 ghost use Rattle.std.specs.Prelude.{◌≡◌, ◌≤◌, ◌+◌, length};
-ghost use Rattle.rate_table.specs.Rates.{AreRates};
-ghost use Rattle.present_value.specs.Premium.{cap_shape};
+ghost use Rattle.crvm_reserve.specs.Names.{AreRates, cap_shape};
 
 use rate_table::{RateTable, Shape};
 

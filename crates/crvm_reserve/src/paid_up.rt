@@ -1,7 +1,6 @@
 // The reserve of a paid-up policy: no premium is taken off.
 ghost use Rattle.std.specs.Prelude.{◌≡◌, ◌≤◌, ℕ};
-ghost use Rattle.present_value.specs.Reserve.{Encloses};
-ghost use Rattle.present_value.specs.Sums.{Cover, ben};
+ghost use Rattle.crvm_reserve.specs.Names.{Encloses, Cover, ben};
 ghost use Rattle.crvm_reserve.specs.Made.{ArePaidUp, ArePaidUpFor, IsPaidUpAt, IsPaidUpFor};
 ghost use Rattle.crvm_reserve.specs.Rounded.{rounded_paid_up};
 

@@ -1,9 +1,5 @@
 ghost use Rattle.std.specs.Prelude.{◌≡◌, ◌+◌, ◌*◌, ◌-◌, ◌<◌, ◌≤◌, min};
-ghost use Rattle.rate_table.specs.Rates.{ONE};
-ghost use Rattle.present_value.specs.Fractions.{Between};
-ghost use Rattle.present_value.specs.Rounding.{UNIT, down, up};
-ghost use Rattle.present_value.specs.Sums.{Cover};
-ghost use Rattle.present_value.specs.Premium.{beta};
+ghost use Rattle.crvm_reserve.specs.Names.{ONE, Between, UNIT, down, up, Cover, beta};
 ghost use Rattle.crvm_reserve.specs.Rounded.{excess_lo, excess_hi};
 ghost use Rattle.crvm_reserve.specs.Made.{ArePremiumParts, ArePremiumPartsOf, premium_of};
 

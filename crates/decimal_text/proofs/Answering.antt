@@ -1,12 +1,9 @@
 -- From the answer to the one decimal that a text spells, to all decimals that it may spell.
-use Rattle.std.proofs.Common.{◌≡◌, ℕ, ◌+◌, ◌*◌, ◌<◌, ◌≤◌, List, Result, Ok, Err, IfOk, refl, ap, subst, arith, inl, inr}
+use Rattle.decimal_text.proofs.Names.{◌≡◌, ℕ, ◌+◌, ◌*◌, ◌<◌, ◌≤◌, List, Result, Ok, Err, IfOk, refl, ap, subst, arith, inl, inr, Decimal, Spells, numerator, denominator, IsInUnits, IsAboveOne, IsTooFine, IsRate, Answers, cases_lt}
 use Rattle.std.proofs.Math.Nat.{one-le-pow, mul-le-mul_right}
 use Rattle.decimal_text.specs.declared.fault.RateFault.{RateFault}
 use Rattle.decimal_text.specs.declared.fault.RateFault.TheVariants.{NoNumber, AboveOne, TooFine}
-use Rattle.decimal_text.specs.Decimal.{Decimal, Spells}
-use Rattle.decimal_text.specs.Rate.{numerator, denominator, IsInUnits, IsAboveOne, IsTooFine, IsRate, Answers}
 use Rattle.decimal_text.proofs.Readings.{one_decimal}
-use Rattle.std.proofs.lemmas.Bool.{cases_lt}
 
 same_units : (a b bottom top : ℕ) → 0 < bottom → a * bottom ≡ top → b * bottom ≡ top → a ≡ b
 same_units a b bottom top some h k =

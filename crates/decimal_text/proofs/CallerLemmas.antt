@@ -1,6 +1,5 @@
 -- For callers: a text has one rate at most.
-use Rattle.std.proofs.Common.{◌≡◌, ℕ, List, subst}
-use Rattle.decimal_text.specs.Rate.{IsInUnits, IsRate}
+use Rattle.decimal_text.proofs.Names.{◌≡◌, ℕ, List, subst, IsInUnits, IsRate}
 use Rattle.decimal_text.proofs.Readings.{one_decimal}
 use Rattle.decimal_text.proofs.Answering.{same_value}
 

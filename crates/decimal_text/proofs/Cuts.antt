@@ -1,10 +1,7 @@
 -- A text cut behind its first digits: there is one such cut.
-use Rattle.std.proofs.Common.{◌≡◌, ℕ, suc, ◌+◌, Bool, true, false, cond, List, [], ◌∷◌, ◌++◌, take, drop, refl, sym, ap, ◌∙◌, subst, arith}
-use Rattle.std.specs.Char.{is_ascii_digit, IsAsciiDigit}
+use Rattle.decimal_text.proofs.Names.{◌≡◌, ℕ, suc, ◌+◌, Bool, true, false, cond, List, [], ◌∷◌, ◌++◌, take, drop, refl, sym, ap, ◌∙◌, subst, arith, is_ascii_digit, IsAsciiDigit, nat_tests, AreDigits}
 use Rattle.std.specs.List.{prefix_len}
 use Rattle.std.proofs.lemmas.List.{append-nil}
-use Rattle.std.proofs.lemmas.Bool.Decides.{nat_tests}
-use Rattle.decimal_text.specs.Decimal.{AreDigits}
 use Rattle.decimal_text.specs.inside.Splits.{SplitsDigits, StopsDigits}
 
 is_digit : (x : ℕ) → is_ascii_digit x ≡ true → IsAsciiDigit x

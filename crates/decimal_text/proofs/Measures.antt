@@ -1,10 +1,7 @@
 -- The value of a decimal in units, from the places of its digits.
-use Rattle.std.proofs.Common.{◌≡◌, ℕ, ◌+◌, ◌-◌, ◌*◌, ◌^◌, ◌<◌, ◌≤◌, inl, inr, List, ◌++◌, length, take, drop, refl, sym, ap, ◌∙◌, arith, length-append}
-use Rattle.std.proofs.lemmas.List.{take-append-drop, take_all, drop_all, length-drop}
+use Rattle.decimal_text.proofs.Names.{◌≡◌, ℕ, ◌+◌, ◌-◌, ◌*◌, ◌^◌, ◌<◌, ◌≤◌, inl, inr, List, ◌++◌, length, take, drop, refl, sym, ap, ◌∙◌, arith, length-append, take-append-drop, take_all, drop_all, length-drop, cases_lt, number, AreDigits}
 use Rattle.std.proofs.lemmas.Nat.{pow-add}
-use Rattle.std.proofs.lemmas.Bool.{cases_lt}
 use Rattle.std.proofs.Math.Nat.{mul-le-mul_left, mul-le-mul_right, mul-lt-mul_of_pos_right, mul-pos, one-le-pow, mul-one, mul_assoc}
-use Rattle.decimal_text.specs.Decimal.{number, AreDigits}
 use Rattle.decimal_text.proofs.Numbers.{number-append, number-lt, AreDigits-append, AreDigits-drop}
 
 -- so many whole units and a rest, which is 0 exactly where no digit but 0 stands below the units

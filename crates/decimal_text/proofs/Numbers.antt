@@ -1,10 +1,7 @@
 -- The number that digits write.
-use Rattle.std.proofs.Common.{◌≡◌, ℕ, zero, suc, ◌+◌, ◌-◌, ◌*◌, ◌^◌, ◌<◌, ◌≤◌, List, [], ◌∷◌, ◌++◌, length, take, drop, get_or, arith, length-append}
-use Rattle.std.proofs.lemmas.List.{take_more}
+use Rattle.decimal_text.proofs.Names.{◌≡◌, ℕ, zero, suc, ◌+◌, ◌-◌, ◌*◌, ◌^◌, ◌<◌, ◌≤◌, List, [], ◌∷◌, ◌++◌, length, take, drop, get_or, arith, length-append, take_more, IsAsciiDigit, AreDigits, number}
 use Rattle.std.proofs.lemmas.Nat.{pow-add}
 use Rattle.std.proofs.Math.Nat.{mul-le-mul_right, pow-suc}
-use Rattle.std.specs.Char.{IsAsciiDigit}
-use Rattle.decimal_text.specs.Decimal.{AreDigits, number}
 
 pub number-append : (a b : List ℕ) → number (a ++ b) ≡ number a * 10 ^ length b + number b
 number-append [] b = omega arith

@@ -1,9 +1,6 @@
 -- One more digit among those counted.
-use Rattle.std.proofs.Common.{◌≡◌, ℕ, ◌+◌, ◌-◌, ◌*◌, ◌^◌, ◌<◌, ◌≤◌, List, [], ◌∷◌, ◌++◌, length, take, drop, min, sym, ap, ◌∙◌, arith, inl, inr}
-use Rattle.std.proofs.lemmas.List.{take_all, drop_all, take-append-le, drop-append-le, length_push}
+use Rattle.decimal_text.proofs.Names.{◌≡◌, ℕ, ◌+◌, ◌-◌, ◌*◌, ◌^◌, ◌<◌, ◌≤◌, List, [], ◌∷◌, ◌++◌, length, take, drop, min, sym, ap, ◌∙◌, arith, inl, inr, take_all, drop_all, take-append-le, drop-append-le, length_push, cases_lt, number}
 use Rattle.std.proofs.Math.Nat.{mul-le-mul_left, mul-le-mul_right, one-le-pow}
-use Rattle.std.proofs.lemmas.Bool.{cases_lt}
-use Rattle.decimal_text.specs.Decimal.{number}
 use Rattle.decimal_text.proofs.Numbers.{number_push}
 
 pub take-push_under : (places : ℕ) (seen : List ℕ) (d : ℕ) → length seen < places → number (take places (seen ++ d ∷ [])) ≡ number (take places seen) * 10 + (d - 48)

@@ -1,9 +1,6 @@
 -- A text spells one decimal at most, the one whose parts the cuts give.
-use Rattle.std.proofs.Common.{◌≡◌, ℕ, ◌+◌, ◌<◌, ◌≤◌, ◌⊎◌, inl, inr, List, [], ◌∷◌, ◌++◌, length, drop, Option, Some, None, IfNone, refl, sym, ap, ◌∙◌, subst, arith, append_assoc}
-use Rattle.std.specs.Char.{is_ascii_digit}
+use Rattle.decimal_text.proofs.Names.{◌≡◌, ℕ, ◌+◌, ◌<◌, ◌≤◌, ◌⊎◌, inl, inr, List, [], ◌∷◌, ◌++◌, length, drop, Option, Some, None, IfNone, refl, sym, ap, ◌∙◌, subst, arith, append_assoc, is_ascii_digit, cases_eq, AreDigits, number, Decimal, IsSigned, IsExponent, Spells, point, plus_sign, minus}
 use Rattle.std.specs.List.{prefix_len}
-use Rattle.std.proofs.lemmas.Bool.{cases_eq}
-use Rattle.decimal_text.specs.Decimal.{AreDigits, number, Decimal, IsSigned, IsExponent, Spells, point, plus_sign, minus}
 use Rattle.decimal_text.specs.inside.Splits.{SplitsDigits, SplitsFraction, StopsDigits}
 use Rattle.decimal_text.proofs.Cuts.{cut_at_prefix, fronts, one_cut}
 

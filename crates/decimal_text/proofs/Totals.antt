@@ -1,9 +1,5 @@
 -- What the counted total says of the decimal.
-use Rattle.std.proofs.Common.{◌≡◌, ℕ, ◌+◌, ◌-◌, ◌*◌, ◌^◌, ◌<◌, ◌≤◌, ◌↔◌, IsTrue, Bool, true, false, [], ◌++◌, length, take, drop, min, sym, ap, ◌∙◌, arith, inl, inr}
-use Rattle.std.proofs.lemmas.List.{take_all, drop_all}
-use Rattle.std.proofs.lemmas.Bool.{cases_lt}
-use Rattle.decimal_text.specs.Decimal.{number, AreDigits, Decimal}
-use Rattle.decimal_text.specs.Rate.{numerator, denominator, IsInUnits, IsAboveOne, IsTooFine}
+use Rattle.decimal_text.proofs.Names.{◌≡◌, ℕ, ◌+◌, ◌-◌, ◌*◌, ◌^◌, ◌<◌, ◌≤◌, ◌↔◌, IsTrue, Bool, true, false, [], ◌++◌, length, take, drop, min, sym, ap, ◌∙◌, arith, inl, inr, take_all, drop_all, cases_lt, number, AreDigits, Decimal, numerator, denominator, IsInUnits, IsAboveOne, IsTooFine}
 use Rattle.decimal_text.specs.inside.Places.{Counts}
 use Rattle.decimal_text.specs.declared.units.Units.{Units}
 use Rattle.decimal_text.proofs.Pushes.{counted}

@@ -1,14 +1,9 @@
 -- The bounds of the minimum enclose it, and lie close together.
-use Rattle.std.proofs.Common.{◌≡◌, ℕ, ◌+◌, ◌-◌, ◌*◌, ◌<◌, ◌≤◌, refl, sym, inl, inr, max, arith}
+use Rattle.deficiency_reserve.proofs.Names.{◌≡◌, ℕ, ◌+◌, ◌-◌, ◌*◌, ◌<◌, ◌≤◌, refl, sym, inl, inr, max, arith, Fraction, Between, less, times, Cover, ben, ann, beta, reserve, Encloses, ben_lo, ben_hi, ann_lo, ann_hi, gross, greater, minimum, gross_lo, gross_hi, IsAtMost}
 use Rattle.std.proofs.Math.Nat.{mul-le-mul_left, mul-le-mul_right, mul-pos, le_of_mul-le-mul_right, le_trans, le-max_left, le-max_right, max-le, max-eq_left, max-eq_right}
 use Rattle.std.proofs.lemmas.Bool.Decides.{leb_tells}
 use Rattle.rate_table.specs.Rates.{ONE}
-use Rattle.present_value.specs.Fractions.{Fraction, Between, less, times}
-use Rattle.present_value.specs.Sums.{Cover, ben, ann}
-use Rattle.present_value.specs.Premium.{beta}
-use Rattle.present_value.specs.Reserve.{reserve, Encloses}
 use Rattle.present_value.specs.Rounding.{UNIT, down, up}
-use Rattle.present_value.specs.Recursion.{ben_lo, ben_hi, ann_lo, ann_hi}
 use Rattle.present_value.specs.Ends.{AreValuesAt}
 use Rattle.present_value.specs.declared.pair.Columns.{Columns}
 use Rattle.present_value.specs.declared.pair.Values.{Values}
@@ -18,9 +13,6 @@ use Rattle.present_value.proofs.Steps.{ben-between, ann-between, ben-narrow, ann
 use Rattle.crvm_reserve.specs.Made.{IsMadeFor}
 use Rattle.crvm_reserve.specs.declared.premium.Premium.{Premium}
 use Rattle.crvm_reserve.proofs.PaidUp.{paid_up_at}
-use Rattle.deficiency_reserve.specs.Minimum.{gross, greater, minimum}
-use Rattle.deficiency_reserve.specs.RoundedMinimum.{gross_lo, gross_hi}
-use Rattle.deficiency_reserve.specs.Premiums.{IsAtMost}
 use Rattle.deficiency_reserve.specs.Ordinary.{HasOrdinaryFor, HaveOrdinaryFor}
 use Rattle.deficiency_reserve.proofs.Orders.{less-antitone, times-monotone, lesser-second}
 use Rattle.deficiency_reserve.proofs.Minima.{anew, anew_by, anew-proper, minimum-proper, equal_where_enough}

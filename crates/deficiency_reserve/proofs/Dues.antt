@@ -1,11 +1,7 @@
 -- What is due each year, as a sum over the years.
-use Rattle.std.proofs.Common.{◌≡◌, ℕ, zero, suc, ◌+◌, ◌-◌, ◌*◌, ◌^◌, ◌<◌, ap, arith}
+use Rattle.deficiency_reserve.proofs.Names.{◌≡◌, ℕ, zero, suc, ◌+◌, ◌-◌, ◌*◌, ◌^◌, ◌<◌, ap, arith, Fraction, whole, plus, times, Cover, year, survivors, sum_below, ann, deferred, total_below, value_of_dues, AreEqual}
 use Rattle.std.proofs.Math.Nat.{mul-pos}
-use Rattle.present_value.specs.Fractions.{Fraction, whole, plus, times}
-use Rattle.present_value.specs.Sums.{Cover, year, survivors, sum_below, ann}
 use Rattle.present_value.proofs.Enclosing.{power_pos}
-use Rattle.deficiency_reserve.specs.Minimum.{deferred, total_below, value_of_dues}
-use Rattle.deficiency_reserve.specs.MinimumLaws.{AreEqual}
 
 -- one more year
 one_more : (tn td d xn s f : ℕ) → tn * d ≡ xn * s * td → (tn * d + (xn * f) * td) * d ≡ xn * (s + f) * (td * d)

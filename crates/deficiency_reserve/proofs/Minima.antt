@@ -1,15 +1,8 @@
 -- The laws of the minimum reserve.
-use Rattle.std.proofs.Common.{◌≡◌, ℕ, ◌-◌, ◌*◌, ◌<◌, ◌≤◌, refl, sym, arith}
+use Rattle.deficiency_reserve.proofs.Names.{◌≡◌, ℕ, ◌-◌, ◌*◌, ◌<◌, ◌≤◌, refl, sym, arith, Fraction, whole, less, times, lesser, Cover, sum_below, ben, ann, beta, reserve, Encloses, gross, counted_premium, total_below, value_of_dues, minimum, IsAtMost, AreEqual}
 use Rattle.std.proofs.Math.Nat.{mul-pos, mul-le-mul_right, zero-mul}
-use Rattle.present_value.specs.Fractions.{Fraction, whole, less, times, lesser}
-use Rattle.present_value.specs.Sums.{Cover, sum_below, ben, ann}
-use Rattle.present_value.specs.Premium.{beta}
-use Rattle.present_value.specs.Reserve.{reserve, Encloses}
 use Rattle.present_value.proofs.Enclosing.{power_pos}
 use Rattle.present_value.proofs.Fractions.{equal-between}
-use Rattle.deficiency_reserve.specs.Minimum.{gross, counted_premium, total_below, value_of_dues, minimum}
-use Rattle.deficiency_reserve.specs.Premiums.{IsAtMost}
-use Rattle.deficiency_reserve.specs.MinimumLaws.{AreEqual}
 use Rattle.deficiency_reserve.proofs.Orders.{at_most-trans, equal-at_most, less-equal, less-antitone, times-monotone, lesser-first, lesser-proper, lesser-monotone, greater-left, greater-monotone, greater-equal, greater-proper, middle-pos}
 use Rattle.deficiency_reserve.proofs.Dues.{level, dues-proper}
 

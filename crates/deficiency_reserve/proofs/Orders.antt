@@ -1,11 +1,7 @@
 -- Order and equality of fractions: of differences, of products, of the lesser and the greater of two.
-use Rattle.std.proofs.Common.{◌≡◌, ℕ, zero, suc, ◌-◌, ◌*◌, ◌<◌, ◌≤◌, refl, ap, false, nat_le, inl, inr, arith}
+use Rattle.deficiency_reserve.proofs.Names.{◌≡◌, ℕ, zero, suc, ◌-◌, ◌*◌, ◌<◌, ◌≤◌, refl, ap, false, nat_le, inl, inr, arith, Fraction, less, times, lesser, greater, IsAtMost, AreEqual}
 use Rattle.std.proofs.Math.Nat.{mul-le-mul_left, mul-le-mul_right, mul-sub, mul_comm, mul-zero, zero-mul, le_of_mul-le-mul_right}
 use Rattle.std.proofs.lemmas.Bool.Decides.{leb_tells}
-use Rattle.present_value.specs.Fractions.{Fraction, less, times, lesser}
-use Rattle.deficiency_reserve.specs.Minimum.{greater}
-use Rattle.deficiency_reserve.specs.Premiums.{IsAtMost}
-use Rattle.deficiency_reserve.specs.MinimumLaws.{AreEqual}
 
 pub at_most-trans : (a b c : Fraction) → 0 < b.den → IsAtMost a b → IsAtMost b c → IsAtMost a c
 at_most-trans a b c positive p q =

@@ -1,10 +1,7 @@
 -- What a test by the bounds of a net premium tells of it.
-use Rattle.std.proofs.Common.{ℕ, ◌+◌, ◌*◌, ◌<◌, ◌≤◌, arith}
+use Rattle.deficiency_reserve.proofs.Names.{ℕ, ◌+◌, ◌*◌, ◌<◌, ◌≤◌, arith, Fraction, Between, gross, IsLess, IsAtMost, IsWithinACent}
 use Rattle.std.proofs.Math.Nat.{mul-le-mul_left, mul-le-mul_right, le_of_mul-le-mul_right, lt_of_mul-lt-mul_right}
-use Rattle.present_value.specs.Fractions.{Fraction, Between}
 use Rattle.present_value.specs.Rounding.{UNIT}
-use Rattle.deficiency_reserve.specs.Minimum.{gross}
-use Rattle.deficiency_reserve.specs.Premiums.{IsLess, IsAtMost, IsWithinACent}
 
 pub is_short : (lo hi amount premium : ℕ) (net : Fraction) → Between lo hi UNIT net → premium * UNIT + 1 ≤ amount * lo
     → IsLess (gross amount premium) net

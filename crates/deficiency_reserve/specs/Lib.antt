@@ -1,3 +1,4 @@
+pub mod Names
 pub mod Minimum
 pub mod RoundedMinimum
 pub mod Premiums

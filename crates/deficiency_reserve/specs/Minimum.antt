@@ -1,8 +1,5 @@
 use Rattle.std.specs.Prelude.{ℕ, zero, suc, ◌+◌, ◌-◌, ◌*◌, ◌^◌, nat_le, if◌then◌else◌}
-use Rattle.present_value.specs.Fractions.{Fraction, whole, plus, less, times, lesser}
-use Rattle.present_value.specs.Sums.{Cover, year, survivors, ben}
-use Rattle.present_value.specs.Premium.{beta}
-use Rattle.present_value.specs.Reserve.{reserve}
+use Rattle.deficiency_reserve.specs.Names.{Fraction, whole, plus, less, times, lesser, Cover, year, survivors, ben, beta, reserve}
 
 -- The minimum reserve where the premium that is charged is below the modified net premium (NAIC Standard Valuation
 -- Law, Model 820, on minimum reserves where the gross premium is less than the valuation net premium): the reserve is

@@ -1,9 +1,6 @@
 -- What holds of the minimum reserve, by its definition.
 use Rattle.std.specs.Prelude.{◌≡◌, ℕ, ◌*◌, ◌<◌, ◌≤◌}
-use Rattle.present_value.specs.Fractions.{Fraction, times}
-use Rattle.present_value.specs.Sums.{Cover, ben, ann}
-use Rattle.present_value.specs.Premium.{beta}
-use Rattle.present_value.specs.Reserve.{reserve}
+use Rattle.deficiency_reserve.specs.Names.{Fraction, times, Cover, ben, ann, beta, reserve}
 use Rattle.deficiency_reserve.specs.Minimum.{gross, value_of_dues, minimum}
 use Rattle.deficiency_reserve.specs.Premiums.{IsAtMost}
 

@@ -1,7 +1,6 @@
 -- What the minimum rests on: the values of a cover, and the bounds of its ordinary reserve.
 use Rattle.std.specs.Prelude.{ℕ, ◌≤◌}
-use Rattle.present_value.specs.Sums.{Cover}
-use Rattle.present_value.specs.Reserve.{reserve, Encloses}
+use Rattle.deficiency_reserve.specs.Names.{Cover, reserve, Encloses}
 use Rattle.present_value.specs.declared.pair.Columns.{Columns}
 use Rattle.present_value.specs.declared.pair.Values.{Values}
 use Rattle.crvm_reserve.specs.Made.{ArePaidUpFor, IsPaidUpFor}

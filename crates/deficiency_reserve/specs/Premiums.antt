@@ -1,7 +1,6 @@
 -- Whether the premium that is charged is below the net premium.
 use Rattle.std.specs.Prelude.{ℕ, ◌+◌, ◌*◌, ◌<◌, ◌≤◌, nat_lt, nat_le, if◌then◌else◌}
-use Rattle.present_value.specs.Fractions.{Fraction}
-use Rattle.present_value.specs.Rounding.{UNIT}
+use Rattle.deficiency_reserve.specs.Names.{Fraction, UNIT}
 use Rattle.deficiency_reserve.specs.Minimum.{gross}
 use Rattle.deficiency_reserve.specs.declared.answer.Adequacy.{Adequacy}
 use Rattle.deficiency_reserve.specs.declared.answer.Adequacy.TheVariants.{Short, Enough, Close}

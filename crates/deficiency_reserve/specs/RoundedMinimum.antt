@@ -1,6 +1,5 @@
 use Rattle.std.specs.Prelude.{ℕ, ◌-◌, ◌*◌, max}
-use Rattle.present_value.specs.Sums.{Cover}
-use Rattle.present_value.specs.Rounding.{UNIT, down, up}
+use Rattle.deficiency_reserve.specs.Names.{Cover, UNIT, down, up}
 use Rattle.present_value.specs.Recursion.{ben_lo, ben_hi, ann_lo, ann_hi}
 
 -- The bounds of the minimum reserve of an amount, in the units of amount and premium: those of the ordinary reserve, or

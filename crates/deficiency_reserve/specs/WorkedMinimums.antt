@@ -2,9 +2,7 @@
 -- interest
 use Rattle.std.specs.Prelude.{◌≡◌, ℕ, [], ◌∷◌, true}
 use Rattle.rate_table.specs.Rates.{Rates}
-use Rattle.present_value.specs.Fractions.{Fraction}
-use Rattle.present_value.specs.Sums.{Cover, cover_of}
-use Rattle.present_value.specs.Premium.{beta, cap_of}
+use Rattle.deficiency_reserve.specs.Names.{Fraction, Cover, cover_of, beta, cap_of}
 use Rattle.crvm_reserve.specs.Rounded.{beta_lo, beta_hi, rounded}
 use Rattle.deficiency_reserve.specs.Minimum.{minimum}
 use Rattle.deficiency_reserve.specs.RoundedMinimum.{rounded_minimum}

@@ -1,8 +1,5 @@
 ghost use Rattle.std.specs.Prelude.{◌≡◌, ◌↔◌, ◌+◌, ◌*◌, ◌<◌, ◌≤◌};
-ghost use Rattle.present_value.specs.Fractions.{Between};
-ghost use Rattle.present_value.specs.Rounding.{UNIT};
-ghost use Rattle.present_value.specs.Sums.{Cover};
-ghost use Rattle.present_value.specs.Premium.{beta};
+ghost use Rattle.deficiency_reserve.specs.Names.{Between, UNIT, Cover, beta};
 ghost use Rattle.deficiency_reserve.specs.Premiums.{Tells, adequacy_by};
 ghost use Rattle.deficiency_reserve.specs.declared.answer.Adequacy.TheVariants.{Short, Enough};
 

@@ -1,28 +1,17 @@
 -- The answered lines of one pass, put together
-use Rattle.std.proofs.Common.{◌≡◌, ℕ, zero, suc, ◌+◌, ◌≤◌, ◌<◌, ℤ, List, [], ◌∷◌, ◌++◌, length, map, take, get_or, Some, Result, Ok, Err, refl, ap, sym, ◌∙◌, subst, append-nil, length-append, arith}
+use Rattle.lane_runner.proofs.Names.{◌≡◌, ℕ, zero, suc, ◌+◌, ◌≤◌, ◌<◌, ℤ, List, [], ◌∷◌, ◌++◌, length, map, take, get_or, Some, Result, Ok, Err, refl, ap, sym, ◌∙◌, subst, append-nil, length-append, arith, AllByRecursion, AllZip, Contains, filter, flat_map, map-append, flat_map-append, Dated, Entry, Line, Post, Value, Trim, Opening, commands_after, AnswersLine, FollowsPin, Placed, turns_of, Holding, PassFacts, TakesTurn, IsOfficeHistory, OfficeOpening, TranscriptLine, AnsweredLine, turns_in, IsOutcome, IsTold, dry_of, lacked_memory, HasAnswered, IsBoxed, in_box, outcome_of, turns_for, turns_needed}
 use Rattle.std.specs.Prelude.{Box}
 use Rattle.std.specs.Global.{Global}
-use Rattle.std.specs.List.{AllByRecursion, AllZip, Contains, filter, flat_map}
-use Rattle.std.proofs.lemmas.List.{map-append}
-use Rattle.std.proofs.lemmas.List.Concat.{flat_map-append}
 use Rattle.std.proofs.lemmas.List.Elements.{Contains-append_left, Contains-append_right, filter-append}
 use Rattle.std.proofs.Math.Seq.{take-suc}
-use Rattle.basis_book.specs.Dated.{Dated}
 use Rattle.policy_types.specs.declared.command.Command.{Command}
 use Rattle.policy_types.specs.declared.entry.At.{At}
 use Rattle.policy_types.specs.declared.entry.Call.{Call}
-use Rattle.policy_types.specs.declared.entry.Entry.{Entry}
 use Rattle.policy_types.specs.declared.entry.Reply.{Reply}
 use Rattle.policy_types.specs.declared.entry.Reply.TheVariants.{Accepted, Refused, Faulted, Pinned, PinRefused, Slice, Unpinned, Floor, Blank}
-use Rattle.policy_types.specs.declared.script.Line.{Line}
-use Rattle.policy_types.specs.declared.script.Line.TheVariants.{Post, Value, Trim}
-use Rattle.policy_machine.specs.History.{Opening, commands_after}
-use Rattle.policy_machine.specs.Merge.{AnswersLine, FollowsPin, Placed, turns_of}
 use Rattle.office_state.specs.declared.answer.Answer.{Answer}
 use Rattle.office_state.specs.Posting.{turn_of}
 use Rattle.office_state.specs.Turning.{trim_turn}
-use Rattle.turn_lock.specs.Passes.{Holding, PassFacts, TakesTurn}
-use Rattle.shared_office.specs.Offices.{IsOfficeHistory, OfficeOpening}
 use Rattle.policy_value.specs.declared.worth.Measure.TheVariants.{Terminal}
 use Rattle.snapshot_value.specs.Growing.{Grows}
 use Rattle.snapshot_value.specs.Valuing.{HasValued, AnswersPin, dry_pins}
@@ -30,11 +19,7 @@ use Rattle.snapshot_value.specs.declared.valuation.Valuation.{Valuation}
 use Rattle.snapshot_value.specs.declared.valuation.ValueFault.{ValueFault}
 use Rattle.snapshot_value.specs.declared.valuation.ValueFault.TheVariants.{Pin, NoMemory}
 use Rattle.snapshot_value.proofs.Growth.{grows_more, grows_none, grows_one}
-use Rattle.lane_runner.specs.declared.transcript.TranscriptLine.{TranscriptLine}
 use Rattle.lane_runner.specs.declared.transcript.Outcome.TheVariants.{Posted, Trimmed}
-use Rattle.lane_runner.specs.AnsweredLines.{AnsweredLine, turns_in}
-use Rattle.lane_runner.specs.Transcripts.{IsOutcome, IsTold, dry_of, lacked_memory}
-use Rattle.lane_runner.specs.inside.Parts.{HasAnswered, IsBoxed, in_box, outcome_of, turns_for, turns_needed}
 use Rattle.lane_runner.proofs.Places.{turns_inside}
 
 pub all_append : {A : Type 0} (P : A → Type 0) (xs ys : List A) → AllByRecursion P xs → AllByRecursion P ys → AllByRecursion P (xs ++ ys)

@@ -1,16 +1,6 @@
 -- What is known where lanes are run by a first pass, which then has the whole history
-use Rattle.std.proofs.Common.{◌≡◌, ℕ, ◌==◌, Bool, true, false, List, [], ◌∷◌, ◌++◌, map, inl, inr, refl, ap, sym, ◌∙◌, subst}
-use Rattle.std.specs.List.{AllByRecursion, Contains}
-use Rattle.std.proofs.lemmas.Bool.{eq-eqb, false≢true}
-use Rattle.basis_book.specs.Dated.{Dated}
-use Rattle.policy_types.specs.declared.entry.Entry.{Entry}
-use Rattle.policy_types.specs.declared.script.Lane.{Lane}
-use Rattle.policy_machine.specs.Merge.{IsMerge}
-use Rattle.turn_lock.specs.History.{entries_of}
-use Rattle.turn_lock.specs.Passes.{Holding, OwnsAll, Page, PassFacts}
-use Rattle.shared_office.specs.Offices.{OfficeOpening}
+use Rattle.lane_runner.proofs.Names.{◌≡◌, ℕ, ◌==◌, Bool, true, false, List, [], ◌∷◌, ◌++◌, map, inl, inr, refl, ap, sym, ◌∙◌, subst, AllByRecursion, Contains, eq-eqb, false≢true, Dated, Entry, Lane, IsMerge, entries_of, Holding, OwnsAll, Page, PassFacts, OfficeOpening, HasAnsweredLanes, dry_of}
 use Rattle.lane_runner.specs.declared.transcript.Transcript.{Transcript}
-use Rattle.lane_runner.specs.Transcripts.{HasAnsweredLanes, dry_of}
 use Rattle.lane_runner.proofs.RunSteps.{numbers_of}
 use Rattle.lane_runner.proofs.MergeSteps.{In, contains_in, in_contains}
 

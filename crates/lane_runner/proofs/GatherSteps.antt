@@ -1,15 +1,10 @@
 -- What becomes of a text that is gathered before it is written
-use Rattle.std.proofs.Common.{◌≡◌, ℕ, zero, suc, ◌+◌, ◌≤◌, ◌<◌, List, [], ◌∷◌, ◌++◌, length, take, Option, Some, None, Err, refl, ap, sym, ◌∙◌, subst, append-nil, append_assoc, length-append, arith}
+use Rattle.lane_runner.proofs.Names.{◌≡◌, ℕ, zero, suc, ◌+◌, ◌≤◌, ◌<◌, List, [], ◌∷◌, ◌++◌, length, take, Option, Some, None, Err, refl, ap, sym, ◌∙◌, subst, append-nil, append_assoc, length-append, arith, AppendsPart, TranscriptLine, WriteFault, NoMemory, HasEnded, StopsShort, line_texts, HasPutOut}
 use Rattle.std.specs.Io.KnownBytes.{Appends}
 use Rattle.std.proofs.KnownBytes.{Appends-nil, Appends-trans}
 use Rattle.outside_io.specs.Faults.{Rose}
-use Rattle.outside_io.specs.Streams.{AppendsPart}
 use Rattle.office_state.proofs.HistorySteps.{rose_since}
-use Rattle.lane_runner.specs.declared.transcript.TranscriptLine.{TranscriptLine}
 use Rattle.lane_runner.specs.declared.wording.Unwritten.{Unwritten}
-use Rattle.lane_runner.specs.declared.wording.Unwritten.TheVariants.{WriteFault, NoMemory}
-use Rattle.lane_runner.specs.Written.{HasEnded, StopsShort, line_texts}
-use Rattle.lane_runner.specs.inside.Gathering.{HasPutOut}
 use Rattle.lane_runner.proofs.TakeSteps.{texts_push}
 
 pub take_front : {A : Type 0} (n : ℕ) (xs ys : List A) → n ≤ length xs → take n (xs ++ ys) ≡ take n xs

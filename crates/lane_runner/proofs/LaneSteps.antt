@@ -1,26 +1,6 @@
 -- The transcript of all lanes
-use Rattle.std.proofs.Common.{◌≡◌, ◌⊎◌, ℕ, ◌<◌, ◌==◌, nat_eq, Bool, true, false, List, [], ◌∷◌, ◌++◌, map, inl, inr, refl, ap, sym, ◌∙◌, subst, arith}
-use Rattle.std.specs.List.{AllByRecursion, AllZip, Contains, IsDistinct, flat_map}
-use Rattle.std.specs.List.Sorted.{IsPermutation}
-use Rattle.std.proofs.lemmas.Bool.{eq-eqb, eqb-true, false≢true}
-use Rattle.std.proofs.lemmas.List.{map-append}
-use Rattle.std.proofs.lemmas.List.Sorted.{IsPermutation-map, IsPermutation-sym}
+use Rattle.lane_runner.proofs.Names.{◌≡◌, ◌⊎◌, ℕ, ◌<◌, ◌==◌, nat_eq, Bool, true, false, List, [], ◌∷◌, ◌++◌, map, inl, inr, refl, ap, sym, ◌∙◌, subst, arith, AllByRecursion, AllZip, Contains, IsDistinct, flat_map, IsPermutation, eq-eqb, eqb-true, false≢true, map-append, IsPermutation-map, IsPermutation-sym, Dated, Entry, Line, Lane, Opening, AnswersLanes, AnswersLine, AnswersLines, turns_of, Holding, PassFacts, IsOfficeHistory, OfficeOpening, TranscriptLine, AnsweredLine, AreOfLanes, lines_by, turns_in, AreRising, AreRightLanes, HasAnsweredLanes, HasRunLanes, IsTold, dry_of, AreInOrder, Seat, told_in}
 use Rattle.std.proofs.lemmas.Map.Keys.{IsDistinct-IsPermutation}
-use Rattle.basis_book.specs.Dated.{Dated}
-use Rattle.policy_types.specs.declared.entry.Entry.{Entry}
-use Rattle.policy_types.specs.declared.script.Line.{Line}
-use Rattle.policy_types.specs.declared.script.Lane.{Lane}
-use Rattle.policy_machine.specs.History.{Opening}
-use Rattle.policy_machine.specs.Merge.{AnswersLanes, AnswersLine, AnswersLines, turns_of}
-use Rattle.turn_lock.specs.Passes.{Holding, PassFacts}
-use Rattle.shared_office.specs.Offices.{IsOfficeHistory, OfficeOpening}
-use Rattle.lane_runner.specs.declared.transcript.TranscriptLine.{TranscriptLine}
-use Rattle.lane_runner.specs.AnsweredLines.{AnsweredLine, AreOfLanes, lines_by, turns_in}
-use Rattle.policy_types.specs.Lanes.{AreRising}
-use Rattle.lane_runner.specs.Lanes.{AreRightLanes}
-use Rattle.lane_runner.specs.Transcripts.{HasAnsweredLanes, HasRunLanes, IsTold, dry_of}
-use Rattle.lane_runner.specs.inside.Merging.{AreInOrder}
-use Rattle.lane_runner.specs.inside.Parts.{Seat, told_in}
 use Rattle.lane_runner.proofs.AnswerSteps.{all_append, all_weaker, answers_drier, zip_append}
 use Rattle.lane_runner.proofs.RunSteps.{AreLanesOf, IsLaneOf, callers_in}
 use Rattle.lane_runner.proofs.MergeSteps.{In, IsAt, Rises, all_in, are_dry, at_one_caller, distinct_append, distinct_rises, dry_from, dry_to, differ, from_filter, in_all, in_back, in_cases, in_contains, in_filter, in_front, in_moved, lines_answered, lines_at, rises_filter, rises_of, rises_rising, rises_same, rising_sorted, zip_moved_both}

@@ -1,16 +1,5 @@
 -- The lines of all lanes, put in the order of their first turns
-use Rattle.std.proofs.Common.{◌≡◌, ◌⊎◌, ◌↔◌, ℕ, zero, suc, ◌+◌, ◌≤◌, ◌<◌, ◌==◌, nat_eq, Bool, true, false, List, [], ◌∷◌, ◌++◌, length, map, get_or, Some, slice_get, inl, inr, refl, ap, sym, ◌∙◌, subst, append_assoc, length-append, arith}
-use Rattle.std.specs.List.{AllByRecursion, AllZip, Contains, IsDistinct, filter, flat_map, slice_set, swap}
-use Rattle.std.specs.List.Sorted.{IsPermutation}
-use Rattle.std.proofs.lemmas.Bool.{cond-true, cond-false, eq-eqb, eqb-true, false≢true}
-use Rattle.std.proofs.lemmas.List.Sorted.{Contains-permutation, IsPermutation-keeps, IsPermutation-refl, IsPermutation-swap, IsPermutation-trans}
-use Rattle.policy_types.specs.declared.entry.Entry.{Entry}
-use Rattle.policy_machine.specs.Merge.{AnswersLine, AnswersLines, Placed, turns_of}
-use Rattle.lane_runner.specs.declared.transcript.TranscriptLine.{TranscriptLine}
-use Rattle.lane_runner.specs.AnsweredLines.{AnsweredLine, turns_in}
-use Rattle.policy_types.specs.Lanes.{AreRising}
-use Rattle.lane_runner.specs.Transcripts.{AreDry, dry_of, lacked_memory}
-use Rattle.lane_runner.specs.inside.Merging.{AreInOrder}
+use Rattle.lane_runner.proofs.Names.{◌≡◌, ◌⊎◌, ◌↔◌, ℕ, zero, suc, ◌+◌, ◌≤◌, ◌<◌, ◌==◌, nat_eq, Bool, true, false, List, [], ◌∷◌, ◌++◌, length, map, get_or, Some, slice_get, inl, inr, refl, ap, sym, ◌∙◌, subst, append_assoc, length-append, arith, AllByRecursion, AllZip, Contains, IsDistinct, filter, flat_map, slice_set, swap, IsPermutation, cond-true, cond-false, eq-eqb, eqb-true, false≢true, Contains-permutation, IsPermutation-keeps, IsPermutation-refl, IsPermutation-swap, IsPermutation-trans, Entry, AnswersLine, AnswersLines, Placed, turns_of, TranscriptLine, AnsweredLine, turns_in, AreRising, AreDry, dry_of, lacked_memory, AreInOrder}
 use Rattle.lane_runner.proofs.AnswerSteps.{all_later}
 use Rattle.lane_runner.proofs.Places.{turns_from}
 

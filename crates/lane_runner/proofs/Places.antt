@@ -1,9 +1,5 @@
 -- The places of turns in a history
-use Rattle.std.proofs.Common.{◌≡◌, ℕ, ◌+◌, ◌≤◌, ◌<◌, ◌==◌, Bool, true, false, List, [], ◌∷◌, ◌++◌, length, refl, ap, sym, ◌∙◌, arith}
-use Rattle.std.specs.List.{AllByRecursion, enumerate_from, filter}
-use Rattle.policy_types.specs.declared.entry.Entry.{Entry}
-use Rattle.policy_machine.specs.Merge.{Placed, turns_of}
-use Rattle.turn_lock.specs.History.{entries_of}
+use Rattle.lane_runner.proofs.Names.{◌≡◌, ℕ, ◌+◌, ◌≤◌, ◌<◌, ◌==◌, Bool, true, false, List, [], ◌∷◌, ◌++◌, length, refl, ap, sym, ◌∙◌, arith, AllByRecursion, enumerate_from, filter, Entry, Placed, turns_of, entries_of}
 
 -- the turns of a caller, the first of which stands at a place
 abbrev pub turns_from : ℕ → List Entry → ℕ → List Placed

@@ -1,25 +1,6 @@
 -- What the pass knows of all lanes when their passes are taken back
-use Rattle.std.proofs.Common.{◌≡◌, ℕ, suc, ◌+◌, ◌*◌, ◌≤◌, ◌<◌, nat_eq, List, [], ◌∷◌, ◌++◌, length, map, Some, refl, ap, sym, ◌∙◌, subst, arith}
-use Rattle.std.specs.List.{AllByRecursion, AllZip, IsDistinct, filter, flat_map}
-use Rattle.std.proofs.lemmas.List.{length-map, map-append}
+use Rattle.lane_runner.proofs.Names.{◌≡◌, ℕ, suc, ◌+◌, ◌*◌, ◌≤◌, ◌<◌, nat_eq, List, [], ◌∷◌, ◌++◌, length, map, Some, refl, ap, sym, ◌∙◌, subst, arith, AllByRecursion, AllZip, IsDistinct, filter, flat_map, length-map, map-append, Dated, Entry, Line, Post, Value, Trim, Lane, Opening, AnswersLine, Placed, turns_of, StartsWith, entries_of, Holding, Page, PassFacts, TableId, pages, IsOfficeHistory, OfficeOpening, Outlet, TranscriptLine, AnsweredLine, turns_in, AreRightLanes, IsRightLane, is_value, lines_in, HasRunLanes, IsTold, dry_of, HasEntered, HasLeft, HasRunIn, HaveRun, IsFresh, IsReadySeat, IsRoomFor, Seat, all_left, all_shares_in, told_in, turns_needed}
 use Rattle.std.proofs.lemmas.List.Elements.{recursion_from_All}
-use Rattle.basis_book.specs.Dated.{Dated}
-use Rattle.policy_types.specs.declared.entry.Entry.{Entry}
-use Rattle.policy_types.specs.declared.script.Line.{Line}
-use Rattle.policy_types.specs.declared.script.Line.TheVariants.{Post, Value, Trim}
-use Rattle.policy_types.specs.declared.script.Lane.{Lane}
-use Rattle.policy_machine.specs.History.{Opening}
-use Rattle.policy_machine.specs.Merge.{AnswersLine, Placed, turns_of}
-use Rattle.turn_lock.specs.History.{StartsWith, entries_of}
-use Rattle.turn_lock.specs.Passes.{Holding, Page, PassFacts, TableId, pages}
-use Rattle.shared_office.specs.Offices.{IsOfficeHistory, OfficeOpening}
-use Rattle.lane_runner.specs.declared.telling.Outlet.{Outlet}
-use Rattle.lane_runner.specs.declared.transcript.TranscriptLine.{TranscriptLine}
-use Rattle.lane_runner.specs.AnsweredLines.{AnsweredLine, turns_in}
-use Rattle.lane_runner.specs.Lanes.{AreRightLanes, IsRightLane, is_value}
-use Rattle.policy_types.specs.Lanes.{lines_in}
-use Rattle.lane_runner.specs.Transcripts.{HasRunLanes, IsTold, dry_of}
-use Rattle.lane_runner.specs.inside.Parts.{HasEntered, HasLeft, HasRunIn, HaveRun, IsFresh, IsReadySeat, IsRoomFor, Seat, all_left, all_shares_in, told_in, turns_needed}
 use Rattle.lane_runner.proofs.Places.{no_turns, turns_stay}
 use Rattle.lane_runner.proofs.AnswerSteps.{all_later, needed_append, told_later, zip_moved}
 use Rattle.lane_runner.proofs.SeatSteps.{zip_length}

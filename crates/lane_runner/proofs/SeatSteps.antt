@@ -1,17 +1,5 @@
 -- Passes that are entered for lanes, and taken back
-use Rattle.std.proofs.Common.{◌≡◌, ℕ, zero, suc, ◌+◌, ◌-◌, ◌/◌, ◌≤◌, ◌<◌, ◌^◌, List, [], ◌∷◌, ◌++◌, length, map, take, drop, get_or, Some, slice_get, refl, ap, sym, ◌∙◌, subst, append-nil, append_assoc, length-append, arith}
-use Rattle.std.specs.List.{AllZip, flat_map}
-use Rattle.std.proofs.lemmas.List.{map-append}
-use Rattle.std.proofs.lemmas.List.Concat.{flat_map-append}
-use Rattle.basis_book.specs.Dated.{Dated}
-use Rattle.policy_types.specs.declared.entry.Entry.{Entry}
-use Rattle.policy_types.specs.declared.script.Lane.{Lane}
-use Rattle.turn_lock.specs.History.{StartsWith}
-use Rattle.turn_lock.specs.Passes.{Enters, Holding, LeavesLock, Page, PassFacts, pages}
-use Rattle.shared_office.specs.Offices.{IsOfficeHistory, OfficeOpening}
-use Rattle.lane_runner.specs.declared.telling.Outlet.{Outlet}
-use Rattle.policy_types.specs.Lanes.{lines_in}
-use Rattle.lane_runner.specs.inside.Parts.{HasEntered, HasLeft, HasRunIn, HaveRun, IsFresh, Seat, all_left, all_shares_in, shares_to_enter, turns_to_enter}
+use Rattle.lane_runner.proofs.Names.{◌≡◌, ℕ, zero, suc, ◌+◌, ◌-◌, ◌/◌, ◌≤◌, ◌<◌, ◌^◌, List, [], ◌∷◌, ◌++◌, length, map, take, drop, get_or, Some, slice_get, refl, ap, sym, ◌∙◌, subst, append-nil, append_assoc, length-append, arith, AllZip, flat_map, map-append, flat_map-append, Dated, Entry, Lane, StartsWith, Enters, Holding, LeavesLock, Page, PassFacts, pages, IsOfficeHistory, OfficeOpening, Outlet, lines_in, HasEntered, HasLeft, HasRunIn, HaveRun, IsFresh, Seat, all_left, all_shares_in, shares_to_enter, turns_to_enter}
 use Rattle.lane_runner.proofs.AnswerSteps.{all_append, all_weaker}
 
 pub starts_trans : (a b c : List Entry) → StartsWith a b → StartsWith b c → StartsWith a c

@@ -1,18 +1,5 @@
 -- What was taken from lanes is what they have told
-use Rattle.std.proofs.Common.{◌≡◌, ℕ, List, [], ◌∷◌, ◌++◌, length, map, take, drop, refl, ap, sym, ◌∙◌, subst, length-append, arith}
-use Rattle.std.specs.List.{AllByRecursion, AllZip, flat_map}
-use Rattle.std.specs.List.Sorted.{IsPermutation}
-use Rattle.rtrb.specs.Ring.{received}
-use Rattle.basis_book.specs.Dated.{Dated}
-use Rattle.policy_types.specs.declared.script.Lane.{Lane}
-use Rattle.policy_types.specs.Lanes.{lines_in}
-use Rattle.turn_lock.specs.Passes.{Holding, PassFacts}
-use Rattle.shared_office.specs.Offices.{IsOfficeHistory, OfficeOpening}
-use Rattle.lane_runner.specs.declared.telling.Inlet.{Inlet}
-use Rattle.lane_runner.specs.declared.telling.Outlet.{Outlet}
-use Rattle.lane_runner.specs.declared.transcript.TranscriptLine.{TranscriptLine}
-use Rattle.lane_runner.specs.inside.Merging.{HasLooked, HasTakenLines, IsMerged, all_to_come}
-use Rattle.lane_runner.specs.inside.Parts.{AreEnds, HasAnswered, HaveRun, IsEndOf, IsInletFor, IsSameSeat, IsSpent, IsWhole, Seat, told_in}
+use Rattle.lane_runner.proofs.Names.{◌≡◌, ℕ, List, [], ◌∷◌, ◌++◌, length, map, take, drop, refl, ap, sym, ◌∙◌, subst, length-append, arith, AllByRecursion, AllZip, flat_map, IsPermutation, received, Dated, Lane, lines_in, Holding, PassFacts, IsOfficeHistory, OfficeOpening, Inlet, Outlet, TranscriptLine, HasLooked, HasTakenLines, IsMerged, all_to_come, AreEnds, HasAnswered, HaveRun, IsEndOf, IsInletFor, IsSameSeat, IsSpent, IsWhole, Seat, told_in}
 use Rattle.lane_runner.proofs.RunSteps.{news_many, seats_many, told_lines}
 use Rattle.lane_runner.proofs.SeatSteps.{slice_whole}
 use Rattle.lane_runner.proofs.TakeSteps.{looked_merged}

@@ -1,16 +1,10 @@
 -- What was handed on stays behind the moments of the lines
-use Rattle.std.proofs.Common.{◌≡◌, ◌⊎◌, ℕ, zero, suc, ◌+◌, ◌≤◌, ◌<◌, Bool, true, false, List, [], ◌∷◌, ◌++◌, length, take, Option, Some, None, Result, Ok, Err, slice_get, inl, inr, refl, ap, sym, ◌∙◌, subst, append-nil, append_assoc, length-append, arith}
-use Rattle.std.specs.List.{AllByRecursion}
+use Rattle.lane_runner.proofs.Names.{◌≡◌, ◌⊎◌, ℕ, zero, suc, ◌+◌, ◌≤◌, ◌<◌, Bool, true, false, List, [], ◌∷◌, ◌++◌, length, take, Option, Some, None, Result, Ok, Err, slice_get, inl, inr, refl, ap, sym, ◌∙◌, subst, append-nil, append_assoc, length-append, arith, AllByRecursion, AddsPieces, TakenPiece, taken_bytes, TranscriptLine, accepted_lines, tells_accepted, line_texts, IsHandingOn, IsShowing}
 use Rattle.std.specs.Option.{is_some}
 use Rattle.std.proofs.lemmas.List.Sums.{sum_by-append}
 use Rattle.std.proofs.Math.Bool.{cond}
-use Rattle.outside_io.specs.Streams.{AddsPieces, TakenPiece, taken_bytes}
-use Rattle.lane_runner.specs.declared.transcript.TranscriptLine.{TranscriptLine}
 use Rattle.lane_runner.specs.declared.wording.Unwritten.{Unwritten}
-use Rattle.lane_runner.specs.Tallies.{accepted_lines, tells_accepted}
-use Rattle.lane_runner.specs.Written.{line_texts}
 use Rattle.lane_runner.specs.Shown.{AreShown, HasShown, IsHandedOn}
-use Rattle.lane_runner.specs.inside.Showing.{IsHandingOn, IsShowing}
 use Rattle.lane_runner.proofs.GatherSteps.{take_front, take_past}
 use Rattle.lane_runner.proofs.TakeSteps.{texts_push}
 

@@ -1,17 +1,8 @@
 -- The lines of all lanes, merged by their turns
-use Rattle.std.proofs.Common.{◌≡◌, ℕ, zero, suc, ◌+◌, ◌≤◌, ◌<◌, List, [], ◌∷◌, ◌++◌, length, Option, Some, None, slice_get, inl, inr, refl, ap, sym, ◌∙◌, subst, append-nil, append_assoc, length-append, arith}
-use Rattle.std.specs.List.{AllByRecursion, AllZip, flat_map, slice_set}
-use Rattle.std.specs.List.Sorted.{IsPermutation}
-use Rattle.std.proofs.lemmas.List.Sorted.{IsPermutation-append_comm, IsPermutation-append_left, IsPermutation-append_right, IsPermutation-refl, IsPermutation-trans}
-use Rattle.std.proofs.lemmas.List.Concat.{flat_map-append}
+use Rattle.lane_runner.proofs.Names.{◌≡◌, ℕ, zero, suc, ◌+◌, ◌≤◌, ◌<◌, List, [], ◌∷◌, ◌++◌, length, Option, Some, None, slice_get, inl, inr, refl, ap, sym, ◌∙◌, subst, append-nil, append_assoc, length-append, arith, AllByRecursion, AllZip, flat_map, slice_set, IsPermutation, IsPermutation-append_comm, IsPermutation-append_left, IsPermutation-append_right, IsPermutation-refl, IsPermutation-trans, flat_map-append, SameConsumer, known_items, received, line_texts, Inlet, TranscriptLine, AreInOrder, HasLooked, HasNext, HasTakenLines, HasTurnAt, IsBehind, IsMerged, IsNearerOf, IsNearest, IsNextTurn, IsTurnOf, all_to_come}
 use mathlib.Core.List.{IsPrefix}
-use Rattle.rtrb.specs.Ring.{SameConsumer, known_items, received}
 use Rattle.lane_runner.specs.Telling.{AreBefore, MayTellNext}
-use Rattle.lane_runner.specs.Written.{line_texts}
 use Rattle.lane_runner.specs.declared.merging.Near.{Near}
-use Rattle.lane_runner.specs.declared.telling.Inlet.{Inlet}
-use Rattle.lane_runner.specs.declared.transcript.TranscriptLine.{TranscriptLine}
-use Rattle.lane_runner.specs.inside.Merging.{AreInOrder, HasLooked, HasNext, HasTakenLines, HasTurnAt, IsBehind, IsMerged, IsNearerOf, IsNearest, IsNextTurn, IsTurnOf, all_to_come}
 use Rattle.lane_runner.proofs.AnswerSteps.{all_append, all_weaker}
 
 abbrev taken_from : List Inlet → List TranscriptLine

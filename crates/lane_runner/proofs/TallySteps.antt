@@ -1,13 +1,9 @@
 -- The tallies of one line more
-use Rattle.std.proofs.Common.{◌≡◌, ℕ, ◌+◌, ◌||◌, Bool, true, false, List, [], ◌∷◌, ◌++◌, refl, ap, sym, ◌∙◌, subst}
-use Rattle.std.specs.List.{count_by, list_any}
+use Rattle.lane_runner.proofs.Names.{◌≡◌, ℕ, ◌+◌, ◌||◌, Bool, true, false, List, [], ◌∷◌, ◌++◌, refl, ap, sym, ◌∙◌, subst, count_by, list_any, TranscriptLine, has_faulted, lacks_memory, tells_accepted, tells_refused, AreTallied}
 use Rattle.std.proofs.lemmas.List.Folds.{list_any-append}
 use Rattle.std.proofs.lemmas.List.Sums.{sum_by_push}
 use Rattle.std.proofs.Math.Bool.{cond}
 use mir.Val.{bool_byte}
-use Rattle.lane_runner.specs.declared.transcript.TranscriptLine.{TranscriptLine}
-use Rattle.lane_runner.specs.Tallies.{has_faulted, lacks_memory, tells_accepted, tells_refused}
-use Rattle.lane_runner.specs.inside.Added.{AreTallied}
 
 one_if : (b : Bool) → cond b 1 0 ≡ bool_byte b
 one_if true = refl

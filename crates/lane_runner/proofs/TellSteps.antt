@@ -1,19 +1,6 @@
 -- A line that was answered may be told behind those before it
-use Rattle.std.proofs.Common.{◌≡◌, ℕ, ◌+◌, ◌≤◌, ◌==◌, Bool, true, false, List, [], ◌∷◌, ◌++◌, length, map, Some, slice_get, refl, sym, ◌∙◌, subst, append_assoc, length-append, arith}
-use Rattle.std.specs.List.{AllByRecursion, AllZip, flat_map}
-use Rattle.basis_book.specs.Dated.{Dated}
-use Rattle.policy_types.specs.declared.entry.Entry.{Entry}
-use Rattle.policy_types.specs.declared.script.Line.{Line}
-use Rattle.policy_machine.specs.History.{Opening}
-use Rattle.policy_machine.specs.Merge.{AnswersLine, Placed, turns_of}
-use Rattle.turn_lock.specs.Passes.{Holding, PassFacts}
-use Rattle.shared_office.specs.Offices.{IsOfficeHistory, OfficeOpening}
-use Rattle.lane_runner.specs.declared.transcript.TranscriptLine.{TranscriptLine}
-use Rattle.lane_runner.specs.AnsweredLines.{AnsweredLine, turns_in}
-use Rattle.lane_runner.specs.Lanes.{IsRightLine}
+use Rattle.lane_runner.proofs.Names.{◌≡◌, ℕ, ◌+◌, ◌≤◌, ◌==◌, Bool, true, false, List, [], ◌∷◌, ◌++◌, length, map, Some, slice_get, refl, sym, ◌∙◌, subst, append_assoc, length-append, arith, AllByRecursion, AllZip, flat_map, Dated, Entry, Line, Opening, AnswersLine, Placed, turns_of, Holding, PassFacts, IsOfficeHistory, OfficeOpening, TranscriptLine, AnsweredLine, turns_in, IsRightLine, IsTold, dry_of, HasAnswered}
 use Rattle.lane_runner.specs.Telling.{AreBefore, IsLegallyTold, MayTellNext}
-use Rattle.lane_runner.specs.Transcripts.{IsTold, dry_of}
-use Rattle.lane_runner.specs.inside.Parts.{HasAnswered}
 use Rattle.lane_runner.proofs.Places.{turns_from}
 use Rattle.lane_runner.proofs.AnswerSteps.{all_later, same_opened}
 use Rattle.lane_runner.proofs.MergeSteps.{Rises, RisesThrough, rises_turns, through_later, through_turns}

@@ -1,11 +1,6 @@
 -- The lines of lanes beside the turns that answer them, in the order of their first turns
 use Rattle.std.specs.Prelude.{◌≡◌, ℕ, ◌==◌, List, [], ◌∷◌, map}
-use Rattle.std.specs.List.{AllByRecursion, Contains, filter, flat_map}
-use Rattle.policy_types.specs.declared.entry.Entry.{Entry}
-use Rattle.policy_types.specs.declared.script.Line.{Line}
-use Rattle.policy_types.specs.declared.script.Lane.{Lane}
-use Rattle.policy_types.specs.Lanes.{AreRising}
-use Rattle.policy_machine.specs.Merge.{AnswersLine, Placed, turns_of}
+use Rattle.lane_runner.specs.Names.{AllByRecursion, Contains, filter, flat_map, Entry, Line, Lane, AreRising, AnswersLine, Placed, turns_of}
 
 -- a line of a clerk, and the turns that answer it, each beside its place in the history
 pub record AnsweredLine : Type 0 where

@@ -1,11 +1,7 @@
 -- The lanes that may be run
 use Rattle.std.specs.Prelude.{◌≤◌, ◌^◌, Bool, true, false, List, All, length}
-use Rattle.std.specs.List.{filter}
+use Rattle.lane_runner.specs.Names.{filter, Line, Post, Value, Trim, Lane, AreRising, lines_in, numbers_of}
 use Rattle.policy_types.specs.Valid.{IsCommandDay, IsValid}
-use Rattle.policy_types.specs.declared.script.Line.{Line}
-use Rattle.policy_types.specs.declared.script.Line.TheVariants.{Post, Value, Trim}
-use Rattle.policy_types.specs.declared.script.Lane.{Lane}
-use Rattle.policy_types.specs.Lanes.{AreRising, lines_in, numbers_of}
 
 -- a posting is of a valid command, and a valuation is on a day of commands and has 1 to 64 workers
 abbrev pub IsRightLine : Line → Type 0

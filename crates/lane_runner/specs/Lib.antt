@@ -1,3 +1,4 @@
+pub mod Names
 pub mod AnsweredLines
 pub mod Lanes
 pub mod Transcripts

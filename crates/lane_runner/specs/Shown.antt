@@ -1,7 +1,6 @@
 -- What was handed on of the lines' text, and by which moments
 use Rattle.std.specs.Prelude.{◌≡◌, ℕ, ◌≤◌, ◌<◌, true, List, ◌∷◌, ◌++◌, length, take, Some, slice_get, Result, Ok, Err}
-use Rattle.std.specs.List.{AllByRecursion}
-use Rattle.outside_io.specs.Streams.{TakenPiece, taken_bytes}
+use Rattle.lane_runner.specs.Names.{AllByRecursion, TakenPiece, taken_bytes}
 use Rattle.lane_runner.specs.declared.transcript.TranscriptLine.{TranscriptLine}
 use Rattle.lane_runner.specs.declared.wording.Unwritten.{Unwritten}
 use Rattle.lane_runner.specs.Tallies.{accepted_lines, tells_accepted}

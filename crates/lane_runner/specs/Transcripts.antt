@@ -1,22 +1,13 @@
 -- What a transcript tells of the lanes that were run
 use Rattle.std.specs.Prelude.{◌≡◌, ◌↔◌, ℕ, ◌≤◌, ◌+◌, ◌^◌, nat_eq, Bool, true, false, List, ◌++◌, map, take, Some}
-use Rattle.std.specs.List.{AllByRecursion, AllZip, Contains, IsDistinct, filter}
-use Rattle.basis_book.specs.Dated.{Dated}
+use Rattle.lane_runner.specs.Names.{AllByRecursion, AllZip, Contains, IsDistinct, filter, Dated, Entry, Line, Post, Value, Trim, Lane, AnswersLanes, Holding, OfficeOpening, IsSnapshot}
 use Rattle.policy_types.specs.declared.command.Command.{Command}
-use Rattle.policy_types.specs.declared.entry.Entry.{Entry}
 use Rattle.policy_types.specs.declared.entry.Reply.{Reply}
 use Rattle.policy_types.specs.declared.entry.Reply.TheVariants.{Pinned, PinRefused, Floor}
-use Rattle.policy_types.specs.declared.script.Line.{Line}
-use Rattle.policy_types.specs.declared.script.Line.TheVariants.{Post, Value, Trim}
-use Rattle.policy_types.specs.declared.script.Lane.{Lane}
 use Rattle.policy_machine.specs.History.{Opening, commands_after}
-use Rattle.policy_machine.specs.Merge.{AnswersLanes}
 use Rattle.policy_value.specs.declared.worth.Measure.TheVariants.{Terminal}
 use Rattle.office_state.specs.Posting.{reply_of}
 use Rattle.turn_lock.specs.History.{StartsWith, entries_of}
-use Rattle.turn_lock.specs.Passes.{Holding}
-use Rattle.shared_office.specs.Offices.{OfficeOpening}
-use Rattle.snapshot_value.specs.Valuing.{IsSnapshot}
 use Rattle.lane_runner.specs.declared.transcript.TranscriptLine.{TranscriptLine}
 use Rattle.lane_runner.specs.declared.transcript.Outcome.{Outcome}
 use Rattle.lane_runner.specs.declared.transcript.Outcome.TheVariants.{Posted, Trimmed, Valued, ValueRefused, ValueNoMemory}

@@ -1,11 +1,6 @@
 // The lines of a lane are answered in order, by turns of one pass.
 ghost use Rattle.std.specs.Prelude.{◌≡◌, ◌+◌, ◌≤◌, ◌<◌, List, [], ◌∷◌, ◌++◌};
-ghost use Rattle.basis_book.specs.Dated.{Dated};
-ghost use Rattle.policy_types.specs.declared.script.Line.TheVariants.{Value as ValueLine, Trim as TrimLine};
-ghost use Rattle.rtrb.specs.Ring.{SameProducer, known_free, sent};
-ghost use Rattle.turn_lock.specs.Passes.{PassFacts};
-ghost use Rattle.shared_office.specs.Offices.{IsOfficeHistory};
-ghost use Rattle.snapshot_value.specs.Valuing.{most_turns};
+ghost use Rattle.lane_runner.specs.Names.{Dated, ValueLine, TrimLine, SameProducer, known_free, sent, PassFacts, IsOfficeHistory, most_turns};
 ghost use Rattle.lane_runner.specs.Lanes.{IsRightLane, IsRightLine};
 ghost use Rattle.lane_runner.specs.Telling.{MayTellNext};
 ghost use Rattle.lane_runner.specs.inside.Parts.{HasAnswered, IsBoxed, IsRoomFor, outcome_of, turns_for, turns_needed};

@@ -1,8 +1,6 @@
 // The lines of all lanes are merged by their turns, and written while the lanes go on.
 ghost use Rattle.std.specs.Prelude.{◌≡◌, ℕ, ◌+◌, ◌≤◌, ◌<◌, ◌^◌, List, [], Option, None, length, IsTrue, IsFalse, IfSome};
-ghost use Rattle.std.specs.List.{AllByRecursion, AllZip};
-ghost use Rattle.rtrb.specs.Ring.{SameConsumer, received};
-ghost use Rattle.outside_io.specs.Streams.{TakenPiece};
+ghost use Rattle.lane_runner.specs.Names.{AllByRecursion, AllZip, SameConsumer, received, TakenPiece};
 ghost use Rattle.lane_runner.specs.declared.transcript.TranscriptLine.{TranscriptLine as ALine};
 ghost use Rattle.lane_runner.specs.Tallies.{accepted_lines};
 ghost use Rattle.lane_runner.specs.inside.Gathering.{HasPutOut};

@@ -1,7 +1,6 @@
 // The text of a run is gathered before it is written.
 ghost use Rattle.std.specs.Prelude.{◌≡◌, ℕ, ◌+◌, ◌≤◌, ◌<◌, ◌^◌, List, [], ◌∷◌, ◌++◌, Option, None, length, IfOk, IsTrue, IsFalse};
-ghost use Rattle.rtrb.specs.Ring.{SameConsumer, received};
-ghost use Rattle.outside_io.specs.Streams.{TakenPiece};
+ghost use Rattle.lane_runner.specs.Names.{SameConsumer, received, TakenPiece};
 ghost use Rattle.lane_runner.specs.declared.transcript.TranscriptLine.{TranscriptLine as ALine};
 ghost use Rattle.lane_runner.specs.Shown.{HasShown};
 ghost use Rattle.lane_runner.specs.Tallies.{accepted_lines};

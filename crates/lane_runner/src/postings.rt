@@ -1,7 +1,6 @@
 // How many moments may be told while lanes run.
 ghost use Rattle.std.specs.Prelude.{◌≡◌, ◌≤◌, ◌^◌, length};
-ghost use Rattle.std.specs.List.{count_by};
-ghost use Rattle.policy_types.specs.Lanes.{lines_in};
+ghost use Rattle.lane_runner.specs.Names.{count_by, lines_in};
 ghost use Rattle.lane_runner.specs.Lanes.{is_posting};
 
 use policy_types::{Lane, Line};

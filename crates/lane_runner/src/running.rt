@@ -1,14 +1,10 @@
 // Lanes are run at the same time, each in a pass of its own, and a writer beside them writes their lines.
 ghost use Rattle.std.specs.Prelude.{◌≡◌, ◌≤◌, ◌<◌, ◌^◌, [], None, length, map, vec_capacity, OnErr, IfOk};
-ghost use Rattle.std.specs.List.{AllByRecursion, AllZip, flat_map};
+ghost use Rattle.lane_runner.specs.Names.{AllByRecursion, AllZip, flat_map, PassFacts, IsOfficeHistory, lines_in, SameConsumer, received};
 ghost use Rattle.std.specs.Thread.{IsSync};
 ghost use Rattle.std.specs.List.Sorted.{IsPermutation};
-ghost use Rattle.turn_lock.specs.Passes.{PassFacts};
-ghost use Rattle.shared_office.specs.Offices.{IsOfficeHistory};
 ghost use Rattle.lane_runner.specs.Lanes.{AreRightLanes};
-ghost use Rattle.policy_types.specs.Lanes.{lines_in};
 ghost use Rattle.lane_runner.specs.Transcripts.{HasAnsweredLanes};
-ghost use Rattle.rtrb.specs.Ring.{SameConsumer, received};
 ghost use Rattle.lane_runner.specs.Shown.{HasShown};
 ghost use Rattle.lane_runner.specs.Tallies.{accepted_lines};
 ghost use Rattle.lane_runner.specs.Written.{HasEnded};

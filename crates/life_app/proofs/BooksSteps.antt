@@ -1,26 +1,10 @@
 -- How `state` of all policies and `checkpoint` end over both disks
-use Rattle.std.proofs.Common.{◌≡◌, ◌⊎◌, ℕ, List, inl, inr, refl, Option, Some, arith}
-use Rattle.outside_io.specs.Faults.{Rose}
-use Rattle.outside_io.specs.declared.disks.Disk.{Ghosts}
-use Rattle.policy_types.specs.declared.command.Command.{Command}
-use Rattle.life_args.specs.Words.{AreWords}
-use Rattle.life_args.specs.declared.mode.Mode.{Mode}
-use Rattle.office_state.specs.Journals.{IsOfTheFile, Opens, OpensToNone}
+use Rattle.life_app.proofs.Names.{◌≡◌, ◌⊎◌, ℕ, List, inl, inr, refl, Option, Some, arith, Rose, Ghosts, Command, AreWords, Mode, IsOfTheFile, Opens, OpensToNone, FaultyDisk, NotAJournal, BadRecord, NoRoom, shown_opens_to_none, status_of, Input, Shelving, Stream, Ending, Done, BadJournal, WriteFault, DiskFault, NoMemory, EndsCheckpoint, IsSaved, checkpoint_text, AreBothQuiet, AreTrue, TwoDisks, HasJournal, HasNoJournal, AreTrusted, Filing, HasDiskFault, HasNewFault, Second, With, Without, filing_between, seen_by}
 use Rattle.office_state.specs.declared.faults.StartCause.{StartCause}
-use Rattle.office_state.specs.declared.faults.StartCause.TheVariants.{DiskFault as FaultyDisk, NotAJournal, BadRecord, NoMemory as NoRoom}
-use Rattle.office_state.proofs.JournalLaws.{shown_opens_to_none}
 use Rattle.program_endings.specs.Refusals.{SaysWhy}
-use Rattle.program_endings.specs.Status.{status_of}
-use Rattle.program_endings.specs.Writing.{Input, Shelving, Stream}
-use Rattle.program_endings.specs.declared.ending.Ending.{Ending}
-use Rattle.program_endings.specs.declared.ending.Ending.TheVariants.{Done, BadJournal, WriteFault, DiskFault, NoMemory}
-use Rattle.stating_modes.specs.Saved.{EndsCheckpoint, IsSaved, checkpoint_text}
 use Rattle.stating_modes.specs.Stated.{EndsStateKept, snapshot_text}
 use Rattle.stating_modes.specs.Telling.{EndsTelling, IsRefusedByTwo, TellsSnapshot}
-use Rattle.stating_modes.specs.TwoDisks.{AreBothQuiet, AreTrue, TwoDisks}
 use Rattle.checkpoint_store.specs.declared.snapshot.Snapshot.{Snapshot}
-use Rattle.life_app.specs.Due.{HasJournal, HasNoJournal}
-use Rattle.life_app.specs.Needs.{AreTrusted, Filing, HasDiskFault, HasNewFault, Second, With, Without, filing_between, seen_by}
 use Rattle.life_app.specs.Reasons.{HasReason}
 
 -- the file of a second disk between two moments, or none

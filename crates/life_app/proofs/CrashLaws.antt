@@ -1,14 +1,5 @@
 -- What a crash leaves of a run, and what the next run finds
-use Rattle.std.proofs.Common.{◌≡◌, ℕ, List, [], ◌∷◌, ◌++◌, refl, ap, sym, ◌∙◌, subst, inl, inr, append-nil, append_assoc}
-use Rattle.outside_io.specs.declared.disks.Disk.{Ghosts}
-use Rattle.policy_types.specs.declared.command.Command.{Command}
-use Rattle.policy_types.specs.declared.entry.Entry.{Entry}
-use Rattle.policy_machine.specs.History.{Opening, accepted_of, commands_after}
-use Rattle.posting_journal.specs.Runs.{IsSafe}
-use Rattle.office_state.specs.Images.{HoldsOnce, IsLeftAlone, IsOneMore}
-use Rattle.office_state.specs.Journals.{Opens}
-use Rattle.office_state.proofs.JournalLaws.{opens_to_one}
-use Rattle.life_app.specs.Crashes.{AreAllHeld, AreHeld, HasRun}
+use Rattle.life_app.proofs.Names.{◌≡◌, ℕ, List, [], ◌∷◌, ◌++◌, refl, ap, sym, ◌∙◌, subst, inl, inr, append-nil, append_assoc, Ghosts, Command, Entry, Opening, accepted_of, commands_after, IsSafe, HoldsOnce, IsLeftAlone, IsOneMore, Opens, opens_to_one, AreAllHeld, AreHeld, HasRun}
 
 -- a file that opens to the commands from before the run
 as_before : (opening : Opening) (history : List Entry) (image : List ℕ) → Opens image opening.commands → HoldsOnce opening history image

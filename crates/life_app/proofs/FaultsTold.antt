@@ -1,37 +1,7 @@
 -- Where the count of faults of one of the disks rose and the output didn't fail, the ending tells it, but for want of memory
-use Rattle.std.proofs.Common.{◌≡◌, ◌<◌, ◌⊎◌, ℕ, ℤ, List, [], ◌∷◌, ◌++◌, refl, ap, ◌∙◌, inl, inr, Option, None, Some, arith}
-use Rattle.std.specs.List.{AllByRecursion, cons_option, filter_map, last_or}
+use Rattle.life_app.proofs.Names.{◌≡◌, ◌<◌, ◌⊎◌, ℕ, ℤ, List, [], ◌∷◌, ◌++◌, refl, ap, ◌∙◌, inl, inr, Option, None, Some, arith, AllByRecursion, cons_option, filter_map, last_or, Ghosts, Rose, Command, At, Reply, Accepted, Refused, Faulted, Pinned, PinRefused, Slice, Unpinned, Floor, Blank, Entry, Lane, fault_of, opened_on, Dated, Measure, Auditor, IsLeftBy, Mode, Run, Value, Project, State, Checkpoint, Generate, Load, Ending, Done, BadJournal, WriteFault, DiskFault, NoMemory, status_of, EndsReadOnly, Input, Shelving, Stream, WroteAll, EndsScript, EndsLanes, EndsRun, books_text, policy_account, EndsState, IsStated, EndsValue, IsValued, EndsProject, IsProjected, EndsLoad, EndsLoading, HasNewFault, filing_between, Does, EndsBooks, EndsMode, EndsSave}
 use Rattle.std.specs.Option.{unwrap_or}
-use Rattle.outside_io.specs.declared.disks.Disk.{Ghosts}
-use Rattle.outside_io.specs.Faults.{Rose}
-use Rattle.policy_types.specs.declared.command.Command.{Command}
-use Rattle.policy_types.specs.declared.entry.At.{At}
-use Rattle.policy_types.specs.declared.entry.Reply.{Reply}
-use Rattle.policy_types.specs.declared.entry.Reply.TheVariants.{Accepted, Refused, Faulted, Pinned, PinRefused, Slice, Unpinned, Floor, Blank}
-use Rattle.policy_types.specs.declared.entry.Entry.{Entry}
-use Rattle.policy_types.specs.declared.script.Lane.{Lane}
-use Rattle.policy_machine.specs.History.{fault_of, opened_on}
-use Rattle.basis_book.specs.Dated.{Dated}
-use Rattle.policy_value.specs.declared.worth.Measure.{Measure}
-use Rattle.watcher_set.specs.Noted.{Auditor}
-use Rattle.office_state.specs.Images.{IsLeftBy}
-use Rattle.life_args.specs.declared.mode.Mode.{Mode}
-use Rattle.life_args.specs.declared.mode.Mode.TheVariants.{Run, Value, Project, State, Checkpoint, Generate, Load}
-use Rattle.program_endings.specs.declared.ending.Ending.{Ending}
-use Rattle.program_endings.specs.declared.ending.Ending.TheVariants.{Done, BadJournal, WriteFault, DiskFault, NoMemory}
 use Rattle.program_endings.specs.Replies.{IsAnswered}
-use Rattle.program_endings.specs.Status.{status_of}
-use Rattle.program_endings.specs.Texts.{EndsReadOnly}
-use Rattle.program_endings.specs.Writing.{Input, Shelving, Stream, WroteAll}
-use Rattle.script_run.specs.Outcome.{EndsScript}
-use Rattle.script_run.specs.Running.{EndsLanes, EndsRun}
-use Rattle.stating_modes.specs.Books.{books_text, policy_account}
-use Rattle.stating_modes.specs.Stating.{EndsState, IsStated}
-use Rattle.valuing_modes.specs.Valuing.{EndsValue, IsValued}
-use Rattle.valuing_modes.specs.Projecting.{EndsProject, IsProjected}
-use Rattle.trial_load.specs.Loading.{EndsLoad, EndsLoading}
-use Rattle.life_app.specs.Needs.{HasNewFault, filing_between}
-use Rattle.life_app.specs.Obeys.{Does, EndsBooks, EndsMode, EndsSave}
 use Rattle.life_app.proofs.BooksSteps as both
 use Rattle.life_app.proofs.BooksSteps.{second_between, two_disks}
 

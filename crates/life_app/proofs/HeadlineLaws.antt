@@ -1,59 +1,25 @@
 -- What is promised of a script's run follows from what the program does
-use Rattle.std.proofs.Common.{◌≡◌, ℕ, ℤ, ◌⊎◌, List, [], ◌∷◌, ◌++◌, refl, ap, sym, ◌∙◌, subst, inl, inr, append-nil, Option, Result, Ok, Err}
+use Rattle.life_app.proofs.Names.{◌≡◌, ℕ, ℤ, ◌⊎◌, List, [], ◌∷◌, ◌++◌, refl, ap, sym, ◌∙◌, subst, inl, inr, append-nil, Option, Result, Ok, Err, AllZip, false≢true, filter_map-append, Dated, Ghosts, Reads, Command, Reply, Faulted, Floor, Pinned, PinRefused, Entry, Lane, Opening, accepted_by, accepted_of, commands_after, opened_on, Terminal, Row, Bounds, Both, Word, HoldsNow, IsLeftAlone, IsOneMore, IsPending, Opens, IsLineText, IsReplyText, Auditor, Ending, Done, Usage, BadScript, BadBasis, BadJournal, ReadFault, WriteFault, DiskFault, NoMemory, status_of, EndsNoBasis, Input, IsWholeInput, Shelving, Stream, EndsScript, IsRunOf, EndsLanes, EndsRun, EndsUnread, IsReadAs, Mode, Run, Does, EndsMode, Obeys, SaysUnasked, AreOnce, table_reserves, run_wording, AskForRun, WroteAsEnded, IsEnclosingRow, IsGivenBasis, IsPromised, IsThere, IsToldLine, IsToldText, IsUnrun, IsWorthBy, SaysUnrun, WasFaulted}
 use Rattle.std.specs.Prelude.{take}
-use Rattle.std.specs.List.{AllZip}
-use Rattle.std.proofs.lemmas.Bool.{false≢true}
-use Rattle.std.proofs.lemmas.List.Elements.{filter_map-append}
-use Rattle.basis_book.specs.Dated.{Dated}
 use Rattle.basis_shelf.specs.Bases.{IsBasis}
 use Rattle.basis_shelf.proofs.OneBasis.{one_basis}
-use Rattle.outside_io.specs.declared.disks.Disk.{Ghosts}
-use Rattle.command_csv.specs.Reads.{Reads}
 use Rattle.command_csv.proofs.OneReading.{one_reading}
 use Rattle.plan_benefits.specs.Shapes.{shape_of}
 use Rattle.plan_benefits.specs.declared.fault.NotValued.{NotValued}
-use Rattle.policy_types.specs.declared.command.Command.{Command}
 use Rattle.policy_types.specs.declared.policy.Policy.{Policy}
-use Rattle.policy_types.specs.declared.entry.Reply.{Reply}
-use Rattle.policy_types.specs.declared.entry.Reply.TheVariants.{Faulted, Floor, Pinned, PinRefused}
-use Rattle.policy_types.specs.declared.entry.Entry.{Entry}
 use Rattle.policy_types.specs.declared.script.Line.{Line}
 use Rattle.policy_types.specs.declared.script.Line.TheVariants.{Post, Value, Trim}
-use Rattle.policy_types.specs.declared.script.Lane.{Lane}
 use Rattle.policy_machine.specs.Book.{book}
-use Rattle.policy_machine.specs.History.{Opening, accepted_by, accepted_of, commands_after, opened_on}
 use Rattle.policy_value.specs.Covers.{cap_along, cover_along}
 use Rattle.policy_value.specs.Measures.{exact_reserve}
 use Rattle.policy_value.specs.Rows.{IsExact, IsReserveOf}
-use Rattle.policy_value.specs.declared.worth.Measure.TheVariants.{Terminal}
-use Rattle.policy_value.specs.declared.worth.Row.{Row}
 use Rattle.policy_value.specs.declared.worth.Worth.{Worth}
-use Rattle.policy_value.specs.declared.worth.Worth.TheVariants.{Bounds, Both, Word}
 use Rattle.rate_table.specs.declared.shape.Shape.{Shape}
 use Rattle.lane_runner.specs.AnsweredLines.{AnsweredLine}
 use Rattle.snapshot_value.specs.Valuing.{IsValuedRow}
-use Rattle.office_state.specs.Images.{HoldsNow, IsLeftAlone, IsOneMore, IsPending}
-use Rattle.office_state.specs.Journals.{Opens}
 use Rattle.office_state.proofs.HistorySteps.{posting}
-use Rattle.transcript_text.specs.Transcript.{IsLineText, IsReplyText}
-use Rattle.watcher_set.specs.Noted.{Auditor}
-use Rattle.program_endings.specs.declared.ending.Ending.{Ending}
-use Rattle.program_endings.specs.declared.ending.Ending.TheVariants.{Done, Usage, BadScript, BadBasis, BadJournal, ReadFault, WriteFault, DiskFault, NoMemory}
-use Rattle.program_endings.specs.Status.{status_of}
-use Rattle.program_endings.specs.WithoutBasis.{EndsNoBasis}
-use Rattle.program_endings.specs.Writing.{Input, IsWholeInput, Shelving, Stream}
-use Rattle.script_run.specs.Outcome.{EndsScript, IsRunOf}
-use Rattle.script_run.specs.Running.{EndsLanes, EndsRun}
-use Rattle.script_run.specs.Script.{EndsUnread, IsReadAs}
 use Rattle.script_run.proofs.ScriptStatus.{one_whole}
 use Rattle.life_args.proofs.Answering.{ask_once}
-use Rattle.life_args.specs.declared.mode.Mode.{Mode}
-use Rattle.life_args.specs.declared.mode.Mode.TheVariants.{Run}
-use Rattle.life_app.specs.Obeys.{Does, EndsMode, Obeys, SaysUnasked}
-use Rattle.life_app.specs.TableReserves.{AreOnce, table_reserves}
-use Rattle.life_app.specs.Texts.{run_wording}
-use Rattle.life_app.specs.Words.{AskForRun}
-use Rattle.life_app.specs.Headline.{WroteAsEnded, IsEnclosingRow, IsGivenBasis, IsPromised, IsThere, IsToldLine, IsToldText, IsUnrun, IsWorthBy, SaysUnrun, WasFaulted}
 
 -- the rounded bounds of a row are bounds of the exact reserve
 worth_by : (policy : Policy) (entry : Dated) (on : ℤ) (shape : Result Shape NotValued) (t : ℕ) (worth : Worth)

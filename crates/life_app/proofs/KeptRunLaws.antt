@@ -1,28 +1,13 @@
 -- What runs over both disks leave: each checkpoint on the second disk tells the truth of the journal
-use Rattle.std.proofs.Common.{◌≡◌, ◌⊎◌, ℕ, List, [], ◌∷◌, ◌++◌, map, take, refl, ap, sym, ◌∙◌, subst, inl, inr, append-nil, append_assoc, None, Some}
-use Rattle.std.proofs.lemmas.List.{length-map, map-append, take_at}
-use Rattle.outside_io.specs.declared.disks.Disk.{Ghosts}
-use Rattle.policy_types.specs.declared.command.Command.{Command}
+use Rattle.life_app.proofs.Names.{◌≡◌, ◌⊎◌, ℕ, List, [], ◌∷◌, ◌++◌, map, take, refl, ap, sym, ◌∙◌, subst, inl, inr, append-nil, append_assoc, None, Some, length-map, map-append, take_at, Ghosts, Command, IsSafe, spelling_of, Opens, opens_to_one, to_bodies, EndsCheckpoint, IsNoneOrEarlierOrHeld, AreTrue, IsOnlyRead, TellsTruth, TwoDisks, Auditor, Mode, Run, Value, Project, State, Checkpoint, Generate, Load, Input, Shelving, Stream, Ending, EndsMode, Obeys}
 use Rattle.posting_journal.specs.Opening.{IsOpenedOn}
-use Rattle.posting_journal.specs.Runs.{IsSafe}
 use Rattle.posting_journal.proofs.Unique.{opens_once}
-use Rattle.record_codec.specs.Spelling.{spelling_of}
 use Rattle.checkpoint_store.specs.Checkpoints.{IsSnapshotOf}
 use Rattle.checkpoint_store.specs.declared.snapshot.Snapshot.{Snapshot}
 use Rattle.checkpoint_store.proofs.OneSnapshot.{one_snapshot}
 use Rattle.journal_replay.specs.Replays.{bodies_of}
-use Rattle.office_state.specs.Journals.{Opens}
-use Rattle.office_state.proofs.JournalLaws.{opens_to_one, to_bodies}
 use Rattle.office_state.proofs.OpeningSteps.{opening_keeps}
-use Rattle.stating_modes.specs.Saved.{EndsCheckpoint, IsNoneOrEarlierOrHeld}
-use Rattle.stating_modes.specs.TwoDisks.{AreTrue, IsOnlyRead, TellsTruth, TwoDisks}
 use Rattle.posting_journal.proofs.Moments.{leaves, looks_none}
-use Rattle.watcher_set.specs.Noted.{Auditor}
-use Rattle.life_args.specs.declared.mode.Mode.{Mode}
-use Rattle.life_args.specs.declared.mode.Mode.TheVariants.{Run, Value, Project, State, Checkpoint, Generate, Load}
-use Rattle.program_endings.specs.Writing.{Input, Shelving, Stream}
-use Rattle.program_endings.specs.declared.ending.Ending.{Ending}
-use Rattle.life_app.specs.Obeys.{EndsMode, Obeys}
 use Rattle.life_app.proofs.LeftLaws.{left_so}
 use Rattle.life_app.specs.KeptRuns.{AreRunsOfTwo, IsLeftByCall, IsRunOfTwo, LeavesSaved, LeavesSecond, IsSnapshotOfFirst, KeepsSecond, OneRunOfTwo, SavedOfFirst, SavesBooks, run_disks}
 use Rattle.life_app.proofs.RunLaws.{Facts, Grown, Starts, one_more_run}

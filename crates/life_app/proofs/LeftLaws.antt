@@ -1,30 +1,5 @@
 -- How each mode leaves the disk: by the turns of an office, alone, or untouched
-use Rattle.std.proofs.Common.{◌≡◌, ℕ, ℤ, List, [], refl, inl, inr, Option, None, Some}
-use Rattle.outside_io.specs.declared.disks.Disk.{Ghosts}
-use Rattle.policy_types.specs.declared.command.Command.{Command}
-use Rattle.policy_types.specs.declared.entry.At.{At}
-use Rattle.policy_types.specs.declared.entry.Entry.{Entry}
-use Rattle.policy_types.specs.declared.script.Lane.{Lane}
-use Rattle.policy_machine.specs.History.{Opening, opened_on}
-use Rattle.watcher_set.specs.Noted.{Auditor}
-use Rattle.basis_book.specs.Dated.{Dated}
-use Rattle.policy_value.specs.declared.worth.Measure.{Measure}
-use Rattle.life_args.specs.declared.mode.Mode.{Mode}
-use Rattle.life_args.specs.declared.mode.Mode.TheVariants.{Run, Value, Project, State, Checkpoint, Generate, Load}
-use Rattle.office_state.specs.Images.{IsLeftAlone, IsLeftBy}
-use Rattle.program_endings.specs.declared.ending.Ending.{Ending}
-use Rattle.program_endings.specs.declared.ending.Ending.TheVariants.{Done, BadJournal, WriteFault, DiskFault, NoMemory}
-use Rattle.program_endings.specs.Texts.{EndsReadOnly}
-use Rattle.program_endings.specs.Writing.{Input, Shelving, Stream}
-use Rattle.script_run.specs.Outcome.{EndsScript, IsRunOf}
-use Rattle.script_run.specs.Running.{EndsLanes, EndsRun}
-use Rattle.stating_modes.specs.Books.{books_text, policy_account}
-use Rattle.stating_modes.specs.Stating.{EndsState, IsStated}
-use Rattle.valuing_modes.specs.Valuing.{EndsValue, IsValued}
-use Rattle.valuing_modes.specs.Projecting.{EndsProject, IsProjected}
-use Rattle.trial_load.specs.Loading.{EndsLoad, EndsLoading, IsLoadOf}
-use Rattle.life_app.specs.Obeys.{Does, EndsBooks, EndsMode, EndsSave}
-use Rattle.life_app.specs.Runs.{IsLeftSo}
+use Rattle.life_app.proofs.Names.{◌≡◌, ℕ, ℤ, List, [], refl, inl, inr, Option, None, Some, Ghosts, Command, At, Entry, Lane, Opening, opened_on, Auditor, Dated, Measure, Mode, Run, Value, Project, State, Checkpoint, Generate, Load, IsLeftAlone, IsLeftBy, Ending, Done, BadJournal, WriteFault, DiskFault, NoMemory, EndsReadOnly, Input, Shelving, Stream, EndsScript, IsRunOf, EndsLanes, EndsRun, books_text, policy_account, EndsState, IsStated, EndsValue, IsValued, EndsProject, IsProjected, EndsLoad, EndsLoading, IsLoadOf, Does, EndsBooks, EndsMode, EndsSave, IsLeftSo}
 
 module _ {D : Type 0} (g : Ghosts D) (old new : D) where
   abbrev Left : Type 0

@@ -1,3 +1,4 @@
+pub mod Names
 pub mod CrashLaws
 pub mod FaultsTold
 pub mod TextLaws

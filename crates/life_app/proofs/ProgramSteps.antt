@@ -1,50 +1,20 @@
 -- What the exit status tells of the words, the script, the basis and the file
-use Rattle.std.proofs.Common.{◌≡◌, ℕ, ◌≤◌, ◌<◌, ◌⊎◌, ℤ, List, length, ⊎_elim, refl, ap, subst, inl, inr, Option, None, Some, codes}
+use Rattle.life_app.proofs.Names.{◌≡◌, ℕ, ◌≤◌, ◌<◌, ◌⊎◌, ℤ, List, length, ⊎_elim, refl, ap, subst, inl, inr, Option, None, Some, codes, Ghosts, Rose, GivesMore, Command, At, Position, Lane, Auditor, Dated, Measure, Reads, AreWords, Mode, Run, Value, Project, State, Checkpoint, Generate, Load, IsLeftAlone, Opens, OpensToNone, Ending, Done, Usage, BadScript, BadBasis, BadJournal, ReadFault, DiskFault, NoMemory, Ahead, status_of, SaysBadFile, Input, IsWholeInput, Shelving, Stream, EndsRun, HasItsBasis, IsUnreadable, asks_for_values, books_text, policy_account, EndsValue, position_of, EndsProject, Filing, HasSecond, Second, Without, filing_between, seen_by, HasBasis, HasItsJournal, HasItsNeeds, HasJournal, HasNoBasis, HasNoJournal, HasNoScript, IsDueEnding, IsHeld, LacksItsBasis, LacksItsJournal, Does, EndsBooks, EndsMode, EndsSave, SaysUnasked, AreNoWords, AskForCheckpoint, AskForGenerate, AskForLoad, AskForProject, AskForRun, AskForValue}
 use Rattle.std.specs.Prelude.{true}
-use Rattle.outside_io.specs.declared.disks.Disk.{Ghosts}
-use Rattle.outside_io.specs.Faults.{Rose}
 use Rattle.outside_io.specs.Shelves.{Files}
-use Rattle.outside_io.specs.Streams.{GivesMore}
-use Rattle.policy_types.specs.declared.command.Command.{Command}
-use Rattle.policy_types.specs.declared.entry.At.{At}
-use Rattle.policy_types.specs.declared.entry.At.TheVariants.{Position}
-use Rattle.policy_types.specs.declared.script.Lane.{Lane}
-use Rattle.watcher_set.specs.Noted.{Auditor}
-use Rattle.basis_book.specs.Dated.{Dated}
-use Rattle.policy_value.specs.declared.worth.Measure.{Measure}
 use Rattle.basis_shelf.specs.Bases.{IsBasis}
 use Rattle.basis_shelf.specs.FirstBad.{IsFirstBadFile}
 use Rattle.basis_shelf.specs.declared.fault.BadBasis.{BadBasis as ABadBasis}
-use Rattle.command_csv.specs.Reads.{Reads}
 use Rattle.life_args.proofs.Answering.{ask_once}
-use Rattle.life_args.specs.Words.{AreWords}
-use Rattle.life_args.specs.declared.mode.Mode.{Mode}
-use Rattle.life_args.specs.declared.mode.Mode.TheVariants.{Run, Value, Project, State, Checkpoint, Generate, Load}
 use Rattle.office_state.proofs.OpeningSteps.{finished}
-use Rattle.office_state.specs.Images.{IsLeftAlone}
-use Rattle.office_state.specs.Journals.{Opens, OpensToNone}
-use Rattle.program_endings.specs.declared.ending.Ending.{Ending}
-use Rattle.program_endings.specs.declared.ending.Ending.TheVariants.{Done, Usage, BadScript, BadBasis, BadJournal, ReadFault, DiskFault, NoMemory, Ahead}
-use Rattle.program_endings.specs.Status.{status_of}
-use Rattle.program_endings.specs.WithoutBasis.{SaysBadFile}
-use Rattle.program_endings.specs.Writing.{Input, IsWholeInput, Shelving, Stream}
-use Rattle.script_run.specs.Running.{EndsRun, HasItsBasis}
-use Rattle.script_run.specs.Script.{IsUnreadable, asks_for_values}
 use Rattle.script_run.proofs.RunStatus.{run_as_before, run_refused, run_to_end, run_too_long, run_unfit, run_unreadable}
-use Rattle.stating_modes.specs.Books.{books_text, policy_account}
 use Rattle.stating_modes.proofs.StateStatus.{state_as_before, state_refused, state_to_end}
-use Rattle.valuing_modes.specs.Valuing.{EndsValue, position_of}
 use Rattle.valuing_modes.proofs.ValueStatus.{value_as_before, value_beyond, value_refused, value_to_end, value_unfit}
-use Rattle.valuing_modes.specs.Projecting.{EndsProject}
 use Rattle.valuing_modes.proofs.ProjectStatus.{project_as_before, project_refused, project_to_end, project_unfit}
 use Rattle.trial_load.proofs.LoadStatus.{generate_to_end, load_as_before, load_refused, load_to_end, load_unfit}
-use Rattle.life_app.specs.Needs.{Filing, HasSecond, Second, Without, filing_between, seen_by}
 use Rattle.life_app.proofs.BooksSteps as both
 use Rattle.life_app.proofs.BooksSteps.{second_between, two_disks}
 use Rattle.life_app.proofs.FaultsTold.{fault_told}
-use Rattle.life_app.specs.Due.{HasBasis, HasItsJournal, HasItsNeeds, HasJournal, HasNoBasis, HasNoJournal, HasNoScript, IsDueEnding, IsHeld, LacksItsBasis, LacksItsJournal}
-use Rattle.life_app.specs.Obeys.{Does, EndsBooks, EndsMode, EndsSave, SaysUnasked}
-use Rattle.life_app.specs.Words.{AreNoWords, AskForCheckpoint, AskForGenerate, AskForLoad, AskForProject, AskForRun, AskForValue}
 
 -- a bad file gives 4, and its line besides
 said : {status : ℕ} (output : Stream) (bad : ABadBasis) → SaysBadFile bad output status ⊎ (status ≡ 9) → (status ≡ 4) ⊎ (status ≡ 9)

@@ -1,36 +1,9 @@
 -- Each ending of a mode has its reason
-use Rattle.std.proofs.Common.{◌≡◌, ℕ, ℤ, List, refl, sym, subst, inl, inr, Option, None, Some, codes, arith}
+use Rattle.life_app.proofs.Names.{◌≡◌, ℕ, ℤ, List, refl, sym, subst, inl, inr, Option, None, Some, codes, arith, Rose, Ghosts, At, Now, Position, Lane, Dated, Measure, Auditor, AreWords, Mode, Run, Value, Project, State, Checkpoint, Generate, Load, Ending, Done, Usage, BadScript, BadBasis, BadJournal, ReadFault, WriteFault, DiskFault, NoMemory, EndsReadOnly, EndsNoBasis, Input, Shelving, Stream, EndsScript, EndsLanes, EndsRun, EndsUnread, asks_for_values, books_text, policy_account, IsStated, EndsValue, IsAhead, IsValued, EndsProject, IsProjected, EndsLoad, EndsLoading, AreTrusted, Filing, HasDiskFault, IsPastTheEnd, NeedBasis, Second, With, Without, filing_between, seen_by, Does, EndsBooks, EndsMode, EndsSave, SaysUnasked, AskForRun, AskForValue}
 use Rattle.std.specs.Prelude.{true}
-use Rattle.outside_io.specs.Faults.{Rose}
-use Rattle.outside_io.specs.declared.disks.Disk.{Ghosts}
-use Rattle.policy_types.specs.declared.entry.At.{At}
-use Rattle.policy_types.specs.declared.entry.At.TheVariants.{Now, Position}
-use Rattle.policy_types.specs.declared.script.Lane.{Lane}
-use Rattle.basis_book.specs.Dated.{Dated}
-use Rattle.policy_value.specs.declared.worth.Measure.{Measure}
-use Rattle.watcher_set.specs.Noted.{Auditor}
-use Rattle.life_args.specs.Words.{AreWords}
-use Rattle.life_args.specs.declared.mode.Mode.{Mode}
-use Rattle.life_args.specs.declared.mode.Mode.TheVariants.{Run, Value, Project, State, Checkpoint, Generate, Load}
-use Rattle.program_endings.specs.declared.ending.Ending.{Ending}
-use Rattle.program_endings.specs.declared.ending.Ending.TheVariants.{Done, Usage, BadScript, BadBasis, BadJournal, ReadFault, WriteFault, DiskFault, NoMemory}
 use Rattle.program_endings.specs.Refusals.{IsRefusedJournal}
-use Rattle.program_endings.specs.Texts.{EndsReadOnly}
-use Rattle.program_endings.specs.WithoutBasis.{EndsNoBasis}
-use Rattle.program_endings.specs.Writing.{Input, Shelving, Stream}
-use Rattle.script_run.specs.Outcome.{EndsScript}
-use Rattle.script_run.specs.Running.{EndsLanes, EndsRun}
-use Rattle.script_run.specs.Script.{EndsUnread, asks_for_values}
-use Rattle.stating_modes.specs.Books.{books_text, policy_account}
-use Rattle.stating_modes.specs.Stating.{IsStated}
-use Rattle.valuing_modes.specs.Valuing.{EndsValue, IsAhead, IsValued}
-use Rattle.valuing_modes.specs.Projecting.{EndsProject, IsProjected}
 use Rattle.trial_load.specs.Generating.{EndsGenerate}
-use Rattle.trial_load.specs.Loading.{EndsLoad, EndsLoading}
-use Rattle.life_app.specs.Needs.{AreTrusted, Filing, HasDiskFault, IsPastTheEnd, NeedBasis, Second, With, Without, filing_between, seen_by}
-use Rattle.life_app.specs.Obeys.{Does, EndsBooks, EndsMode, EndsSave, SaysUnasked}
 use Rattle.life_app.specs.Reasons.{HasReason}
-use Rattle.life_app.specs.Words.{AskForRun, AskForValue}
 use Rattle.life_app.proofs.BooksSteps as both
 use Rattle.life_app.proofs.BooksSteps.{second_between, two_disks}
 

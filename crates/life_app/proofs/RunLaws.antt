@@ -1,16 +1,6 @@
 -- What a list of runs leaves, each ended by its return or by a crash
-use Rattle.std.proofs.Common.{◌≡◌, ℕ, ◌≤◌, ◌⊎◌, List, [], ◌∷◌, ◌++◌, ◌+◌, length, refl, ap, sym, ◌∙◌, subst, inl, inr, append-nil, append_assoc, arith}
+use Rattle.life_app.proofs.Names.{◌≡◌, ℕ, ◌≤◌, ◌⊎◌, List, [], ◌∷◌, ◌++◌, ◌+◌, length, refl, ap, sym, ◌∙◌, subst, inl, inr, append-nil, append_assoc, arith, filter_map-append, Ghosts, Command, Entry, accepted_by, accepted_of, commands_after, IsSafe, HoldsOnce, IsLeftAlone, IsLeftBy, IsOneMore, Opens, opens_to_one, AddsCommands, AreLeft, AreRuns, HasReturned, IsLeftSo, OneRun, WasCut}
 use Rattle.std.proofs.lemmas.List.{length-append}
-use Rattle.std.proofs.lemmas.List.Elements.{filter_map-append}
-use Rattle.outside_io.specs.declared.disks.Disk.{Ghosts}
-use Rattle.policy_types.specs.declared.command.Command.{Command}
-use Rattle.policy_types.specs.declared.entry.Entry.{Entry}
-use Rattle.policy_machine.specs.History.{accepted_by, accepted_of, commands_after}
-use Rattle.posting_journal.specs.Runs.{IsSafe}
-use Rattle.office_state.specs.Images.{HoldsOnce, IsLeftAlone, IsLeftBy, IsOneMore}
-use Rattle.office_state.specs.Journals.{Opens}
-use Rattle.office_state.proofs.JournalLaws.{opens_to_one}
-use Rattle.life_app.specs.Runs.{AddsCommands, AreLeft, AreRuns, HasReturned, IsLeftSo, OneRun, WasCut}
 use Rattle.life_app.proofs.HeadlineLaws.{faulted_last}
 
 -- Each image that a disk may leave opens to commands with P: these, or these and one more.

@@ -1,33 +1,17 @@
 -- The text of a line is read back as its fields, and a block as its rows
-use Rattle.std.proofs.Common.{◌≡◌, ℕ, zero, suc, ◌+◌, ◌/◌, ◌%◌, ◌^◌, ◌<◌, ◌≤◌, ℤ, List, [], ◌∷◌, ◌++◌, drop, length, map, get_or, refl, ap, ap₂, sym, ◌∙◌, subst, arith, codes, lit<, Bool, true, nat_le, ◌&&◌}
-use Rattle.std.specs.Prelude.{decimal, if◌then◌else◌, ◌==◌}
-use Rattle.std.specs.List.{AllByRecursion, flat_map}
+use Rattle.life_app.proofs.Names.{◌≡◌, ℕ, zero, suc, ◌+◌, ◌/◌, ◌%◌, ◌^◌, ◌<◌, ◌≤◌, ℤ, List, [], ◌∷◌, ◌++◌, drop, length, map, get_or, refl, ap, ap₂, sym, ◌∙◌, subst, arith, codes, lit<, Bool, true, nat_le, ◌&&◌, decimal, if◌then◌else◌, ◌==◌, AllByRecursion, flat_map, and_parts, leb-true, Date, date_of, date_text, day_text, two_digits, NoBasis, BelowTable, PastTable, RateHigh, InForce, Lapsed, Claimed, Matured, Expired, Settled, PaidUp, Terminal, Row, Bounds, Both, Word, block_text, heading_text, reason_word, row_text, total_text, worth_fields, Command, Reply, Accepted, Refused, Faulted, Blank, reply_fields, AreAlike, IsPlainReply, IsPlainRow, IsPlainWorth, TellsApart, run_wording}
 use Rattle.std.specs.Int.Digits.{digits_of}
-use Rattle.std.proofs.lemmas.Bool.{and_parts, leb-true}
 use Rattle.std.proofs.lemmas.Fmt.{decimal_digit, decimal-digits_of, decimal_injective}
 use Rattle.std.proofs.lemmas.List.{append_assoc}
-use Rattle.life_dates.specs.Calendar.{Date, date_of}
-use Rattle.life_dates.specs.DayText.{date_text, day_text, two_digits}
 use Rattle.money_core.specs.CentsText.{cents_text, hundredths_text}
 use Rattle.money_core.proofs.CentsTextLemmas.{cents_text_injective}
 use Rattle.plan_benefits.specs.declared.fault.NotValued.{NotValued}
-use Rattle.plan_benefits.specs.declared.fault.NotValued.TheVariants.{NoBasis, BelowTable, PastTable, RateHigh}
 use Rattle.policy_types.specs.Words.{kind_word, status_word}
 use Rattle.policy_types.specs.declared.policy.Status.{Status}
-use Rattle.policy_types.specs.declared.policy.Status.TheVariants.{InForce, Lapsed, Claimed, Matured, Expired, Settled, PaidUp}
-use Rattle.policy_value.specs.declared.worth.Measure.TheVariants.{Terminal}
-use Rattle.policy_value.specs.declared.worth.Row.{Row}
 use Rattle.policy_value.specs.declared.worth.Worth.{Worth}
-use Rattle.policy_value.specs.declared.worth.Worth.TheVariants.{Bounds, Both, Word}
-use Rattle.report_text.specs.Block.{block_text, heading_text, reason_word, row_text, total_text, worth_fields}
 use Rattle.text_lines.specs.Lines.{behind_commas, line_of}
 use Rattle.policy_types.specs.Valid.{id_of}
-use Rattle.policy_types.specs.declared.command.Command.{Command}
 use Rattle.policy_types.specs.declared.command.Command.TheVariants.{Issue, Premium, Alter, Lapse, Reinstate, Claim, Settle, Mature, PaidUp as PaidUpCommand, Upgrade}
-use Rattle.policy_types.specs.declared.entry.Reply.{Reply}
-use Rattle.policy_types.specs.declared.entry.Reply.TheVariants.{Accepted, Refused, Faulted, Blank}
-use Rattle.transcript_text.specs.Transcript.{reply_fields}
-use Rattle.life_app.specs.Texts.{AreAlike, IsPlainReply, IsPlainRow, IsPlainWorth, TellsApart, run_wording}
 
 -- ---- fields without a comma and a line feed
 

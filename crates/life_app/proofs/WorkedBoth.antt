@@ -1,14 +1,8 @@
 -- What worked cases of both disks are told by.
-use Rattle.std.proofs.Common.{◌≡◌, ◌≤◌, ◌<◌, ◌++◌, ℕ, List, [], ◌∷◌, refl, inl, inr, codes, lit≤, lit<, None, Some, arith}
-use Rattle.std.specs.Fmt.{digits}
-use Rattle.outside_io.specs.declared.disks.Disk.{Ghosts}
-use Rattle.life_args.specs.Pieces.{bare}
-use Rattle.life_args.specs.declared.mode.Mode.TheVariants.{State, Checkpoint}
+use Rattle.life_app.proofs.Names.{◌≡◌, ◌≤◌, ◌<◌, ◌++◌, ℕ, List, [], ◌∷◌, refl, inl, inr, codes, lit≤, lit<, None, Some, arith, digits, Ghosts, bare, State, Checkpoint, WroteLine, TellsTruth}
 use Rattle.program_endings.proofs.WorkedEndings.{no_fault}
 use Rattle.program_endings.specs.Worked.{output_with}
-use Rattle.program_endings.specs.Writing.{WroteLine}
 use Rattle.stating_modes.proofs.EmptyFiles.{hello_refused}
-use Rattle.stating_modes.specs.TwoDisks.{TellsTruth}
 use Rattle.life_app.specs.Worked.{BothRefuseHello, BothWords, TwoFilings, NoWordsLine}
 
 pub both_words : BothWords

@@ -1,11 +1,6 @@
 -- What a crash leaves of a run, as commands
 use Rattle.std.specs.Prelude.{◌≡◌, ◌⊎◌, List, [], ◌∷◌, ◌++◌}
-use Rattle.outside_io.specs.declared.disks.Disk.{Ghosts}
-use Rattle.policy_types.specs.declared.command.Command.{Command}
-use Rattle.policy_types.specs.declared.entry.Entry.{Entry}
-use Rattle.policy_machine.specs.History.{Opening, accepted_of, commands_after}
-use Rattle.posting_journal.specs.Runs.{IsSafe}
-use Rattle.office_state.specs.Images.{IsLeftBy, IsOneMore, IsPending}
+use Rattle.life_app.specs.Names.{Ghosts, Command, Entry, Opening, accepted_of, commands_after, IsSafe, IsLeftBy, IsOneMore, IsPending}
 
 -- An office was opened on the disk's file, when a crash left just what is read, and the turns of the history left the
 -- disk so, which comes back honest.

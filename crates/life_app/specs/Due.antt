@@ -1,24 +1,8 @@
 -- Which ending is due, where the devices don't fail on which it rests
 use Rattle.std.specs.Prelude.{◌≡◌, ◌≤◌, ◌<◌, ◌⊎◌, ℕ, ℤ, true, List, codes, length}
-use Rattle.outside_io.specs.Faults.{Rose}
-use Rattle.outside_io.specs.Shelves.{Files}
-use Rattle.outside_io.specs.Streams.{GivesMore}
-use Rattle.policy_types.specs.declared.command.Command.{Command}
-use Rattle.policy_types.specs.declared.entry.At.TheVariants.{Position}
-use Rattle.policy_types.specs.declared.script.Lane.{Lane}
-use Rattle.basis_book.specs.Dated.{Dated}
-use Rattle.basis_shelf.specs.Bases.{IsBasis}
+use Rattle.life_app.specs.Names.{Rose, Files, GivesMore, Command, Position, Lane, Dated, IsBasis, AreWords, Mode, Run, Value, Project, State, Checkpoint, Generate, Load, Opens, OpensToNone, Input, IsWholeInput, Shelving, Stream, Ending, Done, Usage, BadScript, BadBasis, BadJournal, ReadFault, DiskFault, Ahead, IsReadAs, IsUnreadable, asks_for_values, most_script_bytes, position_of}
 use Rattle.basis_shelf.specs.FirstBad.{IsFirstBadFile}
 use Rattle.basis_shelf.specs.declared.fault.BadBasis.{BadBasis as ABadBasis}
-use Rattle.life_args.specs.Words.{AreWords}
-use Rattle.life_args.specs.declared.mode.Mode.{Mode}
-use Rattle.life_args.specs.declared.mode.Mode.TheVariants.{Run, Value, Project, State, Checkpoint, Generate, Load}
-use Rattle.office_state.specs.Journals.{Opens, OpensToNone}
-use Rattle.program_endings.specs.Writing.{Input, IsWholeInput, Shelving, Stream}
-use Rattle.program_endings.specs.declared.ending.Ending.{Ending}
-use Rattle.program_endings.specs.declared.ending.Ending.TheVariants.{Done, Usage, BadScript, BadBasis, BadJournal, ReadFault, DiskFault, Ahead}
-use Rattle.script_run.specs.Script.{IsReadAs, IsUnreadable, asks_for_values, most_script_bytes}
-use Rattle.valuing_modes.specs.Valuing.{position_of}
 use Rattle.life_app.specs.Needs.{AreTrusted, Filing, HasDiskFault, HasNewFault, HasSecond, Second, Without, seen_by}
 use Rattle.life_app.specs.Words.{AreNoWords, AskForRun, AskForValue}
 

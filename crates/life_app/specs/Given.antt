@@ -1,14 +1,9 @@
 -- What the headline is given: the texts of the lines, and what a row of a basis makes of a policy
 use Rattle.std.specs.Prelude.{ℕ, ℤ, List}
-use Rattle.basis_book.specs.Dated.{Dated}
+use Rattle.life_app.specs.Names.{Dated, Command, Reply, Policy, Row, Fraction}
 use Rattle.plan_benefits.specs.declared.fault.NotValued.{NotValued}
-use Rattle.policy_types.specs.declared.command.Command.{Command}
 use Rattle.policy_types.specs.declared.entry.PinRefusal.{PinRefusal}
-use Rattle.policy_types.specs.declared.entry.Reply.{Reply}
-use Rattle.policy_types.specs.declared.policy.Policy.{Policy}
 use Rattle.policy_types.specs.declared.watcher.Report.{Report}
-use Rattle.policy_value.specs.declared.worth.Row.{Row}
-use Rattle.present_value.specs.Fractions.{Fraction}
 
 -- The texts of a run: of a clerk's posting by its reply; of a trim, with the position before which nothing is kept; of a
 -- valuation on a day that was refused, that found no memory, or with its position and rows; and of the auditors' reports.

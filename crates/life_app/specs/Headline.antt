@@ -4,42 +4,18 @@
 -- which files make which basis under a name: they make one at most. So are the texts, of which the line of a posting tells its
 -- reply, and a valuation its rows; and the exact reserves, of which there is one at most.
 use Rattle.std.specs.Prelude.{◌≡◌, ◌⊎◌, ℕ, ℤ, ◌≤◌, ◌<ℤ◌, All, List, [], ◌∷◌, ◌++◌, codes, nat_eq, true, false, take}
-use Rattle.std.specs.List.{AllByRecursion, AllZip, Contains, IsDistinct}
-use Rattle.basis_book.specs.Dated.{Dated, IsPicked}
-use Rattle.outside_io.specs.Faults.{Rose}
-use Rattle.outside_io.specs.Shelves.{Files}
-use Rattle.outside_io.specs.Streams.{TakenPiece}
-use Rattle.outside_io.specs.declared.disks.Disk.{Ghosts}
+use Rattle.life_app.specs.Names.{AllByRecursion, AllZip, Contains, IsDistinct, Dated, IsPicked, Rose, Files, TakenPiece, Ghosts, Command, Policy, Reply, Faulted, Floor, Pinned, PinRefused, Entry, Lane, IsLegal, accepted_of, opened_on, Row, Bounds, Word, Fraction, AnsweredLine, AreLinesOf, Auditor, reports_of, IsShown, AreAnswered, HaveAFault, LackMemory, status_of, Input, Shelving, Stream, WroteLine, Ending, Done, BadScript, BadBasis, BadJournal, ReadFault, WriteFault, DiskFault, NoMemory, IsRefused, asks_for_values}
 use Rattle.plan_benefits.specs.declared.fault.NotValued.TheVariants.{NoBasis}
-use Rattle.policy_types.specs.declared.command.Command.{Command}
-use Rattle.policy_types.specs.declared.policy.Policy.{Policy}
 use Rattle.policy_types.specs.declared.entry.Call.TheVariants.{Post as PostCall}
-use Rattle.policy_types.specs.declared.entry.Reply.{Reply}
-use Rattle.policy_types.specs.declared.entry.Reply.TheVariants.{Faulted, Floor, Pinned, PinRefused}
-use Rattle.policy_types.specs.declared.entry.Entry.{Entry}
 use Rattle.policy_types.specs.declared.script.Line.{Line}
 use Rattle.policy_types.specs.declared.script.Line.TheVariants.{Post, Value, Trim}
-use Rattle.policy_types.specs.declared.script.Lane.{Lane}
 use Rattle.policy_machine.specs.Book.{book}
-use Rattle.policy_machine.specs.History.{IsLegal, accepted_of, opened_on}
 use Rattle.policy_value.specs.Rows.{IsInsured, IsYear}
-use Rattle.policy_value.specs.declared.worth.Row.{Row}
 use Rattle.policy_value.specs.declared.worth.Worth.{Worth}
-use Rattle.policy_value.specs.declared.worth.Worth.TheVariants.{Bounds, Word}
-use Rattle.present_value.specs.Fractions.{Fraction}
 use Rattle.present_value.specs.Reserve.{Encloses}
-use Rattle.lane_runner.specs.AnsweredLines.{AnsweredLine, AreLinesOf}
-use Rattle.watcher_set.specs.Noted.{Auditor, reports_of}
-use Rattle.office_state.specs.Journals.{IsShown}
 use Rattle.office_state.specs.declared.faults.StartCause.{StartCause}
 use Rattle.program_endings.specs.Refusals.{SaysWhy}
-use Rattle.program_endings.specs.Replies.{AreAnswered, HaveAFault, LackMemory}
-use Rattle.program_endings.specs.Status.{status_of}
 use Rattle.program_endings.specs.WithoutBasis.{EndsNoBasis}
-use Rattle.program_endings.specs.Writing.{Input, Shelving, Stream, WroteLine}
-use Rattle.program_endings.specs.declared.ending.Ending.{Ending}
-use Rattle.program_endings.specs.declared.ending.Ending.TheVariants.{Done, BadScript, BadBasis, BadJournal, ReadFault, WriteFault, DiskFault, NoMemory}
-use Rattle.script_run.specs.Script.{IsRefused, asks_for_values}
 use Rattle.script_run.specs.Shown.{AreSafeWhenShown}
 use Rattle.script_run.specs.Texts.{WroteFront, WroteUpTo, WroteWhole}
 use Rattle.life_app.specs.Given.{Reserves, Wording}

@@ -1,18 +1,10 @@
 -- A list of runs over both disks, each ended by its return or by a crash at any moment, and what they leave
 use Rattle.std.specs.Prelude.{◌≡◌, ◌⊎◌, ℕ, List, [], ◌∷◌, ◌++◌}
-use Rattle.std.specs.List.{AllByRecursion}
-use Rattle.outside_io.specs.declared.disks.Disk.{Ghosts}
-use Rattle.policy_types.specs.declared.command.Command.{Command}
+use Rattle.life_app.specs.Names.{AllByRecursion, Ghosts, Command, Entry, Opening, IsSafe, Leaves, IsLeftAlone, IsNoneOrEarlierOrHeld, IsMadeSafe, TwoDisks}
 use Rattle.policy_types.specs.Valid.{IsValid}
-use Rattle.policy_types.specs.declared.entry.Entry.{Entry}
 use Rattle.policy_machine.specs.Book.{IsAccepted}
-use Rattle.policy_machine.specs.History.{Opening}
-use Rattle.posting_journal.specs.Runs.{IsSafe, Leaves}
 use Rattle.checkpoint_store.specs.Checkpoints.{CheckpointBytes, IsSnapshotOf}
 use Rattle.checkpoint_store.specs.declared.snapshot.Snapshot.{Snapshot}
-use Rattle.office_state.specs.Images.{IsLeftAlone}
-use Rattle.stating_modes.specs.Saved.{IsNoneOrEarlierOrHeld}
-use Rattle.stating_modes.specs.TwoDisks.{IsMadeSafe, TwoDisks}
 use Rattle.life_app.specs.Runs.{IsLeftSo, IsRunOn, OneRun}
 
 -- A run over both disks: that over the journal's; the second disk as the run gives it back, or would have; and the second

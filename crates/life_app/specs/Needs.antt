@@ -1,20 +1,10 @@
 -- What the words need of the basis and the disks
 use Rattle.std.specs.Prelude.{◌≡◌, ℕ, ◌<◌, ◌⊎◌, ℤ, List, None, length, codes}
-use Rattle.outside_io.specs.Faults.{Rose}
-use Rattle.outside_io.specs.Shelves.{Files}
-use Rattle.outside_io.specs.declared.disks.Disk.{Ghosts}
-use Rattle.policy_types.specs.declared.command.Command.{Command}
+use Rattle.life_app.specs.Names.{Rose, Files, Ghosts, Command, Position, Mode, State, Checkpoint, Opens, Input, Shelving, Stream, WroteOrFailed, ReadsForValues, TellsTruth}
 use Rattle.policy_types.specs.declared.entry.At.{At}
-use Rattle.policy_types.specs.declared.entry.At.TheVariants.{Position}
 use Rattle.basis_shelf.specs.FirstBad.{IsFirstBadFile}
 use Rattle.basis_shelf.specs.Lines.{bad_basis_text}
 use Rattle.basis_shelf.specs.declared.fault.BadBasis.{BadBasis}
-use Rattle.life_args.specs.declared.mode.Mode.{Mode}
-use Rattle.life_args.specs.declared.mode.Mode.TheVariants.{State, Checkpoint}
-use Rattle.office_state.specs.Journals.{Opens}
-use Rattle.program_endings.specs.Writing.{Input, Shelving, Stream, WroteOrFailed}
-use Rattle.script_run.specs.Running.{ReadsForValues}
-use Rattle.stating_modes.specs.TwoDisks.{TellsTruth}
 use Rattle.life_app.specs.Words.{AskForLoad, AskForProject, AskForRun, AskForValue}
 
 -- the words need the basis of this name: they ask for values, or to run a script of which a line does, or to run a

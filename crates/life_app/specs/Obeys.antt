@@ -1,20 +1,7 @@
 -- What the program does at its words, over the journal's disk and a second one, or none, and the status with which it ends
 use Rattle.std.specs.Prelude.{◌≡◌, ℕ, ◌⊎◌, List, codes, Option, Some, None}
-use Rattle.outside_io.specs.declared.disks.Disk.{Ghosts}
-use Rattle.watcher_set.specs.Noted.{Auditor}
-use Rattle.life_args.specs.Words.{AreWords}
-use Rattle.life_args.specs.declared.mode.Mode.{Mode}
-use Rattle.life_args.specs.declared.mode.Mode.TheVariants.{Run, Value, Project, State, Checkpoint, Generate, Load}
-use Rattle.program_endings.specs.Status.{status_of}
-use Rattle.program_endings.specs.Writing.{Input, Shelving, Stream, WroteLine}
-use Rattle.program_endings.specs.declared.ending.Ending.{Ending}
-use Rattle.program_endings.specs.declared.ending.Ending.TheVariants.{Usage, NoMemory}
-use Rattle.script_run.specs.Running.{EndsRun}
-use Rattle.stating_modes.specs.Books.{books_text, policy_account}
-use Rattle.stating_modes.specs.Saved.{EndsCheckpoint}
-use Rattle.stating_modes.specs.Stated.{EndsStateKept}
+use Rattle.life_app.specs.Names.{Ghosts, Auditor, AreWords, Mode, Run, Value, Project, State, Checkpoint, Generate, Load, status_of, Input, Shelving, Stream, WroteLine, Ending, Usage, NoMemory, EndsRun, books_text, policy_account, EndsCheckpoint, EndsStateKept, EndsValue}
 use Rattle.stating_modes.specs.Stating.{EndsState}
-use Rattle.valuing_modes.specs.Valuing.{EndsValue}
 use Rattle.valuing_modes.specs.Projecting.{EndsProject}
 use Rattle.trial_load.specs.Generating.{EndsGenerate}
 use Rattle.trial_load.specs.Loading.{EndsLoad}

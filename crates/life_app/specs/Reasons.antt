@@ -1,16 +1,8 @@
 -- Each status has its reason
 use Rattle.std.specs.Prelude.{◌≡◌, ℕ, ◌⊎◌, List}
-use Rattle.outside_io.specs.Faults.{Rose}
-use Rattle.life_args.specs.Words.{AreWords}
-use Rattle.life_args.specs.declared.mode.Mode.{Mode}
-use Rattle.office_state.specs.Journals.{IsShown}
+use Rattle.life_app.specs.Names.{Rose, AreWords, Mode, IsShown, status_of, Input, Shelving, Stream, Ending, Done, Usage, BadScript, BadBasis, BadJournal, ReadFault, WriteFault, DiskFault, NoMemory, Ahead, IsRefused}
 use Rattle.office_state.specs.declared.faults.StartCause.{StartCause}
 use Rattle.program_endings.specs.Refusals.{SaysWhy}
-use Rattle.program_endings.specs.Status.{status_of}
-use Rattle.program_endings.specs.Writing.{Input, Shelving, Stream}
-use Rattle.program_endings.specs.declared.ending.Ending.{Ending}
-use Rattle.program_endings.specs.declared.ending.Ending.TheVariants.{Done, Usage, BadScript, BadBasis, BadJournal, ReadFault, WriteFault, DiskFault, NoMemory, Ahead}
-use Rattle.script_run.specs.Script.{IsRefused}
 use Rattle.life_app.specs.Needs.{AreTrusted, Filing, HasBadFile, HasDiskFault, HasSecond, IsPastTheEnd, NeedBasis, Second, seen_by}
 use Rattle.life_app.specs.Words.{AreNoWords, AskForCheckpoint, AskForRun}
 

@@ -1,12 +1,10 @@
 -- The exact reserves by the tables, as the headline is given them
 use Rattle.std.specs.Prelude.{◌≡◌, ℕ, Ok, Err}
-use Rattle.basis_book.specs.Dated.{Dated}
+use Rattle.life_app.specs.Names.{Dated, Policy, Fraction}
 use Rattle.plan_benefits.specs.Shapes.{shape_of}
 use Rattle.plan_benefits.specs.declared.fault.NotValued.{NotValued}
-use Rattle.policy_types.specs.declared.policy.Policy.{Policy}
 use Rattle.policy_value.specs.Covers.{AreByDuration, cap_along, cover_along}
 use Rattle.policy_value.specs.Measures.{exact_reserve}
-use Rattle.present_value.specs.Fractions.{Fraction}
 use Rattle.rate_table.specs.declared.shape.Shape.{Shape}
 use Rattle.life_app.specs.Given.{Reserves}
 

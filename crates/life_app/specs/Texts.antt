@@ -1,14 +1,8 @@
 -- The texts of the program, as the headline is given them
 use Rattle.std.specs.Prelude.{◌≡◌, ℕ, ◌<◌, ◌^◌, ℤ, List, length}
-use Rattle.std.specs.List.{AllByRecursion}
+use Rattle.life_app.specs.Names.{AllByRecursion, Command, Reply, Accepted, Refused, Faulted, Blank, Terminal, Row, Bounds, Word}
 use Rattle.policy_types.specs.Valid.{id_of}
-use Rattle.policy_types.specs.declared.command.Command.{Command}
-use Rattle.policy_types.specs.declared.entry.Reply.{Reply}
-use Rattle.policy_types.specs.declared.entry.Reply.TheVariants.{Accepted, Refused, Faulted, Blank}
-use Rattle.policy_value.specs.declared.worth.Measure.TheVariants.{Terminal}
-use Rattle.policy_value.specs.declared.worth.Row.{Row}
 use Rattle.policy_value.specs.declared.worth.Worth.{Worth}
-use Rattle.policy_value.specs.declared.worth.Worth.TheVariants.{Bounds, Word}
 use Rattle.report_text.specs.Block.{block_text}
 use Rattle.transcript_text.specs.Transcript.{posting_text, reports_text, trim_text, unpinned_text, unvalued_text}
 use Rattle.life_app.specs.Given.{Wording}

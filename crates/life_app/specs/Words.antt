@@ -2,9 +2,7 @@
 use Rattle.std.specs.Prelude.{ℕ, ℤ, List}
 use Rattle.policy_types.specs.declared.entry.At.{At}
 use Rattle.policy_value.specs.declared.worth.Measure.{Measure}
-use Rattle.life_args.specs.Words.{AreWords}
-use Rattle.life_args.specs.declared.mode.Mode.{Mode}
-use Rattle.life_args.specs.declared.mode.Mode.TheVariants.{Run, Value, Project, Checkpoint, Generate, Load}
+use Rattle.life_app.specs.Names.{AreWords, Mode, Run, Value, Project, Checkpoint, Generate, Load}
 
 -- the words are of no command
 abbrev pub AreNoWords : List (List ℕ) → Type 0

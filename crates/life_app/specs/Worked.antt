@@ -1,34 +1,16 @@
 -- Worked cases of what a run and `state` write, computed from the definitions alone. Day 18262 is 2020-01-01
 use Rattle.std.specs.Prelude.{◌≡◌, ◌⊎◌, ◌++◌, ℕ, List, [], ◌∷◌, Some, pos, codes}
-use Rattle.std.specs.List.{AllZip}
-use Rattle.life_args.specs.Words.{AreWords}
-use Rattle.life_args.specs.declared.mode.Mode.{Mode}
-use Rattle.outside_io.specs.declared.disks.Disk.{Ghosts}
-use Rattle.policy_types.specs.declared.command.Command.{Command}
+use Rattle.life_app.specs.Names.{AllZip, AreWords, Mode, Ghosts, Command, Endowment, Reply, Accepted, Refused, Faulted, Blank, Entry, PostLine, Lane, AnsweredLine, AreLinesOf, opened_on, Stream, WroteLine, BadJournal, NoMemory, books_text, policy_account, AreTrue, TwoDisks, Row, Bounds}
 use Rattle.policy_types.specs.declared.command.Command.TheVariants.{Issue, Premium, Alter, Lapse, Reinstate, Claim, Settle, Mature, PaidUp, Upgrade}
-use Rattle.policy_types.specs.declared.command.Plan.TheVariants.{Endowment}
 use Rattle.policy_types.specs.declared.policy.Status.TheVariants.{InForce, Lapsed, Claimed, Matured, Expired, Settled, PaidUp as IsPaidUp}
 use Rattle.policy_types.specs.declared.refusal.Refusal.{Refusal}
 use Rattle.policy_types.specs.declared.refusal.Refusal.TheVariants.{Taken, Unknown, BeforeLast, WrongStatus, TermOver, NothingDue, TooEarly, GraceOver, NotInArrears, TooLate, WrongAmount, NotAReduction, NotMatured, OverSettled, Full, NotUpgraded, Upgraded}
 use Rattle.policy_types.specs.declared.entry.Call.TheVariants.{Post}
 use Rattle.policy_types.specs.declared.entry.PinRefusal.TheVariants.{Ahead, Trimmed, PinsFull}
-use Rattle.policy_types.specs.declared.entry.Reply.{Reply}
-use Rattle.policy_types.specs.declared.entry.Reply.TheVariants.{Accepted, Refused, Faulted, Blank}
-use Rattle.policy_types.specs.declared.entry.Entry.{Entry}
-use Rattle.policy_types.specs.declared.script.Line.TheVariants.{Post as PostLine}
-use Rattle.policy_types.specs.declared.script.Lane.{Lane}
-use Rattle.lane_runner.specs.AnsweredLines.{AnsweredLine, AreLinesOf}
-use Rattle.policy_machine.specs.History.{opened_on}
 use Rattle.policy_machine.specs.Worked.Cases.{policy_issue}
 use Rattle.transcript_text.specs.Transcript.{IsLineText, posting_text, reports_text, trim_text, unpinned_text, unvalued_text, watcher_text}
 use Rattle.program_endings.specs.Worked.{output_with}
-use Rattle.program_endings.specs.Writing.{Stream, WroteLine}
-use Rattle.program_endings.specs.declared.ending.Ending.TheVariants.{BadJournal, NoMemory}
-use Rattle.stating_modes.specs.Books.{books_text, policy_account}
-use Rattle.stating_modes.specs.TwoDisks.{AreTrue, TwoDisks}
 use Rattle.life_app.specs.Needs.{AreTrusted, Filing, HasDiskFault, HasNewFault, HasSecond, With, Without, seen_by}
-use Rattle.policy_value.specs.declared.worth.Row.{Row}
-use Rattle.policy_value.specs.declared.worth.Worth.TheVariants.{Bounds}
 use Rattle.life_app.specs.TableReserves.{AreOnce, table_reserves}
 use Rattle.life_app.specs.Texts.{AreAlike, IsPlainReply, IsPlainRow, IsPlainWorth, TellsApart, run_wording}
 use Rattle.life_app.specs.Obeys.{EndsBooks, EndsSave, SaysUnasked}

@@ -1,20 +1,10 @@
 // What the definitions have to mean, as functions that do nothing.
 ghost use Rattle.std.specs.Prelude.{◌≡◌, ◌⊎◌, ℕ, List, Option, Some, []};
-ghost use Rattle.policy_types.specs.declared.command.Command.{Command};
-ghost use Rattle.policy_types.specs.declared.entry.Entry.{Entry};
-ghost use Rattle.policy_machine.specs.History.{Opening};
-ghost use Rattle.posting_journal.specs.Runs.{IsSafe};
-ghost use Rattle.command_csv.specs.Reads.{IsFirstScriptFault};
+ghost use Rattle.life_app.specs.Names.{Command, Entry, Opening, IsSafe, IsFirstScriptFault, TellsTruth, TwoDisks, between, input_between, shelf_between, Auditor, HoldsOnce, IsLeftAlone, Opens, IsReadable, IsUnreadable};
 ghost use Rattle.life_app.specs.Crashes.{AreAllHeld, AreHeld, HasRun};
-ghost use Rattle.stating_modes.specs.TwoDisks.{TellsTruth, TwoDisks};
 ghost use Rattle.life_app.specs.KeptRuns.{AreRunsOfTwo, IsLeftByCall, OneRunOfTwo, SavedOfFirst};
 ghost use Rattle.life_app.specs.Runs.{AreLeft, AreRuns, IsLeftSo, OneRun};
 ghost use Rattle.life_app.specs.Obeys.{Obeys};
-ghost use Rattle.program_endings.specs.Writing.{between, input_between, shelf_between};
-ghost use Rattle.watcher_set.specs.Noted.{Auditor};
-ghost use Rattle.office_state.specs.Images.{HoldsOnce, IsLeftAlone};
-ghost use Rattle.office_state.specs.Journals.{Opens};
-ghost use Rattle.script_run.specs.Script.{IsReadable, IsUnreadable};
 
 use outside_io::{Disk, Shelf, Sink, Source};
 

@@ -1,9 +1,6 @@
 // The words are obeyed over the journal's disk and a second one, or none.
 ghost use Rattle.std.specs.Prelude.{◌≡◌, ◌<◌, ℕ, [], Some, map, string_bytes};
-ghost use Rattle.program_endings.specs.Writing.{between, input_between, shelf_between};
-ghost use Rattle.program_endings.specs.declared.ending.Ending.TheVariants.{ReadFault};
-ghost use Rattle.stating_modes.specs.Stated.{EndsStateKept};
-ghost use Rattle.stating_modes.specs.TwoDisks.{disks_of};
+ghost use Rattle.life_app.specs.Names.{between, input_between, shelf_between, ReadFault, EndsStateKept, disks_of};
 ghost use Rattle.life_app.specs.Obeys.{Does, EndsBooks, EndsSave};
 ghost use Rattle.life_app.specs.inside.Unasked.{SaysNoMode};
 

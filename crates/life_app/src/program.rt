@@ -1,11 +1,7 @@
 // The top call over the journal's disk alone.
 ghost use Rattle.std.specs.Prelude.{◌≡◌, ◌≤◌, ◌⊎◌, None, [], map, length, string_bytes};
-ghost use Rattle.std.specs.List.{AllByRecursion};
-ghost use Rattle.office_state.specs.Journals.{OpensToNone};
+ghost use Rattle.life_app.specs.Names.{AllByRecursion, OpensToNone, status_of, between, input_between, shelf_between, AnEnding};
 ghost use Rattle.watcher_set.specs.Limits.{most_watchers};
-ghost use Rattle.program_endings.specs.Status.{status_of};
-ghost use Rattle.program_endings.specs.Writing.{between, input_between, shelf_between};
-ghost use Rattle.program_endings.specs.declared.ending.Ending.{Ending as AnEnding};
 ghost use Rattle.life_app.specs.Due.{IsDueEnding};
 ghost use Rattle.life_app.specs.Needs.{Without, filing_between};
 ghost use Rattle.life_app.specs.Obeys.{Obeys};

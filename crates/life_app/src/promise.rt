@@ -1,14 +1,6 @@
 // What the program promises of a script's run, as a function that does nothing.
 ghost use Rattle.std.specs.Prelude.{◌≡◌, ◌⊎◌, ℕ, List, Option, []};
-ghost use Rattle.outside_io.specs.Shelves.{Files};
-ghost use Rattle.policy_types.specs.declared.command.Command.{Command};
-ghost use Rattle.policy_types.specs.declared.script.Lane.{Lane};
-ghost use Rattle.basis_book.specs.Dated.{Dated};
-ghost use Rattle.basis_shelf.specs.Bases.{IsBasis};
-ghost use Rattle.command_csv.specs.Reads.{Reads};
-ghost use Rattle.office_state.specs.Journals.{Opens};
-ghost use Rattle.program_endings.specs.Writing.{IsWholeInput, between, input_between, shelf_between};
-ghost use Rattle.watcher_set.specs.Noted.{Auditor};
+ghost use Rattle.life_app.specs.Names.{Files, Command, Lane, Dated, IsBasis, Reads, Opens, IsWholeInput, between, input_between, shelf_between, Auditor};
 ghost use Rattle.life_app.specs.Headline.{IsGivenBasis, IsPromised, IsUnrun};
 ghost use Rattle.life_app.specs.Obeys.{Obeys};
 ghost use Rattle.life_app.specs.TableReserves.{AreOnce, table_reserves};

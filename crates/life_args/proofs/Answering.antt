@@ -1,28 +1,15 @@
 -- What readers answer
-use Rattle.std.proofs.Common.{◌≡◌, ◌≤◌, ◌∙◌, arith, drop, get_or, length, map, string_bytes, String, take, lit<, ◌-◌, ap₂, IfOk, IfErr, IfSome, ok_or, ℤ, ap, sym, refl, subst, true, false, List, [], ◌∷◌, Option, Some, None, unwrap_or, Result, Ok, Err, IsErrAnd, true≢false}
+use Rattle.life_args.proofs.Names.{◌≡◌, ◌≤◌, ◌∙◌, arith, drop, get_or, length, map, string_bytes, String, take, lit<, ◌-◌, ap₂, IfOk, IfErr, IfSome, ok_or, ℤ, ap, sym, refl, subst, true, false, List, [], ◌∷◌, Option, Some, None, unwrap_or, Result, Ok, Err, IsErrAnd, true≢false, Text, found_of, raw_values-rows, WordsFault, Mode, Verb, WordPiece, AreWords, AskFor, AskForNothing, IsFaultOf, NameAMode, mode_names, GivesAsked, IsLine, ReadsLine, Spelling, TakesWords, has_odd, line_app, values_of, AsksFor, IsLone, SaysMode, options_of, verb_of, verb_word, IsDay, IsDayText, IsDayValue, IsMeasureBy, Measure}
 use Rattle.std.specs.Global.{Global}
 use Rattle.std.specs.List.{Contains}
 use Rattle.std.proofs.lemmas.List.{take_all}
-use Rattle.clap.specs.Words.{Text, found_of}
 use Rattle.clap.specs.declared.parser.matches.ArgMatches.{ArgMatches}
-use Rattle.clap.proofs.WalkLemmas.{raw_values-rows}
-use Rattle.life_args.specs.declared.fault.WordsFault.{WordsFault}
 use Rattle.life_args.specs.declared.fault.WordsFault.TheVariants.{Usage, NoMemory}
-use Rattle.life_args.specs.declared.mode.Mode.{Mode}
-use Rattle.life_args.specs.declared.verb.Verb.{Verb}
 use Rattle.life_args.specs.declared.verb.Verb.TheVariants as verb
-use Rattle.life_args.specs.Pieces.{WordPiece}
-use Rattle.life_args.specs.Words.{AreWords, AskFor, AskForNothing, IsFaultOf, NameAMode, mode_names}
-use Rattle.life_args.specs.inside.Lines.{GivesAsked, IsLine, ReadsLine, Spelling, TakesWords, has_odd, line_app, values_of}
-use Rattle.life_args.specs.inside.Verbs.{AsksFor, IsLone, SaysMode, options_of, verb_of, verb_word}
 use Rattle.life_args.proofs.Lines.{spelled_even, spelled_taken, taken_spelled, values_in}
 use Rattle.life_args.proofs.Asking.{asked, asking, good, same_verb}
 use Rattle.life_args.proofs.Once.{same_mode}
 use Rattle.life_args.proofs.Texts.{day_of_text, text_of_day}
-use Rattle.life_dates.specs.Calendar.{IsDay}
-use Rattle.life_dates.specs.DayText.{IsDayText}
-use Rattle.life_args.specs.Values.{IsDayValue, IsMeasureBy}
-use Rattle.policy_value.specs.declared.worth.Measure.{Measure}
 
 -- ---- a fault
 

@@ -1,20 +1,8 @@
 -- The words of a mode, as pieces whose values say the mode
-use Rattle.std.proofs.Common.{◌≡◌, ◌≤◌, ◌<◌, ◌^◌, ℕ, Bool, true, false, cond, List, [], ◌∷◌, Option, Some, None, refl, sym, ap, ◌∙◌, subst, arith, inl, inr, bytes_eq, codes, decimal, length, map}
-use Rattle.std.specs.Prelude.{⊤}
-use Rattle.clap.specs.Lexer.{has_byte}
+use Rattle.life_args.proofs.Names.{◌≡◌, ◌≤◌, ◌<◌, ◌^◌, ℕ, Bool, true, false, cond, List, [], ◌∷◌, Option, Some, None, refl, sym, ap, ◌∙◌, subst, arith, inl, inr, bytes_eq, codes, decimal, length, map, ⊤, has_byte, At, Now, Position, Mode, Verb, Run, Value, Project, State, Checkpoint, Generate, Load, WordPiece, bare, apart, joined, flag, spelled, bare_values, option_values, value_under, IsAmong, HasOnly, AtMostOne, IsPositionOr, AreWorkersOr, IsBasisOr, IsPolicyOr, IsSeed, IsPolicyCount, IsLaneCount, AreWords, ArePlain, IsPlainText, OptionNames, Spelling, alone_id, line_app, values_of, SaysMode, options_of, verb_of, verb_word}
 use Rattle.clap.specs.Walk.{Text, arg_by_long}
 use Rattle.clap.specs.Faults.{is_simple_and_free}
-use Rattle.policy_types.specs.declared.entry.At.{At}
-use Rattle.policy_types.specs.declared.entry.At.TheVariants.{Now, Position}
-use Rattle.life_args.specs.declared.mode.Mode.{Mode}
 use Rattle.life_args.specs.declared.mode.Mode.TheVariants as mode
-use Rattle.life_args.specs.declared.verb.Verb.{Verb}
-use Rattle.life_args.specs.declared.verb.Verb.TheVariants.{Run, Value, Project, State, Checkpoint, Generate, Load}
-use Rattle.life_args.specs.Pieces.{WordPiece, bare, apart, joined, flag, spelled, bare_values, option_values, value_under, IsAmong, HasOnly, AtMostOne}
-use Rattle.life_args.specs.Values.{IsPositionOr, AreWorkersOr, IsBasisOr, IsPolicyOr, IsSeed, IsPolicyCount, IsLaneCount}
-use Rattle.life_args.specs.Words.{AreWords}
-use Rattle.life_args.specs.inside.Lines.{ArePlain, IsPlainText, OptionNames, Spelling, alone_id, line_app, values_of}
-use Rattle.life_args.specs.inside.Verbs.{SaysMode, options_of, verb_of, verb_word}
 use Rattle.life_args.proofs.Rules.{AreGood, IsGood, filled_option, own}
 use Rattle.life_args.proofs.Lines.{differ}
 use Rattle.life_args.proofs.Texts.{plain_day, plain_decimal, plain_name}

@@ -1,29 +1,11 @@
 -- Words ask for one mode, or for nothing: each part of them says something, or nothing
-use Rattle.std.proofs.Common.{◌≡◌, ℕ, zero, suc, ◌+◌, ◌-◌, ◌<◌, ◌≤◌, ◌⊎◌, ℤ, ◌-ℤ◌, pos, negsuc, false, List, [], ◌∷◌, length, map, string_bytes, String, Option, Some, None, refl, sym, ap, ◌∙◌, subst, inl, inr, bytes_eq, codes, decimal, arith, true≢false}
-use Rattle.std.specs.Prelude.{All, slice_index}
+use Rattle.life_args.proofs.Names.{◌≡◌, ℕ, zero, suc, ◌+◌, ◌-◌, ◌<◌, ◌≤◌, ◌⊎◌, ℤ, ◌-ℤ◌, pos, negsuc, false, List, [], ◌∷◌, length, map, string_bytes, String, Option, Some, None, refl, sym, ap, ◌∙◌, subst, inl, inr, bytes_eq, codes, decimal, arith, true≢false, All, slice_index, cases_Bool, cases_eq, cases_lt, ints, fault_of, IsName, IsNameByte, IsDay, day_text, At, Measure, Now, Position, Mode, Verb, Run, Value, Project, State, Checkpoint, Generate, Load, WordPiece, AtMostOne, IsDayValue, IsPositionOr, AreWorkersOr, IsBasisOr, IsMeasureBy, IsPolicyOr, AreWords, AskFor, AskForNothing, Spelling, alone_id, has_odd, line_app, values_of, AreDayAndYears, JustOne, options_of, verb_of, verb_word}
 use Rattle.std.specs.Global.{Global}
 use Rattle.std.specs.Char.{IsAsciiAlphanumeric}
-use Rattle.std.proofs.lemmas.Bool.{cases_Bool, cases_eq, cases_lt}
-use Rattle.std.proofs.lemmas.Int.{ints}
 use Rattle.std.proofs.lemmas.List.Elements.{All-nil, All-cons, All-head, All-tail}
 use Rattle.std.proofs.lemmas.Slice.Eq.{bytes_eq-Decides}
 use Rattle.clap.specs.Walk.{Text}
-use Rattle.clap.specs.Faults.{fault_of}
-use Rattle.basis_book.specs.Name.{IsName, IsNameByte}
-use Rattle.life_dates.specs.Calendar.{IsDay}
-use Rattle.life_dates.specs.DayText.{day_text}
-use Rattle.policy_types.specs.declared.entry.At.{At}
-use Rattle.policy_value.specs.declared.worth.Measure.{Measure}
 use Rattle.policy_value.specs.declared.worth.Measure.TheVariants.{Terminal, Mean, Deficiency}
-use Rattle.policy_types.specs.declared.entry.At.TheVariants.{Now, Position}
-use Rattle.life_args.specs.declared.mode.Mode.{Mode}
-use Rattle.life_args.specs.declared.verb.Verb.{Verb}
-use Rattle.life_args.specs.declared.verb.Verb.TheVariants.{Run, Value, Project, State, Checkpoint, Generate, Load}
-use Rattle.life_args.specs.Pieces.{WordPiece, AtMostOne}
-use Rattle.life_args.specs.Values.{IsDayValue, IsPositionOr, AreWorkersOr, IsBasisOr, IsMeasureBy, IsPolicyOr}
-use Rattle.life_args.specs.Words.{AreWords, AskFor, AskForNothing}
-use Rattle.life_args.specs.inside.Lines.{Spelling, alone_id, has_odd, line_app, values_of}
-use Rattle.life_args.specs.inside.Verbs.{AreDayAndYears, JustOne, options_of, verb_of, verb_word}
 use Rattle.life_args.proofs.Lines.{spelled_taken, taken_spelled}
 use Rattle.life_args.proofs.Asking.{asked, good}
 use Rattle.life_args.proofs.Answering.{asked_by, asked_of, asking_by, odd_refused}

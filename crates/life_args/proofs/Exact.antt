@@ -1,11 +1,8 @@
 -- Words have one answer
-use Rattle.std.proofs.Common.{List, map, string_bytes, ap, refl, Result, Ok, Err, String, Global}
+use Rattle.life_args.proofs.Names.{List, map, string_bytes, ap, refl, Result, Ok, Err, String, Global, WordsFault, Mode, AskFor, IsFaultOf}
 use Rattle.std.specs.Prelude.{IfOk, IfErr}
-use Rattle.life_args.specs.declared.fault.WordsFault.{WordsFault}
 use Rattle.life_args.specs.declared.fault.WordsFault.TheVariants.{Usage, NoMemory}
-use Rattle.life_args.specs.declared.mode.Mode.{Mode}
 use Rattle.life_args.specs.Answers.{GivesMode, IsWordsAnswer}
-use Rattle.life_args.specs.Words.{AskFor, IsFaultOf}
 use Rattle.life_args.proofs.Answering.{ask_once}
 
 pub gives_due : (words : List (String Global)) (given answer : Result Mode WordsFault) → IfOk given (AskFor words) → IfErr given (IsFaultOf words)

@@ -1,3 +1,4 @@
+pub mod Names
 pub mod Exact
 pub mod Lexing
 pub mod Rules

@@ -1,15 +1,10 @@
 -- What a line's command makes of words: it takes those that pieces spell, and finds the pieces' values
-use Rattle.std.proofs.Common.{◌≡◌, ◌&&◌, ◌||◌, Bool, true, false, cond, fold, not, List, [], ◌∷◌, ◌++◌, map, None, is_some, unwrap_or, refl, sym, ap, ap₂, ◌∙◌, subst, bytes_eq, append-nil, append_assoc, arith, true≢false}
+use Rattle.life_args.proofs.Names.{◌≡◌, ◌&&◌, ◌||◌, Bool, true, false, cond, fold, not, List, [], ◌∷◌, ◌++◌, map, None, is_some, unwrap_or, refl, sym, ap, ap₂, ◌∙◌, subst, bytes_eq, append-nil, append_assoc, arith, true≢false, false_from_ne_true, Kinds, or_else, check_kinds, built_fault, fault_of, walk_fault, settle_fault, defaults_fault, check_fault, entered_fault, given_default_fault, WordPiece, bare, apart, joined, flag, spelled, bare_values, option_values, value_under, HasOnly, ArePlain, IsPlainText, OptionNames, Spelling, alone_id, has_odd, is_odd, line_app, values_of}
 use Rattle.std.specs.List.{list_any}
 use Rattle.std.proofs.Math.Bool.{or-true}
-use Rattle.std.proofs.lemmas.Bool.{false_from_ne_true}
 use Rattle.clap.specs.Walk.{Row, Rule, Text, Walk, all_of, idle, settled, finished, with_default, has_row, rows_after, nothing_held}
 use Rattle.clap.specs.Simple.{App, built, entered, matches_of}
 use Rattle.clap.specs.Takes.{is_given}
-use Rattle.clap.specs.Kinds.{Kinds, or_else, check_kinds}
-use Rattle.clap.specs.Faults.{built_fault, fault_of, walk_fault, settle_fault, defaults_fault, check_fault, entered_fault, given_default_fault}
-use Rattle.life_args.specs.Pieces.{WordPiece, bare, apart, joined, flag, spelled, bare_values, option_values, value_under, HasOnly}
-use Rattle.life_args.specs.inside.Lines.{ArePlain, IsPlainText, OptionNames, Spelling, alone_id, has_odd, is_odd, line_app, values_of}
 use Rattle.life_args.proofs.Lexing.{IsOptionName}
 use Rattle.life_args.proofs.Rules.{AreGood, IsGood, add, filled_alone, filled_flag, filled_option, filled_options, own, rules, same}
 use Rattle.life_args.proofs.Steps.{leaf, settles, stand}

@@ -1,20 +1,9 @@
 -- Values say one mode at most
-use Rattle.std.proofs.Common.{◌≡◌, ℕ, ◌≤◌, cond, Bool, true, false, List, [], ◌∷◌, Option, Some, None, refl, sym, ap, ◌∙◌, subst, arith, lit≤, ℤ, codes, decimal}
+use Rattle.life_args.proofs.Names.{◌≡◌, ℕ, ◌≤◌, cond, Bool, true, false, List, [], ◌∷◌, Option, Some, None, refl, sym, ap, ◌∙◌, subst, arith, lit≤, ℤ, codes, decimal, decimal_injective, At, Now, Position, Measure, IsDay, days_in_month, is_leap_year, day_number, day_text, Mode, AtMostOne, IsPositionOr, AreWorkersOr, IsBasisOr, IsMeasureBy, IsPolicyOr, alone_id, AreDraws, SaysMode, verb_of}
 use Rattle.std.specs.Prelude.{◌==◌, ◌||◌}
-use Rattle.std.proofs.lemmas.Fmt.{decimal_injective}
 use Rattle.clap.specs.Walk.{Text}
-use Rattle.policy_types.specs.declared.entry.At.{At}
-use Rattle.policy_types.specs.declared.entry.At.TheVariants.{Now, Position}
-use Rattle.policy_value.specs.declared.worth.Measure.{Measure}
-use Rattle.life_dates.specs.Calendar.{IsDay, days_in_month, is_leap_year, day_number}
-use Rattle.life_dates.specs.DayText.{day_text}
 use Rattle.life_dates.proofs.TextLemmas.{read_exact}
-use Rattle.life_args.specs.declared.mode.Mode.{Mode}
 use Rattle.life_args.specs.declared.mode.Mode.TheVariants as mode
-use Rattle.life_args.specs.Pieces.{AtMostOne}
-use Rattle.life_args.specs.Values.{IsPositionOr, AreWorkersOr, IsBasisOr, IsMeasureBy, IsPolicyOr}
-use Rattle.life_args.specs.inside.Lines.{alone_id}
-use Rattle.life_args.specs.inside.Verbs.{AreDraws, SaysMode, verb_of}
 use Rattle.life_args.proofs.Texts.{text_of_day}
 
 -- ---- a day's text is of one day

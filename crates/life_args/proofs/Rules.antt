@@ -1,17 +1,12 @@
 -- The arguments of a line's command, as `clap` fills them in
-use Rattle.std.proofs.Common.{◌≡◌, ◌⊎◌, ◌&&◌, ℕ, Bool, true, false, find, is_some, not, List, [], ◌∷◌, ◌++◌, map, Some, None, refl, sym, ap, ap₂, ◌∙◌, inl, inr, bytes_eq, true≢false}
+use Rattle.life_args.proofs.Names.{◌≡◌, ◌⊎◌, ◌&&◌, ℕ, Bool, true, false, find, is_some, not, List, [], ◌∷◌, ◌++◌, map, Some, None, refl, sym, ap, ap₂, ◌∙◌, inl, inr, bytes_eq, true≢false, filled, filled_from, with_index, use_fault, InvalidValue, IsAmong, OptionNames, alone_id, alone_rule, flag_rule, option_rule}
 use Rattle.std.specs.Option.{option_or}
 use Rattle.std.proofs.Math.Bool.{or-false}
 use Rattle.std.proofs.lemmas.List.Folds.{find-append}
 use Rattle.std.proofs.lemmas.Slice.Eq.{bytes_eq-Decides}
 use Rattle.clap.specs.Walk.{Row, Rule, Text, arg_by_id, arg_by_long, has_long, most_values, used, with_values}
-use Rattle.clap.specs.Simple.{filled, filled_from, with_index}
-use Rattle.clap.specs.Faults.{use_fault}
 use Rattle.clap.specs.declared.builder.value_parser.Reading.TheVariants.{AsWritten}
-use Rattle.clap.specs.declared.error.kind.ErrorKind.TheVariants.{InvalidValue}
 use Rattle.clap.specs.declared.parser.matches.ValueSource.TheVariants.{CommandLine}
-use Rattle.life_args.specs.Pieces.{IsAmong}
-use Rattle.life_args.specs.inside.Lines.{OptionNames, alone_id, alone_rule, flag_rule, option_rule}
 use Rattle.life_args.proofs.Lexing.{IsOptionName}
 
 abbrev pub filled_alone : Rule

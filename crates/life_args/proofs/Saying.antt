@@ -1,18 +1,7 @@
 -- What a verb's values say, value by value
-use Rattle.std.proofs.Common.{◌≡◌, ℕ, ℤ, arith, decimal, refl, sym, subst, List, ◌∷◌, Option, Result, Err, IsErrAnd}
-use Rattle.std.specs.Prelude.{⊤}
-use Rattle.clap.specs.Words.{Text}
+use Rattle.life_args.proofs.Names.{◌≡◌, ℕ, ℤ, arith, decimal, refl, sym, subst, List, ◌∷◌, Option, Result, Err, IsErrAnd, ⊤, Text, At, Measure, WordsFault, Mode, Verb, Run, Value, Project, State, Checkpoint, Generate, Load, AtMostOne, GivesAsked, values_named, AreDrawn, AreDraws, AsksFor, SaysMode, verb_of}
 use Rattle.clap.specs.declared.parser.matches.Found.{Found}
-use Rattle.policy_types.specs.declared.entry.At.{At}
-use Rattle.policy_value.specs.declared.worth.Measure.{Measure}
-use Rattle.life_args.specs.declared.fault.WordsFault.{WordsFault}
-use Rattle.life_args.specs.declared.mode.Mode.{Mode}
 use Rattle.life_args.specs.declared.mode.Mode.TheVariants as mode
-use Rattle.life_args.specs.declared.verb.Verb.{Verb}
-use Rattle.life_args.specs.declared.verb.Verb.TheVariants.{Run, Value, Project, State, Checkpoint, Generate, Load}
-use Rattle.life_args.specs.Pieces.{AtMostOne}
-use Rattle.life_args.specs.inside.Lines.{GivesAsked, values_named}
-use Rattle.life_args.specs.inside.Verbs.{AreDrawn, AreDraws, AsksFor, SaysMode, verb_of}
 use Rattle.life_args.proofs.Answering.{refused}
 
 -- what a verb's modes are made of

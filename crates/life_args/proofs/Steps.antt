@@ -1,16 +1,9 @@
 -- One word of `clap`'s walk over a line
-use Rattle.std.proofs.Common.{◌≡◌, ℕ, Bool, true, false, cond, List, [], ◌∷◌, Option, Some, None, option_map, refl, ap, ap₂, ◌∙◌, bytes_eq, codes, nat_lt}
-use Rattle.std.specs.Prelude.{⊤}
+use Rattle.life_args.proofs.Names.{◌≡◌, ℕ, Bool, true, false, cond, List, [], ◌∷◌, Option, Some, None, option_map, refl, ap, ap₂, ◌∙◌, bytes_eq, codes, nat_lt, ⊤, long_of, Shape, new_shape, settle_fault, turn_fault, use_fault, word_fault, other_fault, step_fault, flag_word_fault, bundle_fault, long_fault, Kinds, or_else, InvalidValue, TooManyValues, UnknownArgument, OptionNames, alone_id}
 use Rattle.std.proofs.Math.Bool.{and-false}
 use Rattle.std.specs.Option.{option_map_or}
-use Rattle.clap.specs.Lexer.{long_of}
 use Rattle.clap.specs.Walk.{Held, Row, Rule, Step, Text, Waiting, Walk, idle, option, positional, next, settled, settled_rows, value, used, walked, arg_by_id, arg_by_long, is_pending, word_met, plain_word, option_word, pushed, after_step, after_flag, long_met, long_or_other, long_word, short_or_plain, subcommand_met, subcommand_or_other, to_positional, trailing}
-use Rattle.clap.specs.Simple.{Shape, new_shape}
-use Rattle.clap.specs.Faults.{settle_fault, turn_fault, use_fault, word_fault, other_fault, step_fault, flag_word_fault, bundle_fault, long_fault}
-use Rattle.clap.specs.Kinds.{Kinds, or_else}
 use Rattle.clap.specs.declared.error.kind.ErrorKind.{ErrorKind}
-use Rattle.clap.specs.declared.error.kind.ErrorKind.TheVariants.{InvalidValue, TooManyValues, UnknownArgument}
-use Rattle.life_args.specs.inside.Lines.{OptionNames, alone_id}
 use Rattle.life_args.proofs.Lexing.{IsValueWord, IsNamed}
 use Rattle.life_args.proofs.Rules.{IsKnown, add, filled_alone, filled_flag, filled_option, own, rules}
 

@@ -1,13 +1,7 @@
 -- Values as texts
-use Rattle.std.proofs.Common.{◌≡◌, ◌≢◌, ◌+◌, ◌<◌, ◌^◌, ℕ, List, [], ◌∷◌, length, get_or, sym, ap, subst, arith, inl, inr, decimal, eq-zero-or-pos, ℤ}
+use Rattle.life_args.proofs.Names.{◌≡◌, ◌≢◌, ◌+◌, ◌<◌, ◌^◌, ℕ, List, [], ◌∷◌, length, get_or, sym, ap, subst, arith, inl, inr, decimal, eq-zero-or-pos, ℤ, decimal_digit, decimal_nonempty, first_decimal, ints, IsDay, IsTermDay, day_text, IsDayText, IsName, IsPlainText}
 use Rattle.std.proofs.lemmas.Bool.Decides.{nat_tests}
-use Rattle.std.proofs.lemmas.Fmt.{decimal_digit, decimal_nonempty, first_decimal}
-use Rattle.std.proofs.lemmas.Int.{ints}
-use Rattle.life_dates.specs.Calendar.{IsDay, IsTermDay}
-use Rattle.life_dates.specs.DayText.{day_text, IsDayText}
 use Rattle.life_dates.proofs.TextLemmas.{IsDayText-day_text, day_text-only}
-use Rattle.basis_book.specs.Name.{IsName}
-use Rattle.life_args.specs.inside.Lines.{IsPlainText}
 
 abbrev Text : Type 0
 Text = List ℕ

@@ -1,12 +1,6 @@
 -- `clap`'s walk over the words that pieces spell, and the pieces of the words that it takes
-use Rattle.std.proofs.Common.{◌≡◌, false, fold, List, [], ◌∷◌, ◌++◌, Option, Some, None, refl, sym, ap, ap₂, ◌∙◌, inl, inr}
-use Rattle.std.proofs.lemmas.Bool.{or_parts}
+use Rattle.life_args.proofs.Names.{◌≡◌, false, fold, List, [], ◌∷◌, ◌++◌, Option, Some, None, refl, sym, ap, ap₂, ◌∙◌, inl, inr, or_parts, settle_fault, walk_fault, Kinds, or_else, WordPiece, bare, flag, spelled, IsAmong, HasOnly, apart_piece, joined_piece, ArePlain, OptionNames, Spelling, alone_id, has_odd, is_odd}
 use Rattle.clap.specs.Walk.{Row, Text, Waiting, Walk, arg_by_long, idle, positional, walked}
-use Rattle.clap.specs.Faults.{settle_fault, walk_fault}
-use Rattle.clap.specs.Kinds.{Kinds, or_else}
-use Rattle.life_args.specs.Pieces.{WordPiece, bare, flag, spelled, IsAmong, HasOnly}
-use Rattle.life_args.specs.Pieces.{apart as apart_piece, joined as joined_piece}
-use Rattle.life_args.specs.inside.Lines.{ArePlain, OptionNames, Spelling, alone_id, has_odd, is_odd}
 use Rattle.life_args.proofs.Lexing.{IsNamed, Seen, alone, apart, joined, seen, plain_word, apart_named, joined_named}
 use Rattle.life_args.proofs.Rules.{AreGood, IsKnown, add, alone_known, filled_flag, flag_is, long_found, long_is, option_known}
 use Rattle.life_args.proofs.Steps.{Goes, IsFaulty, IsFree, IsUse, Use, all_rows, c, s, stand, want, no_owing, alone_goes, name_goes, value_goes, joined_goes, flag_goes, unknown_faulty, valued_flag_faulty, wanting_faulty, wanting_flag_faulty, unfilled}

@@ -1,28 +1,13 @@
 -- What worked words are told by.
-use Rattle.std.proofs.Common.{◌≡◌, ◌≤◌, ◌∙◌, ℕ, List, [], ◌∷◌, refl, sym, subst, inl, inr, codes, decimal, lit≤, arith, pos, ℤ}
+use Rattle.life_args.proofs.Names.{◌≡◌, ◌≤◌, ◌∙◌, ℕ, List, [], ◌∷◌, refl, sym, subst, inl, inr, codes, decimal, lit≤, arith, pos, ℤ, decimal_injective, ints, IsName, IsNameByte, date_of, date_at, year_of, month_of, days_before, days_before_year, days_of_months, day_text, Mode, Verb, Run, WordPiece, spelled, HasOnly, IsDayValue, AreWords, ArePlain, line_app, values_of, AreDayAndYears, SaysMode, options_of, verb_of, verb_word, fault_of, Kinds}
 use Rattle.std.proofs.lemmas.List.Elements.{All-from_recursion}
-use Rattle.std.proofs.lemmas.Fmt.{decimal_injective}
-use Rattle.std.proofs.lemmas.Int.{ints}
 use Rattle.std.specs.Fmt.{digits}
-use Rattle.basis_book.specs.Name.{IsName, IsNameByte}
-use Rattle.life_dates.specs.Calendar.{date_of, date_at, year_of, month_of, days_before, days_before_year, days_of_months}
-use Rattle.life_dates.specs.DayText.{day_text}
-use Rattle.life_args.specs.declared.mode.Mode.{Mode}
-use Rattle.life_args.specs.declared.verb.Verb.{Verb}
-use Rattle.life_args.specs.declared.verb.Verb.TheVariants.{Run}
-use Rattle.life_args.specs.Pieces.{WordPiece, spelled, HasOnly}
-use Rattle.life_args.specs.Values.{IsDayValue}
-use Rattle.life_args.specs.Words.{AreWords}
 use Rattle.life_args.specs.Worked.{Ask, AskNothing}
-use Rattle.life_args.specs.inside.Lines.{ArePlain, line_app, values_of}
-use Rattle.life_args.specs.inside.Verbs.{AreDayAndYears, SaysMode, options_of, verb_of, verb_word}
 use Rattle.life_args.proofs.Answering.{asked_of}
 use Rattle.life_args.proofs.Asking.{asked, asking, good}
 use Rattle.life_args.proofs.Either.{said_of}
 use Rattle.life_args.proofs.Lines.{differ, spelled_taken}
 use Rattle.life_args.proofs.Saying.{Said}
-use Rattle.clap.specs.Faults.{fault_of}
-use Rattle.clap.specs.Kinds.{Kinds}
 use Rattle.clap.specs.declared.error.kind.ErrorKind.{ErrorKind}
 
 pub asks : (typed : List (List ℕ)) (mode : Mode) → AreWords typed mode → Ask typed mode

@@ -1,6 +1,5 @@
 -- What the top call promises of devices between two moments, said of devices from their start.
-use Rattle.std.proofs.Common.{◌≡◌, inl, inr, ℕ, List, [], ◌∷◌, ◌++◌, map, refl, Option, Some, None}
-use Rattle.outside_io.specs.Shelves.{Files, Answer, Agrees}
+use Rattle.life_cli.proofs.Names.{◌≡◌, inl, inr, ℕ, List, [], ◌∷◌, ◌++◌, map, refl, Option, Some, None, Files, Answer, Agrees, NoMemory, Filing, Second, With, EndsDuly, filing_from_start, input_from_start, output_from_start, shelf_from_start}
 use Rattle.outside_io.specs.Streams.{TakenPiece}
 use Rattle.outside_io.specs.declared.disks.Disk.{Ghosts}
 use Rattle.watcher_set.specs.Noted.{Auditor}
@@ -8,13 +7,9 @@ use Rattle.life_args.specs.declared.mode.Mode.{Mode}
 use Rattle.life_args.specs.declared.mode.Mode.TheVariants.{Run, Value, Project, State, Checkpoint, Generate, Load}
 use Rattle.program_endings.specs.Writing.{Input, Shelving, Stream}
 use Rattle.program_endings.specs.declared.ending.Ending.{Ending}
-use Rattle.program_endings.specs.declared.ending.Ending.TheVariants.{NoMemory}
 use Rattle.script_run.specs.Running.{EndsLanes, EndsRun}
 use Rattle.policy_types.specs.declared.script.Lane.{Lane}
-use Rattle.life_app.specs.Needs.{Filing, Second, With}
 use Rattle.life_app.specs.Obeys.{Does, EndsMode, Obeys}
-use Rattle.life_cli.specs.Completing.{EndsDuly}
-use Rattle.life_cli.specs.Shipped.{filing_from_start, input_from_start, output_from_start, shelf_from_start}
 
 -- Less may be said of an input and a shelf that stay.
 module _ {D E : Type 0} (g : Ghosts D) (e : Ghosts E) (old new : D) (second kept : Option E) (words : List (List ℕ)) (auditors : List Auditor)

@@ -1,3 +1,4 @@
+pub mod Names
 pub mod FromStart
 pub mod Promised
 pub mod WorkedStart

@@ -1,5 +1,5 @@
 -- A script's run is as is promised, over both disks, from their start; and so the shipped program is
-use Rattle.std.proofs.Common.{ℕ, List, Some}
+use Rattle.life_cli.proofs.Names.{ℕ, List, Some, With, EndsDuly, ObeysFromStart, filing_from_start, shipped_auditors}
 use Rattle.outside_io.specs.declared.disks.Disk.{Ghosts}
 use Rattle.basis_book.specs.Dated.{Dated}
 use Rattle.basis_shelf.specs.Bases.{IsBasis}
@@ -12,9 +12,6 @@ use Rattle.life_app.specs.TableReserves.{table_reserves}
 use Rattle.life_app.specs.Texts.{run_wording}
 use Rattle.life_app.specs.Words.{AskForRun}
 use Rattle.life_app.proofs.HeadlineLaws.{headline}
-use Rattle.life_app.specs.Needs.{With}
-use Rattle.life_cli.specs.Completing.{EndsDuly}
-use Rattle.life_cli.specs.Shipped.{ObeysFromStart, filing_from_start, shipped_auditors}
 use Rattle.life_cli.specs.ShippedRun.{IsShipped}
 
 module _ {D E : Type 0} (g : Ghosts D) (e : Ghosts E) (words : List (List ℕ)) (name script : List ℕ) (lanes : List Lane)

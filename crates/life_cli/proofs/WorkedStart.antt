@@ -1,18 +1,13 @@
 -- The worked run of the shipped program holds what its case says.
-use Rattle.std.proofs.Common.{[], ◌∷◌, refl, codes, Some}
-use Rattle.outside_io.specs.Shelves.{Agrees}
-use Rattle.program_endings.specs.declared.ending.Ending.TheVariants.{Done}
+use Rattle.life_cli.proofs.Names.{[], ◌∷◌, refl, codes, Some, Agrees, Done, With, EndsDuly, ObeysFromStart, filing_from_start, input_from_start, output_from_start, shelf_from_start}
 use Rattle.life_app.specs.WorkedRun.Both.{saved_file, second_disk}
 use Rattle.life_app.specs.WorkedRun.Calls.{called, cut_disk, cut_file, last_disk}
 use Rattle.life_app.specs.WorkedRun.Promise.{premium_script, premium_text}
-use Rattle.life_app.specs.Needs.{With}
 use Rattle.life_app.proofs.WorkedRun.Due.{due_beside}
 use Rattle.life_app.proofs.WorkedRun.Promise.{obeyed}
 use Rattle.life_app.proofs.WorkedRun.First.{honest_last}
 use Rattle.life_app.proofs.WorkedRun.Row.{facts, second_left}
 use Rattle.life_cli.proofs.Promised.{shipped}
-use Rattle.life_cli.specs.Completing.{EndsDuly}
-use Rattle.life_cli.specs.Shipped.{ObeysFromStart, filing_from_start, input_from_start, output_from_start, shelf_from_start}
 use Rattle.life_cli.specs.WorkedShipped.{ShippedByHand, shown_pieces}
 
 obeys : ObeysFromStart called called cut_file saved_file last_disk second_disk (codes "run" ∷ []) (input_from_start 0 premium_script (Unit {0}))

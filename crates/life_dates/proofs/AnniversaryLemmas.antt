@@ -1,14 +1,5 @@
 -- Anniversaries are days, and come one after another.
-use Rattle.std.proofs.Common.{◌≡◌, ℕ, suc, ◌+◌, ◌-◌, ◌<◌, ◌≤◌, ◌↔◌, min, inl, inr, refl, ap, arith, ℤ, pos, ◌<ℤ◌, ◌≤ℤ◌}
-use Rattle.std.proofs.lemmas.Bool.{cases_lt}
-use Rattle.std.specs.Int.{int_min}
-use Rattle.std.proofs.lemmas.Int.{clamps, by_lt_z}
-use Rattle.jiff_core.specs.declared.civil.date.Date.{Date as Plain}
-use Rattle.jiff_core.specs.Date.{epoch_day}
-use Rattle.jiff_core.proofs.SignedLemmas.{signed_arith}
-use Rattle.jiff_core.proofs.CalendarLemmas.{days_in_month_bounds}
-use Rattle.life_dates.specs.Calendar.{Date, IsDate, IsDay, IsTermDay, days_in_month, day_number, date_of}
-use Rattle.life_dates.specs.Anniversary.{years_later, anniversary_of, IsCompleted}
+use Rattle.life_dates.proofs.Names.{◌≡◌, ℕ, suc, ◌+◌, ◌-◌, ◌<◌, ◌≤◌, ◌↔◌, min, inl, inr, refl, ap, arith, ℤ, pos, ◌<ℤ◌, ◌≤ℤ◌, cases_lt, int_min, clamps, by_lt_z, Plain, epoch_day, signed_arith, days_in_month_bounds, Date, IsDate, IsDay, IsTermDay, days_in_month, day_number, date_of, years_later, anniversary_of, IsCompleted}
 use Rattle.life_dates.proofs.CalendarLemmas.{date_of_is, days_before-lt, day_number-days_before, days_from_civil-day_number, IsDay-year, IsTermDay-year, IsTermDay-from_year}
 
 -- the later date is one of the calendar

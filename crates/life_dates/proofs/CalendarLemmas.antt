@@ -1,15 +1,9 @@
 -- The date of each day, and `jiff`'s day count.
-use Rattle.std.proofs.Common.{◌≡◌, ℕ, zero, suc, ◌+◌, ◌-◌, ◌*◌, ◌<◌, ◌≤◌, cond, [], ◌∷◌, get_or, lit<, nat_lt, true, false, refl, sym, ◌∙◌, inl, inr, arith, rules, ℤ, pos, ◌+ℤ◌, ◌-ℤ◌, unsigned_abs}
-use Rattle.std.proofs.lemmas.Bool.{cases_lt}
+use Rattle.life_dates.proofs.Names.{◌≡◌, ℕ, zero, suc, ◌+◌, ◌-◌, ◌*◌, ◌<◌, ◌≤◌, cond, [], ◌∷◌, get_or, lit<, nat_lt, true, false, refl, sym, ◌∙◌, inl, inr, arith, rules, ℤ, pos, ◌+ℤ◌, ◌-ℤ◌, unsigned_abs, cases_lt, Plain, epoch_day, IsYmd, signed_arith, one_part, days_of_months_table, days_of_months_more, days_of_months_mono, days_of_months_all, day_count-day_of_year, days_from_civil-day_count, Date, ymd, IsDate, IsDay, IsTermDay, days_in_month, days_before_year, days_of_months, days_before, day_number, year_of, month_of, date_at, date_of}
 use Rattle.std.proofs.lemmas.Bool.Decides.{nat_tests}
-use Rattle.jiff_core.specs.declared.civil.date.Date.{Date as Plain}
 use Rattle.jiff_core.specs.Calendar as jiff
-use Rattle.jiff_core.specs.Date.{epoch_day, IsYmd}
-use Rattle.jiff_core.proofs.SignedLemmas.{signed_arith, one_part}
 use Rattle.jiff_core.proofs.MarchLemmas.{leap_day, days_in_year-leap_day, day_count-early}
-use Rattle.jiff_core.proofs.CalendarLemmas.{days_of_months_table, days_of_months_more, days_of_months_mono, days_of_months_all, day_count-day_of_year, days_from_civil-day_count}
 use Rattle.jiff_core.proofs.DateLemmas.{epoch_day_injective}
-use Rattle.life_dates.specs.Calendar.{Date, ymd, IsDate, IsDay, IsTermDay, days_in_month, days_before_year, days_of_months, days_before, day_number, year_of, month_of, date_at, date_of}
 
 -- the months are those of `jiff`
 pub days_of_months-jiff : (y n : ℕ) → days_of_months y n ≡ jiff.days_of_months (pos y) n

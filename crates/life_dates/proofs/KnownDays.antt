@@ -1,7 +1,5 @@
 -- Values that any calendar gives, so that a wrong rule in the definitions does not check.
-use Rattle.std.proofs.Common.{◌≡◌, pos, negsuc, refl}
-use Rattle.life_dates.specs.Calendar.{ymd, day_number, date_of}
-use Rattle.life_dates.specs.Anniversary.{anniversary_of}
+use Rattle.life_dates.proofs.Names.{◌≡◌, pos, negsuc, refl, ymd, day_number, date_of, anniversary_of}
 
 known_days : (day_number (ymd 1900 1 1) ≡ negsuc 25_566) × (day_number (ymd 2199 12 31) ≡ pos 84_005) × (day_number (ymd 2399 12 31) ≡ pos 157_053)
 unfolding day_number

@@ -1,3 +1,4 @@
+pub mod Names
 pub mod AnniversaryLemmas
 pub mod CalendarLemmas
 pub mod KnownDays

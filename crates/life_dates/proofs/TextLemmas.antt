@@ -1,14 +1,7 @@
 -- The texts of days.
-use Rattle.std.proofs.Common.{◌≡◌, ℕ, ◌+◌, ◌-◌, ◌*◌, ◌/◌, ◌%◌, ◌<◌, ◌≤◌, inl, inr, List, [], ◌∷◌, length, get_or, Option, Some, None, IfSome, refl, sym, ap, ◌∙◌, arith, ℤ, pos, negsuc, ◌≤ℤ◌}
-use Rattle.std.specs.Int.{IsInRange}
+use Rattle.life_dates.proofs.Names.{◌≡◌, ℕ, ◌+◌, ◌-◌, ◌*◌, ◌/◌, ◌%◌, ◌<◌, ◌≤◌, inl, inr, List, [], ◌∷◌, length, get_or, Option, Some, None, IfSome, refl, sym, ap, ◌∙◌, arith, ℤ, pos, negsuc, ◌≤ℤ◌, IsInRange, cases_lt, Plain, epoch_day, signed_arith, days_in_month_bounds, Date, ymd, IsDate, IsDay, IsTermDay, day_number, date_of}
 use Rattle.std.specs.Option.{SomeIff}
-use Rattle.std.proofs.lemmas.Bool.{cases_lt}
-use Rattle.jiff_core.specs.declared.civil.date.Date.{Date as Plain}
-use Rattle.jiff_core.specs.Date.{epoch_day}
-use Rattle.jiff_core.proofs.SignedLemmas.{signed_arith}
-use Rattle.jiff_core.proofs.CalendarLemmas.{days_in_month_bounds}
 use Rattle.jiff_core.proofs.DateLemmas.{epoch_day-lt}
-use Rattle.life_dates.specs.Calendar.{Date, ymd, IsDate, IsDay, IsTermDay, day_number, date_of}
 use Rattle.life_dates.specs.DayText.{two_digits, date_text, day_text, IsDayText}
 use Rattle.life_dates.proofs.CalendarLemmas.{plain, plain_is, date_of_is, days_from_civil-day_number}
 

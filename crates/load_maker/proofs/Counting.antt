@@ -1,13 +1,9 @@
 -- Lanes of rows: their numbers rise, and each row is a line of one of them
-use Rattle.std.proofs.Common.{◌≡◌, ℕ, zero, suc, ◌+◌, ◌≤◌, ◌<◌, ◌==◌, Bool, true, false, List, [], ◌∷◌, ◌++◌, length, map, refl, ap, sym, ◌∙◌, subst, arith, append-nil, length-append}
-use Rattle.std.specs.List.{AllByRecursion}
+use Rattle.load_maker.proofs.Names.{◌≡◌, ℕ, zero, suc, ◌+◌, ◌≤◌, ◌<◌, ◌==◌, Bool, true, false, List, [], ◌∷◌, ◌++◌, length, map, refl, ap, sym, ◌∙◌, subst, arith, append-nil, length-append, AllByRecursion, Line, ScriptRow, IsValidPosting, lane_with, dealt_lanes, dealt_lines}
 use Rattle.std.proofs.lemmas.Bool.{cond-false, cond-true, eqb-true, eqb-false, ne_eqb}
 use Rattle.std.proofs.lemmas.Grind.{flat_map-append}
-use Rattle.policy_types.specs.declared.script.Line.{Line}
 use Rattle.policy_types.specs.declared.script.Line.TheVariants.{Post}
 use Rattle.policy_types.specs.declared.script.Lane.{Lane}
-use Rattle.load_maker.specs.GeneratedRows.{ScriptRow}
-use Rattle.load_maker.specs.GeneratedLanes.{IsValidPosting, lane_with, dealt_lanes, dealt_lines}
 use Rattle.policy_types.specs.Lanes.{AreRising, lines_in, numbers_of}
 use Rattle.load_maker.proofs.Drawing.{IsRowFor, all_and}
 

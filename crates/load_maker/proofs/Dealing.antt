@@ -1,15 +1,10 @@
 -- A lane's lines as the policies are dealt out one by one
-use Rattle.std.proofs.Common.{◌≡◌, ℕ, suc, ◌+◌, ◌%◌, ◌==◌, List, [], ◌∷◌, ◌++◌, map, refl, ap, sym, ◌∙◌, add-one, append-nil}
-use Rattle.std.specs.List.{filter}
+use Rattle.load_maker.proofs.Names.{◌≡◌, ℕ, suc, ◌+◌, ◌%◌, ◌==◌, List, [], ◌∷◌, ◌++◌, map, refl, ap, sym, ◌∙◌, add-one, append-nil, filter, Line, state_after, policy_drawn, renewed_by_policy, ScriptRow, generated_rows, drawn_issue, drawn_premium, policy_rows, dealt_lines}
 use Rattle.std.proofs.lemmas.Bool.{eq-eqb, ne_eqb}
 use Rattle.std.proofs.lemmas.List.{map-append}
 use Rattle.std.proofs.lemmas.List.Elements.{filter-append}
-use Rattle.policy_types.specs.declared.script.Line.{Line}
 use Rattle.policy_types.specs.declared.script.Line.TheVariants.{Post}
 use Rattle.load_maker.specs.declared.generator.Drawn.{Drawn}
-use Rattle.load_maker.specs.Generator.{state_after, policy_drawn, renewed_by_policy}
-use Rattle.load_maker.specs.GeneratedRows.{ScriptRow, generated_rows, drawn_issue, drawn_premium, policy_rows}
-use Rattle.load_maker.specs.GeneratedLanes.{dealt_lines}
 
 pub lines_of_both : (lane : ℕ) (xs ys : List ScriptRow) → dealt_lines lane (xs ++ ys) ≡ dealt_lines lane xs ++ dealt_lines lane ys
 lines_of_both lane xs ys =

@@ -1,13 +1,10 @@
 -- The rows of drawn policies are of valid commands, and of the lanes to which they are dealt out
-use Rattle.std.proofs.Common.{◌≡◌, ℕ, zero, suc, ◌+◌, ◌*◌, ◌%◌, ◌≤◌, ◌<◌, false, List, [], ◌∷◌, ◌++◌, length, refl, arith, length-append}
-use Rattle.std.specs.List.{AllByRecursion}
+use Rattle.load_maker.proofs.Names.{◌≡◌, ℕ, zero, suc, ◌+◌, ◌*◌, ◌%◌, ◌≤◌, ◌<◌, false, List, [], ◌∷◌, ◌++◌, length, refl, arith, length-append, AllByRecursion, drawn_below, state_after, plan_drawn, policy_drawn, policy_of_draws, renewed, years_drawn, ScriptRow, generated_rows, policy_rows}
 use Rattle.std.proofs.lemmas.Int.{ints}
 use Rattle.policy_types.specs.declared.command.Plan.{Plan}
 use Rattle.policy_types.specs.declared.command.Plan.TheVariants.{Term, Whole, Endowment, Limited}
 use Rattle.policy_types.specs.Valid.{AreYears, IsIssue, IsValid, is_upgrade}
 use Rattle.load_maker.specs.declared.generator.Drawn.{Drawn}
-use Rattle.load_maker.specs.Generator.{drawn_below, state_after, plan_drawn, policy_drawn, policy_of_draws, renewed, years_drawn}
-use Rattle.load_maker.specs.GeneratedRows.{ScriptRow, generated_rows, policy_rows}
 
 years_right : (plan : Plan) (age draw : ℕ) → age < 80 → draw < 20 → AreYears plan age (years_drawn plan draw)
 years_right Term age draw young few = (omega arith, omega arith)

@@ -1,8 +1,6 @@
 -- What those who run the generated lanes rest on
-use Rattle.std.proofs.Common.{◌≡◌, ℕ, List, ap, ◌∙◌, ◌≤◌}
+use Rattle.load_maker.proofs.Names.{◌≡◌, ℕ, List, ap, ◌∙◌, ◌≤◌, generated_rows, AreDealt, generated_lanes, dealt_lanes}
 use Rattle.policy_types.specs.declared.script.Lane.{Lane}
-use Rattle.load_maker.specs.GeneratedRows.{generated_rows}
-use Rattle.load_maker.specs.GeneratedLanes.{AreDealt, generated_lanes, dealt_lanes}
 use Rattle.load_maker.proofs.Drawing.{rows_counted, rows_right}
 use Rattle.load_maker.proofs.Counting.{all_counted, all_valid, numbered}
 

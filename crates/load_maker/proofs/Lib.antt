@@ -1,3 +1,4 @@
+pub mod Names
 pub mod Drawing
 mod Dealing
 mod Counting

@@ -1,16 +1,7 @@
 -- A history with one call more is one.
-use Rattle.std.proofs.Common.{◌≡◌, ℕ, ◌≤◌, Bool, true, false, cond, List, [], ◌∷◌, ◌++◌, length, Vec, refl, ap, sym, ◌∙◌, Option, Some, None, IsSome}
+use Rattle.memory_disk.proofs.Names.{◌≡◌, ℕ, ◌≤◌, Bool, true, false, cond, List, [], ◌∷◌, ◌++◌, length, Vec, refl, ap, sym, ◌∙◌, Option, Some, None, IsSome, both_true, le-leb, first_bytes, reaching, bytes_after, images_after, IsImage, WasImage, all_within, WritesNothing, put, Looks, Elapses, Only, Follows, Torn, bytes_as_image, length-reaching, torn_put, DiskCall, Len, Read, Write, Sync}
 use Rattle.std.specs.declared.alloc.Global.{Global}
-use Rattle.std.specs.Cmp.Derive.{both_true}
-use Rattle.std.proofs.lemmas.Bool.{le-leb}
-use Rattle.memory_disk.specs.First.{first_bytes}
-use Rattle.memory_disk.specs.History.{reaching, bytes_after, images_after, IsImage, WasImage, all_within, WritesNothing}
-use Rattle.outside_io.specs.Disks.{put, Looks, Elapses, Only, Follows, Torn}
-use Rattle.memory_disk.specs.HistoryLaws.{bytes_as_image, length-reaching}
-use Rattle.outside_io.specs.DiskLaws.{torn_put}
 use Rattle.memory_disk.proofs.Pushed.{bytes_after-append, all_within-append, images_after-append, elapses_push, elapses_not}
-use Rattle.memory_disk.specs.declared.disk_call.DiskCall.{DiskCall}
-use Rattle.memory_disk.specs.declared.disk_call.DiskCall.TheVariants.{Len, Read, Write, Sync}
 
 -- these bytes and calls belong together
 abbrev pub Replayed : List ℕ → List ℕ → List DiskCall → Type 0

@@ -1,13 +1,5 @@
 -- The writes that are done whole make an image.
-use Rattle.std.proofs.Common.{◌≡◌, ℕ, ◌-◌, ◌≤◌, zero, suc, Bool, true, false, List, [], ◌∷◌, length, take, nat_le, refl, arith, cond}
-use Rattle.std.proofs.lemmas.Bool.{leb-true, le-leb}
-use Rattle.std.specs.Cmp.Derive.{both_true}
-use Rattle.outside_io.specs.Disks.{Torn, put}
-use Rattle.memory_disk.specs.History.{reaching, images_after, kept_after, image_of_writes, all_within, IsImage}
-use Rattle.memory_disk.specs.HistoryLaws.{both_of, length-reaching}
-use Rattle.outside_io.specs.DiskLaws.{length-put, torn_put, torn_same}
-use Rattle.memory_disk.specs.declared.disk_call.DiskCall.{DiskCall}
-use Rattle.memory_disk.specs.declared.disk_call.DiskCall.TheVariants.{Len, Read, Write, Sync}
+use Rattle.memory_disk.proofs.Names.{◌≡◌, ℕ, ◌-◌, ◌≤◌, zero, suc, Bool, true, false, List, [], ◌∷◌, length, take, nat_le, refl, arith, cond, leb-true, le-leb, both_true, Torn, put, reaching, images_after, kept_after, image_of_writes, all_within, IsImage, both_of, length-reaching, length-put, torn_put, torn_same, DiskCall, Len, Read, Write, Sync}
 
 torn_done : (old : List ℕ) (at : ℕ) (bytes : List ℕ) (done : Bool) → (done ≡ true → at ≤ length old)
     → Torn at (length bytes) old (cond done (put old at bytes) old)

@@ -1,3 +1,4 @@
+pub mod Names
 pub mod Pushed
 pub mod Kept
 pub mod KeptImage

@@ -1,14 +1,7 @@
 -- What one more call makes of the images.
-use Rattle.std.proofs.Common.{◌≡◌, ◌⊎◌, inl, inr, ℕ, ◌+◌, ◌<◌, ◌≤◌, true, false, List, [], ◌∷◌, ◌++◌, length, nat_le, refl, arith, length-append}
+use Rattle.memory_disk.proofs.Names.{◌≡◌, ◌⊎◌, inl, inr, ℕ, ◌+◌, ◌<◌, ◌≤◌, true, false, List, [], ◌∷◌, ◌++◌, length, nat_le, refl, arith, length-append, Torn, Elapses, put, cases_lt, both_true, both_of, reaching, bytes_after, images_after, IsImage, WasImage, all_within, DiskCall, Len, Read, Write, Sync}
 use Rattle.std.proofs.lemmas.List.{take-append-le}
-use Rattle.outside_io.specs.Disks.{Torn, Elapses, put}
 use Rattle.std.proofs.Math.Seq.{take-length}
-use Rattle.std.proofs.lemmas.Bool.{cases_lt}
-use Rattle.std.specs.Cmp.Derive.{both_true}
-use Rattle.memory_disk.specs.HistoryLaws.{both_of}
-use Rattle.memory_disk.specs.History.{reaching, bytes_after, images_after, IsImage, WasImage, all_within}
-use Rattle.memory_disk.specs.declared.disk_call.DiskCall.{DiskCall}
-use Rattle.memory_disk.specs.declared.disk_call.DiskCall.TheVariants.{Len, Read, Write, Sync}
 
 -- What is read after some calls and then others.
 pub bytes_after-append : (xs ys : List DiskCall) (bytes : List ℕ) → bytes_after bytes (xs ++ ys) ≡ bytes_after (bytes_after bytes xs) ys

@@ -1,12 +1,6 @@
 -- What reached the disk of each write makes an image.
-use Rattle.std.proofs.Common.{◌≡◌, ℕ, ◌≤◌, Bool, true, false, List, [], ◌∷◌, length, take, nat_le, refl, arith, cond}
+use Rattle.memory_disk.proofs.Names.{◌≡◌, ℕ, ◌≤◌, Bool, true, false, List, [], ◌∷◌, length, take, nat_le, refl, arith, cond, leb-true, Torn, put, put_within, reaching, images_after, torn_after, IsImage, torn_put, torn_same, DiskCall, Len, Read, Write, Sync}
 use Rattle.std.proofs.lemmas.List.{length-take}
-use Rattle.std.proofs.lemmas.Bool.{leb-true}
-use Rattle.outside_io.specs.Disks.{Torn, put}
-use Rattle.memory_disk.specs.History.{put_within, reaching, images_after, torn_after, IsImage}
-use Rattle.outside_io.specs.DiskLaws.{torn_put, torn_same}
-use Rattle.memory_disk.specs.declared.disk_call.DiskCall.{DiskCall}
-use Rattle.memory_disk.specs.declared.disk_call.DiskCall.TheVariants.{Len, Read, Write, Sync}
 
 torn_within : (old : List ℕ) (at keep : ℕ) (bytes : List ℕ) (begins : Bool) → (begins ≡ true → at ≤ length old)
     → Torn at (length bytes) old (cond begins (put old at (take keep bytes)) old)

@@ -1,9 +1,6 @@
 -- The text of an amount: its two parts, which are the last three bytes and what stands before, and that it tells the amount.
 use lib.Dec.{leb-zero}
-use Rattle.std.proofs.Common.{◌∷◌, ℤ, pos, negsuc, false, int_le, unsigned_abs, true≢false, suc, get_or, ◌≡◌, ℕ, ◌+◌, ◌-◌, ◌*◌, ◌/◌, ◌%◌, ◌^◌, ◌<◌, List, length, take, drop, sym, ap, ◌∙◌, refl, arith, length-append, take-append-drop}
-use Rattle.std.specs.Fmt.{decimal}
-use Rattle.std.proofs.lemmas.Fmt.{decimal_is_IsNumeral_wide}
-use Rattle.std.proofs.lemmas.Str.Parse.{digit_at}
+use Rattle.money_core.proofs.Names.{◌∷◌, ℤ, pos, negsuc, false, int_le, unsigned_abs, true≢false, suc, get_or, ◌≡◌, ℕ, ◌+◌, ◌-◌, ◌*◌, ◌/◌, ◌%◌, ◌^◌, ◌<◌, List, length, take, drop, sym, ap, ◌∙◌, refl, arith, length-append, take-append-drop, decimal, decimal_is_IsNumeral_wide, digit_at}
 use Rattle.std.proofs.lemmas.List.{take_at, drop_at, get_or_append_left}
 use Rattle.money_core.proofs.Numerals.{decimal_injective_wide}
 use Rattle.money_core.specs.CentsText.{cents_text, hundredths_text, signed_cents_text}

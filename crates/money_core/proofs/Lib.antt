@@ -1,3 +1,4 @@
+pub mod Names
 pub mod CentsTextLemmas
 pub mod Numerals
 pub mod WorkedTexts

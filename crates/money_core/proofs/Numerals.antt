@@ -1,9 +1,5 @@
 -- Which texts are the decimal digits of a number.
-use Rattle.std.proofs.Common.{◌≡◌, ℕ, ◌^◌, ◌<◌, List, length, get_or, sym, ap, ◌∙◌, inl, inr, subst, arith, eq-zero-or-pos}
-use Rattle.std.specs.Fmt.{decimal}
-use Rattle.std.specs.Str.Parse.{AllDigits, digits_value}
-use Rattle.std.proofs.lemmas.Fmt.{decimal_is_IsNumeral, decimal_is_IsNumeral_wide, decimal_digit, first_decimal, decimal-digits_value}
-use Rattle.std.proofs.lemmas.Str.Parse.{IsNumeralModel, numerals_by_value, tells_digits}
+use Rattle.money_core.proofs.Names.{◌≡◌, ℕ, ◌^◌, ◌<◌, List, length, get_or, sym, ap, ◌∙◌, inl, inr, subst, arith, eq-zero-or-pos, decimal, AllDigits, digits_value, decimal_is_IsNumeral, decimal_is_IsNumeral_wide, decimal_digit, first_decimal, decimal-digits_value, IsNumeralModel, numerals_by_value, tells_digits}
 
 own : IsNumeralModel (AllDigits 10) (digits_value 10)
 own = numerals_by_value (AllDigits 10) tells_digits

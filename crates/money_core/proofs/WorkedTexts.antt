@@ -1,6 +1,5 @@
 -- Amounts and their texts, worked by hand: the definitions compute to these.
-use Rattle.std.proofs.Common.{◌≡◌, pos, negsuc, codes, refl}
-use Rattle.std.specs.Fmt.{digits}
+use Rattle.money_core.proofs.Names.{◌≡◌, pos, negsuc, codes, refl, digits}
 use Rattle.money_core.specs.CentsText.{cents_text, signed_cents_text}
 
 zero_cents : cents_text 0 ≡ codes "0.00"

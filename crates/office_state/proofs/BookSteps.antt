@@ -1,8 +1,6 @@
 -- How many policies a list of commands issues
-use Rattle.std.proofs.Common.{suc, ◌≤◌, List, [], ◌∷◌, length, Some, None, Option, arith}
+use Rattle.office_state.proofs.Names.{suc, ◌≤◌, List, [], ◌∷◌, length, Some, None, Option, arith, Command, issue_id}
 use Rattle.std.specs.List.{cons_option, filter_map}
-use Rattle.policy_types.specs.declared.command.Command.{Command}
-use Rattle.policy_machine.specs.Book.{issue_id}
 
 cons_one : {Y : Type 0} (o : Option Y) (ys : List Y) → length (cons_option o ys) ≤ suc (length ys)
 cons_one (Some y) ys = omega arith

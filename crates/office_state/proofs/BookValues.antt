@@ -1,22 +1,6 @@
 -- The keys that were set by a position, and their values there
-use Rattle.std.proofs.Common.{◌≡◌, ℕ, zero, suc, ◌<◌, ◌≤◌, Bool, true, false, ◌||◌, nat_eq, List, [], ◌∷◌, ◌++◌, length, take, slice_get, get_or, Some, None, Option, is_some, Ok, Err, refl, sym, ap, ◌∙◌, subst, if◌then◌else◌, ◌⊎◌, inl, inr, append-nil, filter_map, arith}
-use Rattle.std.specs.List.{cons_option, list_any}
-use Rattle.std.proofs.lemmas.Bool.{cases_lt, eq-eqb, eqb-true}
-use Rattle.std.proofs.lemmas.List.{length_push, take-append-le, take_all}
-use Rattle.std.proofs.lemmas.List.Elements.{filter_map-append}
-use Rattle.std.proofs.lemmas.Option.{slice_get-get_or}
-use Rattle.policy_types.specs.declared.command.Command.{Command}
-use Rattle.policy_types.specs.declared.command.Command.TheVariants.{Upgrade}
-use Rattle.policy_types.specs.declared.policy.Policy.{Policy}
-use Rattle.policy_types.specs.declared.refusal.Refusal.TheVariants.{Taken}
-use Rattle.policy_types.specs.Valid.{id_of}
-use Rattle.policy_machine.specs.Rules.{next}
-use Rattle.policy_machine.specs.Book.{issue_id, policy_of, IsAccepted}
+use Rattle.office_state.proofs.Names.{◌≡◌, ℕ, zero, suc, ◌<◌, ◌≤◌, Bool, true, false, ◌||◌, nat_eq, List, [], ◌∷◌, ◌++◌, length, take, slice_get, get_or, Some, None, Option, is_some, Ok, Err, refl, sym, ap, ◌∙◌, subst, if◌then◌else◌, ◌⊎◌, inl, inr, append-nil, filter_map, arith, cons_option, list_any, cases_lt, eq-eqb, eqb-true, length_push, take-append-le, take_all, filter_map-append, slice_get-get_or, Command, Upgrade, Policy, Taken, id_of, next, issue_id, policy_of, IsAccepted, newest_of, or_else, value_at, Setting, keys_after, keys_of, own, until, with_key, keys_of-new, keys_of-old, until_all, until_past, sets_of}
 use Rattle.policy_machine.proofs.AcceptedLemmas.{IsIssueHere, NeedsPolicy, issue_or_other}
-use Rattle.versioned_book.specs.Versions.{newest_of, or_else, value_at}
-use Rattle.versioned_book.specs.Settings.{Setting, keys_after, keys_of, own, until, with_key}
-use Rattle.versioned_book.proofs.SettingSteps.{keys_of-new, keys_of-old, until_all, until_past}
-use Rattle.office_state.specs.versions.Commands.{sets_of}
 use Rattle.office_state.specs.versions.Places.{BookAtLaw, IndexLaw, KeyCountLaw, KeysLaw, UntilLaw}
 use Rattle.office_state.proofs.SetSteps.{by_accepted, by_each, setting_to, sets_of-accepted, sets_of-refused, sets_of-rise, sets_of-upgrade}
 use Rattle.office_state.proofs.PolicyValues.{newest_of-sets_of, value_at-sets_of}

@@ -1,28 +1,12 @@
 -- Each file opens to commands, or shows why it doesn't
-use Rattle.std.proofs.Common.{◌≡◌, ◌⊎◌, inl, inr, ℕ, ◌+◌, ◌≤◌, ℤ, pos, negsuc, List, [], ◌∷◌, ◌++◌, length, Option, Some, None, refl, sym, ap, ◌∙◌, subst, append-nil, append_assoc, arith, bytes_eq, true≢false}
-use Rattle.std.specs.List.{AllByRecursion}
-use Rattle.std.proofs.lemmas.Bool.{cases_Bool, cases_lt}
+use Rattle.office_state.proofs.Names.{◌≡◌, ◌⊎◌, inl, inr, ℕ, ◌+◌, ◌≤◌, ℤ, pos, negsuc, List, [], ◌∷◌, ◌++◌, length, Option, Some, None, refl, sym, ap, ◌∙◌, subst, append-nil, append_assoc, arith, bytes_eq, true≢false, AllByRecursion, cases_Bool, cases_lt, map-append, Command, Issue, Premium, Alter, Lapse, Reinstate, Claim, Settle, Mature, PaidUp, Upgrade, Refusal, AreYears, IsCommandDay, IsValid, IsAccepted, judge, IsAccepted-push, spelling_of, read_fields, read_fields-spelling, IsJournal, bodies_of, CanFollow, IsOfTheFile, IsShown, IsUnfollowed, IsUnspelled, JournalBytes, Opens, StartCause, BadRecord, NotAJournal}
 use Rattle.std.proofs.lemmas.Bool.Decides.{eqb_tells}
 use Rattle.std.proofs.lemmas.Int.{ints}
-use Rattle.std.proofs.lemmas.List.{map-append}
 use Rattle.std.proofs.lemmas.Slice.Eq.{bytes_eq-Decides}
-use Rattle.policy_types.specs.declared.command.Command.{Command}
-use Rattle.policy_types.specs.declared.command.Command.TheVariants.{Issue, Premium, Alter, Lapse, Reinstate, Claim, Settle, Mature, PaidUp, Upgrade}
 use Rattle.policy_types.specs.declared.command.Plan.{Plan}
 use Rattle.policy_types.specs.declared.command.Plan.TheVariants.{Term, Whole, Endowment, Limited}
-use Rattle.policy_types.specs.declared.refusal.Refusal.{Refusal}
-use Rattle.policy_types.specs.Valid.{AreYears, IsCommandDay, IsValid}
-use Rattle.policy_machine.specs.Book.{IsAccepted, judge}
-use Rattle.policy_machine.proofs.BookLemmas.{IsAccepted-push}
-use Rattle.record_codec.specs.Spelling.{spelling_of}
 use Rattle.record_codec.specs.inside.Reading.{command_at}
-use Rattle.record_codec.proofs.SpellingLemmas.{read_fields, read_fields-spelling}
-use Rattle.posting_journal.specs.Files.{IsJournal}
 use Rattle.posting_journal.proofs.Either.{bodies_or_shown}
-use Rattle.journal_replay.specs.Replays.{bodies_of}
-use Rattle.office_state.specs.Journals.{CanFollow, IsOfTheFile, IsShown, IsUnfollowed, IsUnspelled, JournalBytes, Opens}
-use Rattle.office_state.specs.declared.faults.StartCause.{StartCause}
-use Rattle.office_state.specs.declared.faults.StartCause.TheVariants.{BadRecord, NotAJournal}
 use Rattle.office_state.proofs.KeepingSteps.{all-more}
 
 abbrev Either : Type 0 → Type 0

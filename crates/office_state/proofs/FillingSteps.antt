@@ -1,18 +1,8 @@
 -- A part of the policies is copied, one after the other, in few looks
-use Rattle.std.proofs.Common.{◌≡◌, ℕ, suc, ◌+◌, ◌-◌, ◌*◌, ◌^◌, ◌<◌, ◌≤◌, get_or, min, nat_eq, nat_le, Bool, true, false, if◌then◌else◌, List, [], ◌∷◌, ◌++◌, length, take, drop, slice_get, sym, ap, ◌∙◌, Some, inl, inr, arith}
+use Rattle.office_state.proofs.Names.{◌≡◌, ℕ, suc, ◌+◌, ◌-◌, ◌*◌, ◌^◌, ◌<◌, ◌≤◌, get_or, min, nat_eq, nat_le, Bool, true, false, if◌then◌else◌, List, [], ◌∷◌, ◌++◌, length, take, drop, slice_get, sym, ap, ◌∙◌, Some, inl, inr, arith, cases_lt, length-drop, take_min, take_more, get_or-drop, get_or_from_slice_get, slice_get_within, Command, Policy, IsAccepted, sets_of, Setting, own, AreFewSteps, trimmed_from, versions_from, looks_at_most}
 use Rattle.std.proofs.Math.Nat.{pow-le-pow_right}
-use Rattle.std.proofs.lemmas.Bool.{cases_lt}
-use Rattle.std.proofs.lemmas.List.{length-drop, take_min, take_more, get_or-drop}
-use Rattle.std.proofs.lemmas.Option.{get_or_from_slice_get, slice_get_within}
-use Rattle.policy_types.specs.declared.command.Command.{Command}
-use Rattle.policy_types.specs.declared.policy.Policy.{Policy}
 use Rattle.policy_types.specs.Limits.{most_commands}
-use Rattle.policy_machine.specs.Book.{IsAccepted}
-use Rattle.office_state.specs.versions.Commands.{sets_of}
 use Rattle.office_state.proofs.SetSteps.{length-sets_of}
-use Rattle.versioned_book.specs.Settings.{Setting, own}
-use Rattle.versioned_book.specs.Versions.{AreFewSteps, trimmed_from, versions_from}
-use Rattle.office_state.specs.inside.Books.{looks_at_most}
 
 -- one policy more is copied
 pub copy_more : (policies : List Policy) (first index : ℕ) (policy : Policy) → first ≤ index → slice_get policies index ≡ Some policy

@@ -1,11 +1,5 @@
 -- The first of accepted commands, and the policies that they issue
-use Rattle.std.proofs.Common.{◌≡◌, ℕ, zero, suc, ◌<◌, List, [], ◌∷◌, ◌++◌, length, take, drop, refl, sym, ap, ◌∙◌, Some, None, Option, filter_map, slice_get, arith}
-use Rattle.std.specs.List.{AllByRecursion, cons_option}
-use Rattle.std.proofs.lemmas.List.{take-append-drop, length-map}
-use Rattle.std.proofs.lemmas.List.Elements.{filter_map-append}
-use Rattle.policy_types.specs.declared.command.Command.{Command}
-use Rattle.policy_types.specs.declared.policy.Policy.{Policy}
-use Rattle.policy_machine.specs.Book.{book, policy_of, issue_id, IsAccepted, IsAcceptedAfter}
+use Rattle.office_state.proofs.Names.{◌≡◌, ℕ, zero, suc, ◌<◌, List, [], ◌∷◌, ◌++◌, length, take, drop, refl, sym, ap, ◌∙◌, Some, None, Option, filter_map, slice_get, arith, AllByRecursion, cons_option, take-append-drop, length-map, filter_map-append, Command, Policy, book, policy_of, issue_id, IsAccepted, IsAcceptedAfter}
 use Rattle.policy_machine.proofs.BookGrowth.{IsThere, book-ids, policies_there}
 
 accepted_front : (before front rest : List Command) → IsAcceptedAfter before (front ++ rest) → IsAcceptedAfter before front

@@ -1,23 +1,9 @@
 -- What one more turn does to what is known of a history
-use Rattle.std.proofs.Common.{◌≡◌, ℕ, ◌+◌, ◌<◌, ◌≤◌, List, [], ◌∷◌, ◌++◌, length, refl, ap, sym, ◌∙◌, subst, Some, None, Option, Ok, Err, append-nil, append_assoc, length-append, arith, inl, inr}
+use Rattle.office_state.proofs.Names.{◌≡◌, ℕ, ◌+◌, ◌<◌, ◌≤◌, List, [], ◌∷◌, ◌++◌, length, refl, ap, sym, ◌∙◌, subst, Some, None, Option, Ok, Err, append-nil, append_assoc, length-append, arith, inl, inr, filter_map-append, cases_lt, cond-true, cond-false, eq-eqb, ne_eqb, Rose, Command, Policy, Refusal, Full, Reply, Accepted, Faulted, Entry, judged_after, Opening, IsAbove, IsDue, IsFreshFault, IsLegalAfter, accepted_by, accepted_of, commands_after, fault_of, refusal_due, HasFaulted, HasFaultedAt, HasFaultedBefore, HoldsOnce, IsOneMore, IsPending, faults_after, JournalBytes}
 use Rattle.std.specs.List.{AllByRecursion, filter_map, last_or}
 use Rattle.std.specs.Option.{unwrap_or}
-use Rattle.std.proofs.lemmas.List.Elements.{filter_map-append}
-use Rattle.std.proofs.lemmas.Bool.{cases_lt, cond-true, cond-false, eq-eqb, ne_eqb}
-use Rattle.outside_io.specs.Faults.{Rose}
-use Rattle.policy_types.specs.declared.command.Command.{Command}
-use Rattle.policy_types.specs.declared.policy.Policy.{Policy}
-use Rattle.policy_types.specs.declared.refusal.Refusal.{Refusal}
-use Rattle.policy_types.specs.declared.refusal.Refusal.TheVariants.{Full}
 use Rattle.policy_types.specs.declared.entry.Call.TheVariants.{Post}
-use Rattle.policy_types.specs.declared.entry.Reply.{Reply}
-use Rattle.policy_types.specs.declared.entry.Reply.TheVariants.{Accepted, Faulted}
-use Rattle.policy_types.specs.declared.entry.Entry.{Entry}
-use Rattle.policy_machine.specs.Book.{judged_after}
-use Rattle.policy_machine.specs.History.{Opening, IsAbove, IsDue, IsFreshFault, IsLegalAfter, accepted_by, accepted_of, commands_after, fault_of, refusal_due}
 use Rattle.policy_machine.proofs.HistoryLemmas.{accepted_of-push}
-use Rattle.office_state.specs.Images.{HasFaulted, HasFaultedAt, HasFaultedBefore, HoldsOnce, IsOneMore, IsPending, faults_after}
-use Rattle.office_state.specs.Journals.{JournalBytes}
 
 -- a posting by a caller
 abbrev pub posting : ℕ → Command → Reply → Entry

@@ -1,24 +1,6 @@
 -- What one more turn does to what is known of images
-use Rattle.std.proofs.Common.{◌≡◌, ℕ, ◌≤◌, Bool, true, false, List, [], ◌∷◌, ◌++◌, refl, subst, inl, inr}
-use Rattle.std.proofs.lemmas.List.{map-append}
-use Rattle.std.specs.List.{AllByRecursion}
-use Rattle.outside_io.specs.declared.disks.Disk.{Ghosts}
-use Rattle.policy_types.specs.declared.command.Command.{Command}
-use Rattle.policy_types.specs.declared.entry.Entry.{Entry}
-use Rattle.policy_types.specs.Valid.{IsValid}
-use Rattle.policy_machine.specs.Book.{IsAccepted}
-use Rattle.policy_machine.specs.History.{Opening, accepted_of, commands_after}
-use Rattle.record_codec.specs.Spelling.{spelling_of}
-use Rattle.posting_journal.specs.Files.{IsJournal}
-use Rattle.posting_journal.specs.Runs.{Leaves}
-use Rattle.posting_journal.specs.States.{IsKept, disk_of as disk_under, is_clean}
-use Rattle.posting_journal.specs.declared.journal.Journal.{Journal}
+use Rattle.office_state.proofs.Names.{◌≡◌, ℕ, ◌≤◌, Bool, true, false, List, [], ◌∷◌, ◌++◌, refl, subst, inl, inr, map-append, AllByRecursion, Ghosts, Command, Entry, IsValid, IsAccepted, Opening, accepted_of, commands_after, spelling_of, IsJournal, Leaves, IsKept, disk_under, is_clean, Journal, bodies_of, HoldsNow, HoldsOnce, JournalBytes, LeavesSince, IsLeftBehind, JournalHolds}
 use Rattle.posting_journal.proofs.Written.{staged_either}
-use Rattle.journal_replay.specs.Replays.{bodies_of}
-use Rattle.office_state.specs.Images.{HoldsNow, HoldsOnce}
-use Rattle.office_state.specs.Journals.{JournalBytes}
-use Rattle.office_state.specs.Standing.{LeavesSince}
-use Rattle.office_state.specs.inside.Holding.{IsLeftBehind, JournalHolds}
 use Rattle.office_state.proofs.HistorySteps.{commands-same, holds_all, holds_more, holds_once-push, pending-push}
 use Rattle.office_state.proofs.KeepingSteps.{all-more}
 use Rattle.office_state.proofs.OpeningSteps.{synced_before}

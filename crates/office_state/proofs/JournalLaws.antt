@@ -1,24 +1,8 @@
 -- A file opens to one list of commands at most, and one that is refused for what its bytes show opens to none, and is
 -- refused for one cause.
-use Rattle.std.proofs.Common.{◌≡◌, inl, inr, ℕ, ◌<◌, ◌≤◌, List, [], ◌∷◌, ◌++◌, length, refl, ap, sym, subst}
-use Rattle.std.proofs.Common.{append-nil, length-append, arith}
-use Rattle.std.proofs.lemmas.List.{length-map}
-use Rattle.std.proofs.lemmas.Bool.{cases_lt}
-use Rattle.std.specs.List.{AllByRecursion}
-use Rattle.policy_types.specs.declared.command.Command.{Command}
-use Rattle.policy_types.specs.Valid.{IsValid}
-use Rattle.policy_machine.specs.Book.{IsAccepted}
-use Rattle.policy_machine.proofs.JudgeLemmas.{accepted_at}
-use Rattle.record_codec.specs.Spelling.{spelling_of}
-use Rattle.record_codec.proofs.SpellingLemmas.{one_command}
-use Rattle.posting_journal.specs.Files.{IsJournal}
-use Rattle.posting_journal.specs.Creation.{IsForeign, IsBadAt, OpensToBodies}
+use Rattle.office_state.proofs.Names.{◌≡◌, inl, inr, ℕ, ◌<◌, ◌≤◌, List, [], ◌∷◌, ◌++◌, length, refl, ap, sym, subst, append-nil, length-append, arith, length-map, cases_lt, AllByRecursion, Command, IsValid, IsAccepted, accepted_at, spelling_of, one_command, IsJournal, IsForeign, IsBadAt, OpensToBodies, bodies_of, StartCause, DiskFault, NotAJournal, BadRecord, NoMemory, Opens, OpensToNone, IsUnfollowed, IsOfTheFile, IsShown}
 use Rattle.posting_journal.proofs.Unique.{opens_once, one_journal, journal_finished, foreign_never, bad_never}
 use Rattle.posting_journal.proofs.Unique.{one_cause, one_place}
-use Rattle.journal_replay.specs.Replays.{bodies_of}
-use Rattle.office_state.specs.declared.faults.StartCause.{StartCause}
-use Rattle.office_state.specs.declared.faults.StartCause.TheVariants.{DiskFault, NotAJournal, BadRecord, NoMemory}
-use Rattle.office_state.specs.Journals.{Opens, OpensToNone, IsUnfollowed, IsOfTheFile, IsShown}
 
 -- no body spells two commands that are recorded
 pub same_command : (command other : Command) → IsValid command → IsValid other

@@ -1,38 +1,21 @@
 -- What the books keep of the accepted commands, and what one more of them does to it
-use Rattle.std.proofs.Common.{◌≡◌, ℕ, ◌+◌, ◌*◌, ◌-◌, ◌^◌, ◌≤◌, ◌<◌, List, [], ◌∷◌, ◌++◌, length, refl, ap, sym, ◌∙◌, subst, filter_map, Ok, None, false, length-append, arith}
-use Rattle.std.proofs.lemmas.List.{length-drop}
+use Rattle.office_state.proofs.Names.{◌≡◌, ℕ, ◌+◌, ◌*◌, ◌-◌, ◌^◌, ◌≤◌, ◌<◌, List, [], ◌∷◌, ◌++◌, length, refl, ap, sym, ◌∙◌, subst, filter_map, Ok, None, false, length-append, arith, length-drop, AllByRecursion, Command, Upgrade, Policy, IsValid, id_of, is_upgrade, next, book, policy_of, judge, upgrade_of, IsAccepted-push, upgrade_from-other, sets_of, Setting, keys_of, own, until, newest_of, versions_from, until_all, Books, KeepsFew, commands_in, floor_in, kept_in, policies_in}
 use Rattle.std.proofs.Math.Seq.{take-length}
-use Rattle.std.specs.List.{AllByRecursion}
 use Rattle.indexmap.specs.IndexMap.{keys}
-use Rattle.policy_types.specs.declared.command.Command.{Command}
-use Rattle.policy_types.specs.declared.command.Command.TheVariants.{Upgrade}
-use Rattle.policy_types.specs.declared.policy.Policy.{Policy}
 use Rattle.policy_types.specs.Limits.{most_commands}
-use Rattle.policy_types.specs.Valid.{IsValid, id_of, is_upgrade}
 use Rattle.policy_types.specs.Accounts.{AreWithin, added, booking_of}
 use Rattle.money_ledgers.specs.Balances.{HasRoom, balances}
 use Rattle.money_ledgers.specs.declared.ledger.Ledger.{Ledger}
 use Rattle.policy_machine.specs.Accounts.{ledger_of}
-use Rattle.policy_machine.specs.Rules.{next}
-use Rattle.policy_machine.specs.Book.{book, policy_of, judge, upgrade_of}
-use Rattle.policy_machine.proofs.BookLemmas.{IsAccepted-push}
-use Rattle.policy_machine.proofs.JudgeLemmas.{upgrade_from-other}
 use Rattle.policy_machine.proofs.LedgerLemmas.{AreWithin-ledger, AreWithin-wider, ledger_of-push, ledger_of-upgrade}
-use Rattle.office_state.specs.versions.Commands.{sets_of}
 use Rattle.office_state.proofs.BookValues.{key_count, keys_of-sets_of}
 use Rattle.office_state.proofs.PolicyValues.{newest_of-sets_of}
 use Rattle.office_state.proofs.SetSteps.{few_after, sets_of-accepted, sets_of-rise, sets_of-upgrade}
 use Rattle.versioned_book.specs.Books.{IsBookOf, IsSomeBook, kept_of, versions_in}
-use Rattle.versioned_book.specs.Settings.{Setting, keys_of, own, until}
-use Rattle.versioned_book.specs.Versions.{newest_of, versions_from}
 use Rattle.versioned_book.specs.declared.book.VersionedBook.{VersionedBook}
 use Rattle.versioned_book.proofs.BookSteps.{versions_in-book}
 use Rattle.versioned_book.proofs.KeptFew.{kept_few}
-use Rattle.versioned_book.proofs.SettingSteps.{until_all}
 use Rattle.versioned_book.proofs.VersionSteps.{newest_of-trimmed}
-use Rattle.office_state.specs.declared.books.Books.{Books}
-use Rattle.office_state.specs.Standing.{KeepsFew}
-use Rattle.office_state.specs.inside.Books.{commands_in, floor_in, kept_in, policies_in}
 use Rattle.office_state.specs.inside.Keeping.{Keeps}
 
 -- one more that has P

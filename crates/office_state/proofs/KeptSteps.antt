@@ -1,13 +1,5 @@
 -- What was accepted stays, from one turn to the next
-use Rattle.std.proofs.Common.{◌≡◌, ◌⊎◌, ℕ, ◌≤◌, List, [], ◌∷◌, ◌++◌, refl, ap, sym, ◌∙◌, subst, append-nil, append_assoc, arith, inl, inr}
-use Rattle.std.proofs.lemmas.List.Elements.{filter_map-append}
-use Rattle.outside_io.specs.declared.disks.Disk.{Ghosts}
-use Rattle.policy_types.specs.declared.command.Command.{Command}
-use Rattle.policy_types.specs.declared.entry.Entry.{Entry}
-use Rattle.policy_machine.specs.History.{Opening, accepted_by, accepted_of, commands_after}
-use Rattle.posting_journal.specs.Runs.{Leaves}
-use Rattle.office_state.specs.Images.{HasKept, HoldsAtLeast, HoldsNow, KeepsAccepted}
-use Rattle.office_state.specs.Journals.{JournalBytes, Opens}
+use Rattle.office_state.proofs.Names.{◌≡◌, ◌⊎◌, ℕ, ◌≤◌, List, [], ◌∷◌, ◌++◌, refl, ap, sym, ◌∙◌, subst, append-nil, append_assoc, arith, inl, inr, filter_map-append, Ghosts, Command, Entry, Opening, accepted_by, accepted_of, commands_after, Leaves, HasKept, HoldsAtLeast, HoldsNow, KeepsAccepted, JournalBytes, Opens}
 use Rattle.office_state.proofs.HistorySteps.{commands-same, pending-push}
 use Rattle.office_state.proofs.OpeningSteps.{OnlyNow}
 

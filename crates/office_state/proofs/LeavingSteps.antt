@@ -1,11 +1,5 @@
 -- The disk that an office leaves
-use Rattle.std.proofs.Common.{List}
-use Rattle.outside_io.specs.declared.disks.Disk.{Ghosts}
-use Rattle.policy_types.specs.declared.entry.Entry.{Entry}
-use Rattle.watcher_set.specs.declared.watching.Watching.{Ghosts as WatcherGhosts}
-use Rattle.office_state.specs.declared.state.OfficeState.{OfficeState}
-use Rattle.office_state.specs.Images.{IsLeftBy}
-use Rattle.office_state.specs.Standing.{StandsFor}
+use Rattle.office_state.proofs.Names.{List, Ghosts, Entry, WatcherGhosts, OfficeState, IsLeftBy, StandsFor}
 use Rattle.office_state.specs.States.{begun_of, disk_of, opening_of}
 
 module _ {D W : Type 0} {g : Ghosts D} {w : WatcherGhosts W} where

@@ -1,3 +1,4 @@
+pub mod Names
 pub mod SetSteps
 pub mod PolicyValues
 pub mod Fronts

@@ -1,28 +1,10 @@
 -- The office of a journal that was started on a disk, and what is known where there is none
-use Rattle.std.proofs.Common.{◌≡◌, inl, inr, ℕ, ◌<◌, ◌≤◌, true, false, List, Option, [], ◌++◌, length, ◌∙◌, sym, subst, refl, append-nil, arith, None, Err}
-use Rattle.outside_io.specs.declared.disks.Disk.{Ghosts}
-use Rattle.outside_io.specs.Faults.{Rose}
-use Rattle.policy_machine.specs.Book.{judge}
-use Rattle.policy_machine.specs.History.{Opening, opened_on}
-use Rattle.posting_journal.specs.Creation.{OpensToBodies}
+use Rattle.office_state.proofs.Names.{◌≡◌, inl, inr, ℕ, ◌<◌, ◌≤◌, true, false, List, Option, [], ◌++◌, length, ◌∙◌, sym, subst, refl, append-nil, arith, None, Err, Ghosts, Rose, judge, Opening, opened_on, OpensToBodies, JournalStands, disk_under, is_clean, Journal, WatcherGhosts, HasReplayCause, IsStoppedAt, Stops, bodies_of, told, StartCause, BadRecord, OfficeState, HoldsNow, Opens, IsShown, LeavesSince, StandsFor, JournalHolds, IsOfficeOf, HasNoOffice, MakeJournal, as_replay_cause}
 use Rattle.posting_journal.specs.Starting.{HasStarted}
-use Rattle.posting_journal.specs.States.{StandsFor as JournalStands, disk_of as disk_under, is_clean}
-use Rattle.posting_journal.specs.declared.journal.Journal.{Journal}
-use Rattle.watcher_set.specs.declared.watching.Watching.{Ghosts as WatcherGhosts}
-use Rattle.journal_replay.specs.Replays.{HasReplayCause, IsStoppedAt, Stops, bodies_of}
 use Rattle.journal_replay.specs.declared.replaying.ReplayFault.{ReplayFault}
 use Rattle.journal_replay.specs.declared.replaying.ReplayFault.TheVariants as replay
-use Rattle.moment_ring.specs.Ends.{told}
-use Rattle.office_state.specs.declared.faults.StartCause.{StartCause}
-use Rattle.office_state.specs.declared.faults.StartCause.TheVariants.{BadRecord}
-use Rattle.office_state.specs.declared.state.OfficeState.{OfficeState}
-use Rattle.office_state.specs.Images.{HoldsNow}
-use Rattle.office_state.specs.Journals.{Opens, IsShown}
 use Rattle.office_state.specs.Opening.{HasOpened, HasNotOpened, TellsFault}
-use Rattle.office_state.specs.Standing.{LeavesSince, StandsFor}
 use Rattle.office_state.specs.States.{MomentRing, commands_of, disk_of}
-use Rattle.office_state.specs.inside.Holding.{JournalHolds}
-use Rattle.office_state.specs.inside.Replays.{IsOfficeOf, HasNoOffice, MakeJournal, as_replay_cause}
 use Rattle.office_state.proofs.ReplaySteps.{stopped_shown}
 use Rattle.office_state.proofs.OpeningSteps.{CountsNow, IsStarted, OnlyNow, ReadsImage, opening_keeps, looked_on, holds_once, looked_alone, looked_ever, synced_images, opens_commands, started_later}
 use Rattle.office_state.proofs.KeepingSteps.{promised}

@@ -1,25 +1,11 @@
 -- What is known of the disk and its images once a journal was started, or couldn't be
-use Rattle.std.proofs.Common.{◌≡◌, ◌⊎◌, inl, inr, ⊎_elim, ℕ, ◌≤◌, List, [], ◌∷◌, refl, sym, subst, append-nil, arith, IsTrue}
-use Rattle.std.specs.List.{AllByRecursion}
-use Rattle.outside_io.specs.declared.disks.Disk.{Ghosts}
-use Rattle.policy_types.specs.declared.command.Command.{Command}
-use Rattle.policy_types.specs.Valid.{IsValid}
-use Rattle.policy_machine.specs.Book.{IsAccepted}
-use Rattle.posting_journal.specs.Creation.{IsUnfinished, OpensToBodies}
+use Rattle.office_state.proofs.Names.{◌≡◌, ◌⊎◌, inl, inr, ⊎_elim, ℕ, ◌≤◌, List, [], ◌∷◌, refl, sym, subst, append-nil, arith, IsTrue, AllByRecursion, Ghosts, Command, IsValid, IsAccepted, IsUnfinished, OpensToBodies, LooksOn, disk_of, is_clean, Journal, IsLookedAt, bodies_of, Opens, OpensToNone, IsShown, HoldsOnce, IsLeftAlone, OpensAlike, opened_on, as_cause}
 use Rattle.posting_journal.specs.Opening.{IsSynced, IsOpenedOn, OpensOn}
-use Rattle.posting_journal.specs.Runs.{LooksOn}
 use Rattle.posting_journal.specs.Starting.{TellsCause, HasStarted, ShowsCause}
-use Rattle.posting_journal.specs.States.{disk_of, is_clean}
 use Rattle.posting_journal.specs.declared.faults.JournalCause.{JournalCause}
 use Rattle.posting_journal.specs.declared.faults.JournalCause.TheVariants.{DiskFault as FaultyDisk, NotAJournal as IsNoJournal, BadRecord as IsBadRecord}
-use Rattle.posting_journal.specs.declared.journal.Journal.{Journal}
 use Rattle.posting_journal.proofs.Moments.{looks_on}
-use Rattle.journal_replay.specs.Replays.{IsLookedAt, bodies_of}
-use Rattle.office_state.specs.Journals.{Opens, OpensToNone, IsShown}
-use Rattle.office_state.specs.Images.{HoldsOnce, IsLeftAlone, OpensAlike}
-use Rattle.policy_machine.specs.History.{opened_on}
 use Rattle.office_state.specs.Opening.{HasNotOpened, TellsFault}
-use Rattle.office_state.specs.inside.Replays.{as_cause}
 use Rattle.office_state.proofs.JournalLaws.{opens_to_one}
 
 no_bodies : (commands : List Command) → bodies_of commands ≡ [] → commands ≡ []

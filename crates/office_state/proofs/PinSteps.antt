@@ -1,17 +1,9 @@
 -- What one more turn does to the live pins of a history, and what is known of one of them
-use Rattle.std.proofs.Common.{◌≡◌, ℕ, zero, suc, ◌+◌, ◌<◌, ◌≤◌, Bool, true, false, not, cond, ◌||◌, ◌⊎◌, inl, inr, List, [], ◌∷◌, ◌++◌, length, drop, slice_get, map, filter, refl, sym, ap, ◌∙◌, subst, append-nil, None, Some, Option, filter_map, arith}
-use Rattle.std.specs.List.{Contains, cons_option, list_any, range_with_len}
+use Rattle.office_state.proofs.Names.{◌≡◌, ℕ, zero, suc, ◌+◌, ◌<◌, ◌≤◌, Bool, true, false, not, cond, ◌||◌, ◌⊎◌, inl, inr, List, [], ◌∷◌, ◌++◌, length, drop, slice_get, map, filter, refl, sym, ap, ◌∙◌, subst, append-nil, None, Some, Option, filter_map, arith, Contains, cons_option, list_any, range_with_len, none-some, same_Some, slice_get_within, filter_map-append, Entry, gives_up, live_pin, live_positions, pin_of, pinned_position, live_parts, slice_get-front, slice_get-middle, Held, held_at, held_in, pins_held}
 use Rattle.std.specs.Option.{option_map}
-use Rattle.std.proofs.lemmas.Option.{none-some, same_Some, slice_get_within}
 use Rattle.std.proofs.lemmas.List.{drop-append-le, drop_all, length-append}
 use Rattle.std.proofs.lemmas.List.Folds.{list_any-append}
-use Rattle.std.proofs.lemmas.List.Elements.{filter_map-append}
 use Rattle.policy_types.specs.declared.entry.Call.{Call}
-use Rattle.policy_types.specs.declared.entry.Entry.{Entry}
-use Rattle.policy_machine.specs.History.{gives_up, live_pin, live_positions, pin_of, pinned_position}
-use Rattle.policy_machine.proofs.HistoryGrowth.{live_parts, slice_get-front, slice_get-middle}
-use Rattle.office_state.specs.declared.held.Held.{Held}
-use Rattle.office_state.specs.Pins.{held_at, held_in, pins_held}
 
 -- whether a turn after the one at a place gave its pin up
 abbrev given_up : List Entry → ℕ → Bool

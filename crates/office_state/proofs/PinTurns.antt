@@ -1,30 +1,10 @@
 -- The turns that pin a position, read it, give it up or raise the floor
-use Rattle.std.proofs.Common.{◌≡◌, ℕ, suc, ◌+◌, ◌<◌, ◌≤◌, ◌==◌, false, not, List, [], ◌∷◌, ◌++◌, length, take, drop, map, min, slice_get, filter, refl, sym, ap, ◌∙◌, subst, Some, None, Ok, Err, Result, arith}
-use Rattle.std.specs.Prelude.{MatchResult}
-use Rattle.std.specs.List.{AllByRecursion, Contains, fold}
-use Rattle.std.proofs.lemmas.List.{length-map, take_all}
-use Rattle.std.proofs.lemmas.Option.{same_Some}
-use Rattle.outside_io.specs.declared.disks.Disk.{Ghosts}
-use Rattle.watcher_set.specs.declared.watching.Watching.{Ghosts as WatcherGhosts}
+use Rattle.office_state.proofs.Names.{◌≡◌, ℕ, suc, ◌+◌, ◌<◌, ◌≤◌, ◌==◌, false, not, List, [], ◌∷◌, ◌++◌, length, take, drop, map, min, slice_get, filter, refl, sym, ap, ◌∙◌, subst, Some, None, Ok, Err, Result, arith, MatchResult, AllByRecursion, Contains, fold, length-map, take_all, same_Some, Ghosts, WatcherGhosts, Policy, Pinned, Entry, book, Opening, IsDue, IsOwnPin, accepted_of, commands_after, floor_set, gives_up, least_or, live_pin, live_positions, most_pins, pin_of, PinsHold, PinsHold-legal, floor_of-kept, floor_of-set, least-count, records_in, Books, Held, OfficeState, IsHeldBy, MayRead, pins_held, StandsFor, commands_of, floor_kept, opening_of, pins_of, commands_in, floor_in}
 use Rattle.arrayvec.specs.ArrayVec.{ArrayVec}
-use Rattle.policy_types.specs.declared.policy.Policy.{Policy}
-use Rattle.policy_types.specs.declared.entry.Reply.TheVariants.{Pinned}
 use Rattle.policy_types.specs.declared.entry.PinRefusal.{PinRefusal}
 use Rattle.policy_types.specs.declared.entry.PinRefusal.TheVariants.{Ahead, Trimmed, PinsFull}
-use Rattle.policy_types.specs.declared.entry.Entry.{Entry}
-use Rattle.policy_machine.specs.Book.{book}
-use Rattle.policy_machine.specs.History.{Opening, IsDue, IsOwnPin, accepted_of, commands_after, floor_set, gives_up, least_or, live_pin, live_positions, most_pins, pin_of}
-use Rattle.policy_machine.proofs.HistoryGrowth.{PinsHold, PinsHold-legal, floor_of-kept, floor_of-set, least-count}
-use Rattle.posting_journal.specs.States.{count_of as records_in}
-use Rattle.office_state.specs.declared.books.Books.{Books}
-use Rattle.office_state.specs.declared.held.Held.{Held}
 use Rattle.office_state.specs.declared.held.PinInfo.{PinInfo}
-use Rattle.office_state.specs.declared.state.OfficeState.{OfficeState}
-use Rattle.office_state.specs.Pins.{IsHeldBy, MayRead, pins_held}
-use Rattle.office_state.specs.Standing.{StandsFor}
-use Rattle.office_state.specs.States.{commands_of, floor_kept, opening_of, pins_of}
 use Rattle.office_state.specs.Turning.{pin_turn, pin_at_turn, read_turn, unpin_turn, trim_turn}
-use Rattle.office_state.specs.inside.Books.{commands_in, floor_in}
 use Rattle.office_state.specs.inside.Pinning.{HasTaken, IsFull}
 use Rattle.office_state.proofs.HistorySteps.{faults_met}
 use Rattle.office_state.proofs.PinSteps.{among_held, live_among, pins_held-fewer, pins_held-more, pins_held-same, positions_held}

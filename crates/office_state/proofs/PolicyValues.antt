@@ -1,21 +1,6 @@
 -- What a policy's versions have to do with the policy
-use Rattle.std.proofs.Common.{◌≡◌, ℕ, zero, suc, ◌+◌, ◌<◌, ◌≤◌, Bool, true, false, nat_eq, List, [], ◌∷◌, ◌++◌, length, take, slice_get, Some, Ok, Err, refl, sym, ap, ◌∙◌, subst, ◌⊎◌, inl, inr, arith}
-use Rattle.std.proofs.lemmas.Bool.{cases_lt, eq-eqb, eqb-true}
-use Rattle.std.proofs.lemmas.List.{length_push, take-append-le, take_all}
-use Rattle.std.proofs.lemmas.Option.{slice_get_within}
-use Rattle.policy_types.specs.declared.command.Command.{Command}
-use Rattle.policy_types.specs.declared.command.Command.TheVariants.{Upgrade}
-use Rattle.policy_types.specs.declared.policy.Policy.{Policy}
-use Rattle.policy_types.specs.declared.refusal.Refusal.{Refusal}
-use Rattle.policy_types.specs.Valid.{id_of, is_upgrade}
-use Rattle.policy_machine.specs.Rules.{next}
-use Rattle.policy_machine.specs.Book.{kept, policy_of}
-use Rattle.policy_machine.proofs.BookLemmas.{policy_of-push_own, policy_of-push_other}
-use Rattle.versioned_book.specs.Versions.{newest_of, value_at}
-use Rattle.versioned_book.specs.Settings.{Setting, own}
-use Rattle.versioned_book.proofs.SettingSteps.{own-other, own-push}
+use Rattle.office_state.proofs.Names.{◌≡◌, ℕ, zero, suc, ◌+◌, ◌<◌, ◌≤◌, Bool, true, false, nat_eq, List, [], ◌∷◌, ◌++◌, length, take, slice_get, Some, Ok, Err, refl, sym, ap, ◌∙◌, subst, ◌⊎◌, inl, inr, arith, cases_lt, eq-eqb, eqb-true, length_push, take-append-le, take_all, slice_get_within, Command, Upgrade, Policy, Refusal, id_of, is_upgrade, next, kept, policy_of, policy_of-push_own, policy_of-push_other, newest_of, value_at, Setting, own, own-other, own-push, sets_of}
 use Rattle.versioned_book.proofs.VersionSteps.{newest_of-push, value_at-past, value_at-within}
-use Rattle.office_state.specs.versions.Commands.{sets_of}
 use Rattle.office_state.specs.versions.Policies.{EachSetLaw, IsSetBy, NewestPolicyLaw, PolicyAtLaw}
 use Rattle.office_state.proofs.SetSteps.{by_accepted, by_each, setting_to, sets_of-accepted, sets_of-refused, sets_of-upgrade}
 

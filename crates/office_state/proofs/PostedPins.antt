@@ -1,11 +1,5 @@
 -- A posting leaves the pins and the floor.
-use Rattle.std.proofs.Common.{◌≡◌, ℕ, List, [], ◌∷◌, ◌++◌, refl, sym, None}
-use Rattle.policy_types.specs.declared.command.Command.{Command}
-use Rattle.policy_types.specs.declared.entry.Reply.{Reply}
-use Rattle.policy_types.specs.declared.entry.Entry.{Entry}
-use Rattle.policy_machine.specs.History.{floor_of, floor_set, pin_of}
-use Rattle.policy_machine.proofs.HistoryGrowth.{floor_of-kept}
-use Rattle.office_state.specs.Pins.{pins_held}
+use Rattle.office_state.proofs.Names.{◌≡◌, ℕ, List, [], ◌∷◌, ◌++◌, refl, sym, None, Command, Reply, Entry, floor_of, floor_set, pin_of, floor_of-kept, pins_held}
 use Rattle.office_state.proofs.HistorySteps.{posting}
 use Rattle.office_state.proofs.PinSteps.{pins_held-same}
 

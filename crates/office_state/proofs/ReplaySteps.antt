@@ -1,20 +1,9 @@
 -- What a replay into the books tells, and what the bytes show of the record at which one stops
-use Rattle.std.proofs.Common.{◌≡◌, ℕ, ◌+◌, ◌<◌, List, [], ◌∷◌, ◌++◌, length, take, drop, get_or, None, add-one, refl, ap, subst, sym, ◌∙◌}
+use Rattle.office_state.proofs.Names.{◌≡◌, ℕ, ◌+◌, ◌<◌, List, [], ◌∷◌, ◌++◌, length, take, drop, get_or, None, add-one, refl, ap, subst, sym, ◌∙◌, take-append-drop, Ghosts, judge, IsJournal, count_of, Journal, BodiesHave, IsStoppedAt, Replays, Stops, bodies_of, Books, IsUnfollowed, commands_in, MakeJournal}
 use Rattle.std.proofs.Math.Seq.{drop-cons}
-use Rattle.std.proofs.lemmas.List.{take-append-drop}
-use Rattle.outside_io.specs.declared.disks.Disk.{Ghosts}
-use Rattle.policy_machine.specs.Book.{judge}
-use Rattle.posting_journal.specs.Files.{IsJournal}
-use Rattle.posting_journal.specs.States.{count_of}
-use Rattle.posting_journal.specs.declared.journal.Journal.{Journal}
 use Rattle.journal_replay.specs.Keeping.{AreKept}
-use Rattle.journal_replay.specs.Replays.{BodiesHave, IsStoppedAt, Replays, Stops, bodies_of}
 use Rattle.journal_replay.specs.declared.replaying.ReplayFault.{ReplayFault}
 use Rattle.journal_replay.proofs.ReplaySteps.{Stops-wider, all_replayed}
-use Rattle.office_state.specs.declared.books.Books.{Books}
-use Rattle.office_state.specs.Journals.{IsUnfollowed}
-use Rattle.office_state.specs.inside.Books.{commands_in}
-use Rattle.office_state.specs.inside.Replays.{MakeJournal}
 
 module _ {D : Type 0} (g : Ghosts D) (journal : Journal D g) (now : D) where
   -- with every record replayed, the bodies are those of the books' commands

@@ -1,14 +1,6 @@
 -- The moments since which the accepted commands are safe, from one turn to the next
-use Rattle.std.proofs.Common.{◌≡◌, ℕ, ◌≤◌, List, [], ◌∷◌, ◌++◌, Option, Some, None, refl, sym, ◌∙◌, subst, append-nil, append_assoc, arith, inl, inr}
+use Rattle.office_state.proofs.Names.{◌≡◌, ℕ, ◌≤◌, List, [], ◌∷◌, ◌++◌, Option, Some, None, refl, sym, ◌∙◌, subst, append-nil, append_assoc, arith, inl, inr, Ghosts, Command, Leaves, sent, SameOutlet, TellsOne, told, AreSafeSince, HoldsAtLeast, Opens, MomentRing}
 use Rattle.std.specs.Prelude.{IfSome}
-use Rattle.outside_io.specs.declared.disks.Disk.{Ghosts}
-use Rattle.policy_types.specs.declared.command.Command.{Command}
-use Rattle.posting_journal.specs.Runs.{Leaves}
-use Rattle.rtrb.specs.Ring.{sent}
-use Rattle.moment_ring.specs.Ends.{SameOutlet, TellsOne, told}
-use Rattle.office_state.specs.Images.{AreSafeSince, HoldsAtLeast}
-use Rattle.office_state.specs.Journals.{Opens}
-use Rattle.office_state.specs.States.{MomentRing}
 
 -- what holds at least some commands holds at least the first of them
 least_first : (held commands : List Command) (command : Command) (image : List ℕ) → HoldsAtLeast (held ++ command ∷ commands) image

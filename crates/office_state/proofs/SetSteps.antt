@@ -1,21 +1,7 @@
 -- One more command, and the settings
-use Rattle.std.proofs.Common.{◌≡◌, ℕ, ◌+◌, ◌-◌, ◌<◌, ◌≤◌, Bool, true, false, cond, nat_lt, List, [], ◌∷◌, ◌++◌, length, Some, None, Option, Ok, Err, Result, ◌⊎◌, inl, inr, refl, sym, ap, ◌∙◌, subst, append_assoc, append-nil, arith}
+use Rattle.office_state.proofs.Names.{◌≡◌, ℕ, ◌+◌, ◌-◌, ◌<◌, ◌≤◌, Bool, true, false, cond, nat_lt, List, [], ◌∷◌, ◌++◌, length, Some, None, Option, Ok, Err, Result, ◌⊎◌, inl, inr, refl, sym, ap, ◌∙◌, subst, append_assoc, append-nil, arith, filter-append, Command, Upgrade, Policy, Refusal, Unknown, id_of, is_upgrade, next, policy_of, judge, IsAccepted, IsAcceptedAfter, accepted_next, next-no_upgrade, next-upgrade, IsRisingTo, Setting, positions, settings_after, positions_rise, rising-longer, setting_by, setting_of, sets_after, sets_of}
 use Rattle.std.specs.List.{cons_option, filter}
 use Rattle.std.proofs.lemmas.List.{length-append, length_push}
-use Rattle.std.proofs.lemmas.List.Elements.{filter-append}
-use Rattle.policy_types.specs.declared.command.Command.{Command}
-use Rattle.policy_types.specs.declared.command.Command.TheVariants.{Upgrade}
-use Rattle.policy_types.specs.declared.policy.Policy.{Policy}
-use Rattle.policy_types.specs.declared.refusal.Refusal.{Refusal}
-use Rattle.policy_types.specs.declared.refusal.Refusal.TheVariants.{Unknown}
-use Rattle.policy_types.specs.Valid.{id_of, is_upgrade}
-use Rattle.policy_machine.specs.Rules.{next}
-use Rattle.policy_machine.specs.Book.{policy_of, judge, IsAccepted, IsAcceptedAfter}
-use Rattle.policy_machine.proofs.JudgeLemmas.{accepted_next, next-no_upgrade, next-upgrade}
-use Rattle.versioned_book.specs.Versions.{IsRisingTo}
-use Rattle.versioned_book.specs.Settings.{Setting, positions, settings_after}
-use Rattle.versioned_book.proofs.SettingSteps.{positions_rise, rising-longer}
-use Rattle.office_state.specs.versions.Commands.{setting_by, setting_of, sets_after, sets_of}
 use Rattle.office_state.specs.versions.Steps.{AcceptedSetLaw, RefusedSetLaw, RisingLaw, SetCountLaw, SetsAfterLaw, UpgradeSetLaw}
 
 cons_option-append : {X : Type 0} (o : Option X) (xs ys : List X) → cons_option o (xs ++ ys) ≡ cons_option o xs ++ ys

@@ -1,42 +1,12 @@
 -- What one more turn does to an office
-use Rattle.std.proofs.Common.{◌≡◌, ◌⊎◌, ℕ, ◌+◌, ◌≤◌, Bool, true, false, List, [], ◌∷◌, ◌++◌, length, refl, ap, sym, ◌∙◌, subst, None, Option, Ok, Err, Result, length-append, arith, inl, inr}
-use Rattle.std.proofs.lemmas.List.{map-append}
+use Rattle.office_state.proofs.Names.{◌≡◌, ◌⊎◌, ℕ, ◌+◌, ◌≤◌, Bool, true, false, List, [], ◌∷◌, ◌++◌, length, refl, ap, sym, ◌∙◌, subst, None, Option, Ok, Err, Result, length-append, arith, inl, inr, map-append, AllByRecursion, Ghosts, Rose, Command, Policy, Accepted, Faulted, Entry, IsValid, IsAccepted, judged_after, refusal_in, Opening, IsDue, IsLegal, accepted_of, commands_after, floor_of, refusal_due, IsAccepted-push, spelling_of, IsJournal, Leaves, JournalStands, IsKept, records_in, disk_under, is_clean, Journal, WatcherGhosts, sent, SameOutlet, TellsOne, moments_told, bodies_of, Books, Held, OfficeState, AreSafeSince, HasKept, HoldsAtLeast, HoldsNow, HoldsOnce, IsQuietReply, KeepsAccepted, JournalBytes, pins_held, LeavesSince, StandsFor, commands_in, floor_in, IsLeftBehind, JournalHolds}
 use Rattle.std.specs.Prelude.{IfSome, OnOk, OnErr}
-use Rattle.std.specs.List.{AllByRecursion}
-use Rattle.outside_io.specs.declared.disks.Disk.{Ghosts}
-use Rattle.outside_io.specs.Faults.{Rose}
-use Rattle.policy_types.specs.declared.command.Command.{Command}
-use Rattle.policy_types.specs.declared.policy.Policy.{Policy}
-use Rattle.policy_types.specs.declared.entry.Reply.TheVariants.{Accepted, Faulted}
-use Rattle.policy_types.specs.declared.entry.Entry.{Entry}
-use Rattle.policy_types.specs.Valid.{IsValid}
-use Rattle.policy_machine.specs.Book.{IsAccepted, judged_after, refusal_in}
-use Rattle.policy_machine.specs.History.{Opening, IsDue, IsLegal, accepted_of, commands_after, floor_of, refusal_due}
-use Rattle.policy_machine.proofs.BookLemmas.{IsAccepted-push}
 use Rattle.policy_machine.proofs.HistoryLemmas.{IsLegalAfter-push, accepted_of-push}
-use Rattle.record_codec.specs.Spelling.{spelling_of}
-use Rattle.posting_journal.specs.Files.{IsJournal}
-use Rattle.posting_journal.specs.Runs.{Leaves}
-use Rattle.posting_journal.specs.States.{StandsFor as JournalStands, IsKept, count_of as records_in, disk_of as disk_under, is_clean}
-use Rattle.posting_journal.specs.declared.journal.Journal.{Journal}
-use Rattle.watcher_set.specs.declared.watching.Watching.{Ghosts as WatcherGhosts}
 use Rattle.arrayvec.specs.ArrayVec.{ArrayVec}
-use Rattle.rtrb.specs.Ring.{sent}
-use Rattle.moment_ring.specs.Ends.{SameOutlet, TellsOne, told as moments_told}
 use Rattle.moment_ring.specs.declared.outlet.MomentOutlet.{MomentOutlet}
-use Rattle.journal_replay.specs.Replays.{bodies_of}
-use Rattle.office_state.specs.declared.books.Books.{Books}
-use Rattle.office_state.specs.declared.held.Held.{Held}
-use Rattle.office_state.specs.declared.state.OfficeState.{OfficeState}
 use Rattle.office_state.specs.declared.answer.Answer.TheVariants.{Accepted as AcceptedAt, DiskFault}
-use Rattle.office_state.specs.Images.{AreSafeSince, HasKept, HoldsAtLeast, HoldsNow, HoldsOnce, IsQuietReply, KeepsAccepted}
-use Rattle.office_state.specs.Journals.{JournalBytes}
-use Rattle.office_state.specs.Pins.{pins_held}
 use Rattle.office_state.specs.Posting.{CrashesIn}
-use Rattle.office_state.specs.Standing.{LeavesSince, StandsFor}
 use Rattle.office_state.specs.States.{begun_of, commands_of, disk_of, opening_of}
-use Rattle.office_state.specs.inside.Books.{commands_in, floor_in}
-use Rattle.office_state.specs.inside.Holding.{IsLeftBehind, JournalHolds}
 use Rattle.office_state.specs.inside.Records.{Records}
 use Rattle.office_state.proofs.HistorySteps.{accepted-same, all_before, all_in, all_up_to, commands-more, commands-same, faults-same, faults_after-more, faults_after-same, faults_met, faults-more, holds_all, holds_more, is_due, is_fresh, pending-now, posting}
 use Rattle.office_state.proofs.KeptSteps.{keeps_more, keeps_still, keeps_unaccepted, kept_now, least_now}

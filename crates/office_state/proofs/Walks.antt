@@ -1,11 +1,6 @@
 -- A struct with no bytes is made. The walks of `AcceptedList` share it.
-use Rattle.std.proofs.Common.{List, [], ◌∷◌, refl}
-use seplogic.Ra.Ura.{Ura}
-use mir.Val.{Val, vstruct, vnil}
-use types.Logic.{Logic}
+use Rattle.office_state.proofs.Names.{List, [], ◌∷◌, refl, Ura, Val, vstruct, vnil, Logic, RattleType, Valss, nothing}
 use types.Kit.{Goal, Step, step, Item, ‵, ◌$◌, fjoin, fpack, feq_i}
-use denote.RattleType.{RattleType, Valss}
-use denote.Steps.{nothing}
 use denote.Struct.Struct.{Struct, within}
 
 abbrev pub none : Val

@@ -1,24 +1,8 @@
 -- What worked files of an office are told by.
-use Rattle.std.proofs.Common.{◌≡◌, ◌≤◌, ◌<◌, Option, Some, None, ◌++◌, ◌∷◌, ◌∙◌, ℕ, zero, suc, List, [], length, ap, sym, subst, refl, lit<, lit≤, length-append, arith}
+use Rattle.office_state.proofs.Names.{◌≡◌, ◌≤◌, ◌<◌, Option, Some, None, ◌++◌, ◌∷◌, ◌∙◌, ℕ, zero, suc, List, [], length, ap, sym, subst, refl, lit<, lit≤, length-append, arith, Command, Reply, Accepted, Faulted, Blank, Entry, Refusal, Taken, IsValid, judge, accepted_of, spelling_of, one_command, HasRecords, bodies_of, IsPending, IsUnspelled, JournalBytes, hand_issue, hand_premium, issue_body, issue_record, journal_of_two, premium_turn}
 use Rattle.std.proofs.lemmas.Int.{ints}
 use Rattle.life_dates.specs.Anniversary as dates
-use Rattle.policy_types.specs.declared.command.Command.{Command}
 use Rattle.policy_types.specs.declared.entry.Call.TheVariants.{Post}
-use Rattle.policy_types.specs.declared.entry.Reply.{Reply}
-use Rattle.policy_types.specs.declared.entry.Reply.TheVariants.{Accepted, Faulted, Blank}
-use Rattle.policy_types.specs.declared.entry.Entry.{Entry}
-use Rattle.policy_types.specs.declared.refusal.Refusal.{Refusal}
-use Rattle.policy_types.specs.declared.refusal.Refusal.TheVariants.{Taken}
-use Rattle.policy_types.specs.Valid.{IsValid}
-use Rattle.policy_machine.specs.Book.{judge}
-use Rattle.policy_machine.specs.History.{accepted_of}
-use Rattle.record_codec.specs.Spelling.{spelling_of}
-use Rattle.record_codec.proofs.SpellingLemmas.{one_command}
-use Rattle.posting_journal.specs.Files.{HasRecords}
-use Rattle.journal_replay.specs.Replays.{bodies_of}
-use Rattle.office_state.specs.Images.{IsPending}
-use Rattle.office_state.specs.Journals.{IsUnspelled, JournalBytes}
-use Rattle.office_state.specs.Worked.{hand_issue, hand_premium, issue_body, issue_record, journal_of_two, premium_turn}
 
 pub valid_issue : IsValid hand_issue
 valid_issue = record {

@@ -1,17 +1,8 @@
 -- What the images of a disk hold, on which an office was opened
 use Rattle.std.specs.Prelude.{◌≡◌, ◌⊎◌, ℕ, ◌≤◌, List, [], ◌∷◌, ◌++◌, None}
-use Rattle.std.specs.List.{AllByRecursion, filter_map, last_or}
+use Rattle.office_state.specs.Names.{AllByRecursion, filter_map, last_or, Ghosts, Command, Post, Reply, Accepted, Faulted, Entry, Opening, accepted_of, commands_after, fault_of, IsUnfinished, LooksOn}
 use Rattle.std.specs.Option.{unwrap_or}
-use Rattle.outside_io.specs.declared.disks.Disk.{Ghosts}
-use Rattle.policy_types.specs.declared.command.Command.{Command}
-use Rattle.policy_types.specs.declared.entry.Call.TheVariants.{Post}
-use Rattle.policy_types.specs.declared.entry.Reply.{Reply}
-use Rattle.policy_types.specs.declared.entry.Reply.TheVariants.{Accepted, Faulted}
-use Rattle.policy_types.specs.declared.entry.Entry.{Entry}
-use Rattle.policy_machine.specs.History.{Opening, accepted_of, commands_after, fault_of}
-use Rattle.posting_journal.specs.Creation.{IsUnfinished}
 use Rattle.posting_journal.specs.Opening.{IsSynced}
-use Rattle.posting_journal.specs.Runs.{LooksOn}
 use Rattle.office_state.specs.Journals.{JournalBytes, Opens}
 
 -- a posting of the command met a fault of the disk, and after it came these turns

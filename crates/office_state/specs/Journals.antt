@@ -1,13 +1,8 @@
 -- The journal of a list of commands, as a whole file
 use Rattle.std.specs.Prelude.{◌≡◌, ◌⊎◌, ℕ, List, [], ◌∷◌, ◌++◌, length, None}
-use Rattle.std.specs.List.{AllByRecursion}
-use Rattle.policy_types.specs.declared.command.Command.{Command}
-use Rattle.policy_types.specs.Valid.{IsValid}
-use Rattle.policy_machine.specs.Book.{judge, IsAccepted}
+use Rattle.office_state.specs.Names.{AllByRecursion, Command, IsValid, judge, IsAccepted, bodies_of, IsUnfinished, IsForeign, IsBadAt}
 use Rattle.record_codec.specs.Spelling.{spelling_of}
 use Rattle.posting_journal.specs.Files.{IsJournal}
-use Rattle.journal_replay.specs.Replays.{bodies_of}
-use Rattle.posting_journal.specs.Creation.{IsUnfinished, IsForeign, IsBadAt}
 use Rattle.office_state.specs.declared.faults.StartCause.{StartCause}
 use Rattle.office_state.specs.declared.faults.StartCause.TheVariants.{DiskFault, NotAJournal, BadRecord, NoMemory}
 

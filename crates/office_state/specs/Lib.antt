@@ -1,3 +1,4 @@
+pub mod Names
 pub mod versions
 pub mod Journals
 pub mod Images

@@ -1,10 +1,7 @@
 -- What opening an office does
 use Rattle.std.specs.Prelude.{◌≡◌, ℕ, []}
-use Rattle.outside_io.specs.declared.disks.Disk.{Ghosts}
+use Rattle.office_state.specs.Names.{Ghosts, IsUnfinished, LooksOn, WatcherGhosts}
 use Rattle.outside_io.specs.Faults.{Rose}
-use Rattle.posting_journal.specs.Creation.{IsUnfinished}
-use Rattle.posting_journal.specs.Runs.{LooksOn}
-use Rattle.watcher_set.specs.declared.watching.Watching.{Ghosts as WatcherGhosts}
 use Rattle.office_state.specs.declared.faults.StartCause.{StartCause}
 use Rattle.office_state.specs.declared.faults.StartCause.TheVariants.{DiskFault}
 use Rattle.office_state.specs.declared.state.OfficeState.{OfficeState}

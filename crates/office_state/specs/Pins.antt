@@ -1,8 +1,6 @@
 -- The live pins of a history, and who holds them
 use Rattle.std.specs.Prelude.{◌≡◌, ℕ, ◌≤◌, List, length, slice_get, Some, None, Option}
-use Rattle.std.specs.List.{Contains, filter_map, range_with_len}
-use Rattle.policy_types.specs.declared.entry.Entry.{Entry}
-use Rattle.policy_machine.specs.History.{live_pin}
+use Rattle.office_state.specs.Names.{Contains, filter_map, range_with_len, Entry, live_pin}
 use Rattle.office_state.specs.declared.held.Held.{Held}
 
 -- the pin that the turn at a place took, as its caller holds it, where it is live

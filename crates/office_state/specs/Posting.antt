@@ -1,15 +1,6 @@
 -- What posting a command does
 use Rattle.std.specs.Prelude.{◌≡◌, ◌⊎◌, ℕ, List, [], ◌∷◌, ◌++◌}
-use Rattle.outside_io.specs.declared.disks.Disk.{Ghosts}
-use Rattle.policy_types.specs.declared.command.Command.{Command}
-use Rattle.policy_types.specs.declared.entry.Call.TheVariants.{Post}
-use Rattle.policy_types.specs.declared.entry.Reply.{Reply}
-use Rattle.policy_types.specs.declared.entry.Reply.TheVariants.{Accepted, Refused, Faulted, Blank}
-use Rattle.policy_types.specs.declared.entry.Entry.{Entry}
-use Rattle.policy_machine.specs.History.{Opening, commands_after}
-use Rattle.posting_journal.specs.Runs.{Leaves}
-use Rattle.moment_ring.specs.Ends.{SameOutlet}
-use Rattle.watcher_set.specs.declared.watching.Watching.{Ghosts as WatcherGhosts}
+use Rattle.office_state.specs.Names.{Ghosts, Command, Post, Reply, Accepted, Refused, Faulted, Blank, Entry, Opening, commands_after, Leaves, SameOutlet, WatcherGhosts}
 use Rattle.office_state.specs.declared.answer.Answer.{Answer}
 use Rattle.office_state.specs.declared.answer.Answer.TheVariants.{Accepted as AcceptedAt, Refused as RefusedFor, DiskFault, NoMemory}
 use Rattle.office_state.specs.Journals.{JournalBytes}

@@ -1,17 +1,9 @@
 -- The office stands for the history of its turns
 use Rattle.std.specs.Prelude.{◌≡◌, ◌⊎◌, ℕ, ◌+◌, ◌≤◌, List, IfSome, drop, length}
-use Rattle.outside_io.specs.declared.disks.Disk.{Ghosts}
-use Rattle.policy_types.specs.declared.command.Command.{Command}
-use Rattle.policy_types.specs.declared.entry.Entry.{Entry}
-use Rattle.policy_machine.specs.Accounts.{ledger_of}
-use Rattle.policy_machine.specs.Book.{book}
-use Rattle.policy_machine.specs.History.{Opening, IsLegal, accepted_of, commands_after, floor_of}
+use Rattle.office_state.specs.Names.{Ghosts, Command, Entry, ledger_of, book, Opening, IsLegal, accepted_of, commands_after, floor_of, own, versions_from, WatcherGhosts}
 use Rattle.office_state.specs.versions.Commands.{sets_of}
 use Rattle.posting_journal.specs.Opening.{IsSynced}
 use Rattle.rtrb.specs.Ring.{sent}
-use Rattle.versioned_book.specs.Settings.{own}
-use Rattle.versioned_book.specs.Versions.{versions_from}
-use Rattle.watcher_set.specs.declared.watching.Watching.{Ghosts as WatcherGhosts}
 use Rattle.office_state.specs.declared.state.OfficeState.{OfficeState}
 use Rattle.office_state.specs.Images.{AreQuiet, AreSafeSince, HoldsNow, HoldsOnce, HoldsSince, IsLeftAlone, KeepsAccepted, faults_after}
 use Rattle.office_state.specs.Journals.{Opens}

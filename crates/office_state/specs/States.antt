@@ -1,19 +1,13 @@
 -- What a caller sees of an office
 use Rattle.std.specs.Prelude.{ℕ, List, Option}
-use Rattle.outside_io.specs.declared.disks.Disk.{Ghosts}
-use Rattle.policy_types.specs.declared.command.Command.{Command}
-use Rattle.policy_types.specs.declared.policy.Policy.{Policy}
+use Rattle.office_state.specs.Names.{Ghosts, Command, Policy, Opening, opened_on, disk_under, WatcherGhosts, versions_in}
 use Rattle.policy_types.specs.Accounts.{Booking}
-use Rattle.policy_machine.specs.History.{Opening, opened_on}
-use Rattle.posting_journal.specs.States.{disk_of as disk_under}
-use Rattle.watcher_set.specs.declared.watching.Watching.{Ghosts as WatcherGhosts}
 use Rattle.watcher_set.specs.Noted.{Auditor}
 use Rattle.std.specs.declared.alloc.Global.{Global}
 use Rattle.rtrb.specs.declared.AnyItems.{AnyItems}
 use Rattle.rtrb.specs.declared.producer.Producer.{Producer}
 use Rattle.office_state.specs.declared.held.Held.{Held}
 use Rattle.office_state.specs.declared.state.OfficeState.{OfficeState}
-use Rattle.versioned_book.specs.Books.{versions_in}
 use Rattle.office_state.specs.inside.Books.{balances_in, commands_in, floor_in, kept_in, policies_in}
 
 -- the office's end of a ring of moments

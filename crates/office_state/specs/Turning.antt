@@ -1,11 +1,7 @@
 -- The turns of pins, reads and trims
 use Rattle.std.specs.Prelude.{ℕ, List, Ok, Err, Result}
-use Rattle.policy_types.specs.declared.policy.Policy.{Policy}
-use Rattle.policy_types.specs.declared.entry.Call.TheVariants.{Pin, PinAt, Read, Unpin, Trim}
-use Rattle.policy_types.specs.declared.entry.Reply.{Reply}
-use Rattle.policy_types.specs.declared.entry.Reply.TheVariants.{Pinned, PinRefused, Slice as Policies, Unpinned, Floor}
+use Rattle.office_state.specs.Names.{Policy, Pin, PinAt, Read, Unpin, Trim, Reply, Pinned, PinRefused, Policies, Unpinned, Floor, Entry}
 use Rattle.policy_types.specs.declared.entry.PinRefusal.{PinRefusal}
-use Rattle.policy_types.specs.declared.entry.Entry.{Entry}
 use Rattle.office_state.specs.declared.held.PinInfo.{PinInfo}
 
 -- the reply of a pin's turn

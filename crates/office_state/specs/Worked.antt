@@ -1,15 +1,9 @@
 -- Worked files of an office: a journal of two commands, what a crash leaves of a posting, and what the turns of a history say of it.
 -- The bytes are those of record_codec's worked bodies and of posting_journal's worked files
 use Rattle.std.specs.Prelude.{◌≡◌, ℕ, List, [], ◌∷◌, ◌++◌, take, replicate, pos}
-use Rattle.policy_types.specs.declared.command.Command.{Command}
-use Rattle.policy_types.specs.declared.command.Command.TheVariants.{Issue, Premium}
+use Rattle.office_state.specs.Names.{Command, Issue, Premium, Post, Reply, Accepted, Refused, Faulted, Blank, Entry, Opening, opened_on}
 use Rattle.policy_types.specs.declared.command.Plan.TheVariants.{Endowment}
-use Rattle.policy_types.specs.declared.entry.Call.TheVariants.{Post}
-use Rattle.policy_types.specs.declared.entry.Reply.{Reply}
-use Rattle.policy_types.specs.declared.entry.Reply.TheVariants.{Accepted, Refused, Faulted, Blank}
-use Rattle.policy_types.specs.declared.entry.Entry.{Entry}
 use Rattle.policy_types.specs.declared.refusal.Refusal.TheVariants.{NothingDue}
-use Rattle.policy_machine.specs.History.{Opening, opened_on}
 use Rattle.record_codec.specs.Worked.{first_issue_bytes}
 use Rattle.posting_journal.specs.Worked.{header_by_hand}
 use Rattle.office_state.specs.declared.faults.StartCause.TheVariants.{NotAJournal, BadRecord}

@@ -1,7 +1,6 @@
 // The policies of a pinned position are read, a batch at a time.
 ghost use Rattle.std.specs.Prelude.{◌≡◌, ◌^◌, ◌<◌, ◌++◌, [], ◌∷◌, IfOk, IfSome, IfNone, List};
-ghost use Rattle.std.specs.List.{Contains};
-ghost use Rattle.policy_types.specs.declared.entry.Entry.{Entry};
+ghost use Rattle.office_state.specs.Names.{Contains, Entry};
 ghost use Rattle.office_state.specs.Pins.{MayRead};
 ghost use Rattle.office_state.specs.Standing.{StandsFor};
 ghost use Rattle.office_state.specs.States.{disk_of, opened_of, outlet_of, pins_of, turns_of};

@@ -1,13 +1,7 @@
 // The books: each policy's versions, and the balances that the accepted commands leave.
 ghost use Rattle.std.specs.Prelude.{◌≡◌, ◌+◌, ◌<◌, ◌≤◌, ◌++◌, [], ◌∷◌, Ok, Some, None, false, OnOk, length, take, slice_get};
 ghost use Rattle.policy_types.specs.Limits.{most_commands};
-ghost use Rattle.policy_types.specs.Valid.{IsValid, id_of, is_upgrade};
-ghost use Rattle.policy_types.specs.declared.command.Command.TheVariants.{Upgrade};
-ghost use Rattle.policy_machine.specs.Accounts.{ledger_of};
-ghost use Rattle.policy_machine.specs.Book.{book, judge as judge_of, judged_after, policy_of};
-ghost use Rattle.money_ledgers.specs.Balances.{balances};
-ghost use Rattle.policy_machine.specs.Rules.{next};
-ghost use Rattle.versioned_book.specs.Books.{IsPlaceIn};
+ghost use Rattle.office_state.specs.Names.{IsValid, id_of, is_upgrade, Upgrade, ledger_of, book, judge_of, judged_after, policy_of, balances, next, IsPlaceIn};
 ghost use Rattle.office_state.specs.inside.Keeping.{Keeps, Keeps-prop};
 
 use crate::accepted_list::AcceptedList;

@@ -1,7 +1,6 @@
 // Positions are pinned, and pins are given up.
 ghost use Rattle.std.specs.Prelude.{◌≡◌, ◌+◌, ◌^◌, ◌<◌, ◌≤◌, ◌==◌, ◌++◌, [], ◌∷◌, not, IfOk, List, length, take, filter, MatchResult};
-ghost use Rattle.policy_types.specs.declared.entry.Entry.{Entry};
-ghost use Rattle.policy_machine.specs.Book.{book};
+ghost use Rattle.office_state.specs.Names.{Entry, book};
 ghost use Rattle.office_state.specs.Pins.{IsHeldBy};
 ghost use Rattle.office_state.specs.Standing.{StandsFor};
 ghost use Rattle.office_state.specs.States.{disk_of, opened_of, outlet_of, pins_of, turns_of};

@@ -1,15 +1,11 @@
 // A command is posted.
 ghost use Rattle.std.specs.Prelude.{◌≡◌, ◌≢◌, ◌^◌, ◌<◌, ◌++◌, [], ◌∷◌, OnOk, List, ℕ};
-ghost use Rattle.policy_types.specs.Valid.{IsValid};
-ghost use Rattle.policy_types.specs.declared.command.Command.{Command as ACommand};
-ghost use Rattle.policy_types.specs.declared.entry.Entry.{Entry};
-ghost use Rattle.moment_ring.specs.Ends.{CanTell, SameOutlet, told};
+ghost use Rattle.office_state.specs.Names.{IsValid, ACommand, Entry, CanTell, SameOutlet, told, IsPlaceIn};
 ghost use Rattle.office_state.specs.Posting.{CrashesIn, KeepsOffice, turn_of};
 ghost use Rattle.office_state.specs.Standing.{StandsFor};
 ghost use Rattle.office_state.specs.States.{disk_of, opening_of, outlet_of, turns_of};
 ghost use Rattle.office_state.specs.inside.Books.{CanKeep, IsPlaceOf, commands_in, floor_in};
 ghost use Rattle.office_state.specs.inside.Turns.{one_more};
-ghost use Rattle.versioned_book.specs.Books.{IsPlaceIn};
 
 use crate::answer::Answer;
 use crate::books::Books;

@@ -1,10 +1,6 @@
 // What is read of an office, and how it ends.
 ghost use Rattle.std.specs.Prelude.{◌≡◌, ◌<◌, ◌≤◌, Some, IfSome, List, length, take, slice_get};
-ghost use Rattle.policy_types.specs.declared.entry.Entry.{Entry};
-ghost use Rattle.money_ledgers.specs.Balances.{balances};
-ghost use Rattle.policy_machine.specs.Accounts.{ledger_of};
-ghost use Rattle.policy_machine.specs.Book.{book};
-ghost use Rattle.policy_machine.specs.History.{accepted_of, commands_after, floor_of};
+ghost use Rattle.office_state.specs.Names.{Entry, balances, ledger_of, book, accepted_of, commands_after, floor_of};
 ghost use Rattle.watcher_set.specs.Noted.{reports_of};
 ghost use Rattle.rtrb.specs.Ring.{sent};
 ghost use Rattle.office_state.specs.Images.{AreSafeSince, IsLeftBy};

@@ -1,7 +1,6 @@
 // What no pin needs is forgotten.
 ghost use Rattle.std.specs.Prelude.{◌≡◌, ◌^◌, ◌<◌, ◌++◌, [], ◌∷◌, List, map, min};
-ghost use Rattle.std.specs.List.{fold};
-ghost use Rattle.policy_types.specs.declared.entry.Entry.{Entry};
+ghost use Rattle.office_state.specs.Names.{fold, Entry};
 ghost use Rattle.office_state.specs.Standing.{StandsFor};
 ghost use Rattle.office_state.specs.States.{disk_of, opened_of, outlet_of, turns_of};
 ghost use Rattle.office_state.specs.Turning.{trim_turn};

@@ -1,13 +1,9 @@
 -- Parts of the items, what was made of them, and values that are added behind others
-use Rattle.std.proofs.Common.{◌≡◌, ◌++◌, ◌∷◌, ◌+◌, ◌<◌, ◌≤◌, List, [], ℕ, zero, suc, min, inl, ap, refl, sym, ◌∙◌, subst, take, drop, set, length, get_or, Result, Ok, Err, IfOk, OnOk, IfSome, Option, Some, None, Bor, Vec, Global, append-nil, arith}
-use Rattle.std.proofs.lemmas.List.{append_assoc, length-take, take_min}
+use Rattle.parallel_value.proofs.Names.{◌≡◌, ◌++◌, ◌∷◌, ◌+◌, ◌<◌, ◌≤◌, List, [], ℕ, zero, suc, min, inl, ap, refl, sym, ◌∙◌, subst, take, drop, set, length, get_or, Result, Ok, Err, IfOk, OnOk, IfSome, Option, Some, None, Bor, Vec, Global, append-nil, arith, append_assoc, length-take, take_min, AllByRecursion, AllZip, IsAmong, AddsBehind, AreBoth, AreValues, IsAsBefore, MayGive, StandBehind, TakeAll, AreMadeParts, IsMadePart, IsOneOf}
 use Rattle.std.proofs.lemmas.List.Elements.{All-from_recursion}
 use Rattle.std.proofs.Math.Seq.{take-add}
-use Rattle.std.specs.List.{AllByRecursion, AllZip, IsAmong}
-use Rattle.parallel_value.specs.Pieces.{AddsBehind, AreBoth, AreValues, IsAsBefore, MayGive, StandBehind, TakeAll}
 use Rattle.std.specs.declared.alloc.AllocError.{AllocError}
 use Rattle.parallel_value.specs.declared.sharing.Made.{Made}
-use Rattle.parallel_value.specs.inside.Parts.{AreMadeParts, IsMadePart, IsOneOf}
 use Rattle.parallel_value.proofs.PieceSteps.{all_more, may_alone, may_back, may_front, still_as_before, values_next, zip_append, zip_more}
 
 all_drop : {X : Type 0} (P : X → Type 0) (n : ℕ) (xs : List X) → AllByRecursion P xs → AllByRecursion P (drop n xs)

@@ -1,8 +1,5 @@
 -- Lists that are put together of two, and what holds of their items
-use Rattle.std.proofs.Common.{◌≡◌, ◌++◌, ◌∷◌, ◌+◌, ◌<◌, List, [], ℕ, inl, inr, ap, ap₂, map, refl, sym, ◌∙◌, subst, take, set, length, get_or, arith}
-use Rattle.std.proofs.lemmas.List.{take_more, take_more_set}
-use Rattle.std.specs.List.{AllByRecursion, AllZip}
-use Rattle.parallel_value.specs.Pieces.{TakeAll, MayGive, AreValues, IsAsBefore, Compute}
+use Rattle.parallel_value.proofs.Names.{◌≡◌, ◌++◌, ◌∷◌, ◌+◌, ◌<◌, List, [], ℕ, inl, inr, ap, ap₂, map, refl, sym, ◌∙◌, subst, take, set, length, get_or, arith, take_more, take_more_set, AllByRecursion, AllZip, TakeAll, MayGive, AreValues, IsAsBefore, Compute}
 
 pub all_front : {X : Type 0} (P : X → Type 0) (xs ys : List X) → AllByRecursion P (xs ++ ys) → AllByRecursion P xs
 all_front P [] ys all = tt

@@ -1,18 +1,6 @@
 -- What an accepted command tells
-use Rattle.std.proofs.Common.{◌≡◌, ◌+◌, ◌-◌, ◌==◌, Bool, true, false, if◌then◌else◌, sym, ap, ◌∙◌, refl, subst, List, [], ◌∷◌, ℤ, Some, None, Option, Ok, Err, Result, IfOk, IfSome, ℕ, ◌⊎◌, inl, inr}
-use Rattle.std.specs.List.{AllByRecursion}
-use Rattle.policy_types.specs.declared.command.Command.{Command}
-use Rattle.policy_types.specs.declared.command.Command.TheVariants.{Issue, Premium, Alter, Lapse, Reinstate, Claim, Settle, Mature, PaidUp as MakePaidUp, Upgrade}
-use Rattle.policy_types.specs.declared.command.Plan.{Plan}
-use Rattle.policy_types.specs.declared.command.Plan.TheVariants.{Term, Whole, Endowment, Limited}
-use Rattle.policy_types.specs.declared.policy.Policy.{Policy}
-use Rattle.policy_types.specs.declared.policy.Status.{Status}
+use Rattle.policy_machine.proofs.Names.{◌≡◌, ◌+◌, ◌-◌, ◌==◌, Bool, true, false, if◌then◌else◌, sym, ap, ◌∙◌, refl, subst, List, [], ◌∷◌, ℤ, Some, None, Option, Ok, Err, Result, IfOk, IfSome, ℕ, ◌⊎◌, inl, inr, AllByRecursion, Command, Issue, Premium, Alter, Lapse, Reinstate, Claim, Settle, Mature, MakePaidUp, Upgrade, Plan, Term, Whole, Endowment, Limited, Policy, Status, Refusal, Unknown, id_of, day_of, Check, checks_of, changed, first_refusal, decided, matured, premiums_missed, issued, next, IsSameContract, issue_id}
 use Rattle.policy_types.specs.declared.policy.Status.TheVariants.{InForce, Lapsed, Claimed, Matured, Expired, Settled, PaidUp}
-use Rattle.policy_types.specs.declared.refusal.Refusal.{Refusal}
-use Rattle.policy_types.specs.declared.refusal.Refusal.TheVariants.{Unknown}
-use Rattle.policy_types.specs.Valid.{id_of, day_of}
-use Rattle.policy_machine.specs.Rules.{Check, checks_of, changed, first_refusal, decided, matured, premiums_missed, issued, next}
-use Rattle.policy_machine.specs.Book.{IsSameContract, issue_id}
 
 -- the command is this issue
 pub record IsIssueHere (command : Command) : Type 0 where

@@ -1,18 +1,6 @@
 -- What one more accepted command does to the book: an issue adds its policy at the end, another command changes one
 -- policy where it stands
-use Rattle.std.proofs.Common.{◌≡◌, ℕ, Bool, true, false, cond, ◌==◌, nat_eq, List, [], ◌∷◌, ◌++◌, map, refl, sym, ap, ◌⊎◌, inl, inr, ◌∙◌, append_assoc, append-nil, subst, None, Some, Option, Ok, Err, Result, IfSome, eqb-true, eq-eqb, ne_eqb, filter_map, arith}
-use Rattle.std.specs.List.{AllByRecursion, IsDistinct, fold, cons_option}
-use Rattle.std.proofs.lemmas.Bool.{eqb-false}
-use Rattle.std.proofs.lemmas.List.Elements.{filter-append, filter_map-append}
-use Rattle.std.proofs.lemmas.List.Sums.{fold-append}
-use Rattle.policy_types.specs.declared.command.Command.{Command}
-use Rattle.policy_types.specs.declared.command.Command.TheVariants.{Upgrade}
-use Rattle.policy_types.specs.declared.policy.Policy.{Policy}
-use Rattle.policy_types.specs.declared.refusal.Refusal.{Refusal}
-use Rattle.policy_types.specs.declared.refusal.Refusal.TheVariants.{Taken}
-use Rattle.policy_types.specs.Valid.{id_of}
-use Rattle.policy_machine.specs.Rules.{next}
-use Rattle.policy_machine.specs.Book.{own, kept, policy_of, issue_id, book, judge, IsAccepted, IsAcceptedAfter}
+use Rattle.policy_machine.proofs.Names.{◌≡◌, ℕ, Bool, true, false, cond, ◌==◌, nat_eq, List, [], ◌∷◌, ◌++◌, map, refl, sym, ap, ◌⊎◌, inl, inr, ◌∙◌, append_assoc, append-nil, subst, None, Some, Option, Ok, Err, Result, IfSome, eqb-true, eq-eqb, ne_eqb, filter_map, arith, AllByRecursion, IsDistinct, fold, cons_option, eqb-false, filter-append, filter_map-append, fold-append, Command, Upgrade, Policy, Refusal, Taken, id_of, next, own, kept, policy_of, issue_id, book, judge, IsAccepted, IsAcceptedAfter}
 use Rattle.policy_machine.proofs.AcceptedLemmas.{IsIssueHere, NeedsPolicy, issue_or_other, next-keeps}
 use Rattle.policy_machine.proofs.BookLemmas.{policy_of-own, policy_of-push_own, policy_of-push_other}
 use Rattle.policy_machine.proofs.JudgeLemmas.{accepted_next}

@@ -1,18 +1,9 @@
 -- What one more command does to the book
-use Rattle.std.proofs.Common.{◌≡◌, ℕ, true, false, cond, ◌==◌, List, [], ◌∷◌, ◌++◌, ap, ◌∙◌, append_assoc, append-nil, Some, None, Option, Ok, Err, Result, IfOk, IfSome, refl, Bool}
+use Rattle.policy_machine.proofs.Names.{◌≡◌, ℕ, true, false, cond, ◌==◌, List, [], ◌∷◌, ◌++◌, ap, ◌∙◌, append_assoc, append-nil, Some, None, Option, Ok, Err, Result, IfOk, IfSome, refl, Bool, filter-append, filter_map-append, fold-append, Command, Upgrade, Policy, IsValid, id_of, IsSound, next, Refusal, own, kept, policy_of, issue_id, book, judge, IsAccepted, IsAcceptedAfter}
 use Rattle.std.specs.List.{AllByRecursion, cons_option, filter_map, fold}
 use Rattle.std.proofs.lemmas.Bool.{eqb-true}
-use Rattle.std.proofs.lemmas.List.Elements.{filter-append, filter_map-append}
-use Rattle.std.proofs.lemmas.List.Sums.{fold-append}
-use Rattle.policy_types.specs.declared.command.Command.{Command}
-use Rattle.policy_types.specs.declared.command.Command.TheVariants.{Upgrade}
-use Rattle.policy_types.specs.declared.policy.Policy.{Policy}
-use Rattle.policy_types.specs.Valid.{IsValid, id_of}
-use Rattle.policy_machine.specs.Rules.{IsSound, next}
-use Rattle.policy_types.specs.declared.refusal.Refusal.{Refusal}
 use Rattle.policy_machine.proofs.AcceptedLemmas.{next-own}
 use Rattle.policy_machine.proofs.SoundLemmas.{next-sound}
-use Rattle.policy_machine.specs.Book.{own, kept, policy_of, issue_id, book, judge, IsAccepted, IsAcceptedAfter}
 
 -- one more command after accepted ones
 pub IsAcceptedAfter-push : (before rest : List Command) (command : Command) → IsAcceptedAfter before rest

@@ -1,19 +1,13 @@
 -- What one more turn does to the pins and the floor of a history, and what a turn of a legal history was answered
-use Rattle.std.proofs.Common.{◌≡◌, ℕ, suc, zero, ◌+◌, ◌<◌, ◌≤◌, Bool, true, false, ◌||◌, ◌⊎◌, inl, inr, List, [], ◌∷◌, ◌++◌, length, take, drop, slice_get, refl, sym, ap, ◌∙◌, subst, append_assoc, append-nil, None, Some, Option, filter_map, arith}
-use Rattle.std.specs.List.{list_any, last_or, cons_option, range_with_len}
+use Rattle.policy_machine.proofs.Names.{◌≡◌, ℕ, suc, zero, ◌+◌, ◌<◌, ◌≤◌, Bool, true, false, ◌||◌, ◌⊎◌, inl, inr, List, [], ◌∷◌, ◌++◌, length, take, drop, slice_get, refl, sym, ap, ◌∙◌, subst, append_assoc, append-nil, None, Some, Option, filter_map, arith, list_any, last_or, cons_option, range_with_len, filter_map-append, Post, Pin, PinAt, Read, Unpin, Trim, Accepted, Refused, Faulted, Pinned, PinRefused, Policies, Unpinned, Floor, Blank, book, Opening, IsDue, IsLegalAfter, accepted_by, accepted_of, commands_after, pin_of, gives_up, live_pin, live_positions, pinned_position, floor_set, floor_of, least_or, policies_per_read}
 use Rattle.std.specs.Option.{unwrap_or}
 use Rattle.std.proofs.lemmas.Option.{slice_get_within}
 use Rattle.std.proofs.lemmas.List.{take-append-le, drop-append-le, take_all, length-append}
 use Rattle.std.proofs.lemmas.List.Folds.{list_any-append}
-use Rattle.std.proofs.lemmas.List.Elements.{filter_map-append}
 use Rattle.policy_types.specs.declared.entry.Call.{Call}
-use Rattle.policy_types.specs.declared.entry.Call.TheVariants.{Post, Pin, PinAt, Read, Unpin, Trim}
 use Rattle.policy_types.specs.declared.entry.Reply.{Reply}
-use Rattle.policy_types.specs.declared.entry.Reply.TheVariants.{Accepted, Refused, Faulted, Pinned, PinRefused, Slice as Policies, Unpinned, Floor, Blank}
 use Rattle.policy_types.specs.declared.entry.Entry.{Entry}
-use Rattle.policy_machine.specs.Book.{book}
 use Rattle.policy_machine.proofs.LeastLemmas.{least_bounded, least_member, member_of_range}
-use Rattle.policy_machine.specs.History.{Opening, IsDue, IsLegalAfter, accepted_by, accepted_of, commands_after, pin_of, gives_up, live_pin, live_positions, pinned_position, floor_set, floor_of, least_or, policies_per_read}
 
 -- a front of legal turns
 pub IsLegalAfter-front : (opening : Opening) (before front rest : List Entry) → IsLegalAfter opening before (front ++ rest)

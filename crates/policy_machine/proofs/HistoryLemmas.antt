@@ -1,8 +1,6 @@
 -- What one more turn does to a history
-use Rattle.std.proofs.Common.{◌≡◌, List, [], ◌∷◌, ◌++◌, append_assoc, append-nil}
-use Rattle.std.proofs.lemmas.List.Elements.{filter_map-append}
+use Rattle.policy_machine.proofs.Names.{◌≡◌, List, [], ◌∷◌, ◌++◌, append_assoc, append-nil, filter_map-append, Opening, IsDue, IsLegalAfter, accepted_by, accepted_of}
 use Rattle.policy_types.specs.declared.entry.Entry.{Entry}
-use Rattle.policy_machine.specs.History.{Opening, IsDue, IsLegalAfter, accepted_by, accepted_of}
 
 -- a turn with the reply due then
 pub IsLegalAfter-push : (opening : Opening) (before rest : List Entry) (entry : Entry) → IsLegalAfter opening before rest

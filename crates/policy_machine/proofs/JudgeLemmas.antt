@@ -1,14 +1,5 @@
 -- What it tells that the rules accept a command, and where the upgrade stands
-use Rattle.std.proofs.Common.{◌≡◌, ℕ, ◌+◌, ◌≤◌, ◌==◌, Bool, true, false, if◌then◌else◌, ◌⊎◌, inl, inr, List, [], ◌∷◌, ◌++◌, length, refl, sym, ap, ◌∙◌, append_assoc, append-nil, ne_eqb, Some, None, Option, Ok, Err, Result, ℤ, arith}
-use Rattle.std.proofs.lemmas.Bool.{cases_lt}
-use Rattle.policy_types.specs.declared.command.Command.{Command}
-use Rattle.policy_types.specs.declared.command.Command.TheVariants.{Issue, Premium, Alter, Lapse, Reinstate, Claim, Settle, Mature, PaidUp, Upgrade}
-use Rattle.policy_types.specs.declared.policy.Policy.{Policy}
-use Rattle.policy_types.specs.declared.refusal.Refusal.{Refusal}
-use Rattle.policy_types.specs.declared.refusal.Refusal.TheVariants.{Unknown, NotUpgraded, Upgraded}
-use Rattle.policy_types.specs.Valid.{id_of, is_upgrade}
-use Rattle.policy_machine.specs.Rules.{next}
-use Rattle.policy_machine.specs.Book.{policy_of, upgrade_from, upgrade_of, left_by, judged, refusal_in, judge, IsAccepted, IsAcceptedAfter}
+use Rattle.policy_machine.proofs.Names.{◌≡◌, ℕ, ◌+◌, ◌≤◌, ◌==◌, Bool, true, false, if◌then◌else◌, ◌⊎◌, inl, inr, List, [], ◌∷◌, ◌++◌, length, refl, sym, ap, ◌∙◌, append_assoc, append-nil, ne_eqb, Some, None, Option, Ok, Err, Result, ℤ, arith, cases_lt, Command, Issue, Premium, Alter, Lapse, Reinstate, Claim, Settle, Mature, PaidUp, Upgrade, Policy, Refusal, Unknown, NotUpgraded, Upgraded, id_of, is_upgrade, next, policy_of, upgrade_from, upgrade_of, left_by, judged, refusal_in, judge, IsAccepted, IsAcceptedAfter}
 
 -- an upgrade names no policy
 pub next-upgrade : (policy : Option Policy) → next policy Upgrade ≡ Err Unknown

@@ -1,7 +1,5 @@
 -- The least number of a list
-use Rattle.std.proofs.Common.{◌≡◌, ℕ, suc, zero, ◌+◌, ◌<◌, ◌≤◌, ◌⊎◌, inl, inr, List, [], ◌∷◌, refl, ap, ◌∙◌, None, Some, Option, filter_map, arith}
-use Rattle.std.specs.List.{cons_option, range_with_len}
-use Rattle.policy_machine.specs.History.{least_or}
+use Rattle.policy_machine.proofs.Names.{◌≡◌, ℕ, suc, zero, ◌+◌, ◌<◌, ◌≤◌, ◌⊎◌, inl, inr, List, [], ◌∷◌, refl, ap, ◌∙◌, None, Some, Option, filter_map, arith, cons_option, range_with_len, least_or}
 
 -- a number of a list, and the least of the list
 abbrev pub Member : ℕ → List ℕ → Type 0

@@ -1,3 +1,4 @@
+pub mod Names
 pub mod AcceptedLemmas
 pub mod BookGrowth
 pub mod BookLemmas

@@ -1,15 +1,7 @@
 -- How many premiums have fallen due and weren't paid
-use Rattle.std.proofs.Common.{◌≡◌, ℕ, zero, suc, ◌+◌, ◌-◌, ◌<◌, ◌≤◌, min, ◌⊎◌, inl, inr, Bool, true, false, cond, ap, ◌∙◌, arith, ℤ, int_le}
-use Rattle.std.proofs.lemmas.Bool.{cases_lt}
-use Rattle.std.proofs.lemmas.Int.{ints}
-use Rattle.std.proofs.lemmas.List.Sums.{sum_by-cons, count_by-le-length}
+use Rattle.policy_machine.proofs.Names.{◌≡◌, ℕ, zero, suc, ◌+◌, ◌-◌, ◌<◌, ◌≤◌, min, ◌⊎◌, inl, inr, Bool, true, false, cond, ap, ◌∙◌, arith, ℤ, int_le, cases_lt, ints, sum_by-cons, count_by-le-length, count_by, range_with_len, IsDay, anniversary_of, IsCompleted, Policy, IsSound, payments_of, premiums_missed}
 use Rattle.std.proofs.lemmas.List.FromFn.{length-range_with_len}
-use Rattle.std.specs.List.{count_by, range_with_len}
-use Rattle.life_dates.specs.Calendar.{IsDay}
-use Rattle.life_dates.specs.Anniversary.{anniversary_of, IsCompleted}
 use Rattle.life_dates.proofs.AnniversaryLemmas.{IsCompleted-come}
-use Rattle.policy_types.specs.declared.policy.Policy.{Policy}
-use Rattle.policy_machine.specs.Rules.{IsSound, payments_of, premiums_missed}
 
 -- of n numbers from a on, those up to t are counted
 count_by-up_to : (f : ℕ → Bool) (t a n : ℕ) → ((j : ℕ) → j < a + n → ((f j ≡ true) × (j ≤ t)) ⊎ ((f j ≡ false) × (t < j)))

@@ -1,19 +1,8 @@
 -- Old journals mean what they meant
-use Rattle.std.proofs.Common.{◌≡◌, ◌↔◌, ◌&&◌, ◌==◌, Bool, true, false, not, nat_lt, int_lt, nat_le, if◌then◌else◌, cond, List, [], ◌∷◌, ◌++◌, ℕ, ℤ, pos, ◌-ℤ◌, refl, sym, ap, ◌∙◌, Some, None, Option}
+use Rattle.policy_machine.proofs.Names.{◌≡◌, ◌↔◌, ◌&&◌, ◌==◌, Bool, true, false, not, nat_lt, int_lt, nat_le, if◌then◌else◌, cond, List, [], ◌∷◌, ◌++◌, ℕ, ℤ, pos, ◌-ℤ◌, refl, sym, ap, ◌∙◌, Some, None, Option, Command, Issue, Premium, Alter, Lapse, Reinstate, Claim, Settle, Mature, MakePaidUp, Upgrade, Plan, Term, Whole, Endowment, Limited, Policy, Status, Refusal, WrongStatus, TooEarly, GraceOver, WrongAmount, NotAReduction, NotMatured, id_of, refuse, first_refusal, decided, changed, matured, checks_of, day_before_last, not_in_force, not_insured, term_over, nothing_due, grace_over, payments_of, grace_end_of, due_of, end_of, is_paid_up, is_insured, is_in_force, next, own, kept, policy_of, issue_id, book, left_by, judge, refusal_in, IsAccepted, IsAcceptedAfter}
 use Rattle.std.specs.List.{AllByRecursion, filter_map, fold}
-use Rattle.policy_types.specs.declared.command.Command.{Command}
-use Rattle.policy_types.specs.declared.command.Command.TheVariants.{Issue, Premium, Alter, Lapse, Reinstate, Claim, Settle, Mature, PaidUp as MakePaidUp, Upgrade}
-use Rattle.policy_types.specs.declared.command.Plan.{Plan}
-use Rattle.policy_types.specs.declared.command.Plan.TheVariants.{Term, Whole, Endowment, Limited}
-use Rattle.policy_types.specs.declared.policy.Policy.{Policy}
-use Rattle.policy_types.specs.declared.policy.Status.{Status}
 use Rattle.policy_types.specs.declared.policy.Status.TheVariants.{InForce, Lapsed, Claimed, Matured, Expired, Settled, PaidUp}
-use Rattle.policy_types.specs.declared.refusal.Refusal.{Refusal}
-use Rattle.policy_types.specs.declared.refusal.Refusal.TheVariants.{WrongStatus, TooEarly, GraceOver, WrongAmount, NotAReduction, NotMatured}
 use Rattle.policy_types.specs.Accounts.{nothing_booked, added}
-use Rattle.policy_types.specs.Valid.{id_of}
-use Rattle.policy_machine.specs.Rules.{refuse, first_refusal, decided, changed, matured, checks_of, day_before_last, not_in_force, not_insured, term_over, nothing_due, grace_over, payments_of, grace_end_of, due_of, end_of, is_paid_up, is_insured, is_in_force, next}
-use Rattle.policy_machine.specs.Book.{own, kept, policy_of, issue_id, book, left_by, judge, refusal_in, IsAccepted, IsAcceptedAfter}
 use Rattle.policy_machine.specs.Accounts.{booked_on, bookings_after, ledger_of}
 use Rattle.policy_machine.specs.Before.{IsOldCommand, old_grace_over, old_checks, old_changed, old_booked, old_next, old_policy_of, old_book, old_refusal, WereAccepted, WereAcceptedAfter, old_bookings_after, old_ledger}
 use Rattle.policy_machine.proofs.BookLemmas.{filter_map-same}

@@ -1,17 +1,7 @@
 -- What a policy covers never rises
-use Rattle.std.proofs.Common.{◌≡◌, ℕ, ◌≤◌, Bool, true, false, ◌==◌, if◌then◌else◌, List, [], ◌∷◌, ◌++◌, refl, sym, ap, ◌∙◌, subst, Some, Option, Ok, Err, Result, arith}
-use Rattle.std.specs.List.{fold}
+use Rattle.policy_machine.proofs.Names.{◌≡◌, ℕ, ◌≤◌, Bool, true, false, ◌==◌, if◌then◌else◌, List, [], ◌∷◌, ◌++◌, refl, sym, ap, ◌∙◌, subst, Some, Option, Ok, Err, Result, arith, fold, Command, Issue, Premium, Alter, Lapse, Reinstate, Claim, Settle, Mature, MakePaidUp, Upgrade, Plan, Term, Whole, Endowment, Limited, Policy, Status, Refusal, changed, checks_of, matured, is_in_force, is_lapsed, is_paid_up, next, own, kept, policy_of}
 use Rattle.std.proofs.lemmas.Bool.Decides.{nat_tests}
-use Rattle.policy_types.specs.declared.command.Command.{Command}
-use Rattle.policy_types.specs.declared.command.Command.TheVariants.{Issue, Premium, Alter, Lapse, Reinstate, Claim, Settle, Mature, PaidUp as MakePaidUp, Upgrade}
-use Rattle.policy_types.specs.declared.command.Plan.{Plan}
-use Rattle.policy_types.specs.declared.command.Plan.TheVariants.{Term, Whole, Endowment, Limited}
-use Rattle.policy_types.specs.declared.policy.Policy.{Policy}
-use Rattle.policy_types.specs.declared.policy.Status.{Status}
 use Rattle.policy_types.specs.declared.policy.Status.TheVariants.{InForce, Lapsed, Claimed, Matured, Expired, Settled, PaidUp}
-use Rattle.policy_types.specs.declared.refusal.Refusal.{Refusal}
-use Rattle.policy_machine.specs.Rules.{changed, checks_of, matured, is_in_force, is_lapsed, is_paid_up, next}
-use Rattle.policy_machine.specs.Book.{own, kept, policy_of}
 use Rattle.policy_machine.specs.PaidUp.{StaysPaidUp}
 use Rattle.policy_machine.proofs.AcceptedLemmas.{accepted}
 use Rattle.policy_machine.proofs.BookGrowth.{policy_of-append}

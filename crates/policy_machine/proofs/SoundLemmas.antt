@@ -1,18 +1,8 @@
 -- Accepted commands keep a policy sound
-use Rattle.std.proofs.Common.{◌≡◌, ℕ, ◌-◌, ◌<◌, ◌≤◌, ◌↔◌, ◌⊎◌, inl, inr, sym, Result, Bool, true, false, not, ◌==◌, if◌then◌else◌, refl, subst, arith, ℤ, IsTrue, Some, None, Option, Ok, IfOk, IfSome}
+use Rattle.policy_machine.proofs.Names.{◌≡◌, ℕ, ◌-◌, ◌<◌, ◌≤◌, ◌↔◌, ◌⊎◌, inl, inr, sym, Result, Bool, true, false, not, ◌==◌, if◌then◌else◌, refl, subst, arith, ℤ, IsTrue, Some, None, Option, Ok, IfOk, IfSome, ints, Command, Issue, Premium, Alter, Lapse, Reinstate, Claim, Settle, Mature, MakePaidUp, Upgrade, Plan, Term, Whole, Endowment, Limited, Policy, Status, IsIssue, IsAmount, IsCommandDay, IsValid, IsSound, payments_of, checks_of, changed, is_in_force, is_lapsed, awaits_settlement, matured, issued, next, Refusal}
 use Rattle.std.proofs.lemmas.Bool.{cases_lt, eqb-false, eqb-true}
 use Rattle.std.proofs.lemmas.Bool.Decides.{nat_tests}
-use Rattle.std.proofs.lemmas.Int.{ints}
-use Rattle.policy_types.specs.declared.command.Command.{Command}
-use Rattle.policy_types.specs.declared.command.Command.TheVariants.{Issue, Premium, Alter, Lapse, Reinstate, Claim, Settle, Mature, PaidUp as MakePaidUp, Upgrade}
-use Rattle.policy_types.specs.declared.command.Plan.{Plan}
-use Rattle.policy_types.specs.declared.command.Plan.TheVariants.{Term, Whole, Endowment, Limited}
-use Rattle.policy_types.specs.declared.policy.Policy.{Policy}
-use Rattle.policy_types.specs.declared.policy.Status.{Status}
 use Rattle.policy_types.specs.declared.policy.Status.TheVariants.{InForce, Lapsed, Claimed, Matured, Expired, Settled, PaidUp}
-use Rattle.policy_types.specs.Valid.{IsIssue, IsAmount, IsCommandDay, IsValid}
-use Rattle.policy_machine.specs.Rules.{IsSound, payments_of, checks_of, changed, is_in_force, is_lapsed, awaits_settlement, matured, issued, next}
-use Rattle.policy_types.specs.declared.refusal.Refusal.{Refusal}
 use Rattle.policy_machine.proofs.AcceptedLemmas.{IsIssueHere, NeedsPolicy, issue_or_other, accepted, if_ok}
 use Rattle.policy_machine.proofs.MissedLemmas.{premiums_missed-le}
 

@@ -1,10 +1,6 @@
 -- The books that a list of accepted commands leaves, in cents
 use Rattle.std.specs.Prelude.{List, [], ◌∷◌, ◌++◌, Some, None, Option}
-use Rattle.std.specs.List.{fold}
-use Rattle.policy_types.specs.declared.command.Command.{Command}
-use Rattle.policy_types.specs.declared.policy.Policy.{Policy}
-use Rattle.policy_types.specs.Accounts.{Booking, booking_of, nothing_booked, added}
-use Rattle.policy_types.specs.Valid.{id_of}
+use Rattle.policy_machine.specs.Names.{fold, Command, Policy, Booking, booking_of, nothing_booked, added, id_of}
 use Rattle.policy_machine.specs.Book.{policy_of}
 
 -- what a command books that left this policy of its number

@@ -1,12 +1,6 @@
 -- The book: the policies that a list of accepted commands leaves
 use Rattle.std.specs.Prelude.{◌≡◌, ℕ, ◌+◌, ◌==◌, if◌then◌else◌, List, [], ◌∷◌, ◌++◌, Some, None, Option, Ok, Err, Result}
-use Rattle.std.specs.List.{filter, filter_map, fold}
-use Rattle.policy_types.specs.declared.command.Command.{Command}
-use Rattle.policy_types.specs.declared.command.Command.TheVariants.{Issue, PaidUp, Upgrade}
-use Rattle.policy_types.specs.declared.policy.Policy.{Policy}
-use Rattle.policy_types.specs.declared.refusal.Refusal.{Refusal}
-use Rattle.policy_types.specs.declared.refusal.Refusal.TheVariants.{NotUpgraded, Upgraded}
-use Rattle.policy_types.specs.Valid.{id_of, is_upgrade}
+use Rattle.policy_machine.specs.Names.{filter, filter_map, fold, Command, Issue, PaidUp, Upgrade, Policy, Refusal, NotUpgraded, Upgraded, id_of, is_upgrade}
 use Rattle.policy_machine.specs.Rules.{next}
 
 -- the commands of a list that name a policy's number

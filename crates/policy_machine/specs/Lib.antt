@@ -1,3 +1,4 @@
+pub mod Names
 pub mod Rules
 pub mod Book
 pub mod Accounts

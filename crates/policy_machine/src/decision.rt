@@ -1,6 +1,5 @@
 ghost use Rattle.std.specs.Prelude.{◌≡◌, false, IfSome, IfOk};
-ghost use Rattle.std.specs.Option.{option_copied};
-ghost use Rattle.policy_types.specs.Valid.{IsValid, id_of, is_upgrade};
+ghost use Rattle.policy_machine.specs.Names.{option_copied, IsValid, id_of, is_upgrade};
 ghost use Rattle.policy_machine.specs.Rules.{IsSound, next};
 
 use crate::benefits::{claim, mature, settle};

@@ -1,10 +1,7 @@
 // Whether a command is accepted after those before it.
 ghost use Rattle.std.specs.Prelude.{◌≡◌, ◌<◌, ◌++◌, ◌∷◌, [], List, None, IfSome, IfOk, length};
-ghost use Rattle.std.specs.Option.{option_copied};
-ghost use Rattle.policy_types.specs.declared.command.Command.{Command as ACommand};
-ghost use Rattle.policy_types.specs.declared.command.Command.TheVariants.{Upgrade};
+ghost use Rattle.policy_machine.specs.Names.{option_copied, ACommand, Upgrade, IsValid, id_of};
 ghost use Rattle.policy_types.specs.Limits.{most_commands};
-ghost use Rattle.policy_types.specs.Valid.{IsValid, id_of};
 ghost use Rattle.policy_machine.specs.Book.{judged, left_by, upgrade_of};
 ghost use Rattle.policy_machine.specs.Rules.{IsSound};
 

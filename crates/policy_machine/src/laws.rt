@@ -1,9 +1,6 @@
 // Laws of the rules, for callers.
 ghost use Rattle.std.specs.Prelude.{◌≡◌, ℕ, List, Ok, Some, Option, IfSome};
-ghost use Rattle.std.specs.List.{AllByRecursion};
-ghost use Rattle.policy_types.specs.declared.command.Command.{Command};
-ghost use Rattle.policy_types.specs.declared.policy.Policy.{Policy};
-ghost use Rattle.policy_types.specs.Valid.{IsValid, day_of};
+ghost use Rattle.policy_machine.specs.Names.{AllByRecursion, Command, Policy, IsValid, day_of};
 ghost use Rattle.policy_machine.specs.Rules.{IsSound, next};
 ghost use Rattle.policy_machine.specs.Book.{IsSameContract, book, policy_of};
 

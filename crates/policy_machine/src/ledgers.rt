@@ -1,10 +1,6 @@
 // Laws of the balances that a list of commands leaves, for callers.
 ghost use Rattle.std.specs.Prelude.{◌≡◌, ◌*◌, [], ◌∷◌, ◌++◌, pos, List, Ok, length};
-ghost use Rattle.std.specs.List.{AllByRecursion};
-ghost use Rattle.policy_types.specs.declared.command.Command.{Command};
-ghost use Rattle.policy_types.specs.declared.policy.Policy.{Policy};
-ghost use Rattle.policy_types.specs.Accounts.{booking_of, added, sum_of, AreWithin};
-ghost use Rattle.policy_types.specs.Valid.{IsValid, id_of};
+ghost use Rattle.policy_machine.specs.Names.{AllByRecursion, Command, Policy, booking_of, added, sum_of, AreWithin, IsValid, id_of};
 ghost use Rattle.policy_machine.specs.Accounts.{ledger_of};
 ghost use Rattle.policy_machine.specs.Book.{policy_of};
 ghost use Rattle.policy_machine.specs.Rules.{next};

@@ -1,10 +1,6 @@
 // Laws of the upgrade and of paid-up policies, for callers.
 ghost use Rattle.std.specs.Prelude.{◌≡◌, ◌↔◌, true, ℕ, ◌+◌, ◌≤◌, ℤ, [], ◌∷◌, ◌++◌, List, Some, length};
-ghost use Rattle.std.specs.List.{AllByRecursion};
-ghost use Rattle.policy_types.specs.declared.command.Command.{Command};
-ghost use Rattle.policy_types.specs.declared.command.Command.TheVariants.{PaidUp, Upgrade};
-ghost use Rattle.policy_types.specs.declared.policy.Policy.{Policy};
-ghost use Rattle.policy_types.specs.declared.refusal.Refusal.TheVariants.{Upgraded};
+ghost use Rattle.policy_machine.specs.Names.{AllByRecursion, Command, PaidUp, Upgrade, Policy, Upgraded};
 ghost use Rattle.policy_machine.specs.Accounts.{ledger_of};
 ghost use Rattle.policy_machine.specs.Before.{IsOldCommand, WereAccepted, old_book, old_ledger, old_policy_of, old_refusal};
 ghost use Rattle.policy_machine.specs.Book.{IsAccepted, book, judge, policy_of, upgrade_of};

@@ -1,16 +1,9 @@
 -- The keys of a cache after one of them was asked for.
-use Rattle.std.proofs.Common.{true≢false, subst, ◌≡◌, ℕ, ◌+◌, ◌-◌, ◌^◌, min, Bool, true, false, List, [], ◌∷◌, Contains, Option, Some, None, IfNone, is_some, refl, sym, ap, ◌∙◌, inl, inr}
-use Rattle.std.proofs.lemmas.List.{take-map}
-use Rattle.std.specs.Map.{keys_of, lookup, lookup_entry, remove_entry}
+use Rattle.policy_value.proofs.Names.{true≢false, subst, ◌≡◌, ℕ, ◌+◌, ◌-◌, ◌^◌, min, Bool, true, false, List, [], ◌∷◌, Contains, Option, Some, None, IfNone, is_some, refl, sym, ap, ◌∙◌, inl, inr, take-map, keys_of, lookup, lookup_entry, remove_entry, LruCache, lru_cache, promoted, put_entries, HasAsked, KeepsKeys, ColumnCache, CacheKey, Premium}
 use Rattle.std.specs.Set.{remove_key}
-use Rattle.lru.specs.LruCache.{LruCache, lru_cache, promoted, put_entries}
 use Rattle.lru.proofs.Splits.{Contains-nil, Contains-cons, Contains-head, Contains-tail}
-use Rattle.policy_value.specs.Caches.{HasAsked, KeepsKeys}
-use Rattle.policy_value.specs.declared.cache.ColumnCache.{ColumnCache}
-use Rattle.policy_value.specs.declared.key.CacheKey.{CacheKey}
 use Rattle.policy_value.specs.contracts.key.CacheKeyPartialEq.TheImpl.{eq-value}
 use Rattle.policy_value.proofs.Keeping.{itself, same_key}
-use Rattle.crvm_reserve.specs.declared.premium.Premium.{Premium}
 
 module _ {K V : Type 0} (test : K → Bool) where
   keys_removed : (es : List (K × V)) → keys_of (remove_entry test es) ≡ remove_key test (keys_of es)

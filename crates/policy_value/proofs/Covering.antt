@@ -1,21 +1,14 @@
 -- A cover by a row of the basis.
-use Rattle.std.proofs.Common.{◌≡◌, ℕ, ◌+◌, ◌≤◌, List, Some, slice_get, sym, ap, ◌∙◌, arith}
-use Rattle.rate_table.specs.Rates.{Rates, AreRates}
+use Rattle.policy_value.proofs.Names.{◌≡◌, ℕ, ◌+◌, ◌≤◌, List, Some, slice_get, sym, ap, ◌∙◌, arith, Rates, AreRates, Cover, cover_of, AreValuesAt, CanReserve, IsPaidUpFor, Dated, IsCovered, cap_by, cover_by, Covered}
 use Rattle.rate_table.specs.declared.shape.Shape.{Shape}
 use Rattle.select_rates.specs.Along.{table_along}
 use Rattle.select_rates.specs.declared.any.AnyTable.{AnyTable}
 use Rattle.policy_types.specs.declared.command.Plan.{Plan}
 use Rattle.policy_types.specs.Valid.{AreYears}
 use Rattle.plan_benefits.specs.Shapes.{FitsAny, FitsTable}
-use Rattle.present_value.specs.Sums.{Cover, cover_of}
-use Rattle.present_value.specs.Ends.{AreValuesAt}
 use Rattle.present_value.specs.declared.pair.Values.{Values}
-use Rattle.crvm_reserve.specs.Made.{CanReserve, IsPaidUpFor}
 use Rattle.crvm_reserve.proofs.Tables.{reserved}
-use Rattle.basis_book.specs.Dated.{Dated}
 use Rattle.policy_value.specs.Covers.{AreByDuration, cap_along, cover_along}
-use Rattle.policy_value.specs.inside.Covered.{IsCovered, cap_by, cover_by}
-use Rattle.policy_value.specs.declared.covered.Covered.{Covered}
 
 can_reserve : (plan : Plan) (years bp : ℕ) (table : Rates) (shape : Shape) → FitsTable plan years table shape → AreYears plan shape.age years → bp ≤ 2000
     → CanReserve table shape bp

@@ -1,19 +1,8 @@
 -- What a cache keeps is right, and stays so.
-use Rattle.std.proofs.Common.{rules, ◌≡◌, ℕ, Bool, true, List, slice_get, All, Contains, Result, Ok, Err, OnOk, OnErr, Option, Some, None, IfSome, sym, ap, subst, ◌∙◌, inl, inr}
-use Rattle.std.proofs.lemmas.List.Elements.{All-weaker, All-contains, All-contains_itself}
-use Rattle.std.specs.Map.{lookup}
-use Rattle.rate_table.specs.Rates.{Rates}
-use Rattle.basis_book.specs.Dated.{Dated}
-use Rattle.policy_value.specs.Caches.{IsRowOf, IsRightPremium}
-use Rattle.policy_value.specs.declared.key.CacheKey.{CacheKey}
+use Rattle.policy_value.proofs.Names.{rules, ◌≡◌, ℕ, Bool, true, List, slice_get, All, Contains, Result, Ok, Err, OnOk, OnErr, Option, Some, None, IfSome, sym, ap, subst, ◌∙◌, inl, inr, All-weaker, All-contains, All-contains_itself, lookup, Rates, Dated, IsRowOf, IsRightPremium, CacheKey, premium_of, Premium, IsCoverOf, cap_by, cover_by, Covered, LruCache, lru_cache, promoted, put_entries}
 use Rattle.policy_value.specs.contracts.key.CacheKeyPartialEq.TheImpl.{eq-value}
 use Rattle.std.specs.Cmp.Rules.{comparing, hashing}
 use Rattle.select_rates.specs.Along.{table_along}
-use Rattle.crvm_reserve.specs.Made.{premium_of}
-use Rattle.crvm_reserve.specs.declared.premium.Premium.{Premium}
-use Rattle.policy_value.specs.inside.Covered.{IsCoverOf, cap_by, cover_by}
-use Rattle.policy_value.specs.declared.covered.Covered.{Covered}
-use Rattle.lru.specs.LruCache.{LruCache, lru_cache, promoted, put_entries}
 use Rattle.lru.proofs.CallerLemmas.{Contains-promoted, Contains-lookup, Contains-put_entries}
 
 module _ {X : Type 0} (P : X → Type 0) where

@@ -1,3 +1,4 @@
+pub mod Names
 pub mod Keeping
 pub mod Asking
 pub mod Statuses

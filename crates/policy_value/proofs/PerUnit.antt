@@ -1,18 +1,9 @@
 -- What is kept of the reserves per unit of amount is right, and lies where it is looked for.
-use Rattle.std.proofs.Common.{◌≡◌, ℕ, ◌<◌, true, List, [], ◌∷◌, ◌++◌, All, Option, None, Some, IfSome, get_or, length, set, slice_get, refl, subst, sym, ap, ◌∙◌}
-use Rattle.std.proofs.lemmas.List.{get_or-set_same, length-set}
-use Rattle.std.proofs.lemmas.List.Elements.{All-push}
+use Rattle.policy_value.proofs.Names.{◌≡◌, ℕ, ◌<◌, true, List, [], ◌∷◌, ◌++◌, All, Option, None, Some, IfSome, get_or, length, set, slice_get, refl, subst, sym, ap, ◌∙◌, get_or-set_same, length-set, All-push, IsUnitFor, Dated, IsRightPlace, IsRightUnit, Covered, CacheKey, IsCoverOf, cap_by, cover_by, kept_unit, unit_place}
 use Rattle.std.proofs.lemmas.Option.{get_or_from_slice_get, slice_get_read}
 use Rattle.present_value.specs.declared.pair.Pair.{Pair}
-use Rattle.crvm_reserve.specs.Made.{IsUnitFor}
-use Rattle.basis_book.specs.Dated.{Dated}
-use Rattle.policy_value.specs.Caches.{IsRightPlace, IsRightUnit}
-use Rattle.policy_value.specs.declared.covered.Covered.{Covered}
 use Rattle.policy_value.specs.contracts.key.CacheKeyPartialEq.TheImpl.{eq-value}
-use Rattle.policy_value.specs.declared.key.CacheKey.{CacheKey}
 use Rattle.policy_value.specs.declared.units.KeptUnit.{KeptUnit}
-use Rattle.policy_value.specs.inside.Covered.{IsCoverOf, cap_by, cover_by}
-use Rattle.policy_value.specs.inside.Kept.{kept_unit, unit_place}
 use Rattle.policy_value.proofs.Keeping.{one_entry, same_key}
 
 -- that of a cover by a row of the basis is right by it

@@ -1,16 +1,9 @@
 -- The values of columns, one column's behind the other's.
-use Rattle.std.proofs.Common.{◌≡◌, ℕ, ◌+◌, ◌-◌, ◌≤◌, ◌<◌, List, [], ◌∷◌, ◌++◌, length, get_or, All, refl, ap, ◌∙◌, inl, inr, arith}
-use Rattle.std.proofs.lemmas.List.{get_or_append_left, get_or_default, get_or_push, length_push}
+use Rattle.policy_value.proofs.Names.{◌≡◌, ℕ, ◌+◌, ◌-◌, ◌≤◌, ◌<◌, List, [], ◌∷◌, ◌++◌, length, get_or, All, refl, ap, ◌∙◌, inl, inr, arith, get_or_append_left, get_or_default, get_or_push, length_push, All-weaker, All-push, Rates, value_to, Dated, IsRightColumn, IsRowOf, HasAgeAt, HasPut}
 use Rattle.std.proofs.lemmas.Bool.{cases_lt}
-use Rattle.std.proofs.lemmas.List.Elements.{All-weaker, All-push}
-use Rattle.rate_table.specs.Rates.{Rates}
-use Rattle.present_value.specs.Ends.{value_to}
 use Rattle.present_value.specs.Values.{pair_at, pair_of}
 use Rattle.present_value.specs.declared.pair.Pair.{Pair}
 use Rattle.present_value.specs.declared.column.Stream.{Stream}
-use Rattle.basis_book.specs.Dated.{Dated}
-use Rattle.policy_value.specs.Caches.{IsRightColumn, IsRowOf}
-use Rattle.policy_value.specs.inside.Kept.{HasAgeAt, HasPut}
 use Rattle.policy_value.specs.declared.columns.ColumnKey.{ColumnKey}
 use Rattle.policy_value.specs.declared.columns.KeptColumn.{KeptColumn}
 use Rattle.policy_value.proofs.Keeping.{one_row}

@@ -1,13 +1,9 @@
 -- The reserves by the status of a policy, at the end of cover and where no premium is due
-use Rattle.std.proofs.Common.{◌≡◌, ℕ, ◌≤◌, refl, sym}
+use Rattle.policy_value.proofs.Names.{◌≡◌, ℕ, ◌≤◌, refl, sym, InForce, Lapsed, Claimed, Matured, Expired, Settled, PaidUp, Cover, Encloses, exact_mean, exact_minimum, exact_reserve, rounded_mean_reserve, rounded_reserve}
 use Rattle.policy_types.specs.declared.policy.Status.{Status}
-use Rattle.policy_types.specs.declared.policy.Status.TheVariants.{InForce, Lapsed, Claimed, Matured, Expired, Settled, PaidUp}
-use Rattle.present_value.specs.Sums.{Cover}
-use Rattle.present_value.specs.Reserve.{Encloses}
 use Rattle.present_value.specs.Mean.{mean_reserve}
 use Rattle.crvm_reserve.proofs.MeanEnclosed.{mean_end, mean_reserve_end, paid_up_mean_end, paid_up_mean_reserve_end}
 use Rattle.deficiency_reserve.proofs.Minima.{paid-encloses}
-use Rattle.policy_value.specs.Measures.{exact_mean, exact_minimum, exact_reserve, rounded_mean_reserve, rounded_reserve}
 
 -- of a policy that isn't paid up
 pub mean-other : (status : Status) (c cap : Cover) (t : ℕ) → (status ≡ PaidUp → ⊥) → exact_mean status c cap t ≡ mean_reserve c cap t

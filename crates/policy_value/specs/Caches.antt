@@ -3,16 +3,8 @@ use Rattle.std.specs.Prelude.{◌≡◌, ℕ, ◌+◌, ◌^◌, min, ◌<◌, �
 use Rattle.std.specs.Map.{keys_of, lookup}
 use Rattle.std.specs.Set.{remove_key}
 use Rattle.policy_value.specs.contracts.key.CacheKeyPartialEq.TheImpl.{eq-value}
-use Rattle.rate_table.specs.Rates.{Rates}
-use Rattle.rate_table.specs.declared.shape.Shape.{Shape}
-use Rattle.select_rates.specs.Along.{table_along}
-use Rattle.plan_benefits.specs.Shapes.{shape_of}
-use Rattle.present_value.specs.Ends.{value_to}
-use Rattle.present_value.specs.Values.{pair_at}
-use Rattle.present_value.specs.declared.pair.Pair.{Pair}
-use Rattle.crvm_reserve.specs.Made.{IsUnitFor, premium_of}
+use Rattle.policy_value.specs.Names.{Rates, Shape, table_along, shape_of, value_to, pair_at, Pair, IsUnitFor, premium_of, Dated}
 use Rattle.crvm_reserve.specs.declared.premium.Premium.{Premium}
-use Rattle.basis_book.specs.Dated.{Dated}
 use Rattle.policy_value.specs.Covers.{cap_along, cover_along}
 use Rattle.policy_value.specs.declared.cache.ColumnCache.{ColumnCache}
 use Rattle.policy_value.specs.declared.columns.ColumnStore.{ColumnStore}

@@ -1,10 +1,7 @@
 -- The cover of a policy by a table of either kind, and the cover that limits its net premium.
 use Rattle.std.specs.Prelude.{ℕ, ◌+◌, ◌<◌}
-use Rattle.rate_table.specs.declared.shape.Shape.{Shape}
-use Rattle.select_rates.specs.Along.{IsRateOf, table_along}
+use Rattle.policy_value.specs.Names.{Shape, IsRateOf, table_along, Cover, cover_of, cap_of}
 use Rattle.select_rates.specs.declared.any.AnyTable.{AnyTable}
-use Rattle.present_value.specs.Sums.{Cover, cover_of}
-use Rattle.present_value.specs.Premium.{cap_of}
 
 -- by the rates of the age at issue
 abbrev pub cover_along : AnyTable → Shape → ℕ → Cover

@@ -1,11 +1,8 @@
 -- What a policy is worth by each measure
 use Rattle.std.specs.Prelude.{◌≡◌, ℕ, ◌*◌, ◌<◌, ⊤}
-use Rattle.policy_types.specs.declared.policy.Policy.{Policy}
+use Rattle.policy_value.specs.Names.{Policy, InForce, PaidUp, Cover, ben, beta}
 use Rattle.policy_types.specs.declared.policy.Status.{Status}
-use Rattle.policy_types.specs.declared.policy.Status.TheVariants.{InForce, PaidUp}
 use Rattle.present_value.specs.Fractions.{Fraction}
-use Rattle.present_value.specs.Sums.{Cover, ben}
-use Rattle.present_value.specs.Premium.{beta}
 use Rattle.present_value.specs.Reserve.{reserve, Encloses}
 use Rattle.present_value.specs.Mean.{mean_reserve, paid_up_mean}
 use Rattle.crvm_reserve.specs.Rounded.{beta_lo, beta_hi, rounded, rounded_paid_up}

@@ -1,14 +1,10 @@
 -- The row of a policy in a valuation: its worth on a day by a basis and a measure, or the word why it has none
 use Rattle.std.specs.Prelude.{◌≡◌, ℕ, ◌≤◌, ◌⊎◌, min, ⊤, List, All, ℤ, ◌<ℤ◌, ◌≤ℤ◌, Result, Ok, Err}
-use Rattle.policy_types.specs.declared.policy.Policy.{Policy}
-use Rattle.policy_types.specs.declared.policy.Status.TheVariants.{InForce, PaidUp}
+use Rattle.policy_value.specs.Names.{Policy, InForce, PaidUp, Shape, shape_of, Dated, IsPicked}
 use Rattle.life_dates.specs.Anniversary.{IsCompleted}
-use Rattle.rate_table.specs.declared.shape.Shape.{Shape}
 use Rattle.select_rates.specs.declared.any.AnyTable.{AnyTable}
-use Rattle.plan_benefits.specs.Shapes.{shape_of}
 use Rattle.plan_benefits.specs.declared.fault.NotValued.{NotValued}
 use Rattle.plan_benefits.specs.declared.fault.NotValued.TheVariants.{NoBasis}
-use Rattle.basis_book.specs.Dated.{Dated, IsPicked}
 use Rattle.policy_value.specs.declared.worth.Row.{Row}
 use Rattle.policy_value.specs.declared.worth.Worth.{Worth}
 use Rattle.policy_value.specs.declared.worth.Worth.TheVariants.{Bounds, Both, Word}

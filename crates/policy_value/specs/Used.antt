@@ -1,11 +1,7 @@
 -- What a row does to the cache that it is handed.
 use Rattle.std.specs.Prelude.{◌≡◌, ℕ, List, All, ℤ, ◌<ℤ◌, Result, Ok, Err}
-use Rattle.policy_types.specs.declared.policy.Policy.{Policy}
-use Rattle.policy_types.specs.declared.policy.Status.TheVariants.{PaidUp}
-use Rattle.rate_table.specs.declared.shape.Shape.{Shape}
-use Rattle.plan_benefits.specs.Shapes.{shape_of}
+use Rattle.policy_value.specs.Names.{Policy, PaidUp, Shape, shape_of, Dated, IsPicked}
 use Rattle.plan_benefits.specs.declared.fault.NotValued.{NotValued}
-use Rattle.basis_book.specs.Dated.{Dated, IsPicked}
 use Rattle.policy_value.specs.declared.cache.ColumnCache.{ColumnCache}
 use Rattle.policy_value.specs.declared.key.CacheKey.{CacheKey}
 use Rattle.policy_value.specs.Rows.{IsInsured}

@@ -1,8 +1,5 @@
 ghost use Rattle.std.specs.Prelude.{◌≡◌, ◌≤◌, ◌*◌, [], List, All, Contains, IfSome, IfNone, IsSome, IfOk, Ok, Some, length, min};
-ghost use Rattle.present_value.specs.Premium.{cap_shape};
-ghost use Rattle.crvm_reserve.specs.Made.{IsMadeFor, IsPaidUpFor, IsUnitFor, premium_of};
-ghost use Rattle.present_value.specs.declared.pair.Pair.{Pair as APair};
-ghost use Rattle.basis_book.specs.Dated.{Dated};
+ghost use Rattle.policy_value.specs.Names.{cap_shape, IsMadeFor, IsPaidUpFor, IsUnitFor, premium_of, APair, Dated};
 ghost use Rattle.policy_value.specs.Caches.{HasAsked, IsMissing, IsRightFor, IsRightPremium, IsRightPlace, IsRightStore, IsRightUnit, IsUnitStore, KeepsKeys, kept_keys, most_keys};
 ghost use Rattle.policy_value.specs.inside.Covered.{IsCovered, IsCoverOf, cap_by, cover_by};
 ghost use Rattle.policy_value.specs.inside.Kept.{HoldsUnit, kept_unit};

@@ -1,12 +1,6 @@
 // The columns that are kept for policies to come.
 ghost use Rattle.std.specs.Prelude.{◌≡◌, ℕ, ◌+◌, ◌≤◌, ◌<◌, ◌↔◌, IsTrue, [], List, All, IfOk, length, vec_capacity};
-ghost use Rattle.rate_table.specs.Rates.{AreRates};
-ghost use Rattle.basis_book.specs.Dated.{Dated};
-ghost use Rattle.present_value.specs.Sums.{cover_of};
-ghost use Rattle.present_value.specs.Premium.{cap_shape};
-ghost use Rattle.crvm_reserve.specs.Made.{premium_of};
-ghost use Rattle.present_value.specs.Ends.{AreValuesAt, CanEnd, IsColumn, value_to};
-ghost use Rattle.present_value.specs.Values.{CanValue};
+ghost use Rattle.policy_value.specs.Names.{AreRates, Dated, cover_of, cap_shape, premium_of, AreValuesAt, CanEnd, IsColumn, value_to, CanValue};
 ghost use Rattle.policy_value.specs.Caches.{IsRightStore, IsStore};
 ghost use Rattle.policy_value.specs.inside.Covered.{IsByRow, IsCovered, cap_by, cover_by};
 ghost use Rattle.policy_value.specs.inside.Kept.{HasAge, HasAgeAt, HasPut, HasColumnRoom, IsAtSlot, slot_of};

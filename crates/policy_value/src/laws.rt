@@ -1,11 +1,8 @@
 //! What rows by tables of either kind have to be.
 
 ghost use Rattle.std.specs.Prelude.{◌≡◌, ℕ};
-ghost use Rattle.rate_table.specs.Rates.{Rates};
-ghost use Rattle.rate_table.specs.declared.shape.Shape.{Shape as AShape};
+ghost use Rattle.policy_value.specs.Names.{Rates, AShape, cap_of, cover_of};
 ghost use Rattle.select_rates.specs.declared.any.AnyTable.TheVariants.{Aggregate};
-ghost use Rattle.present_value.specs.Premium.{cap_of};
-ghost use Rattle.present_value.specs.Sums.{cover_of};
 ghost use Rattle.policy_value.specs.Covers.{cap_along, cover_along};
 
 /// By a table by age alone the cover is by the rates of that table, and so is the one that limits its net premium.

@@ -1,7 +1,6 @@
 // The reserves per unit of amount that are kept for policies to come.
 ghost use Rattle.std.specs.Prelude.{◌≡◌, ◌≤◌, ◌<◌, Some, List, All, IfOk, IfSome, length, vec_capacity};
-ghost use Rattle.basis_book.specs.Dated.{Dated};
-ghost use Rattle.present_value.specs.declared.pair.Pair.{Pair as APair};
+ghost use Rattle.policy_value.specs.Names.{Dated, APair};
 ghost use Rattle.policy_value.specs.Caches.{IsRightPlace, IsRightUnit, IsRightUnits, IsUnitStore};
 ghost use Rattle.policy_value.specs.inside.Kept.{HasUnitRoom, HoldsUnit, kept_unit, unit_place};
 

@@ -1,8 +1,6 @@
 ghost use Rattle.std.specs.Prelude.{◌≡◌, ◌≤◌, ◌≤ℤ◌, ◌↔◌, ℕ, Ok, Some, IsTrue, slice_get};
-ghost use Rattle.basis_book.specs.Dated.{Dated, IsPicked};
+ghost use Rattle.policy_value.specs.Names.{Dated, IsPicked, shape_of, AShape};
 ghost use Rattle.policy_types.specs.Valid.{IsIssue};
-ghost use Rattle.plan_benefits.specs.Shapes.{shape_of};
-ghost use Rattle.rate_table.specs.declared.shape.Shape.{Shape as AShape};
 ghost use Rattle.policy_value.specs.Caches.{IsRightFor};
 ghost use Rattle.policy_value.specs.Used.{UsesCache, AsksByBasis, AsksByShape};
 ghost use Rattle.policy_value.specs.Measures.{most_worth};

@@ -1,8 +1,6 @@
 -- Parts of two files that agree.
-use Rattle.std.proofs.Common.{◌≡◌, ℕ, ◌+◌, ◌<◌, ◌≤◌, max, List, ◌++◌, length, take, drop, get_or, sym, ◌∙◌, ap, subst, arith, append_assoc, length-append, length-drop}
-use Rattle.std.proofs.lemmas.List.{get_or-take, get_or-drop, take-take, drop-take, take_at, drop_at, drop-drop, length-take-le}
+use Rattle.posting_journal.proofs.Names.{◌≡◌, ℕ, ◌+◌, ◌<◌, ◌≤◌, max, List, ◌++◌, length, take, drop, get_or, sym, ◌∙◌, ap, subst, arith, append_assoc, length-append, length-drop, get_or-take, get_or-drop, take-take, drop-take, take_at, drop_at, drop-drop, length-take-le, Holds, Torn}
 use Rattle.std.proofs.Math.Seq.{drop-append-add}
-use Rattle.outside_io.specs.Disks.{Holds, Torn}
 
 pub same_shorter : (few many : ℕ) (old new : List ℕ) → take many new ≡ take many old → few ≤ many → take few new ≡ take few old
 same_shorter few many old new same le = sym (take-take few many new le) ∙ ap (λ (l : List ℕ). take few l) same ∙ take-take few many old le

@@ -1,13 +1,9 @@
 -- Each file opens to bodies, or shows why it doesn't
-use Rattle.std.proofs.Common.{◌≡◌, ◌≢◌, ◌⊎◌, inl, inr, ⊎_elim, ℕ, zero, suc, ◌+◌, ◌*◌, ◌<◌, ◌≤◌, Bool, true, false, List, [], ◌∷◌, ◌++◌, length, get_or, refl, sym, ap, ◌∙◌, subst, add-one, arith, bytes_eq, true≢false}
+use Rattle.posting_journal.proofs.Names.{◌≡◌, ◌≢◌, ◌⊎◌, inl, inr, ⊎_elim, ℕ, zero, suc, ◌+◌, ◌*◌, ◌<◌, ◌≤◌, Bool, true, false, List, [], ◌∷◌, ◌++◌, length, get_or, refl, sym, ap, ◌∙◌, subst, add-one, arith, bytes_eq, true≢false, cases_Bool, cases_lt, CannotStand, IsBadAt, IsForeign, IsUnfinished, OpensToBodies, IsMade, body_place, gate_place, header, most_records}
 use Rattle.std.specs.Prelude.{take, drop, slice_index, slice_index_or}
-use Rattle.std.proofs.lemmas.Bool.{cases_Bool, cases_lt}
 use Rattle.std.proofs.lemmas.Bool.Decides.{eqb_tells}
 use Rattle.std.proofs.lemmas.List.{get_or_append_left, get_or_push, length-append}
 use Rattle.std.proofs.lemmas.Slice.Eq.{bytes_eq-Decides}
-use Rattle.posting_journal.specs.Creation.{CannotStand, IsBadAt, IsForeign, IsUnfinished, OpensToBodies}
-use Rattle.posting_journal.specs.Files.{IsMade}
-use Rattle.posting_journal.specs.Layout.{body_place, gate_place, header, most_records}
 
 -- a byte is this one, or it isn't
 is_byte : (byte wanted : ℕ) → (byte ≡ wanted) ⊎ (byte ≢ wanted)

@@ -1,8 +1,5 @@
 -- How a run of disk calls goes on.
-use Rattle.std.proofs.Common.{inl, inr, ⊎_elim, ℕ, List, refl, ◌∙◌, arith}
-use Rattle.outside_io.specs.Disks.{Looks}
-use Rattle.outside_io.specs.declared.disks.Disk.{Ghosts}
-use Rattle.posting_journal.specs.Runs.{LooksOn, Passes, Leaves}
+use Rattle.posting_journal.proofs.Names.{inl, inr, ⊎_elim, ℕ, List, refl, ◌∙◌, arith, Looks, Ghosts, LooksOn, Passes, Leaves}
 
 module _ {D : Type 0} (g : Ghosts D) where
   -- before the first call

@@ -1,16 +1,6 @@
 -- What was counted or refused is what the file shows.
-use Rattle.std.proofs.Common.{◌≡◌, ◌⊎◌, inl, inr, ⊎_elim, ℕ, zero, suc, ◌<◌, ◌≤◌, min, List, [], ◌∷◌, ◌++◌, length, take, drop, get_or, refl, sym, ◌∙◌, ap, subst, arith, Result, Ok, Err, IfOk, IfErr}
-use Rattle.std.proofs.lemmas.List.{get_or_append_left, get_or_push, length_push, length-take, take_min, take_at}
-use Rattle.std.proofs.lemmas.Bool.{cases_eq}
-use Rattle.outside_io.specs.Disks.{Syncs}
-use Rattle.outside_io.specs.declared.disks.Disk.{Ghosts}
-use Rattle.posting_journal.specs.Layout.{gate_place, body_place}
-use Rattle.posting_journal.specs.Files.{IsMade, IsClosed, IsJournal}
-use Rattle.posting_journal.specs.Creation.{IsUnfinished}
-use Rattle.posting_journal.specs.inside.Unopened.{EndsAt, IsBadFrom, ShowsWhy}
+use Rattle.posting_journal.proofs.Names.{◌≡◌, ◌⊎◌, inl, inr, ⊎_elim, ℕ, zero, suc, ◌<◌, ◌≤◌, min, List, [], ◌∷◌, ◌++◌, length, take, drop, get_or, refl, sym, ◌∙◌, ap, subst, arith, Result, Ok, Err, IfOk, IfErr, get_or_append_left, get_or_push, length_push, length-take, take_min, take_at, cases_eq, Syncs, Ghosts, gate_place, body_place, IsMade, IsClosed, IsJournal, IsUnfinished, EndsAt, IsBadFrom, ShowsWhy, OpenedTo, LooksOn, IsSafe, Passes}
 use Rattle.posting_journal.specs.Opening.{IsOpenedOn, OpensOn, HasSynced}
-use Rattle.posting_journal.specs.inside.Steps.{OpenedTo}
-use Rattle.posting_journal.specs.Runs.{LooksOn, IsSafe, Passes}
 use Rattle.posting_journal.specs.declared.faults.Unopened.{Unopened}
 use Rattle.posting_journal.specs.declared.faults.Unopened.TheVariants.{Unread, NotAJournal, BadRecord}
 use Rattle.posting_journal.proofs.Moments.{leaves, wider, goes_on, looked, looks_on}

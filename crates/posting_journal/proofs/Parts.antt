@@ -1,7 +1,5 @@
 -- A body in a piece is that of its file.
-use Rattle.std.proofs.Common.{◌≡◌, ℕ, ◌+◌, ◌-◌, ◌*◌, ◌≤◌, List, take, drop, ◌∙◌, ap, arith}
-use Rattle.std.proofs.lemmas.List.{drop-drop}
-use Rattle.posting_journal.specs.Layout.{gate_place, body_place}
+use Rattle.posting_journal.proofs.Names.{◌≡◌, ℕ, ◌+◌, ◌-◌, ◌*◌, ◌≤◌, List, take, drop, ◌∙◌, ap, arith, drop-drop, gate_place, body_place}
 use Rattle.posting_journal.proofs.Bytes.{same_part}
 
 pub body_of_part : (bytes file : List ℕ) (filled first n at : ℕ) → take filled bytes ≡ take filled (drop (gate_place first) file)

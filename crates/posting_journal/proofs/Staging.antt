@@ -1,11 +1,5 @@
 -- What the two steps of adding a record do on an honest disk.
-use Rattle.std.proofs.Common.{◌≡◌, ℕ, ◌<◌, ◌≤◌, List, [], ◌∷◌, ◌++◌, length, sym, subst, arith, length-append, Bool, true, false, IsTrue, Result, Ok, Err, OnOk, OnErr, MatchResult}
-use Rattle.outside_io.specs.Disks.{Torn}
-use Rattle.outside_io.specs.declared.disks.Disk.{Ghosts}
-use Rattle.posting_journal.specs.Layout.{gate_place, body_place}
-use Rattle.posting_journal.specs.Files.{IsJournal, IsStaged}
-use Rattle.posting_journal.specs.Runs.{IsSafe, Leaves}
-use Rattle.posting_journal.specs.inside.Steps.{PutsOn, TornOf}
+use Rattle.posting_journal.proofs.Names.{◌≡◌, ℕ, ◌<◌, ◌≤◌, List, [], ◌∷◌, ◌++◌, length, sym, subst, arith, length-append, Bool, true, false, IsTrue, Result, Ok, Err, OnOk, OnErr, MatchResult, Torn, Ghosts, gate_place, body_place, IsJournal, IsStaged, IsSafe, Leaves, PutsOn, TornOf}
 use Rattle.posting_journal.specs.States.{IsKept}
 use Rattle.posting_journal.proofs.Bytes.{written_torn}
 use Rattle.posting_journal.proofs.Moments.{leaves, wider}

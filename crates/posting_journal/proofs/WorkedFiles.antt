@@ -1,6 +1,5 @@
 -- What worked files are told by.
-use Rattle.std.proofs.Common.{◌≡◌, ◌≤◌, ℕ, List, length, inl, inr}
-use Rattle.posting_journal.specs.Creation.{IsBegun, IsNearlyMade, IsUnfinished}
+use Rattle.posting_journal.proofs.Names.{◌≡◌, ◌≤◌, ℕ, List, length, inl, inr, IsBegun, IsNearlyMade, IsUnfinished}
 
 pub not_unfinished : (bytes : List ℕ) → (length bytes ≤ 1 → ⊥) → (IsBegun bytes → ⊥) → (IsNearlyMade bytes → ⊥) → IsUnfinished bytes → ⊥
 not_unfinished bytes short begun nearly (inl h) = short h

@@ -1,10 +1,5 @@
 -- What the two writes of a record leave of a journal.
-use Rattle.std.proofs.Common.{◌≡◌, ◌≢◌, inl, inr, ℕ, ◌+◌, ◌<◌, ◌≤◌, List, [], ◌∷◌, ◌++◌, length, take, drop, get_or, sym, ◌∙◌, ap, subst, arith, append_assoc, length-append}
-use Rattle.std.proofs.lemmas.List.{take_at, get_or_at, get_or-drop, get_or_append_left, get_or_push, length_push}
-use Rattle.std.proofs.lemmas.Bool.{cases_eq}
-use Rattle.outside_io.specs.Disks.{Holds, Torn}
-use Rattle.posting_journal.specs.Layout.{gate_place, body_place}
-use Rattle.posting_journal.specs.Files.{IsMade, HasRecords, IsClosed, IsJournal, IsStaged, IsBeforeOrAfter}
+use Rattle.posting_journal.proofs.Names.{◌≡◌, ◌≢◌, inl, inr, ℕ, ◌+◌, ◌<◌, ◌≤◌, List, [], ◌∷◌, ◌++◌, length, take, drop, get_or, sym, ◌∙◌, ap, subst, arith, append_assoc, length-append, take_at, get_or_at, get_or-drop, get_or_append_left, get_or_push, length_push, cases_eq, Holds, Torn, gate_place, body_place, IsMade, HasRecords, IsClosed, IsJournal, IsStaged, IsBeforeOrAfter}
 use Rattle.posting_journal.proofs.Bytes.{same_shorter, same_byte, same_part, same_behind, written, written_torn}
 
 pub made_stays : (many : ℕ) (old new : List ℕ) → take many new ≡ take many old → 17 ≤ many → IsMade old → IsMade new

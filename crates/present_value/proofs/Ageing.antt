@@ -1,14 +1,7 @@
 -- A column by the attained age, year by year.
-use Rattle.std.proofs.Common.{◌≡◌, ℕ, ◌+◌, ◌-◌, ◌*◌, ◌<◌, ◌≤◌, refl, ap, sym, ◌∙◌, arith, List, length, get_or, EachIndex, slice_set, Bool, true, false, if◌then◌else◌, add-zero}
-use Rattle.std.proofs.lemmas.List.{length-set}
+use Rattle.present_value.proofs.Names.{◌≡◌, ℕ, ◌+◌, ◌-◌, ◌*◌, ◌<◌, ◌≤◌, refl, ap, sym, ◌∙◌, arith, List, length, get_or, EachIndex, slice_set, Bool, true, false, if◌then◌else◌, add-zero, length-set, Rates, ONE, rate_at, AreRatesFrom, UNIT, cover_of, rounded_ben, ben_lo, ben_hi, pair_of, pair_at, cover_to, benefits_to, premiums_to, value_to, IsOf, IsStarted, IsColumn, CanEnd}
 use Rattle.std.proofs.Math.Nat.{le_trans, mul-le-mul_right}
-use Rattle.rate_table.specs.Rates.{Rates, ONE, rate_at, AreRatesFrom}
 use Rattle.rate_table.specs.declared.shape.Shape.{Shape}
-use Rattle.present_value.specs.Rounding.{UNIT}
-use Rattle.present_value.specs.Sums.{cover_of}
-use Rattle.present_value.specs.Recursion.{rounded_ben, ben_lo, ben_hi}
-use Rattle.present_value.specs.Values.{pair_of, pair_at}
-use Rattle.present_value.specs.Ends.{cover_to, benefits_to, premiums_to, value_to, IsOf, IsStarted, IsColumn, CanEnd}
 use Rattle.present_value.specs.declared.column.Column.{Column}
 use Rattle.present_value.specs.declared.pair.Pair.{Pair}
 use Rattle.present_value.specs.declared.column.Stream.{Stream}

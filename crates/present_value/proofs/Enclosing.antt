@@ -1,12 +1,6 @@
 -- The rounded values enclose the exact ones, and lie as many units apart as years are left.
-use Rattle.std.proofs.Common.{◌≡◌, ℕ, zero, suc, ◌+◌, ◌-◌, ◌*◌, ◌^◌, ◌<◌, ◌≤◌, arith, Bool, true, false, if◌then◌else◌, inl, inr}
+use Rattle.present_value.proofs.Names.{◌≡◌, ℕ, zero, suc, ◌+◌, ◌-◌, ◌*◌, ◌^◌, ◌<◌, ◌≤◌, arith, Bool, true, false, if◌then◌else◌, inl, inr, leb_tells, ONE, Between, Cover, year, UNIT, down, up, benefit_dividend, annuity_dividend, rounded_ben, rounded_ann}
 use Rattle.std.proofs.Math.Nat.{mul-le-mul_left, mul-le-mul_right, mul-pos, pow-succ', pow-zero, one-le-pow}
-use Rattle.std.proofs.lemmas.Bool.Decides.{leb_tells}
-use Rattle.rate_table.specs.Rates.{ONE}
-use Rattle.present_value.specs.Fractions.{Between}
-use Rattle.present_value.specs.Sums.{Cover, year}
-use Rattle.present_value.specs.Rounding.{UNIT, down, up, benefit_dividend, annuity_dividend}
-use Rattle.present_value.specs.Recursion.{rounded_ben, rounded_ann}
 use Rattle.present_value.proofs.Quotients.{down-le, le-up, apart, up-le}
 use Rattle.present_value.proofs.Years.{ben_num, ann_num, ben_step, ann_step, ben_end, ann_end}
 

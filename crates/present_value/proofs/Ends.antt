@@ -1,12 +1,6 @@
 -- Two covers of which as much is left, with the same interest and the same rates from there on, have the same values.
-use Rattle.std.proofs.Common.{true, false, ◌≡◌, ℕ, zero, suc, ◌+◌, ◌-◌, ◌<◌, ◌≤◌, refl, ap, sym, ◌∙◌, arith, add-zero, Bool, true, if◌then◌else◌}
-use Rattle.rate_table.specs.Rates.{Rates, rate_at}
+use Rattle.present_value.proofs.Names.{true, false, ◌≡◌, ℕ, zero, suc, ◌+◌, ◌-◌, ◌<◌, ◌≤◌, refl, ap, sym, ◌∙◌, arith, add-zero, Bool, true, if◌then◌else◌, Rates, rate_at, UNIT, down, up, Cover, cover_of, rounded_ben, rounded_ann, ben_lo, ben_hi, ann_lo, ann_hi, pair_of, cover_to, benefits_to, premiums_to, value_to, benefit_stream}
 use Rattle.rate_table.specs.declared.shape.Shape.{Shape}
-use Rattle.present_value.specs.Rounding.{UNIT, down, up}
-use Rattle.present_value.specs.Sums.{Cover, cover_of}
-use Rattle.present_value.specs.Recursion.{rounded_ben, rounded_ann, ben_lo, ben_hi, ann_lo, ann_hi}
-use Rattle.present_value.specs.Values.{pair_of}
-use Rattle.present_value.specs.Ends.{cover_to, benefits_to, premiums_to, value_to, benefit_stream}
 use Rattle.present_value.specs.declared.column.Stream.TheVariants.{Annuity}
 use Rattle.present_value.proofs.Steps.{rounded_ben-before, rounded_ann-before, rounded_ann-after}
 

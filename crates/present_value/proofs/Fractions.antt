@@ -1,9 +1,6 @@
 -- Bounds of sums, differences, products and quotients of enclosed values.
-use Rattle.std.proofs.Common.{◌≡◌, ℕ, ◌+◌, ◌-◌, ◌*◌, ◌<◌, ◌≤◌, inl, inr, arith, min, ap, zero, suc}
+use Rattle.present_value.proofs.Names.{◌≡◌, ℕ, ◌+◌, ◌-◌, ◌*◌, ◌<◌, ◌≤◌, inl, inr, arith, min, ap, zero, suc, leb_tells, Fraction, Between, plus, less, times, over, lesser, down, up}
 use Rattle.std.proofs.Math.Nat.{mul-le-mul_left, mul-le-mul_right, mul-sub, mul_comm, mul-pos, le_of_mul-le-mul_right, min-eq_left, min-eq_right, min-le_left, min-le_right, le_trans}
-use Rattle.std.proofs.lemmas.Bool.Decides.{leb_tells}
-use Rattle.present_value.specs.Fractions.{Fraction, Between, plus, less, times, over, lesser}
-use Rattle.present_value.specs.Rounding.{down, up}
 use Rattle.present_value.proofs.Quotients.{down-le, le-up}
 
 -- a bound from below of a sum, and one from above

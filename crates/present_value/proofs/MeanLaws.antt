@@ -1,11 +1,7 @@
 -- Why the mean reserve lies where it does.
-use Rattle.std.proofs.Common.{◌≡◌, ℕ, suc, ◌+◌, ◌*◌, ◌<◌, ◌≤◌, refl, inl, inr, arith}
+use Rattle.present_value.proofs.Names.{◌≡◌, ℕ, suc, ◌+◌, ◌*◌, ◌<◌, ◌≤◌, refl, inl, inr, arith, leb_tells, Fraction, plus, Cover, survivors, ben, half, net_premium, mean_reserve, paid_up_mean}
 use Rattle.std.proofs.Math.Nat.{mul-le-mul_left}
-use Rattle.std.proofs.lemmas.Bool.Decides.{leb_tells}
-use Rattle.present_value.specs.Fractions.{Fraction, plus}
-use Rattle.present_value.specs.Sums.{Cover, survivors, ben}
 use Rattle.present_value.specs.Reserve.{reserve}
-use Rattle.present_value.specs.Mean.{half, net_premium, mean_reserve, paid_up_mean}
 use Rattle.present_value.specs.MeanLaws.{LiesWithin, LiesBetween, LiesBetweenLaw, NoPremiumLaw, paying}
 
 -- half of a sum of three, x over p and y over q around n over d, where x over p is the lesser: as numbers

@@ -1,14 +1,8 @@
 -- Columns place by place.
-use Rattle.std.proofs.Common.{◌≡◌, ◌≢◌, ℕ, zero, suc, ◌+◌, ◌*◌, ◌<◌, refl, ap, ◌∙◌, arith, List, length, slice_set, inl, inr}
+use Rattle.present_value.proofs.Names.{◌≡◌, ◌≢◌, ℕ, zero, suc, ◌+◌, ◌*◌, ◌<◌, refl, ap, ◌∙◌, arith, List, length, slice_set, inl, inr, get_or-set_same, get_or-set_other, ONE, pair_at, pair_of, UNIT, down, up, benefit_dividend, annuity_dividend, Cover, year, ben_lo, ben_hi, ann_lo, ann_hi}
 use Rattle.std.specs.Prelude.{replicate}
-use Rattle.std.proofs.lemmas.List.{get_or-set_same, get_or-set_other}
 use Rattle.std.proofs.lemmas.Bool.{cases_eq}
 use Rattle.present_value.specs.declared.pair.Pair.{Pair}
-use Rattle.rate_table.specs.Rates.{ONE}
-use Rattle.present_value.specs.Values.{pair_at, pair_of}
-use Rattle.present_value.specs.Rounding.{UNIT, down, up, benefit_dividend, annuity_dividend}
-use Rattle.present_value.specs.Sums.{Cover, year}
-use Rattle.present_value.specs.Recursion.{ben_lo, ben_hi, ann_lo, ann_hi}
 use Rattle.present_value.proofs.Steps.{ben_lo-before, ben_hi-before, ann_lo-before, ann_hi-before}
 
 pub empty_at : (count k : ℕ) → pair_at (replicate count (pair_of 0 0)) k ≡ pair_of 0 0

@@ -1,6 +1,5 @@
 -- Rounded quotients.
-use Rattle.std.proofs.Common.{ℕ, ◌+◌, ◌-◌, ◌*◌, ◌<◌, ◌≤◌, arith, lt_of_mul-lt-mul_right}
-use Rattle.present_value.specs.Rounding.{down, up}
+use Rattle.present_value.proofs.Names.{ℕ, ◌+◌, ◌-◌, ◌*◌, ◌<◌, ◌≤◌, arith, lt_of_mul-lt-mul_right, down, up}
 
 pub down-le : (n d : ℕ) → down n d * d ≤ n
 down-le n d = omega arith

@@ -1,8 +1,7 @@
 -- A quotient by a rounded reciprocal: with p * h over the divisor as the reciprocal, and the number without its last
 -- part below h, the estimate is the quotient or one less.
-use Rattle.std.proofs.Common.{◌≡◌, ℕ, zero, suc, ◌+◌, ◌*◌, ◌/◌, ◌<◌, ◌≤◌, arith}
+use Rattle.present_value.proofs.Names.{◌≡◌, ℕ, zero, suc, ◌+◌, ◌*◌, ◌/◌, ◌<◌, ◌≤◌, arith, down, up}
 use Rattle.std.proofs.Math.Nat.{mul-le-mul_left, mul-le-mul_right, mul-lt-mul_of_pos_right, le_of_mul-le-mul_right, lt_of_mul-lt-mul_right, mul-pos, lt_of_le_of_lt}
-use Rattle.present_value.specs.Rounding.{down, up}
 use Rattle.present_value.proofs.Quotients.{down-le, lt-down, le-up, up-lt}
 
 pub estimate-le : (number d m y e p h : ℕ) → 0 < p → 0 < h → e * p ≤ y * m → y * h ≤ number → m * d ≤ p * h → e * d ≤ number

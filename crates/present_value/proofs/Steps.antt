@@ -1,13 +1,6 @@
 -- The rounded values by the year, as the columns hold them.
-use Rattle.std.proofs.Common.{◌≡◌, ℕ, zero, suc, ◌+◌, ◌-◌, ◌*◌, ◌<◌, ◌≤◌, refl, ap, arith, inl, inr}
+use Rattle.present_value.proofs.Names.{◌≡◌, ℕ, zero, suc, ◌+◌, ◌-◌, ◌*◌, ◌<◌, ◌≤◌, refl, ap, arith, inl, inr, leb_tells, ONE, Fraction, Between, Cover, year, ben, ann, UNIT, down, up, benefit_dividend, annuity_dividend, rounded_ben, rounded_ann, ben_lo, ben_hi, ann_lo, ann_hi, pair_of, IsPairOf}
 use Rattle.std.proofs.Math.Nat.{le_trans, le_of_mul-le-mul_right}
-use Rattle.std.proofs.lemmas.Bool.Decides.{leb_tells}
-use Rattle.rate_table.specs.Rates.{ONE}
-use Rattle.present_value.specs.Fractions.{Fraction, Between}
-use Rattle.present_value.specs.Sums.{Cover, year, ben, ann}
-use Rattle.present_value.specs.Rounding.{UNIT, down, up, benefit_dividend, annuity_dividend}
-use Rattle.present_value.specs.Recursion.{rounded_ben, rounded_ann, ben_lo, ben_hi, ann_lo, ann_hi}
-use Rattle.present_value.specs.Values.{pair_of, IsPairOf}
 use Rattle.present_value.proofs.Years.{ben_is, ann_is}
 use Rattle.present_value.proofs.Enclosing.{ben_between, ann_between, ben_narrow, ann_narrow, ben_most, ann_most, ann_least}
 

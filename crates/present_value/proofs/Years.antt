@@ -1,7 +1,6 @@
 -- The sums of one year from those of the next.
-use Rattle.std.proofs.Common.{◌≡◌, ℕ, zero, suc, ◌+◌, ◌-◌, ◌*◌, ◌^◌, ◌<◌, refl, sym, ◌∙◌, arith, true, false, if◌then◌else◌, add-zero, one-mul, mul-one}
+use Rattle.present_value.proofs.Names.{◌≡◌, ℕ, zero, suc, ◌+◌, ◌-◌, ◌*◌, ◌^◌, ◌<◌, refl, sym, ◌∙◌, arith, true, false, if◌then◌else◌, add-zero, one-mul, mul-one, Cover, year, survival, death, survivors, sum_below, ben, ann}
 use Rattle.std.proofs.Math.Nat.{mul-add, mul_assoc, mul-zero}
-use Rattle.present_value.specs.Sums.{Cover, year, survival, death, survivors, sum_below, ben, ann}
 
 -- the first term apart, and a factor of all the others
 sum_first : (a : ℕ) (f g : ℕ → ℕ) (count : ℕ) → ((k : ℕ) → k < count → f (suc k) ≡ a * g k)

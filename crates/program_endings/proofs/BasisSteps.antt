@@ -1,21 +1,15 @@
 -- How a mode ends without its basis, and what its status tells of the basis
-use Rattle.std.proofs.Common.{◌≡◌, ◌⊎◌, ℕ, List, refl, subst, inl, inr}
-use Rattle.outside_io.specs.Faults.{Rose}
+use Rattle.program_endings.proofs.Names.{◌≡◌, ◌⊎◌, ℕ, List, refl, subst, inl, inr, Rose, bad_basis_text, Ending, BadBasis, ReadFault, NoMemory, status_of, Shelving, Stream, WroteOrFailed}
 use Rattle.outside_io.specs.Shelves.{Files}
 use Rattle.basis_shelf.specs.Answers.{IfBad}
 use Rattle.basis_book.specs.Dated.{Dated}
 use Rattle.basis_shelf.specs.Bases.{IsBasis}
 use Rattle.basis_shelf.specs.FirstBad.{IsFirstBadFile}
-use Rattle.basis_shelf.specs.Lines.{bad_basis_text}
 use Rattle.basis_shelf.specs.declared.fault.BadBasis.{BadBasis as ABadBasis}
 use Rattle.basis_shelf.proofs.OneBasis.{basis_or_bad, one_first_bad}
 use Rattle.basis_shelf.specs.declared.fault.NoBasis.{NoBasis}
 use Rattle.basis_shelf.specs.declared.fault.NoBasis.TheVariants.{Bad, ReadFault as ShelfFailed, NoMemory as NoRoom}
-use Rattle.program_endings.specs.declared.ending.Ending.{Ending}
-use Rattle.program_endings.specs.declared.ending.Ending.TheVariants.{BadBasis, ReadFault, NoMemory}
 use Rattle.program_endings.specs.WithoutBasis.{EndsNoBasis, SaysBadFile, SaysNoBasis}
-use Rattle.program_endings.specs.Status.{status_of}
-use Rattle.program_endings.specs.Writing.{Shelving, Stream, WroteOrFailed}
 
 -- the answer that there is no basis
 pub no_basis : (name : List ℕ) (shelf : Shelving) (output : Stream) (ending : Ending) (cause : NoBasis)

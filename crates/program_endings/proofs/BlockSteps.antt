@@ -1,8 +1,6 @@
 -- The rows of a snapshot can be written
-use Rattle.std.proofs.Common.{ℕ, ◌≤◌, ℤ, List, arith}
-use Rattle.std.proofs.lemmas.List.Elements.{All-weaker}
+use Rattle.program_endings.proofs.Names.{ℕ, ◌≤◌, ℤ, List, arith, All-weaker, Command}
 use Rattle.basis_book.specs.Dated.{Dated}
-use Rattle.policy_types.specs.declared.command.Command.{Command}
 use Rattle.policy_value.specs.Measures.{most_worth}
 use Rattle.policy_value.specs.Rows.{IsWithinAmount}
 use Rattle.policy_value.specs.declared.worth.Measure.{Measure}

@@ -1,16 +1,6 @@
 -- Where a posting faulted the disk's count rose
-use Rattle.std.proofs.Common.{◌≡◌, ℕ, List, [], ◌∷◌, ◌++◌, ap, sym, ◌∙◌, subst, Some, None, Option}
-use Rattle.std.specs.List.{AllByRecursion, cons_option, filter_map, last_or}
+use Rattle.program_endings.proofs.Names.{◌≡◌, ℕ, List, [], ◌∷◌, ◌++◌, ap, sym, ◌∙◌, subst, Some, None, Option, AllByRecursion, cons_option, filter_map, last_or, filter_map-append, Rose, Command, Call, Post, Pin, PinAt, Read, Unpin, Trim, Reply, Accepted, Refused, Faulted, Pinned, PinRefused, Slice, Unpinned, Floor, Blank, Entry, Opening, IsAbove, IsDue, IsLegalAfter, fault_of}
 use Rattle.std.specs.Option.{unwrap_or}
-use Rattle.std.proofs.lemmas.List.Elements.{filter_map-append}
-use Rattle.outside_io.specs.Faults.{Rose}
-use Rattle.policy_types.specs.declared.command.Command.{Command}
-use Rattle.policy_types.specs.declared.entry.Call.{Call}
-use Rattle.policy_types.specs.declared.entry.Call.TheVariants.{Post, Pin, PinAt, Read, Unpin, Trim}
-use Rattle.policy_types.specs.declared.entry.Reply.{Reply}
-use Rattle.policy_types.specs.declared.entry.Reply.TheVariants.{Accepted, Refused, Faulted, Pinned, PinRefused, Slice, Unpinned, Floor, Blank}
-use Rattle.policy_types.specs.declared.entry.Entry.{Entry}
-use Rattle.policy_machine.specs.History.{Opening, IsAbove, IsDue, IsLegalAfter, fault_of}
 use Rattle.office_state.specs.Images.{HasFaulted, faults_after}
 
 -- the numbers of the faults that were answered

@@ -1,3 +1,4 @@
+pub mod Names
 pub mod ListSteps
 mod PartSteps
 pub mod TurnSteps

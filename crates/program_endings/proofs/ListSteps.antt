@@ -1,9 +1,6 @@
 -- Elements of lists, and where they stand
-use Rattle.std.proofs.Common.{◌≡◌, ℕ, zero, suc, ◌+◌, ◌-◌, ◌≤◌, ◌⊎◌, Bool, true, false, List, [], ◌∷◌, ◌++◌, map, take, Some, refl, ap, sym, ◌∙◌, subst, inl, inr, arith}
-use Rattle.std.specs.Prelude.{◌||◌, slice_get}
+use Rattle.program_endings.proofs.Names.{◌≡◌, ℕ, zero, suc, ◌+◌, ◌-◌, ◌≤◌, ◌⊎◌, Bool, true, false, List, [], ◌∷◌, ◌++◌, map, take, Some, refl, ap, sym, ◌∙◌, subst, inl, inr, arith, ◌||◌, slice_get, cond-false, cond-true, Contains-append_cases, Contains-append_right, Contains-push_cases}
 use Rattle.std.specs.List.{AllByRecursion, AllZip, Contains, enumerate_from, filter, flat_map, list_any}
-use Rattle.std.proofs.lemmas.Bool.{cond-false, cond-true}
-use Rattle.std.proofs.lemmas.List.Elements.{Contains-append_cases, Contains-append_right, Contains-push_cases}
 
 -- x is one of the list
 abbrev pub Has : {A : Type 0} → List A → A → Type 0

@@ -1,9 +1,7 @@
 -- What was written of a text in parts, after one part more
-use Rattle.std.proofs.Common.{◌≡◌, ℕ, suc, ◌+◌, ◌<◌, List, [], ◌∷◌, ◌++◌, Option, Some, None, Result, Ok, Err, OnErr, length, take, drop, get_or, flat_map, sym, ap, ◌∙◌, subst, append_assoc, append-nil, length-append, arith}
+use Rattle.program_endings.proofs.Names.{◌≡◌, ℕ, suc, ◌+◌, ◌<◌, List, [], ◌∷◌, ◌++◌, Option, Some, None, Result, Ok, Err, OnErr, length, take, drop, get_or, flat_map, sym, ap, ◌∙◌, subst, append_assoc, append-nil, length-append, arith, Appends, AppendsPart}
 use Rattle.std.proofs.lemmas.List.{take_more, take-append-drop, take-append-le}
 use Rattle.std.proofs.lemmas.List.Concat.{flat_map-append}
-use Rattle.std.specs.Io.KnownBytes.{Appends}
-use Rattle.outside_io.specs.Streams.{AppendsPart}
 
 pub appends_behind : (before mid after : Option (List ℕ)) (front more : List ℕ) → Appends before mid front → Appends mid after more
     → Appends before after (front ++ more)

@@ -1,12 +1,5 @@
 -- Turns that post nothing, and turns that are all of one caller
-use Rattle.std.proofs.Common.{◌≡◌, ℕ, ◌+◌, ◌==◌, true, false, List, [], ◌∷◌, map, None, refl, ap, sym, ◌∙◌}
-use Rattle.std.specs.List.{AllByRecursion, cons_option, enumerate_from, filter}
-use Rattle.std.proofs.lemmas.Bool.{cond-true, eq-eqb, false≢true}
-use Rattle.policy_types.specs.declared.entry.Call.{Call}
-use Rattle.policy_types.specs.declared.entry.Call.TheVariants.{Post, Pin, PinAt, Read, Unpin, Trim}
-use Rattle.policy_types.specs.declared.entry.Reply.{Reply}
-use Rattle.policy_types.specs.declared.entry.Entry.{Entry}
-use Rattle.policy_machine.specs.History.{accepted_by, accepted_of}
+use Rattle.program_endings.proofs.Names.{◌≡◌, ℕ, ◌+◌, ◌==◌, true, false, List, [], ◌∷◌, map, None, refl, ap, sym, ◌∙◌, AllByRecursion, cons_option, enumerate_from, filter, cond-true, eq-eqb, false≢true, Call, Post, Pin, PinAt, Read, Unpin, Trim, Reply, Entry, accepted_by, accepted_of}
 use Rattle.policy_machine.specs.Merge.{Placed}
 use Rattle.program_endings.proofs.TurnSteps.{posts}
 

@@ -1,21 +1,14 @@
 -- What the exit status tells of a mode that only reads the disk's file
-use Rattle.std.proofs.Common.{◌≡◌, ℕ, ◌⊎◌, List, refl, inl, inr}
-use Rattle.outside_io.specs.Faults.{Rose}
-use Rattle.outside_io.specs.Streams.{AppendsPart}
+use Rattle.program_endings.proofs.Names.{◌≡◌, ℕ, ◌⊎◌, List, refl, inl, inr, Rose, AppendsPart, Command, Ending, Done, BadJournal, WriteFault, DiskFault, NoMemory, status_of, Stream, WroteAll}
 use Rattle.outside_io.specs.declared.disks.Disk.{Ghosts}
-use Rattle.policy_types.specs.declared.command.Command.{Command}
 use Rattle.office_state.specs.declared.faults.StartCause.{StartCause}
 use Rattle.office_state.specs.declared.faults.StartCause.TheVariants.{DiskFault as FaultyDisk, NotAJournal, BadRecord, NoMemory as NoRoom}
 use Rattle.office_state.specs.Journals.{IsOfTheFile, Opens, OpensToNone}
 use Rattle.office_state.proofs.JournalLaws.{shown_opens_to_none}
 use Rattle.office_state.proofs.OpeningSteps.{finished}
 use Rattle.office_state.specs.Opening.{HasNotOpened}
-use Rattle.program_endings.specs.declared.ending.Ending.{Ending}
-use Rattle.program_endings.specs.declared.ending.Ending.TheVariants.{Done, BadJournal, WriteFault, DiskFault, NoMemory}
 use Rattle.program_endings.specs.Refusals.{IsRefusedJournal, SaysWhy, SaysUnopened}
 use Rattle.program_endings.specs.Texts.{EndsReadOnly}
-use Rattle.program_endings.specs.Status.{status_of}
-use Rattle.program_endings.specs.Writing.{Stream, WroteAll}
 
 -- a file is refused as a journal for what its bytes are
 of_the_file : (cause : StartCause) (output : Stream) → SaysWhy cause output → IsOfTheFile cause

@@ -1,9 +1,6 @@
 -- A status is that of one ending
-use Rattle.std.proofs.Common.{◌≡◌, ℕ, refl, ap, sym, ◌∙◌}
+use Rattle.program_endings.proofs.Names.{◌≡◌, ℕ, refl, ap, sym, ◌∙◌, Ending, Done, Usage, BadScript, BadBasis, BadJournal, InputFault, WriteFault, DiskFault, NoMemory, Ahead, status_of}
 use Rattle.std.specs.Prelude.{◌==◌, if◌then◌else◌}
-use Rattle.program_endings.specs.declared.ending.Ending.{Ending}
-use Rattle.program_endings.specs.declared.ending.Ending.TheVariants.{Done, Usage, BadScript, BadBasis, BadJournal, ReadFault as InputFault, WriteFault, DiskFault, NoMemory, Ahead}
-use Rattle.program_endings.specs.Status.{status_of}
 
 abbrev ending_with : ℕ → Ending
 ending_with status =

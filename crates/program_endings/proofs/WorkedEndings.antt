@@ -1,19 +1,11 @@
 -- What worked endings are told by.
-use Rattle.std.proofs.Common.{◌≡◌, ◌≤◌, ◌<◌, ◌++◌, ◌∙◌, ℕ, zero, suc, List, [], ◌∷◌, length, take, ap, inl, inr, subst, Some, None, codes, lit<, arith}
-use Rattle.std.specs.Prelude.{slice_get, slice_index}
-use Rattle.outside_io.specs.Faults.{Rose}
+use Rattle.program_endings.proofs.Names.{◌≡◌, ◌≤◌, ◌<◌, ◌++◌, ◌∙◌, ℕ, zero, suc, List, [], ◌∷◌, length, take, ap, inl, inr, subst, Some, None, codes, lit<, arith, slice_get, slice_index, Rose, Command, Post, Reply, Faulted, Pinned, Blank, Entry, Stream, WroteLine}
 use Rattle.outside_io.specs.declared.disks.Disk.{Ghosts}
-use Rattle.policy_types.specs.declared.command.Command.{Command}
-use Rattle.policy_types.specs.declared.entry.Call.TheVariants.{Post}
-use Rattle.policy_types.specs.declared.entry.Reply.{Reply}
-use Rattle.policy_types.specs.declared.entry.Reply.TheVariants.{Faulted, Pinned, Blank}
-use Rattle.policy_types.specs.declared.entry.Entry.{Entry}
 use Rattle.office_state.specs.declared.faults.StartCause.{StartCause}
 use Rattle.office_state.specs.declared.faults.StartCause.TheVariants.{NotAJournal, BadRecord, DiskFault, NoMemory}
 use Rattle.office_state.specs.Journals.{IsShown}
 use Rattle.office_state.proofs.JournalLaws.{shown_once}
 use Rattle.program_endings.specs.Refusals.{IsRefusedJournal, SaysWhy}
-use Rattle.program_endings.specs.Writing.{Stream, WroteLine}
 use Rattle.program_endings.specs.Worked.{pinned_turn, RefusesHello}
 
 pub no_fault : Rose 3 3 → ⊥

@@ -1,5 +1,5 @@
 -- The fields of a body that spells a command.
-use Rattle.std.proofs.Common.{◌≡◌, ℕ, ◌+◌, List, [], ◌∷◌, get_or, Option, Some, refl, ap, ◌∙◌, arith, ℤ, FitsSigned, to_z-of_z}
+use Rattle.record_codec.proofs.Names.{◌≡◌, ℕ, ◌+◌, List, [], ◌∷◌, get_or, Option, Some, refl, ap, ◌∙◌, arith, ℤ, FitsSigned, to_z-of_z, body_of, spelling_of, IsSpelling}
 use Rattle.std.specs.Int.{w32, w64, from_be_bytes, to_be_bytes, cast_signed, cast_unsigned}
 use Rattle.std.proofs.lemmas.Int.{ints}
 use Rattle.std.proofs.lemmas.Nat.{from_be_bytes-to_be_bytes_4, from_be_bytes-to_be_bytes_8}
@@ -9,7 +9,6 @@ use Rattle.policy_types.specs.declared.command.Plan.TheVariants.{Term, Whole, En
 use Rattle.policy_types.specs.Valid.{IsValid}
 use Rattle.record_codec.specs.declared.fields.RecordFields.{RecordFields}
 use Rattle.record_codec.specs.Fields.{fields_of}
-use Rattle.record_codec.specs.Spelling.{body_of, spelling_of, IsSpelling}
 use Rattle.record_codec.specs.inside.Reading.{command_at, AreInRange}
 
 -- the numbers that stand in four and in eight bytes of a body

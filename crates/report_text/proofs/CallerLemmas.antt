@@ -1,9 +1,8 @@
 -- For who makes rows and has them printed.
-use Rattle.std.proofs.Common.{ℕ, ◌≤◌, arith}
+use Rattle.report_text.proofs.Names.{ℕ, ◌≤◌, arith, IsSummable}
 use Rattle.policy_value.specs.declared.worth.Worth.{Worth}
 use Rattle.policy_value.specs.declared.worth.Worth.TheVariants.{Bounds, Both, Word}
 use Rattle.policy_value.specs.Rows.{IsWithinAmount}
-use Rattle.report_text.specs.Block.{IsSummable}
 
 -- what is worth at most an amount within the limit can be added up
 pub IsSummable-from_within : (amount : ℕ) (worth : Worth) → amount ≤ 20000000000 → IsWithinAmount amount worth → IsSummable worth

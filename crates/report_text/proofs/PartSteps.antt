@@ -1,6 +1,5 @@
 -- The rows of parts, one part more at a time, and their texts.
-use Rattle.std.proofs.Common.{◌≡◌, ℕ, length, take, drop, List, [], ◌∷◌, ◌++◌, Result, Ok, Err, IsOk, OnOk, refl, sym, ap, ap₂, ◌∙◌, append-nil, append_assoc, inl, inr}
-use Rattle.std.specs.List.{AllByRecursion, AllZip, flat_map}
+use Rattle.report_text.proofs.Names.{◌≡◌, ℕ, length, take, drop, List, [], ◌∷◌, ◌++◌, Result, Ok, Err, IsOk, OnOk, refl, sym, ap, ap₂, ◌∙◌, append-nil, append_assoc, inl, inr, AllByRecursion, AllZip, flat_map, row_text, rows_of_parts, had_text, IsTextOfPart}
 use Rattle.std.proofs.lemmas.Bool.{false≢true}
 use Rattle.std.proofs.lemmas.List.{take_at}
 use Rattle.std.proofs.lemmas.List.Concat.{flat_map-append}
@@ -9,8 +8,6 @@ use Rattle.parallel_value.specs.Pieces.{AreValues, MayGive, TakeAll}
 use Rattle.parallel_value.proofs.PieceSteps.{zip_more}
 use Rattle.policy_types.specs.declared.watcher.NoMemory.{NoMemory}
 use Rattle.policy_value.specs.declared.worth.Row.{Row}
-use Rattle.report_text.specs.Block.{row_text}
-use Rattle.report_text.specs.Parts.{rows_of_parts, had_text, IsTextOfPart}
 use Rattle.report_text.specs.declared.printer.RowPart.{RowPart}
 use Rattle.report_text.specs.declared.printer.RowPrinter.{RowPrinter}
 

@@ -1,3 +1,4 @@
+pub mod Names
 pub mod OneReply
 pub mod Payable
 pub mod ReadsTogether

@@ -1,5 +1,5 @@
 -- The reply that is due, as a function of the turns before
-use Rattle.std.proofs.Common.{◌≡◌, ℕ, ◌+◌, ◌≤◌, ◌<◌, Bool, true, false, cond, nat_lt, nat_le, List, length, take, drop, refl, sym, ap, ◌∙◌, Some, None, Option, arith}
+use Rattle.schedule_laws.proofs.Names.{◌≡◌, ℕ, ◌+◌, ◌≤◌, ◌<◌, Bool, true, false, cond, nat_lt, nat_le, List, length, take, drop, refl, sym, ap, ◌∙◌, Some, None, Option, arith, book, Opening, IsDue, commands_after, floor_of, least_or, live_pin, live_positions, most_pins, policies_per_read, refusal_due, read_due}
 use Rattle.policy_types.specs.declared.command.Command.{Command}
 use Rattle.policy_types.specs.declared.refusal.Refusal.{Refusal}
 use Rattle.policy_types.specs.declared.entry.Call.{Call}
@@ -8,9 +8,6 @@ use Rattle.policy_types.specs.declared.entry.Reply.{Reply}
 use Rattle.policy_types.specs.declared.entry.Reply.TheVariants.{Accepted, Refused, Faulted, Pinned, PinRefused, Slice as Policies, Unpinned, Floor, Blank}
 use Rattle.policy_types.specs.declared.entry.PinRefusal.TheVariants.{Ahead, Trimmed, PinsFull}
 use Rattle.policy_types.specs.declared.entry.Entry.{Entry}
-use Rattle.policy_machine.specs.Book.{book}
-use Rattle.policy_machine.specs.History.{Opening, IsDue, commands_after, floor_of, least_or, live_pin, live_positions, most_pins, policies_per_read, refusal_due}
-use Rattle.policy_machine.proofs.HistoryGrowth.{read_due}
 use Rattle.schedule_laws.specs.Replies.{PostsNothing, MayCall}
 
 -- sixteen pins are live

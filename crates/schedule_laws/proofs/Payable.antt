@@ -1,5 +1,5 @@
 -- What is payable and what is outstanding change together
-use Rattle.std.proofs.Common.{◌≡◌, ℕ, ◌+◌, ◌-◌, ◌≤◌, ◌==◌, nat_lt, Bool, true, false, not, if◌then◌else◌, List, [], ◌∷◌, ◌++◌, ℤ, pos, ◌+ℤ◌, ◌-ℤ◌, refl, sym, ap, ◌∙◌, subst, append_assoc, append-nil, None, Some, Option, Ok, eqb-true, ◌⊎◌, inl, inr, arith}
+use Rattle.schedule_laws.proofs.Names.{◌≡◌, ℕ, ◌+◌, ◌-◌, ◌≤◌, ◌==◌, nat_lt, Bool, true, false, not, if◌then◌else◌, List, [], ◌∷◌, ◌++◌, ℤ, pos, ◌+ℤ◌, ◌-ℤ◌, refl, sym, ap, ◌∙◌, subst, append_assoc, append-nil, None, Some, Option, Ok, eqb-true, ◌⊎◌, inl, inr, arith, book, kept, policy_of, issue_id, judge, IsAccepted, IsAcceptedAfter}
 use Rattle.std.proofs.lemmas.Int.{ints}
 use Rattle.std.proofs.lemmas.List.Sums.{sum_by-append, sum_by-cons, sum_by_push}
 use Rattle.policy_types.specs.declared.command.Command.{Command}
@@ -14,7 +14,6 @@ use Rattle.policy_types.specs.declared.refusal.Refusal.TheVariants.{Taken}
 use Rattle.policy_types.specs.Accounts.{Booking, against, booking_of}
 use Rattle.policy_types.specs.Valid.{id_of}
 use Rattle.policy_machine.specs.Rules.{next, decided, changed, matured, checks_of, first_refusal, issued, is_in_force, is_insured, is_lapsed, awaits_settlement}
-use Rattle.policy_machine.specs.Book.{book, kept, policy_of, issue_id, judge, IsAccepted, IsAcceptedAfter}
 use Rattle.policy_machine.specs.Accounts.{ledger_of}
 use Rattle.policy_machine.proofs.AcceptedLemmas.{IsIssueHere, NeedsPolicy, issue_or_other}
 use Rattle.policy_machine.proofs.BookLemmas.{policy_of-push_own, policy_of-push_other, policy_of-upgrade, book-upgrade, IsAccepted-push}

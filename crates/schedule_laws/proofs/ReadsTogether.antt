@@ -1,5 +1,5 @@
 -- The reads of a pin, put together
-use Rattle.std.proofs.Common.{◌≡◌, ℕ, suc, zero, ◌+◌, ◌*◌, ◌/◌, ◌≤◌, min, ◌⊎◌, inl, inr, List, [], ◌∷◌, ◌++◌, length, map, take, drop, slice_get, refl, sym, ap, ◌∙◌, subst, Some, arith}
+use Rattle.schedule_laws.proofs.Names.{◌≡◌, ℕ, suc, zero, ◌+◌, ◌*◌, ◌/◌, ◌≤◌, min, ◌⊎◌, inl, inr, List, [], ◌∷◌, ◌++◌, length, map, take, drop, slice_get, refl, sym, ap, ◌∙◌, subst, Some, arith, book, Opening, IsLegal, IsLegalAfter, IsDue, commands_after, live_pin, pin_of, policies_per_read, Answered, answered_at, pinned_due, read_due, live_parts, slice_get-front, take-commands_after, IsLegalAfter-front, PinsHold-legal}
 use Rattle.std.specs.List.{AllByRecursion, flat_map, range_with_len, take-map}
 use Rattle.std.proofs.lemmas.List.{take_all, drop-drop, length-map}
 use Rattle.std.proofs.lemmas.List.FromFn.{length-range_with_len}
@@ -8,10 +8,7 @@ use Rattle.policy_types.specs.declared.policy.Policy.{Policy}
 use Rattle.policy_types.specs.declared.entry.Call.{Call}
 use Rattle.policy_types.specs.declared.entry.Call.TheVariants.{Post, Pin, PinAt, Read, Unpin, Trim}
 use Rattle.policy_types.specs.declared.entry.Entry.{Entry}
-use Rattle.policy_machine.specs.Book.{book}
-use Rattle.policy_machine.specs.History.{Opening, IsLegal, IsLegalAfter, IsDue, commands_after, live_pin, pin_of, policies_per_read}
 use Rattle.policy_machine.specs.Merge.{reads_of}
-use Rattle.policy_machine.proofs.HistoryGrowth.{Answered, answered_at, pinned_due, read_due, live_parts, slice_get-front, take-commands_after, IsLegalAfter-front, PinsHold-legal}
 use Rattle.schedule_laws.specs.PinnedReads.{book_at, IsPinnedAt, StandsIn, policies_told}
 
 -- the commands up to a position that was reached before a turn

@@ -1,10 +1,8 @@
 -- What the four accounts have to do with each other and with the book
 use Rattle.std.specs.Prelude.{◌≡◌, ℕ, List, pos}
-use Rattle.std.specs.List.{sum_by}
-use Rattle.policy_types.specs.declared.command.Command.{Command}
+use Rattle.schedule_laws.specs.Names.{sum_by, Command, book, IsAccepted}
 use Rattle.policy_types.specs.declared.policy.Policy.{Policy}
 use Rattle.policy_types.specs.Accounts.{against, sum_of}
-use Rattle.policy_machine.specs.Book.{book, IsAccepted}
 use Rattle.policy_machine.specs.Accounts.{ledger_of}
 
 -- what is still to be paid out on the policies, in cents

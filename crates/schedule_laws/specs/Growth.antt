@@ -1,8 +1,6 @@
 -- How the book grows
 use Rattle.std.specs.Prelude.{◌≡◌, ℕ, List, map, take}
-use Rattle.std.specs.List.{filter_map}
-use Rattle.policy_types.specs.declared.command.Command.{Command}
-use Rattle.policy_machine.specs.Book.{book, issue_id}
+use Rattle.schedule_laws.specs.Names.{filter_map, Command, book, issue_id}
 use Rattle.schedule_laws.specs.Prefixes.{IsFrontOf}
 
 -- the numbers of the policies of a book

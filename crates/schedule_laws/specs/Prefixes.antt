@@ -1,7 +1,6 @@
 -- What a caller has seen of a legal history is legal
 use Rattle.std.specs.Prelude.{◌≡◌, List, ◌++◌}
-use Rattle.policy_types.specs.declared.entry.Entry.{Entry}
-use Rattle.policy_machine.specs.History.{Opening, IsLegal, accepted_of}
+use Rattle.schedule_laws.specs.Names.{Entry, Opening, IsLegal, accepted_of}
 
 -- the whole begins with the front
 abbrev pub IsFrontOf : {X : Type 0} → List X → List X → Type 0

@@ -1,3 +1,4 @@
+pub mod Names
 pub mod ScriptSteps
 pub mod RunSteps
 pub mod ScriptStatus

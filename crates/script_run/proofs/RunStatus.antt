@@ -1,33 +1,21 @@
 -- What the exit status tells of a run of a script
-use Rattle.std.proofs.Common.{◌≡◌, ℕ, ◌≤◌, ◌⊎◌, List, [], length, refl, ap, sym, ◌∙◌, subst, inl, inr}
+use Rattle.script_run.proofs.Names.{◌≡◌, ℕ, ◌≤◌, ◌⊎◌, List, [], length, refl, ap, sym, ◌∙◌, subst, inl, inr, Ghosts, Rose, GivesMore, Entry, Lane, Dated, Reads, Opens, OpensToNone, Ending, Done, Usage, BadBasis, BadJournal, WriteFault, DiskFault, NoMemory, Ahead, Input, IsWholeInput, Shelving, Stream, IsReadAs, IsUnreadable, asks_for_values}
 use Rattle.std.specs.Prelude.{true}
 use Rattle.std.proofs.lemmas.Bool.{false≢true}
-use Rattle.outside_io.specs.declared.disks.Disk.{Ghosts}
-use Rattle.outside_io.specs.Faults.{Rose}
 use Rattle.outside_io.specs.Shelves.{Files}
-use Rattle.outside_io.specs.Streams.{GivesMore}
 use Rattle.policy_types.specs.declared.command.Command.{Command}
-use Rattle.policy_types.specs.declared.entry.Entry.{Entry}
-use Rattle.policy_types.specs.declared.script.Lane.{Lane}
 use Rattle.watcher_set.specs.Noted.{Auditor}
-use Rattle.basis_book.specs.Dated.{Dated}
 use Rattle.basis_shelf.specs.FirstBad.{IsFirstBadFile}
 use Rattle.basis_shelf.specs.declared.fault.BadBasis.{BadBasis as ABadBasis}
 use Rattle.basis_shelf.proofs.OneBasis.{basis_or_bad}
-use Rattle.command_csv.specs.Reads.{Reads}
 use Rattle.command_csv.proofs.OneReading.{one_reading}
-use Rattle.office_state.specs.Journals.{Opens, OpensToNone}
 use Rattle.office_state.proofs.OpeningSteps.{finished}
-use Rattle.program_endings.specs.declared.ending.Ending.{Ending}
-use Rattle.program_endings.specs.declared.ending.Ending.TheVariants.{Done, Usage, BadBasis, BadJournal, WriteFault, DiskFault, NoMemory, Ahead}
 use Rattle.program_endings.specs.Status.{status_of}
 use Rattle.program_endings.specs.WithoutBasis.{EndsNoBasis, SaysBadFile}
-use Rattle.program_endings.specs.Writing.{Input, IsWholeInput, Shelving, Stream}
 use Rattle.program_endings.proofs.BasisSteps.{bad_refused, basis_refused}
 use Rattle.program_endings.proofs.ReadOnlySteps.{opens_to_none}
 use Rattle.script_run.specs.Outcome.{EndsScript, IsRunOf}
 use Rattle.script_run.specs.Running.{EndsLanes, EndsRun, HasItsBasis, ReadsForValues}
-use Rattle.script_run.specs.Script.{IsReadAs, IsUnreadable, asks_for_values}
 use Rattle.script_run.proofs.ScriptStatus.{never_long, never_readable, one_whole, unread_readable, unread_refused}
 
 module _ {D : Type 0} (g : Ghosts D) (old new : D) (auditors : List Auditor) where

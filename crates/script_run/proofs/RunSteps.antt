@@ -1,44 +1,30 @@
 -- How a run ends, by what its parts did
-use Rattle.std.proofs.Common.{◌≡◌, ℕ, Bool, true, false, List, [], ◌++◌, length, map, refl, ap, sym, ◌∙◌, subst, inl, inr, Some, Result, Ok, Err, Option}
-use Rattle.std.specs.Prelude.{IfOk, IfSome, OnErr, if◌then◌else◌}
-use Rattle.outside_io.specs.Faults.{Rose}
+use Rattle.script_run.proofs.Names.{◌≡◌, ℕ, Bool, true, false, List, [], ◌++◌, length, map, refl, ap, sym, ◌∙◌, subst, inl, inr, Some, Result, Ok, Err, Option, IfOk, IfSome, OnErr, if◌then◌else◌, Rose, AllZip, sent, AppendsPart, TakenPiece, Ghosts, Dated, Lane, Entry, Opens, TranscriptLine, Ending, Done, BadScript, BadJournal, InputFault, WriteFault, DiskFault, NoMemory, Input, Shelving, Stream, WroteAll, Unwritten, run_text, told_text, EndsUnread, GaveBadRow, GaveTooMany, asks_for_values, WroteFront, WroteUpTo, WroteWhole, texts_joined, AddsBy, EndsRan, EndsTold}
 use Rattle.std.specs.Global.{Global}
 use Rattle.std.specs.Bool.{then_some}
 use Rattle.std.specs.Borrow.{Bor}
 use Rattle.std.specs.Option.{option_copied}
-use Rattle.std.specs.List.{AllZip}
-use Rattle.rtrb.specs.Ring.{sent}
 use Rattle.rtrb.specs.declared.AnyItems.{AnyItems}
 use Rattle.rtrb.specs.declared.consumer.Consumer.{Consumer}
 use Rattle.moment_ring.specs.Ends.{ArePaired, IsNewRing, SameOutlet, told}
-use Rattle.outside_io.specs.Streams.{AppendsPart, TakenPiece}
-use Rattle.outside_io.specs.declared.disks.Disk.{Ghosts}
-use Rattle.basis_book.specs.Dated.{Dated}
 use Rattle.policy_types.specs.Accounts.{Booking}
 use Rattle.policy_types.specs.declared.watcher.NoMemory.{NoMemory as Lack}
 use Rattle.policy_types.specs.declared.watcher.Report.{Report}
-use Rattle.policy_types.specs.declared.script.Lane.{Lane}
-use Rattle.policy_types.specs.declared.entry.Entry.{Entry}
 use Rattle.policy_machine.specs.History.{IsLegal, accepted_of, opened_on}
 use Rattle.watcher_set.specs.Noted.{Auditor, reports_of}
 use Rattle.watcher_set.specs.declared.watching.Watching.{Ghosts as WatcherGhosts}
 use Rattle.office_state.specs.declared.faults.StartCause.{StartCause}
 use Rattle.office_state.specs.declared.faults.StartCause.TheVariants.{DiskFault as FaultyDisk, NotAJournal, BadRecord, NoMemory as NoRoom}
 use Rattle.office_state.specs.Images.{AreSafeSince, IsLeftAlone, IsLeftBy}
-use Rattle.office_state.specs.Journals.{Opens}
 use Rattle.office_state.specs.Opening.{HasNotOpened}
 use Rattle.shared_office.specs.Offices.{IsOfficeHistory, OfficeOpening}
 use Rattle.office_state.specs.States.{MomentRing}
 use Rattle.shared_office.specs.Starting.{HasClosed, HasStartedOffice}
 use Rattle.turn_lock.specs.Passes.{Holding, PassFacts}
 use Rattle.lane_runner.specs.Transcripts.{HasAnsweredLanes, dry_of}
-use Rattle.lane_runner.specs.declared.transcript.TranscriptLine.{TranscriptLine}
 use Rattle.lane_runner.specs.declared.running.Ran.{Ran}
 use Rattle.lane_runner.specs.declared.transcript.Transcript.{Transcript}
-use Rattle.program_endings.specs.declared.ending.Ending.{Ending}
-use Rattle.program_endings.specs.declared.ending.Ending.TheVariants.{Done, BadScript, BadJournal, ReadFault as InputFault, WriteFault, DiskFault, NoMemory}
 use Rattle.program_endings.specs.Replies.{AreAnswered, AreAny, HaveAFault, LackMemory}
-use Rattle.program_endings.specs.Writing.{Input, Shelving, Stream, WroteAll}
 use Rattle.program_endings.specs.Refusals.{SaysUnopened}
 use Rattle.program_endings.proofs.FaultSteps.{rose_in}
 use Rattle.program_endings.proofs.ListSteps.{same_opened}
@@ -48,19 +34,14 @@ use Rattle.transcript_text.specs.Transcript.{IsLineText, reports_text}
 use Rattle.transcript_text.specs.Lanes.{AreScriptLanes}
 use Rattle.lane_runner.specs.Shown.{HasShown}
 use Rattle.lane_runner.specs.Tallies.{accepted_lines, any_faulted, any_lacked}
-use Rattle.lane_runner.specs.declared.wording.Unwritten.{Unwritten}
-use Rattle.transcript_text.specs.Told.{run_text, told_text}
 use Rattle.transcript_text.proofs.Telling.{Telling, telling}
 use Rattle.script_run.specs.declared.intake.Unread.{Unread}
 use Rattle.script_run.specs.declared.intake.Unread.TheVariants.{TooLong, BadRow, ReadFault, NoMemory as OutOfMemory}
 use Rattle.script_run.specs.Running.{EndsLanes, EndsRun}
 use Rattle.script_run.specs.Outcome.{EndsScript, IsRunOf}
-use Rattle.script_run.specs.Script.{EndsUnread, GaveBadRow, GaveTooMany, asks_for_values}
 use Rattle.script_run.specs.inside.Unread.{SaysUnread}
 use Rattle.script_run.specs.Shown.{AreSafeWhenShown}
 use Rattle.script_run.specs.inside.Hearing.{StartsHeard}
-use Rattle.script_run.specs.Texts.{WroteFront, WroteUpTo, WroteWhole, texts_joined}
-use Rattle.script_run.specs.inside.Ran.{AddsBy, EndsRan, EndsTold}
 use Rattle.script_run.proofs.ShownSteps.{all_heard, all_texts, safe_when_shown, shown_whole}
 
 -- a text that is written whole ends a run by what is told of its lines

@@ -1,18 +1,9 @@
 -- What the exit status tells of a script
-use Rattle.std.proofs.Common.{◌≡◌, ℕ, ◌≤◌, ◌<◌, ◌⊎◌, List, [], ◌∷◌, ◌++◌, length, refl, sym, ◌∙◌, subst, inl, inr, Option, arith}
-use Rattle.std.specs.Prelude.{IfSome}
+use Rattle.script_run.proofs.Names.{◌≡◌, ℕ, ◌≤◌, ◌<◌, ◌⊎◌, List, [], ◌∷◌, ◌++◌, length, refl, sym, ◌∙◌, subst, inl, inr, Option, arith, IfSome, Rose, GivesMore, Lane, IsFirstScriptFault, Reads, Ending, BadScript, InputFault, NoMemory, GaveAll, Input, IsWholeInput, Stream, EndsUnread, GaveTooMany, IsReadAs, IsReadable, IsRefused, IsUnreadable}
 use Rattle.std.proofs.lemmas.Bool.{cases_lt}
-use Rattle.outside_io.specs.Faults.{Rose}
-use Rattle.outside_io.specs.Streams.{GivesMore}
-use Rattle.policy_types.specs.declared.script.Lane.{Lane}
-use Rattle.command_csv.specs.Reads.{IsFirstScriptFault, Reads}
 use Rattle.command_csv.proofs.Faults.{fault_excludes}
 use Rattle.command_csv.proofs.Judging.{judged}
-use Rattle.program_endings.specs.declared.ending.Ending.{Ending}
-use Rattle.program_endings.specs.declared.ending.Ending.TheVariants.{BadScript, ReadFault as InputFault, NoMemory}
 use Rattle.program_endings.specs.Status.{status_of}
-use Rattle.program_endings.specs.Writing.{GaveAll, Input, IsWholeInput, Stream}
-use Rattle.script_run.specs.Script.{EndsUnread, GaveTooMany, IsReadAs, IsReadable, IsRefused, IsUnreadable}
 
 -- what stands behind the same front is the same
 same_behind : (front xs ys : List ℕ) → front ++ xs ≡ front ++ ys → xs ≡ ys

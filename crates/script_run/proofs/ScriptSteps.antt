@@ -1,15 +1,12 @@
 -- The lanes of a script that was read can be run
-use Rattle.std.proofs.Common.{◌≡◌, ℕ, zero, suc, ◌+◌, ◌≤◌, List, [], ◌∷◌, length, Option, Some, None, refl, ap, arith}
-use Rattle.std.specs.List.{AllByRecursion, filter}
+use Rattle.script_run.proofs.Names.{◌≡◌, ℕ, zero, suc, ◌+◌, ◌≤◌, List, [], ◌∷◌, length, Option, Some, None, refl, ap, arith, AllByRecursion, filter, Lane, IsScriptLine, Reads, is_valuation, most_script_bytes}
 use Rattle.std.proofs.lemmas.List.Elements.{All-from_recursion}
 use Rattle.csv.specs.Machine.{Read, next_record}
 use Rattle.csv.specs.Reading.{Reached, default_config, records_from, records_next, strip_bom}
 use Rattle.csv.specs.declared.parser.State.{State}
 use Rattle.policy_types.specs.declared.script.Line.{Line}
 use Rattle.policy_types.specs.declared.script.Line.TheVariants.{Post, Value, Trim}
-use Rattle.policy_types.specs.declared.script.Lane.{Lane}
 use Rattle.command_csv.specs.Lanes.{AreLanesOf, IsLane}
-use Rattle.command_csv.specs.Reads.{IsScriptLine, Reads, is_valuation}
 use Rattle.command_csv.specs.Rows.{rows_of}
 use Rattle.command_csv.proofs.Lanes.{lanes_whole}
 use Rattle.command_csv.proofs.Records.{rows_few}
@@ -17,7 +14,6 @@ use Rattle.policy_types.specs.Lanes.{AreRising, lines_in, numbers_of}
 use Rattle.lane_runner.specs.Lanes.{IsRightLane, IsRightLine, is_value}
 use Rattle.program_endings.proofs.ListSteps.{all_and}
 use Rattle.transcript_text.specs.Lanes.{AreScriptLanes}
-use Rattle.script_run.specs.Script.{most_script_bytes}
 use Rattle.csv.specs.declared.parser.State.TheVariants as st
 
 -- the records of a text are reached

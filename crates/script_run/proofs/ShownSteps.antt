@@ -1,37 +1,25 @@
 -- What is shown of the lines of a run is safe by then
-use Rattle.std.proofs.Common.{◌≡◌, ◌⊎◌, ℕ, zero, suc, ◌+◌, ◌<◌, ◌≤◌, true, false, List, [], ◌∷◌, ◌++◌, length, map, take, Option, Some, refl, ap, sym, ◌∙◌, subst, inl, inr, append-nil, append_assoc, length-append, arith, None, Result}
-use Rattle.std.specs.Prelude.{slice_get, IfSome}
-use Rattle.std.specs.List.{AllByRecursion, AllZip, flat_map}
+use Rattle.script_run.proofs.Names.{◌≡◌, ◌⊎◌, ℕ, zero, suc, ◌+◌, ◌<◌, ◌≤◌, true, false, List, [], ◌∷◌, ◌++◌, length, map, take, Option, Some, refl, ap, sym, ◌∙◌, subst, inl, inr, append-nil, append_assoc, length-append, arith, None, Result, slice_get, IfSome, AllByRecursion, AllZip, flat_map, Dated, TakenPiece, taken_bytes, Ghosts, SameConsumer, sent, Entry, Opens, line_texts, TranscriptLine, Unwritten, AddsBy}
 use Rattle.std.proofs.lemmas.Option.{same_Some}
-use Rattle.basis_book.specs.Dated.{Dated}
-use Rattle.outside_io.specs.Streams.{TakenPiece, taken_bytes}
-use Rattle.outside_io.specs.declared.disks.Disk.{Ghosts}
-use Rattle.rtrb.specs.Ring.{SameConsumer, sent}
 use Rattle.rtrb.specs.declared.consumer.Consumer.{Consumer}
 use Rattle.rtrb.specs.declared.producer.Producer.{Producer}
 use Rattle.moment_ring.specs.Ends.{ArePaired, SameOutlet, told}
 use Rattle.policy_types.specs.declared.command.Command.{Command}
-use Rattle.policy_types.specs.declared.entry.Entry.{Entry}
 use Rattle.policy_types.specs.declared.entry.Reply.{Reply}
 use Rattle.policy_types.specs.declared.entry.Reply.TheVariants.{Accepted}
 use Rattle.policy_types.specs.declared.script.Line.{Line}
 use Rattle.policy_types.specs.declared.script.Line.TheVariants.{Post, Value, Trim}
 use Rattle.policy_machine.specs.History.{Opening, accepted_of, commands_after}
 use Rattle.office_state.specs.Images.{AreSafeSince, HoldsAtLeast}
-use Rattle.office_state.specs.Journals.{Opens}
 use Rattle.office_state.specs.declared.answer.Answer.TheVariants.{Accepted as AcceptedAt, Refused, DiskFault, NoMemory}
 use Rattle.lane_runner.specs.AnsweredLines.{AnsweredLine}
 use Rattle.lane_runner.specs.Shown.{AreShown, HasShown}
 use Rattle.lane_runner.specs.Tallies.{accepted_lines, tells_accepted}
 use Rattle.lane_runner.specs.Transcripts.{IsOutcome, IsTold}
-use Rattle.lane_runner.specs.Written.{line_texts}
-use Rattle.lane_runner.specs.declared.transcript.TranscriptLine.{TranscriptLine}
 use Rattle.lane_runner.specs.declared.transcript.Outcome.{Outcome}
 use Rattle.lane_runner.specs.declared.transcript.Outcome.TheVariants.{Posted, Trimmed, Valued, ValueRefused, ValueNoMemory}
-use Rattle.lane_runner.specs.declared.wording.Unwritten.{Unwritten}
 use Rattle.transcript_text.proofs.AcceptedSteps.{accepted_turns, many_turns, split_turns}
 use Rattle.script_run.specs.Shown.{AreSafeWhenShown, IsAcceptedReply}
-use Rattle.script_run.specs.inside.Ran.{AddsBy}
 
 -- an accepted line among others is one of as many as are accepted
 one_of_accepted : (lines before after : List TranscriptLine) (line : TranscriptLine) → lines ≡ before ++ line ∷ after

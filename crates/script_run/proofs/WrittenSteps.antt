@@ -1,27 +1,14 @@
 -- How a run ends by what was written of the text of its lines
-use Rattle.std.proofs.Common.{◌≡◌, ℕ, ◌+◌, ◌≤◌, ◌<◌, List, [], ◌++◌, length, map, take, Option, Result, Ok, Err, refl, sym, ap, ◌∙◌, subst, inl, inr, append-nil, arith}
-use Rattle.std.specs.Prelude.{IfOk, OnErr}
-use Rattle.std.specs.Io.KnownBytes.{Appends}
+use Rattle.script_run.proofs.Names.{◌≡◌, ℕ, ◌+◌, ◌≤◌, ◌<◌, List, [], ◌++◌, length, map, take, Option, Result, Ok, Err, refl, sym, ap, ◌∙◌, subst, inl, inr, append-nil, arith, IfOk, OnErr, Appends, Rose, AppendsPart, TakenPiece, TranscriptLine, Unwritten, HasEnded, take-map, Stream, Failed, NoRoom, run_text, told_text, told_texts, WroteFront, texts_joined, EndsTold, IsWritten, output_until}
 use Rattle.std.proofs.KnownBytes.{Appends-trans}
-use Rattle.outside_io.specs.Faults.{Rose}
-use Rattle.outside_io.specs.Streams.{AppendsPart, TakenPiece}
 use Rattle.policy_types.specs.declared.watcher.NoMemory.{NoMemory as Lack}
 use Rattle.policy_types.specs.declared.watcher.Report.{Report}
 use Rattle.office_state.proofs.HistorySteps.{rose_since}
 use Rattle.lane_runner.specs.declared.running.Ran.{Ran}
-use Rattle.lane_runner.specs.declared.transcript.TranscriptLine.{TranscriptLine}
-use Rattle.lane_runner.specs.declared.wording.Unwritten.{Unwritten}
 use Rattle.lane_runner.specs.declared.wording.Unwritten.TheVariants.{WriteFault, NoMemory}
-use Rattle.lane_runner.specs.Written.{HasEnded}
-use Rattle.std.specs.List.{take-map}
 use Rattle.std.proofs.lemmas.List.{length-map}
 use Rattle.lane_runner.proofs.GatherSteps.{part_behind, part_more, part_whole, take_past}
-use Rattle.program_endings.specs.Writing.{Stream}
-use Rattle.program_endings.specs.declared.ending.Ending.TheVariants.{WriteFault as Failed, NoMemory as NoRoom}
 use Rattle.transcript_text.specs.Transcript.{reports_text}
-use Rattle.transcript_text.specs.Told.{run_text, told_text, told_texts}
-use Rattle.script_run.specs.Texts.{WroteFront, texts_joined}
-use Rattle.script_run.specs.inside.Ran.{EndsTold, IsWritten, output_until}
 use Rattle.script_run.proofs.ShownSteps.{all_texts}
 
 -- what was written of the lines' text, or nothing where they weren't run

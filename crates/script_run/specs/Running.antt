@@ -1,14 +1,11 @@
 -- How a run ends, with the script and the basis that it needs
 use Rattle.std.specs.Prelude.{◌≡◌, ℕ, ◌⊎◌, true, false, List, []}
 use Rattle.outside_io.specs.Shelves.{Files}
-use Rattle.outside_io.specs.declared.disks.Disk.{Ghosts}
-use Rattle.policy_types.specs.declared.script.Lane.{Lane}
+use Rattle.script_run.specs.Names.{Ghosts, Lane, GaveAll, Input, Shelving, Stream, Ending}
 use Rattle.watcher_set.specs.Noted.{Auditor}
 use Rattle.basis_book.specs.Dated.{Dated}
 use Rattle.basis_shelf.specs.Bases.{IsBasis}
 use Rattle.lone_office.specs.Beginning.{EndsOverBasis}
-use Rattle.program_endings.specs.Writing.{GaveAll, Input, Shelving, Stream}
-use Rattle.program_endings.specs.declared.ending.Ending.{Ending}
 use Rattle.script_run.specs.Outcome.{EndsScript}
 use Rattle.script_run.specs.Script.{EndsUnread, IsReadAs, asks_for_values}
 

@@ -1,14 +1,8 @@
 -- The script that the input gave, and how a run ends that has none
 use Rattle.std.specs.Prelude.{ℕ, ◌<◌, ◌≤◌, ◌⊎◌, Bool, List, ◌∷◌, ◌++◌, length, codes, decimal, IfSome}
-use Rattle.std.specs.List.{list_any}
-use Rattle.outside_io.specs.Faults.{Rose}
-use Rattle.outside_io.specs.Streams.{GivesMore}
-use Rattle.policy_types.specs.declared.script.Lane.{Lane}
+use Rattle.script_run.specs.Names.{list_any, Rose, GivesMore, Lane, GaveAll, Input, Stream, WroteLine, Ending, BadScript, ReadFault, NoMemory}
 use Rattle.command_csv.specs.Reads.{Reads, IsFirstScriptFault}
 use Rattle.lane_runner.specs.Lanes.{is_value}
-use Rattle.program_endings.specs.Writing.{GaveAll, Input, Stream, WroteLine}
-use Rattle.program_endings.specs.declared.ending.Ending.{Ending}
-use Rattle.program_endings.specs.declared.ending.Ending.TheVariants.{BadScript, ReadFault, NoMemory}
 
 abbrev pub most_script_bytes : ℕ
 most_script_bytes = 16777216

@@ -1,8 +1,6 @@
 -- What is safe of a run by the time that a line of it is shown
 use Rattle.std.specs.Prelude.{◌≡◌, ℕ, ◌+◌, ◌<◌, List, ◌∷◌, ◌++◌, length, take}
-use Rattle.std.specs.List.{flat_map}
-use Rattle.outside_io.specs.Streams.{TakenPiece, taken_bytes}
-use Rattle.outside_io.specs.declared.disks.Disk.{Ghosts}
+use Rattle.script_run.specs.Names.{flat_map, TakenPiece, taken_bytes, Ghosts}
 use Rattle.policy_types.specs.declared.command.Command.{Command}
 use Rattle.policy_types.specs.declared.entry.Entry.{Entry}
 use Rattle.policy_types.specs.declared.entry.Reply.{Reply}

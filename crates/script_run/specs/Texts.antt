@@ -1,8 +1,6 @@
 -- What was written of the texts of a run's lines, and of the auditors' reports behind them
 use Rattle.std.specs.Prelude.{◌≡◌, ◌≤◌, ℕ, List, ◌++◌, length, take}
-use Rattle.std.specs.List.{flat_map}
-use Rattle.outside_io.specs.Streams.{AppendsPart}
-use Rattle.program_endings.specs.Writing.{Stream, WroteAll}
+use Rattle.script_run.specs.Names.{flat_map, AppendsPart, Stream, WroteAll}
 
 -- the texts, one after the other
 abbrev pub texts_joined : List (List ℕ) → List ℕ

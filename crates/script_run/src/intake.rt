@@ -1,7 +1,6 @@
 // What is read from the input.
 ghost use Rattle.std.specs.Prelude.{◌≡◌, ◌<◌, ◌≤◌, ℕ, List, Err, IfOk, IsErrOf};
-ghost use Rattle.outside_io.specs.Faults.{Rose};
-ghost use Rattle.program_endings.specs.Writing.{GaveAll, input_between};
+ghost use Rattle.script_run.specs.Names.{Rose, GaveAll, input_between};
 ghost use Rattle.script_run.specs.Script.{GaveBadRow, GaveTooMany, IsReadAs};
 ghost use Rattle.script_run.specs.declared.intake.Unread.TheVariants.{BadRow};
 

@@ -1,7 +1,7 @@
 // A run of a script: the basis is fetched where a line asks for values, the office is opened, each lane of the script is run
 // by a caller of its own while the transcript is written, and the office is closed.
 ghost use Rattle.std.specs.Prelude.{◌≡◌, ℕ, ◌<◌, ◌≤◌, [], length, IfOk};
-ghost use Rattle.std.specs.List.{list_any};
+ghost use Rattle.script_run.specs.Names.{list_any, Stream, between, input_between, shelf_between, ReadFault};
 ghost use Rattle.std.specs.Io.KnownBytes.{Appends};
 ghost use Rattle.lane_runner.specs.Lanes.{is_value};
 ghost use Rattle.lane_runner.specs.Written.{HasEnded};
@@ -10,8 +10,6 @@ ghost use Rattle.turn_lock.specs.Passes.{PassFacts};
 ghost use Rattle.script_run.specs.Running.{EndsRun};
 ghost use Rattle.script_run.specs.Outcome.{EndsScript};
 ghost use Rattle.script_run.specs.Script.{asks_for_values};
-ghost use Rattle.program_endings.specs.Writing.{Stream, between, input_between, shelf_between};
-ghost use Rattle.program_endings.specs.declared.ending.Ending.TheVariants.{ReadFault};
 ghost use Rattle.transcript_text.specs.Lanes.{AreScriptLanes};
 ghost use Rattle.script_run.specs.inside.Ran.{AddsBy, EndsRan, EndsTold, IsWritten, output_until};
 ghost use Rattle.script_run.specs.inside.Hearing.{StartsHeard};

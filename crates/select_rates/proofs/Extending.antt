@@ -1,11 +1,8 @@
 -- Select rates alone, and with ultimate ones behind them.
-use Rattle.std.proofs.Common.{◌≡◌, ℕ, ◌+◌, ◌-◌, ◌<◌, ◌++◌, List, length, arith, ◌∙◌, sym, ap, inl, inr}
+use Rattle.select_rates.proofs.Names.{◌≡◌, ℕ, ◌+◌, ◌-◌, ◌<◌, ◌++◌, List, length, arith, ◌∙◌, sym, ap, inl, inr, slice_index, slice_index_or, Rates, last_age_of, rate_at, AreRatesFrom, AreJoined}
 use Rattle.std.proofs.lemmas.Bool.{cases_lt}
 use Rattle.std.proofs.lemmas.Grind.{common_steps}
 use Rattle.std.proofs.lemmas.List.{get_or_default, get_or_past, get_or-append_right, get_or_append_left}
-use Rattle.std.specs.Prelude.{slice_index, slice_index_or}
-use Rattle.rate_table.specs.Rates.{Rates, last_age_of, rate_at, AreRatesFrom}
-use Rattle.select_rates.specs.inside.Joined.{AreJoined}
 
 pub alone : (ultimate : Rates) (age : ℕ) (select : List ℕ) → last_age_of ultimate < age + length select
     → AreJoined ultimate age select select

@@ -1,3 +1,4 @@
+pub mod Names
 pub mod Periods
 pub mod Extending
 pub mod Values

@@ -1,8 +1,5 @@
 -- The select period of the select age at a place.
-use Rattle.std.proofs.Common.{◌≡◌, ℕ, ◌+◌, ◌-◌, ◌<◌, [], List, length, arith}
-use Rattle.std.specs.Prelude.{slice_index_or}
-use Rattle.rate_table.specs.Rates.{Rates}
-use Rattle.select_rates.specs.Select.{Selected, IsSelectPeriod, AreSelected}
+use Rattle.select_rates.proofs.Names.{◌≡◌, ℕ, ◌+◌, ◌-◌, ◌<◌, [], List, length, arith, slice_index_or, Rates, Selected, IsSelectPeriod, AreSelected}
 
 moved : (ultimate : Rates) (age : ℕ) (rows : List (List ℕ)) (i j : ℕ) → i ≡ j
     → IsSelectPeriod ultimate age (slice_index_or rows i []) → IsSelectPeriod ultimate age (slice_index_or rows j [])

@@ -1,13 +1,9 @@
 -- The table of a select age as a value.
-use Rattle.std.proofs.Common.{◌≡◌, ℕ, ◌+◌, ◌-◌, ◌<◌, ◌≤◌, ◌++◌, List, length, drop, arith, ◌∙◌, sym, ap, refl, inl, inr}
+use Rattle.select_rates.proofs.Names.{◌≡◌, ℕ, ◌+◌, ◌-◌, ◌<◌, ◌≤◌, ◌++◌, List, length, drop, arith, ◌∙◌, sym, ap, refl, inl, inr, slice_index, slice_index_or, Rates, rate_at, Selected, IsSelectPeriod, AreJoined, IsJoined, ArePrepared}
 use Rattle.std.proofs.lemmas.Bool.{cases_lt, lt-ltb}
 use Rattle.std.proofs.lemmas.Grind.{common_steps}
 use Rattle.std.proofs.lemmas.List.{ext_get_or, get_or-drop, get_or_default, get_or_past, get_or-append_right, get_or_append_left, length-append, length-drop}
-use Rattle.std.specs.Prelude.{slice_index, slice_index_or}
-use Rattle.rate_table.specs.Rates.{Rates, rate_at}
-use Rattle.select_rates.specs.Select.{Selected, IsSelectPeriod}
 use Rattle.select_rates.specs.Table.{joined_rates, select_table}
-use Rattle.select_rates.specs.inside.Joined.{AreJoined, IsJoined, ArePrepared}
 
 count_is : (ultimate : Rates) (age : ℕ) (select rates : List ℕ) → IsSelectPeriod ultimate age select → AreJoined ultimate age select rates
     → length rates ≡ length (joined_rates ultimate age select)

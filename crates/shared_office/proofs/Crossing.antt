@@ -8,8 +8,7 @@ use Rattle.rtrb.proofs.end.End.TheSendSync as ring
 use Rattle.office_state.proofs.accepted_list.AcceptedList.TheSendSync as accepted
 use Rattle.atomic_table.proofs.send_lease.SendLease.TheSendSync as lease
 use Rattle.atomic_table.proofs.shared.Seat.TheSendSync as seat
-use Rattle.outside_io.specs.declared.disks.Disk.{Ghosts}
-use Rattle.watcher_set.specs.declared.watching.Watching.{Ghosts as WatcherGhosts}
+use Rattle.shared_office.proofs.Names.{Ghosts, WatcherGhosts}
 use Rattle.turn_lock.specs.declared.stands.Stands.{Ghosts as StandsGhosts}
 use Rattle.turn_lock.specs.contracts.pass.Pass as pass
 use Rattle.turn_lock.specs.contracts.turnstile.Turnstile as turnstile

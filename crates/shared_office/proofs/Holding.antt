@@ -1,27 +1,22 @@
 -- A pass's pin is live in each history that the pass can be at
-use Rattle.std.proofs.Common.{◌≡◌, ℕ, suc, ◌+◌, ◌<◌, ◌≤◌, ◌==◌, Bool, true, false, ◌||◌, List, [], ◌∷◌, ◌++◌, length, drop, filter, slice_get, refl, sym, ap, ◌∙◌, subst, append_assoc, append-nil, Some, Ok, Err, Result, IfOk, arith}
+use Rattle.shared_office.proofs.Names.{◌≡◌, ℕ, suc, ◌+◌, ◌<◌, ◌≤◌, ◌==◌, Bool, true, false, ◌||◌, List, [], ◌∷◌, ◌++◌, length, drop, filter, slice_get, refl, sym, ap, ◌∙◌, subst, append_assoc, append-nil, Some, Ok, Err, Result, IfOk, arith, Ghosts, Post, Pin, PinAt, Read, Unpin, Trim, Entry, WatcherGhosts, opening_of, pins_of}
 use Rattle.std.proofs.lemmas.Bool.Decides.{nat_tests}
 use Rattle.std.specs.List.{Contains, list_any}
 use Rattle.std.proofs.lemmas.Option.{same_Some, slice_get_within}
 use Rattle.std.proofs.lemmas.List.{length-append}
 use Rattle.std.proofs.lemmas.List.Folds.{list_any-append}
 use Rattle.std.proofs.lemmas.List.Elements.{filter-append}
-use Rattle.outside_io.specs.declared.disks.Disk.{Ghosts}
 use Rattle.policy_types.specs.declared.entry.Call.{Call}
-use Rattle.policy_types.specs.declared.entry.Call.TheVariants.{Post, Pin, PinAt, Read, Unpin, Trim}
 use Rattle.policy_types.specs.declared.entry.Reply.{Reply}
 use Rattle.policy_types.specs.declared.entry.Reply.TheVariants.{Accepted, Refused, Faulted, Pinned, PinRefused, Slice as Policies, Unpinned, Floor, Blank}
 use Rattle.policy_types.specs.declared.entry.PinRefusal.{PinRefusal}
-use Rattle.policy_types.specs.declared.entry.Entry.{Entry}
 use Rattle.policy_machine.specs.History.{Opening, IsDue, IsLegal, IsLegalAfter, IsOwnPin, gives_up, live_pin}
 use Rattle.policy_machine.proofs.HistoryGrowth.{Answered, answered_at, live_of_some, slice_get-front, slice_get-middle}
-use Rattle.watcher_set.specs.declared.watching.Watching.{Ghosts as WatcherGhosts}
 use Rattle.office_state.specs.declared.held.Held.{Held}
 use Rattle.office_state.specs.declared.held.PinInfo.{PinInfo}
 use Rattle.office_state.specs.declared.state.OfficeState.{OfficeState}
 use Rattle.office_state.specs.Pins.{IsHeldBy, MayRead}
 use Rattle.office_state.specs.Standing.{StandsFor}
-use Rattle.office_state.specs.States.{opening_of, pins_of}
 use Rattle.office_state.specs.Turning.{pin_reply}
 use Rattle.office_state.proofs.PinSteps.{live_among}
 use Rattle.turn_lock.specs.History.{StartsWith, entries_of}

@@ -1,3 +1,4 @@
+pub mod Names
 pub mod Starting
 pub mod Holding
 pub mod Crossing

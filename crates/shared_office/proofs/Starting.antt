@@ -1,14 +1,11 @@
 -- From the opening of an office to its end
-use Rattle.std.proofs.Common.{◌≡◌, ℕ, ◌≤◌, List, Option, [], ap, refl, sym, ◌∙◌, subst, Some}
+use Rattle.shared_office.proofs.Names.{◌≡◌, ℕ, ◌≤◌, List, Option, [], ap, refl, sym, ◌∙◌, subst, Some, Ghosts, Entry, WatcherGhosts, MomentRing, auditors_of, begun_of, commands_of, disk_of, opening_of, outlet_of}
 use Rattle.std.specs.Prelude.{IfSome}
-use Rattle.outside_io.specs.declared.disks.Disk.{Ghosts}
 use Rattle.policy_types.specs.Accounts.{Booking}
-use Rattle.policy_types.specs.declared.entry.Entry.{Entry}
 use Rattle.policy_types.specs.declared.watcher.Report.{Report}
 use Rattle.policy_machine.specs.Accounts.{ledger_of}
 use Rattle.policy_machine.specs.History.{accepted_of, opened_on}
 use Rattle.watcher_set.specs.Noted.{reports_of}
-use Rattle.watcher_set.specs.declared.watching.Watching.{Ghosts as WatcherGhosts}
 use Rattle.office_state.specs.declared.faults.StartCause.TheVariants.{NoMemory}
 use Rattle.office_state.specs.declared.state.OfficeState.{OfficeState}
 use Rattle.rtrb.specs.Ring.{sent}
@@ -16,7 +13,6 @@ use Rattle.moment_ring.specs.Ends.{SameOutlet}
 use Rattle.office_state.specs.Images.{AreSafeSince, IsLeftBy}
 use Rattle.office_state.specs.Opening.{HasNotOpened, HasOpened}
 use Rattle.office_state.specs.Standing.{StandsFor}
-use Rattle.office_state.specs.States.{MomentRing, auditors_of, begun_of, commands_of, disk_of, opening_of, outlet_of}
 use Rattle.turn_lock.specs.Passes.{Holding, IsFirst, OwnsAll}
 use Rattle.shared_office.specs.Offices.{OfficeOpening}
 use Rattle.shared_office.specs.Starting.{HasClosed, HasStartedOffice}

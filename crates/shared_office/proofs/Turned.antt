@@ -1,8 +1,6 @@
 -- A history with a turn isn't empty, and an outlet stays the same from turn to turn
-use Rattle.std.proofs.Common.{◌≡◌, List, [], ◌∷◌, ◌++◌, length, Option, Some, None, length-append, ap, ◌∙◌, arith}
+use Rattle.shared_office.proofs.Names.{◌≡◌, List, [], ◌∷◌, ◌++◌, length, Option, Some, None, length-append, ap, ◌∙◌, arith, Entry, MomentRing}
 use Rattle.moment_ring.specs.Ends.{SameOutlet}
-use Rattle.policy_types.specs.declared.entry.Entry.{Entry}
-use Rattle.office_state.specs.States.{MomentRing}
 
 pub turned : {X : Type 0} (history : List Entry) (entry : Entry) → history ++ entry ∷ [] ≡ [] → X
 turned history entry none =

@@ -1,3 +1,4 @@
+pub mod Names
 pub mod Offices
 pub mod Pins
 pub mod Starting

@@ -4,16 +4,13 @@ use Rattle.outside_io.specs.declared.disks.Disk.{Ghosts}
 use Rattle.policy_types.specs.Accounts.{Booking}
 use Rattle.policy_types.specs.declared.watcher.Report.{Report}
 use Rattle.policy_machine.specs.Accounts.{ledger_of}
-use Rattle.policy_machine.specs.History.{Opening, accepted_of, commands_after}
+use Rattle.shared_office.specs.Names.{Opening, accepted_of, commands_after, SameOutlet, Holding, IsFirst, OwnsAll, MomentRing}
 use Rattle.watcher_set.specs.Noted.{reports_of}
 use Rattle.watcher_set.specs.declared.watching.Watching.{Ghosts as WatcherGhosts}
 use Rattle.rtrb.specs.Ring.{sent}
-use Rattle.moment_ring.specs.Ends.{SameOutlet}
 use Rattle.office_state.specs.Images.{AreSafeSince, IsLeftBy}
 use Rattle.office_state.specs.Journals.{Opens}
-use Rattle.turn_lock.specs.Passes.{Holding, IsFirst, OwnsAll}
 use Rattle.shared_office.specs.Offices.{OfficeOpening}
-use Rattle.office_state.specs.States.{MomentRing}
 
 -- The office was opened on a list of commands and the disk's count of faults, with these watchers and some outlet. Its first
 -- pass has all turns and all shares. Where the disk that the office then holds is honest, it was so before, and the commands are

@@ -1,13 +1,11 @@
 // The calls of an office, each through a shared reference and a caller's pass.
 ghost use Rattle.std.specs.Prelude.{◌≡◌, ℕ, ◌≤◌, [], IfOk, IfErr};
 ghost use Rattle.money_ledgers.specs.Balances.{balances};
-ghost use Rattle.policy_types.specs.Valid.{IsValid};
+ghost use Rattle.shared_office.specs.Names.{IsValid, moments_told, PassFacts, TableId, TakesTurn, all_shares};
 ghost use Rattle.policy_types.specs.declared.entry.Call.TheVariants.{Pin as PinCall, PinAt};
-ghost use Rattle.moment_ring.specs.Ends.{told as moments_told};
 ghost use Rattle.office_state.specs.Opening.{HasNotOpened, HasOpened};
 ghost use Rattle.office_state.specs.Posting.{turn_of};
 ghost use Rattle.office_state.specs.Turning.{read_turn, trim_turn, unpin_turn};
-ghost use Rattle.turn_lock.specs.Passes.{PassFacts, TableId, TakesTurn, all_shares};
 ghost use Rattle.shared_office.specs.Offices.{IsOfficeHistory};
 ghost use Rattle.shared_office.specs.Pins.{HoldsPin, KeepsOtherPins, KeepsPins, pinning_turn};
 ghost use Rattle.shared_office.specs.Starting.{HasClosed, HasStartedOffice};

@@ -1,14 +1,8 @@
 -- What turns of a caller do to its pass, put together
-use Rattle.std.proofs.Common.{◌≡◌, ℕ, ◌+◌, ◌-◌, ◌≤◌, ◌==◌, Bool, true, false, List, [], ◌∷◌, ◌++◌, length, map, refl, ap, sym, ◌∙◌, append-nil, append_assoc, length-append, arith}
-use Rattle.std.specs.List.{enumerate_from, filter}
+use Rattle.snapshot_value.proofs.Names.{◌≡◌, ℕ, ◌+◌, ◌-◌, ◌≤◌, ◌==◌, Bool, true, false, List, [], ◌∷◌, ◌++◌, length, map, refl, ap, sym, ◌∙◌, append-nil, append_assoc, length-append, arith, enumerate_from, filter, map-append, Entry, Placed, turns_of, Holding, TakesTurn, Grows}
 use Rattle.std.proofs.lemmas.Bool.{eq-eqb}
-use Rattle.std.proofs.lemmas.List.{map-append}
 use Rattle.std.proofs.lemmas.List.Elements.{filter-append}
-use Rattle.policy_types.specs.declared.entry.Entry.{Entry}
-use Rattle.policy_machine.specs.Merge.{Placed, turns_of}
 use Rattle.turn_lock.specs.History.{entries_of}
-use Rattle.turn_lock.specs.Passes.{Holding, TakesTurn}
-use Rattle.snapshot_value.specs.Growing.{Grows}
 
 enumerate_from-append : {X : Type 0} (n : ℕ) (xs ys : List X)
     → enumerate_from n (xs ++ ys) ≡ enumerate_from n xs ++ enumerate_from (n + length xs) ys

@@ -1,3 +1,4 @@
+pub mod Names
 pub mod Growth
 pub mod RowSteps
 pub mod WorkerSteps

@@ -1,13 +1,7 @@
 -- The parts of a pin's policies, and the reads of them
-use Rattle.std.proofs.Common.{◌≡◌, ℕ, suc, zero, ◌+◌, ◌*◌, ◌≤◌, ◌<◌, List, [], ◌∷◌, ◌++◌, length, take, drop, sym, ap, ◌∙◌, arith}
-use Rattle.std.specs.List.{AllByRecursion, range_with_len}
-use Rattle.std.proofs.lemmas.List.{length-map, take_all, take_more, take-append-drop}
+use Rattle.snapshot_value.proofs.Names.{◌≡◌, ℕ, suc, zero, ◌+◌, ◌*◌, ◌≤◌, ◌<◌, List, [], ◌∷◌, ◌++◌, length, take, drop, sym, ap, ◌∙◌, arith, AllByRecursion, range_with_len, length-map, take_all, take_more, take-append-drop, all_back, all_front, policies_per_read, reads_of, reads_needed}
 use Rattle.std.proofs.lemmas.List.FromFn.{get_or-map-range_with_len, length-range_with_len}
-use Rattle.parallel_value.proofs.PieceSteps.{all_back, all_front}
 use Rattle.policy_types.specs.declared.entry.Call.TheVariants.{Read}
-use Rattle.policy_machine.specs.History.{policies_per_read}
-use Rattle.policy_machine.specs.Merge.{reads_of}
-use Rattle.snapshot_value.specs.inside.Reads.{reads_needed}
 
 -- of all items, those of a part
 pub all_part : {X : Type 0} (P : X → Type 0) (m n : ℕ) (xs : List X) → AllByRecursion P xs → AllByRecursion P (take n (drop m xs))

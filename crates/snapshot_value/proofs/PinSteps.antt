@@ -1,14 +1,7 @@
 -- What a pin in its caller's hands says of the book
-use Rattle.std.proofs.Common.{◌≡◌, ℕ, ◌*◌, ◌≤◌, List, [], ◌∷◌, ◌++◌, length, map, take, drop, refl, sym, ap, ◌∙◌, subst, Some, slice_get, append-nil, arith}
-use Rattle.std.specs.List.{AllByRecursion, filter_map}
-use Rattle.std.proofs.lemmas.List.{length-map, length-take}
-use Rattle.policy_types.specs.Limits.{most_commands}
+use Rattle.snapshot_value.proofs.Names.{◌≡◌, ℕ, ◌*◌, ◌≤◌, List, [], ◌∷◌, ◌++◌, length, map, take, drop, refl, sym, ap, ◌∙◌, subst, Some, slice_get, append-nil, arith, AllByRecursion, filter_map, length-map, length-take, most_commands, Policy, Entry, commands_after, floor_of, live_pin, policies_per_read, IsSound, Holding, PassFacts, TakesTurn, IsOfficeHistory, OfficeOpening, HoldsPin, Grows, HasReadPart, policies_at}
 use Rattle.policy_types.specs.declared.command.Command.{Command}
-use Rattle.policy_types.specs.declared.policy.Policy.{Policy}
-use Rattle.policy_types.specs.declared.entry.Entry.{Entry}
 use Rattle.policy_machine.specs.Book.{book, issue_id}
-use Rattle.policy_machine.specs.History.{commands_after, floor_of, live_pin, policies_per_read}
-use Rattle.policy_machine.specs.Rules.{IsSound}
 use Rattle.policy_machine.proofs.BookGrowth.{book-ids}
 use Rattle.policy_machine.proofs.BookLemmas.{book-sound}
 use Rattle.policy_machine.proofs.HistoryGrowth.{PinsHold-legal, slice_get-middle, take-commands_after}
@@ -19,12 +12,7 @@ use Rattle.office_state.specs.declared.held.Held.{Held}
 use Rattle.office_state.proofs.Fronts.{all-take}
 use Rattle.office_state.proofs.BookSteps.{length-issues}
 use Rattle.turn_lock.specs.History.{StartsWith}
-use Rattle.turn_lock.specs.Passes.{Holding, PassFacts, TakesTurn}
-use Rattle.shared_office.specs.Offices.{IsOfficeHistory, OfficeOpening}
-use Rattle.shared_office.specs.Pins.{HoldsPin}
 use Rattle.shared_office.proofs.Holding.{live}
-use Rattle.snapshot_value.specs.Growing.{Grows}
-use Rattle.snapshot_value.specs.inside.Reads.{HasReadPart, policies_at}
 use Rattle.snapshot_value.proofs.Growth.{grows_one}
 
 -- there are no more policies than commands

@@ -1,33 +1,20 @@
 -- The reads of a pin and what is made of its policies, put together
-use Rattle.std.proofs.Common.{◌≡◌, ◌≢◌, false, true, Result, Ok, Err, IfOk, IsErr, ℕ, ◌+◌, ◌*◌, ◌≤◌, ◌<◌, List, [], ◌∷◌, ◌++◌, length, take, drop, refl, sym, ap, ◌∙◌, subst, append-nil, append_assoc, length-append, lit<, arith}
-use Rattle.std.specs.List.{AllByRecursion}
-use Rattle.std.proofs.lemmas.List.{length-map, length-take, map-append, take_all, take-append-le}
+use Rattle.snapshot_value.proofs.Names.{◌≡◌, ◌≢◌, false, true, Result, Ok, Err, IfOk, IsErr, ℕ, ◌+◌, ◌*◌, ◌≤◌, ◌<◌, List, [], ◌∷◌, ◌++◌, length, take, drop, refl, sym, ap, ◌∙◌, subst, append-nil, append_assoc, length-append, lit<, arith, AllByRecursion, length-map, length-take, map-append, take_all, take-append-le, most_commands, Policy, Entry, accepted_of, commands_after, policies_per_read, FollowsPin, Placed, pin_call, reads_of, IsSound, Holding, PassFacts, TakesTurn, IsOfficeHistory, OfficeOpening, HoldsPin, KeepsOtherPins, KeepsPins, pinning_turn, Grows, FollowsReads, HasMadeOfPin, HasMadeOfReads, HasReadEach, HasReadFirst, HasReadPart, HasReadSome, calls_of, policies_at, reads_needed}
 use Rattle.std.proofs.lemmas.Option.{slice_get_within}
-use Rattle.policy_types.specs.Limits.{most_commands}
-use Rattle.policy_types.specs.declared.policy.Policy.{Policy}
 use Rattle.policy_types.specs.declared.entry.At.{At}
 use Rattle.policy_types.specs.declared.entry.At.TheVariants.{Now, Position}
 use Rattle.policy_types.specs.declared.entry.Call.{Call}
 use Rattle.policy_types.specs.declared.entry.Call.TheVariants.{Unpin}
-use Rattle.policy_types.specs.declared.entry.Entry.{Entry}
 use Rattle.policy_types.specs.declared.entry.PinRefusal.{PinRefusal}
 use Rattle.policy_types.specs.declared.entry.Reply.TheVariants.{Pinned}
 use Rattle.policy_types.specs.declared.watcher.NoMemory.{NoMemory as Lack}
 use Rattle.policy_machine.specs.Book.{book}
-use Rattle.policy_machine.specs.History.{accepted_of, commands_after, policies_per_read}
-use Rattle.policy_machine.specs.Merge.{FollowsPin, Placed, pin_call, reads_of}
-use Rattle.policy_machine.specs.Rules.{IsSound}
 use Rattle.policy_machine.proofs.HistoryGrowth.{commands_after-append}
 use Rattle.office_state.specs.Turning.{unpin_turn}
 use Rattle.office_state.specs.declared.held.Held.{Held}
-use Rattle.turn_lock.specs.Passes.{Holding, PassFacts, TakesTurn}
-use Rattle.shared_office.specs.Offices.{IsOfficeHistory, OfficeOpening}
-use Rattle.shared_office.specs.Pins.{HoldsPin, KeepsOtherPins, KeepsPins, pinning_turn}
-use Rattle.snapshot_value.specs.Growing.{Grows}
 use Rattle.snapshot_value.specs.Reading.{AnswersPinned, HasMadeOfBook, dry_pins}
 use Rattle.snapshot_value.specs.declared.valuation.ValueFault.{ValueFault}
 use Rattle.snapshot_value.specs.declared.valuation.ValueFault.TheVariants.{Pin, NoMemory}
-use Rattle.snapshot_value.specs.inside.Reads.{FollowsReads, HasMadeOfPin, HasMadeOfReads, HasReadEach, HasReadFirst, HasReadPart, HasReadSome, calls_of, policies_at, reads_needed}
 use Rattle.snapshot_value.proofs.Growth.{grows_more, grows_none, grows_one}
 use Rattle.snapshot_value.proofs.PartSteps.{all_part, length-reads_of, next_part, next_read}
 use Rattle.snapshot_value.proofs.PinSteps.{IsKnown, known, policies_by}

@@ -1,20 +1,12 @@
 -- The rows of policies, put together
-use Rattle.std.proofs.Common.{◌≡◌, ℕ, ◌≤◌, ℤ, List, [], ◌∷◌, ◌++◌, length, arith}
-use Rattle.std.specs.List.{AllByRecursion, AllZip}
+use Rattle.snapshot_value.proofs.Names.{◌≡◌, ℕ, ◌≤◌, ℤ, List, [], ◌∷◌, ◌++◌, length, arith, AllByRecursion, AllZip, Dated, zip_append, Policy, Measure, Row, AreSmallRows, IsSmallRow}
 use Rattle.std.proofs.lemmas.Slice.Zip.{AllZip-long}
-use Rattle.basis_book.specs.Dated.{Dated}
-use Rattle.parallel_value.proofs.PieceSteps.{zip_append}
-use Rattle.policy_types.specs.declared.policy.Policy.{Policy}
 use Rattle.policy_value.specs.Measures.{most_worth}
 use Rattle.policy_value.specs.Rows.{IsWithinAmount}
-use Rattle.policy_value.specs.declared.worth.Measure.{Measure}
 use Rattle.policy_value.specs.declared.worth.Measure.TheVariants.{Terminal, Mean, Deficiency}
-use Rattle.policy_value.specs.declared.worth.Row.{Row}
 use Rattle.policy_value.specs.declared.worth.Worth.{Worth}
 use Rattle.policy_value.specs.declared.worth.Worth.TheVariants.{Bounds, Both, Word}
 use Rattle.snapshot_value.specs.Valuing.{IsValuedRow, most_amount}
-use Rattle.snapshot_value.specs.inside.Sheets.{AreSmallRows}
-use Rattle.snapshot_value.specs.inside.Workers.{IsSmallRow}
 
 pub all_append : {A : Type 0} (P : A → Type 0) (xs more : List A) → AllByRecursion P xs → AllByRecursion P more → AllByRecursion P (xs ++ more)
 all_append P [] more all then = then

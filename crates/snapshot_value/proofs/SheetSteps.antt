@@ -1,19 +1,9 @@
 -- What a valuation has at hand, before and after it reads and values
-use Rattle.std.proofs.Common.{◌≡◌, ◌≤◌, ℤ, List, [], ◌++◌, length, arith, ap, sym, ◌∙◌, subst, append-nil, append_assoc, Vec, Global}
+use Rattle.snapshot_value.proofs.Names.{◌≡◌, ◌≤◌, ℤ, List, [], ◌++◌, length, arith, ap, sym, ◌∙◌, subst, append-nil, append_assoc, Vec, Global, AllByRecursion, with_items_is, Dated, AreAsBefore, IsAsBefore, Policy, IsSound, Measure, Row, AreSmallRows, IsSheetReady, HasMade, GivesRow, IsReadyWorker, TakesPolicy, ValuesBy}
 use Rattle.std.specs.Vec.{with_items}
-use Rattle.std.specs.List.{AllByRecursion}
-use Rattle.std.proofs.lemmas.List.{with_items_is}
 use Rattle.std.proofs.lemmas.Slice.Zip.{AllZip-long}
-use Rattle.basis_book.specs.Dated.{Dated}
-use Rattle.parallel_value.specs.Pieces.{AreAsBefore, IsAsBefore}
-use Rattle.policy_types.specs.declared.policy.Policy.{Policy}
-use Rattle.policy_machine.specs.Rules.{IsSound}
-use Rattle.policy_value.specs.declared.worth.Measure.{Measure}
-use Rattle.policy_value.specs.declared.worth.Row.{Row}
 use Rattle.snapshot_value.specs.declared.worker.Worker.{Worker}
 use Rattle.snapshot_value.specs.declared.worksheet.Worksheet.{Worksheet}
-use Rattle.snapshot_value.specs.inside.Sheets.{AreSmallRows, IsSheetReady, HasMade}
-use Rattle.snapshot_value.specs.inside.Workers.{GivesRow, IsReadyWorker, TakesPolicy, ValuesBy}
 use Rattle.snapshot_value.proofs.RowSteps.{all_append, rows_more, rows_none}
 use Rattle.snapshot_value.proofs.WorkerSteps.{by_still, ready_still}
 

@@ -1,22 +1,14 @@
 -- A valuation, by what is made of the policies at a pinned position
-use Rattle.std.proofs.Common.{◌≡◌, ℕ, ◌≤◌, ℤ, List, [], length, Result, subst, sym, arith}
-use Rattle.basis_book.specs.Dated.{Dated}
-use Rattle.policy_types.specs.Limits.{most_commands}
+use Rattle.snapshot_value.proofs.Names.{◌≡◌, ℕ, ◌≤◌, ℤ, List, [], length, Result, subst, sym, arith, Dated, most_commands, Policy, Measure, Row, Holding, OfficeOpening, AreSmallRows, HasMade}
 use Rattle.policy_types.specs.declared.entry.At.{At}
-use Rattle.policy_types.specs.declared.policy.Policy.{Policy}
 use Rattle.policy_value.specs.Measures.{most_worth}
 use Rattle.policy_value.specs.Rows.{IsWithinAmount}
-use Rattle.policy_value.specs.declared.worth.Measure.{Measure}
-use Rattle.policy_value.specs.declared.worth.Row.{Row}
 use Rattle.std.proofs.lemmas.List.Elements.{All-from_recursion}
-use Rattle.turn_lock.specs.Passes.{Holding}
-use Rattle.shared_office.specs.Offices.{OfficeOpening}
 use Rattle.snapshot_value.specs.Reading.{HasMadeOfBook}
 use Rattle.snapshot_value.specs.Valuing.{AreValuedRows, HasValued, IsValuationAt, most_amount}
 use Rattle.snapshot_value.specs.declared.valuation.Valuation.{Valuation}
 use Rattle.snapshot_value.specs.declared.valuation.ValueFault.{ValueFault}
 use Rattle.snapshot_value.specs.declared.worksheet.Worksheet.{Worksheet}
-use Rattle.snapshot_value.specs.inside.Sheets.{AreSmallRows, HasMade}
 use Rattle.snapshot_value.proofs.RowSteps.{rows_length}
 use Rattle.snapshot_value.proofs.SheetSteps.{made_all}
 

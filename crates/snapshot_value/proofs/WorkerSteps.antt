@@ -1,16 +1,6 @@
 -- Workers, before and after their work
-use Rattle.std.proofs.Common.{List, [], ◌∷◌, ℤ, inl, inr}
-use Rattle.std.specs.List.{AllByRecursion}
-use Rattle.basis_book.specs.Dated.{Dated}
-use Rattle.parallel_value.specs.Pieces.{AddsBehind, AreAsBefore, AreValues, MayGive, TakeAll}
-use Rattle.parallel_value.proofs.PieceSteps.{all_more, zip_more}
-use Rattle.policy_types.specs.declared.policy.Policy.{Policy}
-use Rattle.policy_machine.specs.Rules.{IsSound}
-use Rattle.policy_value.specs.declared.worth.Measure.{Measure}
-use Rattle.policy_value.specs.declared.worth.Row.{Row}
+use Rattle.snapshot_value.proofs.Names.{List, [], ◌∷◌, ℤ, inl, inr, AllByRecursion, Dated, AddsBehind, AreAsBefore, AreValues, MayGive, TakeAll, all_more, zip_more, Policy, IsSound, Measure, Row, AreSmallRows, GivesRow, IsReadyWorker, IsSmallRow, TakesPolicy, ValuesBy}
 use Rattle.snapshot_value.specs.declared.worker.Worker.{Worker}
-use Rattle.snapshot_value.specs.inside.Sheets.{AreSmallRows}
-use Rattle.snapshot_value.specs.inside.Workers.{GivesRow, IsReadyWorker, IsSmallRow, TakesPolicy, ValuesBy}
 use Rattle.snapshot_value.proofs.RowSteps.{rows_each}
 
 -- workers that are ready take sound policies

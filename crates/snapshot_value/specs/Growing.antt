@@ -1,8 +1,7 @@
 -- What a caller's turns do to its pass
 use Rattle.std.specs.Prelude.{◌≡◌, ◌+◌, List, ◌++◌, length, map}
-use Rattle.policy_machine.specs.Merge.{Placed, turns_of}
+use Rattle.snapshot_value.specs.Names.{Placed, turns_of, Holding}
 use Rattle.turn_lock.specs.History.{StartsWith}
-use Rattle.turn_lock.specs.Passes.{Holding}
 
 -- The caller took these turns, in order, each of which stands beside its place in the history: the pass has seen what
 -- it had seen and more, of which just these turns are the caller's own. It has one turn less left for each of them, and

@@ -1,3 +1,4 @@
+pub mod Names
 pub mod Growing
 pub mod Listing
 pub mod Reading

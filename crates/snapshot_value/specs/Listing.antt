@@ -1,12 +1,6 @@
 -- The policies at a pinned position
 use Rattle.std.specs.Prelude.{◌≡◌, ℕ, ◌≤◌, List, length, Result}
-use Rattle.std.specs.List.{AllByRecursion}
-use Rattle.policy_types.specs.Limits.{most_commands}
-use Rattle.policy_types.specs.declared.policy.Policy.{Policy}
-use Rattle.policy_types.specs.declared.entry.At.{At}
-use Rattle.policy_machine.specs.Rules.{IsSound}
-use Rattle.turn_lock.specs.Passes.{Holding}
-use Rattle.shared_office.specs.Offices.{OfficeOpening}
+use Rattle.snapshot_value.specs.Names.{AllByRecursion, most_commands, Policy, At, IsSound, Holding, OfficeOpening}
 use Rattle.snapshot_value.specs.Reading.{HasMadeOfBook}
 use Rattle.snapshot_value.specs.declared.valuation.Policies.{Policies}
 use Rattle.snapshot_value.specs.declared.valuation.ValueFault.{ValueFault}

@@ -1,15 +1,10 @@
 -- What a caller makes of the policies at a pinned position, whatever other callers do between its reads
 use Rattle.std.specs.Prelude.{◌≡◌, ℕ, ◌≤◌, List, [], ◌∷◌, length, map, take, Some, Result, Ok, Err}
 use Rattle.policy_types.specs.declared.command.Command.{Command}
-use Rattle.policy_types.specs.declared.policy.Policy.{Policy}
-use Rattle.policy_types.specs.declared.entry.At.{At}
+use Rattle.snapshot_value.specs.Names.{Policy, At, commands_after, FollowsPin, Placed, pin_call, Holding, OfficeOpening}
 use Rattle.policy_types.specs.declared.entry.Reply.{Reply}
 use Rattle.policy_types.specs.declared.entry.Reply.TheVariants.{Pinned, PinRefused}
 use Rattle.policy_machine.specs.Book.{book}
-use Rattle.policy_machine.specs.History.{commands_after}
-use Rattle.policy_machine.specs.Merge.{FollowsPin, Placed, pin_call}
-use Rattle.turn_lock.specs.Passes.{Holding}
-use Rattle.shared_office.specs.Offices.{OfficeOpening}
 use Rattle.snapshot_value.specs.Growing.{Grows}
 use Rattle.snapshot_value.specs.declared.valuation.ValueFault.{ValueFault}
 use Rattle.snapshot_value.specs.declared.valuation.ValueFault.TheVariants.{Pin, NoMemory}

@@ -1,22 +1,10 @@
 -- A valuation: the rows of the policies at a pinned position, whatever other callers do between its reads
 use Rattle.std.specs.Prelude.{◌≡◌, ℕ, ◌≤◌, ℤ, List, ◌∷◌, length, take, All, Some, Result}
-use Rattle.std.specs.List.{AllZip}
-use Rattle.basis_book.specs.Dated.{Dated, IsPicked}
-use Rattle.policy_types.specs.Limits.{most_commands}
+use Rattle.snapshot_value.specs.Names.{AllZip, Dated, IsPicked, most_commands, Policy, At, commands_after, AnswersLine, Placed, most_worth, IsExact, IsInsured, IsWithinAmount, RowOf, Measure, Row, Holding, OfficeOpening}
 use Rattle.policy_types.specs.declared.command.Command.{Command}
-use Rattle.policy_types.specs.declared.policy.Policy.{Policy}
-use Rattle.policy_types.specs.declared.entry.At.{At}
 use Rattle.policy_types.specs.declared.entry.Reply.{Reply}
 use Rattle.policy_types.specs.declared.script.Line.TheVariants.{Value}
 use Rattle.policy_machine.specs.Book.{book}
-use Rattle.policy_machine.specs.History.{commands_after}
-use Rattle.policy_machine.specs.Merge.{AnswersLine, Placed}
-use Rattle.policy_value.specs.Measures.{most_worth}
-use Rattle.policy_value.specs.Rows.{IsExact, IsInsured, IsWithinAmount, RowOf}
-use Rattle.policy_value.specs.declared.worth.Measure.{Measure}
-use Rattle.policy_value.specs.declared.worth.Row.{Row}
-use Rattle.turn_lock.specs.Passes.{Holding}
-use Rattle.shared_office.specs.Offices.{OfficeOpening}
 use Rattle.snapshot_value.specs.Growing.{Grows}
 use Rattle.snapshot_value.specs.Reading.{AnswersPinned}
 pub use Rattle.snapshot_value.specs.Reading.{dry_pins, most_turns}

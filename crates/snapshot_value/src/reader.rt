@@ -1,9 +1,6 @@
 ghost use Rattle.std.specs.Prelude.{◌≤◌, ℕ, List, [], ◌++◌, ◌+◌, IfOk, OnOk, length};
-ghost use Rattle.std.specs.List.{AllByRecursion};
+ghost use Rattle.snapshot_value.specs.Names.{AllByRecursion, most_commands, APolicy, IsSound};
 ghost use Rattle.std.specs.Thread.{IsSync};
-ghost use Rattle.policy_types.specs.Limits.{most_commands};
-ghost use Rattle.policy_types.specs.declared.policy.Policy.{Policy as APolicy};
-ghost use Rattle.policy_machine.specs.Rules.{IsSound};
 
 use policy_types::{NoMemory, Policy};
 use std::alloc::Global;

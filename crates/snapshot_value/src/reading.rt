@@ -1,15 +1,7 @@
 // Something is made of the policies at a position, which is pinned, read and given up again.
 ghost use Rattle.std.specs.Prelude.{◌≡◌, ◌≤◌, ◌+◌, ◌*◌, List, IfOk, length};
-ghost use Rattle.std.specs.List.{AllByRecursion};
+ghost use Rattle.snapshot_value.specs.Names.{AllByRecursion, most_commands, APolicy, policies_per_read, pin_call, IsSound, PassFacts, TakesTurn, IsOfficeHistory, HoldsPin, KeepsOtherPins, KeepsPins, pinning_turn};
 ghost use Rattle.std.specs.Thread.{IsSync};
-ghost use Rattle.policy_types.specs.Limits.{most_commands};
-ghost use Rattle.policy_types.specs.declared.policy.Policy.{Policy as APolicy};
-ghost use Rattle.policy_machine.specs.History.{policies_per_read};
-ghost use Rattle.policy_machine.specs.Merge.{pin_call};
-ghost use Rattle.policy_machine.specs.Rules.{IsSound};
-ghost use Rattle.turn_lock.specs.Passes.{PassFacts, TakesTurn};
-ghost use Rattle.shared_office.specs.Offices.{IsOfficeHistory};
-ghost use Rattle.shared_office.specs.Pins.{HoldsPin, KeepsOtherPins, KeepsPins, pinning_turn};
 ghost use Rattle.snapshot_value.specs.Reading.{HasMadeOfBook};
 ghost use Rattle.snapshot_value.specs.Valuing.{most_turns};
 ghost use Rattle.snapshot_value.specs.inside.Reads.{HasMadeOfPin, HasMadeOfReads, HasReadPart, reads_needed};

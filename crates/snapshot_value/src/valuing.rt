@@ -1,8 +1,6 @@
 // A valuation of the policies at a position.
 ghost use Rattle.std.specs.Prelude.{◌≡◌, ◌≤◌};
-ghost use Rattle.turn_lock.specs.Passes.{PassFacts};
-ghost use Rattle.shared_office.specs.Offices.{IsOfficeHistory};
-ghost use Rattle.shared_office.specs.Pins.{KeepsPins};
+ghost use Rattle.snapshot_value.specs.Names.{PassFacts, IsOfficeHistory, KeepsPins};
 ghost use Rattle.snapshot_value.specs.Valuing.{HasValued, IsValuationAt, most_turns};
 ghost use Rattle.snapshot_value.specs.inside.Sheets.{HasMade};
 

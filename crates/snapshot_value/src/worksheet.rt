@@ -1,11 +1,7 @@
 // What a valuation has at hand: its workers, the policies that were read last, and the rows of those before them.
 ghost use Rattle.std.specs.Prelude.{◌≡◌, ◌≤◌, ◌<◌, ℤ, List, [], ◌++◌, ◌+◌, IfOk, OnOk, length, take, drop};
-ghost use Rattle.std.specs.List.{AllByRecursion};
-ghost use Rattle.basis_book.specs.Dated.{Dated};
+ghost use Rattle.snapshot_value.specs.Names.{AllByRecursion, Dated, IsSound, APolicy, AMeasure};
 ghost use Rattle.parallel_value.specs.Pieces.{AddsBehind, AreAsBefore};
-ghost use Rattle.policy_machine.specs.Rules.{IsSound};
-ghost use Rattle.policy_types.specs.declared.policy.Policy.{Policy as APolicy};
-ghost use Rattle.policy_value.specs.declared.worth.Measure.{Measure as AMeasure};
 ghost use Rattle.snapshot_value.specs.inside.Sheets.{AreSmallRows, IsSheetReady, HasMade, valued_together};
 ghost use Rattle.snapshot_value.specs.inside.Workers.{GivesRow, IsReadyWorker, TakesPolicy, ValuesBy};
 

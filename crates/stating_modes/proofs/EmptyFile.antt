@@ -1,13 +1,6 @@
 -- What is told of an empty file.
-use Rattle.std.proofs.Common.{◌≡◌, ℕ, List, [], inr, inl, refl, subst, lit≤}
+use Rattle.stating_modes.proofs.Names.{◌≡◌, ℕ, List, [], inr, inl, refl, subst, lit≤, Ghosts, Command, account_line, count_text, Opens, opens_to_one, WroteAll, books_text, policy_account}
 use Rattle.std.specs.Fmt.{digits}
-use Rattle.outside_io.specs.declared.disks.Disk.{Ghosts}
-use Rattle.policy_types.specs.declared.command.Command.{Command}
-use Rattle.statements.specs.Statements.{account_line, count_text}
-use Rattle.office_state.specs.Journals.{Opens}
-use Rattle.office_state.proofs.JournalLaws.{opens_to_one}
-use Rattle.program_endings.specs.Writing.{WroteAll}
-use Rattle.stating_modes.specs.Books.{books_text, policy_account}
 use Rattle.stating_modes.specs.Worked.{KnowsNobody, StatesAnEmptyFile}
 
 no_commands : (bytes : List ℕ) (commands : List Command) → bytes ≡ [] → Opens bytes commands → commands ≡ []

@@ -1,32 +1,13 @@
 -- What is told of an empty file over two disks
-use Rattle.std.proofs.Common.{◌≡◌, ℕ, List, [], ◌∷◌, ◌++◌, length, codes, decimal, arith, inr, inl, refl, ap, ap₂, ◌∙◌, subst, lit≤}
+use Rattle.stating_modes.proofs.Names.{◌≡◌, ℕ, List, [], ◌∷◌, ◌++◌, length, codes, decimal, arith, inr, inl, refl, ap, ap₂, ◌∙◌, subst, lit≤, Rose, AppendsPart, Ghosts, flat_map, Command, Policy, book, EndsState, IsStated, account_line, balance_text, count_text, policy_text, IsSnapshotOf, Snapshot, IsLeftAlone, Opens, opens_to_one, Ending, Stream, WroteAll, WroteLine, books_text, EndsStateKept, snapshot_text, AreTrue, IsHeldWhereTrue, TwoDisks}
 use Rattle.std.specs.Fmt.{digits}
-use Rattle.outside_io.specs.Faults.{Rose}
-use Rattle.outside_io.specs.Streams.{AppendsPart}
-use Rattle.outside_io.specs.declared.disks.Disk.{Ghosts}
 use Rattle.money_ledgers.specs.Balances.{balances}
-use Rattle.std.specs.List.{flat_map}
 use Rattle.policy_types.specs.Accounts.{Booking}
-use Rattle.policy_types.specs.declared.command.Command.{Command}
-use Rattle.policy_types.specs.declared.policy.Policy.{Policy}
-use Rattle.policy_machine.specs.Book.{book}
 use Rattle.policy_machine.proofs.LedgerLemmas.{sum_of-ledger}
 use Rattle.text_lines.specs.Lines.{line_of}
-use Rattle.stating_modes.specs.Stating.{EndsState, IsStated}
-use Rattle.statements.specs.Statements.{account_line, balance_text, count_text, policy_text}
-use Rattle.checkpoint_store.specs.Checkpoints.{IsSnapshotOf}
-use Rattle.checkpoint_store.specs.declared.snapshot.Snapshot.{Snapshot}
-use Rattle.office_state.specs.Images.{IsLeftAlone}
-use Rattle.office_state.specs.Journals.{Opens}
 use Rattle.program_endings.proofs.WorkedEndings.{refuses_hello}
-use Rattle.office_state.proofs.JournalLaws.{opens_to_one}
-use Rattle.program_endings.specs.declared.ending.Ending.{Ending}
 use Rattle.program_endings.specs.declared.ending.Ending.TheVariants.{Done, BadJournal, WriteFault, DiskFault, NoMemory}
-use Rattle.program_endings.specs.Writing.{Stream, WroteAll, WroteLine}
-use Rattle.stating_modes.specs.Books.{books_text}
-use Rattle.stating_modes.specs.Stated.{EndsStateKept, snapshot_text}
 use Rattle.stating_modes.specs.Telling.{EndsTelling, IsRefusedByTwo, TellsSnapshot}
-use Rattle.stating_modes.specs.TwoDisks.{AreTrue, IsHeldWhereTrue, TwoDisks}
 use Rattle.stating_modes.specs.Worked.{KeepsAnEmptyFile, RefusesHelloByTwo, SavesNothing, TellsNoLie}
 
 no_commands : (bytes : List ℕ) (commands : List Command) → bytes ≡ [] → Opens bytes commands → commands ≡ []

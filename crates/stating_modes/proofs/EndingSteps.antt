@@ -1,30 +1,13 @@
 -- How the two modes end, by what their parts did
-use Rattle.std.proofs.Common.{◌≡◌, inl, inr, ℕ, List, subst, sym, refl, ap, ap₂, ◌∙◌, Result, Ok, Err, Vec, Global}
-use Rattle.std.specs.Prelude.{IfOk}
-use Rattle.outside_io.specs.Faults.{Rose}
-use Rattle.outside_io.specs.Streams.{AppendsPart}
-use Rattle.outside_io.specs.declared.disks.Disk.{Ghosts}
+use Rattle.stating_modes.proofs.Names.{◌≡◌, inl, inr, ℕ, List, subst, sym, refl, ap, ap₂, ◌∙◌, Result, Ok, Err, Vec, Global, IfOk, Rose, AppendsPart, Ghosts, disk_of, store_disk, Snapshot, Store, StartCause, FaultyDisk, NotAJournal, BadRecord, NoRoom, OnlyNow, Ending, EndsText, Stream, WroteAll, EndsStateKept, IsStateTold, ReadsFew, snapshot_text, AreBothQuiet, IsHeldWhereTrue, TwoDisks, disks_of, EndsSaving, HasSaved, HasTried}
 use Rattle.policy_types.specs.declared.watcher.NoMemory.{NoMemory as Lack}
-use Rattle.posting_journal.specs.States.{disk_of}
-use Rattle.checkpoint_store.specs.Stores.{store_disk}
-use Rattle.checkpoint_store.specs.declared.snapshot.Snapshot.{Snapshot}
-use Rattle.checkpoint_store.specs.declared.store.Store.{Store}
-use Rattle.office_state.specs.declared.faults.StartCause.{StartCause}
-use Rattle.office_state.specs.declared.faults.StartCause.TheVariants.{DiskFault as FaultyDisk, NotAJournal, BadRecord, NoMemory as NoRoom}
-use Rattle.office_state.proofs.OpeningSteps.{OnlyNow}
-use Rattle.program_endings.specs.declared.ending.Ending.{Ending}
 use Rattle.program_endings.specs.declared.ending.Ending.TheVariants.{Done, BadJournal, WriteFault, DiskFault, NoMemory}
 use Rattle.program_endings.specs.Refusals.{SaysUnopened}
-use Rattle.program_endings.specs.Texts.{EndsText}
-use Rattle.program_endings.specs.Writing.{Stream, WroteAll}
 use Rattle.stating_modes.specs.Saved.{EndsCheckpoint, IsSaved, checkpoint_text}
-use Rattle.stating_modes.specs.Stated.{EndsStateKept, IsStateTold, ReadsFew, snapshot_text}
 use Rattle.stating_modes.specs.Telling.{EndsTelling, TellsSnapshot}
-use Rattle.stating_modes.specs.TwoDisks.{AreBothQuiet, IsHeldWhereTrue, TwoDisks, disks_of}
 use Rattle.stating_modes.specs.declared.finished.FinishedKept.{FinishedKept}
 use Rattle.stating_modes.specs.declared.reopened.Reopened.{Reopened}
 use Rattle.stating_modes.specs.inside.Reopened.{HasNoSnapshot, HasReopened, disks_under}
-use Rattle.stating_modes.specs.inside.Saving.{EndsSaving, HasSaved, HasTried}
 use Rattle.stating_modes.proofs.SavingSteps.{now_read, now_tried, since_read, since_tried}
 
 module _ {D E : Type 0} (g : Ghosts D) (e : Ghosts E) (disks : TwoDisks D E) (output : Stream) where

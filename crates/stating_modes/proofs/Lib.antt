@@ -1,3 +1,4 @@
+pub mod Names
 pub mod LookSteps
 pub mod ReadingSteps
 pub mod StateSteps

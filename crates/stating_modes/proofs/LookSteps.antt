@@ -1,16 +1,7 @@
 -- What stays true of a disk that is only looked at behind a turn, a run or an opening
-use Rattle.std.proofs.Common.{◌≡◌, ℕ, ◌≤◌, List, [], ◌∷◌, ◌++◌, sym, ◌∙◌, subst, inl, inr, append-nil, arith}
-use Rattle.outside_io.specs.declared.disks.Disk.{Ghosts}
-use Rattle.policy_types.specs.declared.command.Command.{Command}
+use Rattle.stating_modes.proofs.Names.{◌≡◌, ℕ, ◌≤◌, List, [], ◌∷◌, ◌++◌, sym, ◌∙◌, subst, inl, inr, append-nil, arith, Ghosts, Command, Opening, opened_on, IsUnfinished, LooksOn, looks_on, HasKept, HoldsNow, HoldsOnce, IsLeftAlone, IsLeftBy, KeepsAccepted, JournalBytes, Opens, CountsNow, ReadsImage, looked_since, synced_before}
 use Rattle.policy_types.specs.declared.entry.Entry.{Entry}
-use Rattle.policy_machine.specs.History.{Opening, opened_on}
-use Rattle.posting_journal.specs.Creation.{IsUnfinished}
-use Rattle.posting_journal.specs.Runs.{LooksOn}
-use Rattle.posting_journal.proofs.Moments.{looks_on}
 use Rattle.posting_journal.proofs.Unique.{journal_finished}
-use Rattle.office_state.specs.Images.{HasKept, HoldsNow, HoldsOnce, IsLeftAlone, IsLeftBy, KeepsAccepted}
-use Rattle.office_state.specs.Journals.{JournalBytes, Opens}
-use Rattle.office_state.proofs.OpeningSteps.{CountsNow, ReadsImage, looked_since, synced_before}
 
 module _ {D : Type 0} (g : Ghosts D) (counts_now : CountsNow g) (old mid new : D)
     (honesty : g.honest new → g.honest mid) (looks : g.honest new → LooksOn g mid new) where

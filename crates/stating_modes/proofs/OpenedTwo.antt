@@ -1,43 +1,23 @@
 -- What is known of the two disks once the journal and the store were opened, and of the snapshot that was read from them
-use Rattle.std.proofs.Common.{◌≡◌, inl, inr, ℕ, ◌≤◌, true, false, List, [], ◌∙◌, sym, subst, refl, append-nil, None, arith}
-use Rattle.outside_io.specs.declared.disks.Disk.{Ghosts}
-use Rattle.outside_io.specs.Faults.{Rose}
-use Rattle.policy_types.specs.declared.command.Command.{Command}
-use Rattle.policy_machine.specs.Book.{judge}
-use Rattle.policy_machine.specs.History.{Opening, opened_on}
-use Rattle.posting_journal.specs.Creation.{OpensToBodies}
+use Rattle.stating_modes.proofs.Names.{◌≡◌, inl, inr, ℕ, ◌≤◌, true, false, List, [], ◌∙◌, sym, subst, refl, append-nil, None, arith, Ghosts, Rose, Command, judge, Opening, opened_on, OpensToBodies, StandsFor, count_of, disk_of, is_clean, looks_none, looks_on, IsSoundSnapshot, store_disk, Snapshot, Store, StartCause, DiskFault, HoldsNow, HoldsOnce, IsLeftAlone, IsLeftBy, IsShown, Opens, HasNotOpened, CountsNow, IsStarted, OnlyNow, ReadsImage, holds_once, looked_alone, looked_ever, not_started, opening_keeps, opens_commands, started_later, synced_images, ReadsFew, AreBothQuiet, AreTrue, IsHeldWhereTrue, IsMadeSafe, IsOnlyRead, IsSnapshotHeld, TwoDisks}
 use Rattle.posting_journal.specs.Starting.{HasStarted, ShowsCause, TellsCause}
 use Rattle.posting_journal.specs.Opening.{IsOpenedOn, OpensOn}
-use Rattle.posting_journal.specs.States.{StandsFor, count_of, disk_of, is_clean}
 use Rattle.posting_journal.specs.declared.faults.JournalCause.{JournalCause}
 use Rattle.posting_journal.specs.declared.faults.JournalCause.TheVariants.{DiskFault as FaultyDisk, NotAJournal as IsNoJournal, BadRecord as IsBadRecord}
 use Rattle.posting_journal.specs.declared.journal.Journal.{Journal}
-use Rattle.posting_journal.proofs.Moments.{looks_none, looks_on}
 use Rattle.journal_replay.specs.Replays.{HasReplayCause, IsStoppedAt, StaysAs, Stops, bodies_of}
 use Rattle.journal_replay.specs.declared.replaying.ReplayFault.{ReplayFault}
 use Rattle.journal_replay.specs.declared.replaying.ReplayFault.TheVariants as replay
-use Rattle.checkpoint_store.specs.Checkpoints.{IsSoundSnapshot}
 use Rattle.checkpoint_store.specs.Reopening.{AreDecided, HasCauseOfTwo, IsFirstBadBody, IsReopened, IsSnapshotOfAll, IsSnapshotRead, IsTrueWhereUsed, KeepsAsBefore, Reopens, TakesSteps}
 use Rattle.checkpoint_store.specs.Starts.{HasLookedAt}
-use Rattle.checkpoint_store.specs.Stores.{store_disk}
 use Rattle.checkpoint_store.specs.declared.faults.ReopenFault.{ReopenFault}
 use Rattle.checkpoint_store.specs.declared.faults.ReopenFault.TheVariants as why
-use Rattle.checkpoint_store.specs.declared.snapshot.Snapshot.{Snapshot}
-use Rattle.checkpoint_store.specs.declared.store.Store.{Store}
 use Rattle.std.specs.Prelude.{Result, Ok, Err}
-use Rattle.office_state.specs.declared.faults.StartCause.{StartCause}
-use Rattle.office_state.specs.declared.faults.StartCause.TheVariants.{DiskFault}
-use Rattle.office_state.specs.Images.{HoldsNow, HoldsOnce, IsLeftAlone, IsLeftBy}
-use Rattle.office_state.specs.Journals.{IsShown, Opens}
 use Rattle.office_state.specs.inside.Holding.{JournalHolds}
-use Rattle.office_state.specs.Opening.{HasNotOpened}
 use Rattle.office_state.specs.inside.Replays.{MakeJournal, as_cause, as_replay_cause}
 use Rattle.office_state.proofs.ImageSteps.{holds_now}
 use Rattle.office_state.proofs.KeptSteps.{keeps_first, kept_now}
-use Rattle.office_state.proofs.OpeningSteps.{CountsNow, IsStarted, OnlyNow, ReadsImage, holds_once, looked_alone, looked_ever, not_started, opening_keeps, opens_commands, started_later, synced_images}
 use Rattle.office_state.proofs.OpenedSteps.{no_office, unfollowed}
-use Rattle.stating_modes.specs.Stated.{ReadsFew}
-use Rattle.stating_modes.specs.TwoDisks.{AreBothQuiet, AreTrue, IsHeldWhereTrue, IsMadeSafe, IsOnlyRead, IsSnapshotHeld, TwoDisks}
 use Rattle.stating_modes.specs.declared.reopened.Reopened.{Reopened}
 use Rattle.stating_modes.specs.inside.Reopened.{AreBooksOn, HasJournalOn, HasNoSnapshot, HasReopened, HasStoreOn, TellsFaultOfOne, as_start_cause}
 

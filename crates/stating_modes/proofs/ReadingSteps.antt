@@ -1,43 +1,24 @@
 -- What one more record adds to an account, and what is known once all records were read, or one couldn't be
-use Rattle.std.proofs.Common.{◌≡◌, if◌then◌else◌, ℕ, ◌+◌, ◌<◌, ◌≤◌, ◌==◌, ◌⊎◌, Bool, true, false, List, [], ◌∷◌, ◌++◌, length, take, slice_index_or, refl, ap, ap₂, sym, ◌∙◌, subst, inl, inr, Some, None, Option, Ok, Err, Result, IsOk, append-nil, append_assoc, arith}
-use Rattle.std.specs.Prelude.{IfSome}
-use Rattle.std.specs.List.{All, AllByRecursion, enumerate_from, filter}
+use Rattle.stating_modes.proofs.Names.{◌≡◌, if◌then◌else◌, ℕ, ◌+◌, ◌<◌, ◌≤◌, ◌==◌, ◌⊎◌, Bool, true, false, List, [], ◌∷◌, ◌++◌, length, take, slice_index_or, refl, ap, ap₂, sym, ◌∙◌, subst, inl, inr, Some, None, Option, Ok, Err, Result, IsOk, append-nil, append_assoc, arith, IfSome, All, AllByRecursion, enumerate_from, filter, Ghosts, Command, Policy, IsValid, id_of, IsAcceptedAfter, judge, kept, policy_of, IsSound, next, IsUnfinished, OpensToBodies, LooksOn, count_of, disk_of, looks_on, StartCause, IsOfTheFile, IsShown, Opens, OpensToNone, TellsFault, same_command, same_commands, shown_opens_to_none, to_bodies, IsStarted, policy_entries, CanBeNext, HasNotRead, HasRead, IsAccount, IsReadFrom, IsStoppedFrom}
 use Rattle.std.proofs.lemmas.List.Elements.{All-from_recursion, filter-append}
-use Rattle.outside_io.specs.declared.disks.Disk.{Ghosts}
-use Rattle.policy_types.specs.declared.command.Command.{Command}
 use Rattle.policy_types.specs.declared.command.Command.TheVariants.{Upgrade}
-use Rattle.policy_types.specs.declared.policy.Policy.{Policy}
 use Rattle.policy_types.specs.declared.refusal.Refusal.{Refusal}
-use Rattle.policy_types.specs.Valid.{IsValid, id_of}
-use Rattle.policy_machine.specs.Book.{IsAcceptedAfter, judge, kept, policy_of}
-use Rattle.policy_machine.specs.Rules.{IsSound, next}
 use Rattle.policy_machine.proofs.BookLemmas.{policy_of-own, policy_of-push_other, policy_of-push_own, policy_of-sound}
 use Rattle.policy_machine.proofs.JudgeLemmas.{accepted_next}
 use Rattle.record_codec.specs.Spelling.{spelling_of}
-use Rattle.posting_journal.specs.Creation.{IsUnfinished, OpensToBodies}
-use Rattle.posting_journal.specs.Runs.{LooksOn}
 use Rattle.posting_journal.specs.Starting.{ShowsCause, TellsCause}
-use Rattle.posting_journal.specs.States.{count_of, disk_of}
 use Rattle.posting_journal.specs.declared.faults.JournalCause.{JournalCause}
 use Rattle.posting_journal.specs.declared.faults.JournalCause.TheVariants.{DiskFault as FaultyDisk, NotAJournal as IsNoJournal, BadRecord as IsBadRecord}
 use Rattle.posting_journal.specs.declared.journal.Journal.{Journal}
-use Rattle.posting_journal.proofs.Moments.{looks_on}
 use Rattle.posting_journal.proofs.Unique.{opens_once}
 use Rattle.journal_replay.specs.Keeping.{AreKept}
 use Rattle.journal_replay.specs.Replays.{IsLookedAt, IsQuiet, IsStoppedAt, Replays, Stops, bodies_of}
 use Rattle.journal_replay.proofs.ReplaySteps.{Stops-wider, all_replayed}
 use Rattle.journal_replay.specs.declared.replaying.ReplayFault.{ReplayFault}
 use Rattle.journal_replay.specs.declared.replaying.ReplayFault.TheVariants as replay
-use Rattle.office_state.specs.declared.faults.StartCause.{StartCause}
-use Rattle.office_state.specs.Journals.{IsOfTheFile, IsShown, Opens, OpensToNone}
-use Rattle.office_state.specs.Opening.{TellsFault}
 use Rattle.office_state.specs.inside.Replays.{as_cause, as_replay_cause}
 use Rattle.office_state.proofs.OpenedSteps.{replay_told}
-use Rattle.office_state.proofs.JournalLaws.{same_command, same_commands, shown_opens_to_none, to_bodies}
-use Rattle.office_state.proofs.OpeningSteps.{IsStarted}
 use Rattle.stating_modes.specs.declared.rereading.Account.{Account}
-use Rattle.stating_modes.specs.Books.{policy_entries}
-use Rattle.stating_modes.specs.inside.Rereading.{CanBeNext, HasNotRead, HasRead, IsAccount, IsReadFrom, IsStoppedFrom}
 
 enumerate_from-push : {X : Type 0} (n : ℕ) (xs : List X) (x : X)
     → enumerate_from n (xs ++ x ∷ []) ≡ enumerate_from n xs ++ (n + length xs, x) ∷ []

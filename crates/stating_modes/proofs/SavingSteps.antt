@@ -1,17 +1,7 @@
 -- What a crash leaves of the second disk, from the store's start to the end of the saving
-use Rattle.std.proofs.Common.{◌≡◌, ◌⊎◌, inl, inr, ⊎_elim, ℕ, List, subst, sym}
-use Rattle.outside_io.specs.declared.disks.Disk.{Ghosts}
-use Rattle.posting_journal.specs.Runs.{Leaves, LooksOn}
-use Rattle.posting_journal.proofs.Moments.{leaves, leaves_more, leaves_on}
-use Rattle.checkpoint_store.specs.Checkpoints.{IsNoCheckpoint}
+use Rattle.stating_modes.proofs.Names.{◌≡◌, ◌⊎◌, inl, inr, ⊎_elim, ℕ, List, subst, sym, Ghosts, Leaves, LooksOn, leaves, leaves_more, leaves_on, IsNoCheckpoint, IsKeptOrSavedBy, MightLeave, store_disk, Snapshot, Store, OnlyNow, IsHeldWhereTrue, IsOnlyRead, TwoDisks, HasTried}
 use Rattle.checkpoint_store.specs.Starts.{HasLookedAt}
-use Rattle.checkpoint_store.specs.Stores.{IsKeptOrSavedBy, MightLeave, store_disk}
-use Rattle.checkpoint_store.specs.declared.snapshot.Snapshot.{Snapshot}
-use Rattle.checkpoint_store.specs.declared.store.Store.{Store}
-use Rattle.office_state.proofs.OpeningSteps.{OnlyNow}
 use Rattle.stating_modes.specs.Saved.{IsNoneOrEarlierOrHeld}
-use Rattle.stating_modes.specs.TwoDisks.{IsHeldWhereTrue, IsOnlyRead, TwoDisks}
-use Rattle.stating_modes.specs.inside.Saving.{HasTried}
 
 module _ {D E : Type 0} (g : Ghosts D) (e : Ghosts E) (disks : TwoDisks D E) (snapshot : Snapshot)
     (held : IsHeldWhereTrue g e disks snapshot) (store : Store E e) where

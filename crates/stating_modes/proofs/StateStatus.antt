@@ -1,14 +1,6 @@
 -- What the exit status tells of `state`
-use Rattle.std.proofs.Common.{◌≡◌, ℕ, ◌⊎◌, List}
-use Rattle.outside_io.specs.Faults.{Rose}
-use Rattle.outside_io.specs.declared.disks.Disk.{Ghosts}
-use Rattle.policy_types.specs.declared.command.Command.{Command}
-use Rattle.office_state.specs.Journals.{Opens, OpensToNone}
-use Rattle.program_endings.specs.declared.ending.Ending.{Ending}
+use Rattle.stating_modes.proofs.Names.{◌≡◌, ℕ, ◌⊎◌, List, Rose, Ghosts, Command, Opens, OpensToNone, Ending, Stream, read_as_before, read_refused, read_to_end, EndsState, IsStated}
 use Rattle.program_endings.specs.Status.{status_of}
-use Rattle.program_endings.specs.Writing.{Stream}
-use Rattle.program_endings.proofs.ReadOnlySteps.{read_as_before, read_refused, read_to_end}
-use Rattle.stating_modes.specs.Stating.{EndsState, IsStated}
 
 module _ {D : Type 0} (g : Ghosts D) (old new : D) (text_of : List Command → List ℕ) (output : Stream) (ending : Ending)
     (ends : EndsState g old new text_of output ending) where

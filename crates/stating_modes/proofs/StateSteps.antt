@@ -1,43 +1,17 @@
 -- How `state` ends, by what its parts did
-use Rattle.std.proofs.Common.{◌≡◌, ℕ, ◌+◌, ◌<◌, List, [], ◌∷◌, ◌++◌, length, take, get_or, ap, sym, ◌∙◌, subst, inl, Some, Result, Ok, Err, Vec, Global, append-nil}
-use Rattle.std.specs.Prelude.{IfOk, slice_get}
-use Rattle.std.specs.List.{flat_map, AllByRecursion}
+use Rattle.stating_modes.proofs.Names.{◌≡◌, ℕ, ◌+◌, ◌<◌, List, [], ◌∷◌, ◌++◌, length, take, get_or, ap, sym, ◌∙◌, subst, inl, Some, Result, Ok, Err, Vec, Global, append-nil, IfOk, slice_get, flat_map, AllByRecursion, Rose, AppendsPart, Ghosts, Command, Policy, book, opened_on, policy_text, IsUnfinished, LooksOn, StartCause, FaultyDisk, NotAJournal, BadRecord, NoRoom, IsLeftAlone, IsLeftBy, Opens, TellsFault, CountsNow, ReadsImage, IsValid, IsSound, Ending, Stream, WroteAll, EndsText, account_text, policy_entries, policy_account, EndsState, IsStated, EndsReading, HasNotRead, HasRead, IsAccounted}
 use Rattle.std.proofs.Math.Seq.{take-length}
 use Rattle.std.proofs.lemmas.Grind.{flat_map-append}
 use Rattle.std.proofs.lemmas.List.{take_more}
 use Rattle.std.proofs.lemmas.Option.{slice_get-get_or}
-use Rattle.outside_io.specs.Faults.{Rose}
-use Rattle.outside_io.specs.Streams.{AppendsPart}
-use Rattle.outside_io.specs.declared.disks.Disk.{Ghosts}
-use Rattle.policy_types.specs.declared.command.Command.{Command}
 use Rattle.policy_types.specs.declared.watcher.NoMemory.{NoMemory as Lack}
-use Rattle.policy_types.specs.declared.policy.Policy.{Policy}
-use Rattle.policy_machine.specs.Book.{book}
-use Rattle.policy_machine.specs.History.{opened_on}
-use Rattle.statements.specs.Statements.{policy_text}
 use Rattle.policy_machine.proofs.LedgerLemmas.{sum_of-ledger}
-use Rattle.posting_journal.specs.Creation.{IsUnfinished}
-use Rattle.posting_journal.specs.Runs.{LooksOn}
-use Rattle.office_state.specs.declared.faults.StartCause.{StartCause}
-use Rattle.office_state.specs.declared.faults.StartCause.TheVariants.{DiskFault as FaultyDisk, NotAJournal, BadRecord, NoMemory as NoRoom}
-use Rattle.office_state.specs.Images.{IsLeftAlone, IsLeftBy}
-use Rattle.office_state.specs.Journals.{Opens}
-use Rattle.office_state.specs.Opening.{TellsFault}
-use Rattle.office_state.proofs.OpeningSteps.{CountsNow, ReadsImage}
 use Rattle.std.proofs.lemmas.List.Elements.{All-from_recursion}
-use Rattle.policy_types.specs.Valid.{IsValid}
-use Rattle.policy_machine.specs.Rules.{IsSound}
 use Rattle.policy_machine.proofs.BookLemmas.{book-sound}
-use Rattle.program_endings.specs.declared.ending.Ending.{Ending}
 use Rattle.program_endings.specs.declared.ending.Ending.TheVariants.{Done, BadJournal, WriteFault, DiskFault, NoMemory}
 use Rattle.program_endings.specs.Refusals.{SaysWhy, SaysUnopened}
-use Rattle.program_endings.specs.Writing.{Stream, WroteAll}
-use Rattle.program_endings.specs.Texts.{EndsText}
 use Rattle.program_endings.proofs.ListSteps.{all_take}
 use Rattle.stating_modes.specs.declared.rereading.Account.{Account}
-use Rattle.stating_modes.specs.Books.{account_text, policy_entries, policy_account}
-use Rattle.stating_modes.specs.Stating.{EndsState, IsStated}
-use Rattle.stating_modes.specs.inside.Rereading.{EndsReading, HasNotRead, HasRead, IsAccounted}
 use Rattle.stating_modes.proofs.LookSteps.{alone_still, file_left, finished_left, later_left, left_renamed, left_still}
 
 -- an account's text is that of its policy after the commands

@@ -1,3 +1,4 @@
+pub mod Names
 pub mod Books
 pub mod Stating
 pub mod TwoDisks

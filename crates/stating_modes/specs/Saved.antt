@@ -1,13 +1,6 @@
 -- What `checkpoint` writes, what it saves, and how it ends
 use Rattle.std.specs.Prelude.{◌⊎◌, ℕ, List, [], ◌∷◌, codes, decimal}
-use Rattle.outside_io.specs.declared.disks.Disk.{Ghosts}
-use Rattle.posting_journal.specs.Runs.{Leaves}
-use Rattle.text_lines.specs.Lines.{line_of}
-use Rattle.checkpoint_store.specs.Checkpoints.{CheckpointBytes, IsNoCheckpoint}
-use Rattle.checkpoint_store.specs.declared.snapshot.Snapshot.{Snapshot}
-use Rattle.office_state.specs.Images.{IsLeftAlone}
-use Rattle.program_endings.specs.Writing.{Stream}
-use Rattle.program_endings.specs.declared.ending.Ending.{Ending}
+use Rattle.stating_modes.specs.Names.{Ghosts, Leaves, line_of, CheckpointBytes, IsNoCheckpoint, Snapshot, IsLeftAlone, Stream, Ending}
 use Rattle.stating_modes.specs.Telling.{EndsTelling, TellsSnapshot}
 use Rattle.stating_modes.specs.TwoDisks.{IsHeldWhereTrue, IsMadeSafe, IsOnlyRead, TwoDisks}
 

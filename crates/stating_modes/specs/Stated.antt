@@ -1,16 +1,8 @@
 -- What `state` writes of a snapshot, and how it ends over two disks
 use Rattle.std.specs.Prelude.{ℕ, List, ◌++◌, length}
-use Rattle.std.specs.List.{flat_map}
-use Rattle.outside_io.specs.declared.disks.Disk.{Ghosts}
+use Rattle.stating_modes.specs.Names.{flat_map, Ghosts, balance_text, policy_text, OpensToBodies, Snapshot, IsLeftAlone, Stream, Ending, Done, WriteFault}
 use Rattle.money_ledgers.specs.Balances.{balances}
-use Rattle.statements.specs.Statements.{balance_text, policy_text}
-use Rattle.posting_journal.specs.Creation.{OpensToBodies}
 use Rattle.checkpoint_store.specs.Reopening.{TakesSteps}
-use Rattle.checkpoint_store.specs.declared.snapshot.Snapshot.{Snapshot}
-use Rattle.office_state.specs.Images.{IsLeftAlone}
-use Rattle.program_endings.specs.Writing.{Stream}
-use Rattle.program_endings.specs.declared.ending.Ending.{Ending}
-use Rattle.program_endings.specs.declared.ending.Ending.TheVariants.{Done, WriteFault}
 use Rattle.stating_modes.specs.Telling.{EndsTelling, TellsSnapshot}
 use Rattle.stating_modes.specs.TwoDisks.{IsOnlyRead, TwoDisks}
 

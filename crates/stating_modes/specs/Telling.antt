@@ -1,15 +1,7 @@
 -- How a mode ends that tells of the snapshot of a journal
 use Rattle.std.specs.Prelude.{ℕ, List, codes}
-use Rattle.outside_io.specs.Faults.{Rose}
-use Rattle.outside_io.specs.Streams.{AppendsPart}
-use Rattle.outside_io.specs.declared.disks.Disk.{Ghosts}
-use Rattle.checkpoint_store.specs.declared.snapshot.Snapshot.{Snapshot}
-use Rattle.office_state.specs.Journals.{IsShown}
-use Rattle.office_state.specs.declared.faults.StartCause.{StartCause}
+use Rattle.stating_modes.specs.Names.{Rose, AppendsPart, Ghosts, Snapshot, IsShown, StartCause, Stream, WroteAll, WroteLine, Ending, Done, BadJournal, WriteFault, DiskFault, NoMemory}
 use Rattle.program_endings.specs.Refusals.{SaysWhy}
-use Rattle.program_endings.specs.Writing.{Stream, WroteAll, WroteLine}
-use Rattle.program_endings.specs.declared.ending.Ending.{Ending}
-use Rattle.program_endings.specs.declared.ending.Ending.TheVariants.{Done, BadJournal, WriteFault, DiskFault, NoMemory}
 use Rattle.stating_modes.specs.TwoDisks.{AreBothQuiet, AreTrue, HasOneFailed, IsHeldWhereTrue, TwoDisks}
 
 -- The text of a snapshot was written. Where the disks are true, the snapshot is that of the journal's commands.

@@ -1,17 +1,8 @@
 -- The journal's disk and a second one, which may hold a checkpoint of its journal
 use Rattle.std.specs.Prelude.{◌≡◌, ◌⊎◌, ℕ, List, []}
-use Rattle.outside_io.specs.Faults.{Rose}
-use Rattle.outside_io.specs.declared.disks.Disk.{Ghosts}
-use Rattle.policy_types.specs.declared.command.Command.{Command}
-use Rattle.policy_machine.specs.History.{opened_on}
-use Rattle.posting_journal.specs.Creation.{OpensToBodies}
+use Rattle.stating_modes.specs.Names.{Rose, Ghosts, Command, opened_on, OpensToBodies, LooksOn, IsSnapshotOf, Snapshot, IsLeftBy, Opens}
 use Rattle.posting_journal.specs.Opening.{IsOpenedOn, IsSynced}
-use Rattle.posting_journal.specs.Runs.{LooksOn}
-use Rattle.checkpoint_store.specs.Checkpoints.{IsSnapshotOf}
 use Rattle.checkpoint_store.specs.Reopening.{IsTrueWhereUsed}
-use Rattle.checkpoint_store.specs.declared.snapshot.Snapshot.{Snapshot}
-use Rattle.office_state.specs.Images.{IsLeftBy}
-use Rattle.office_state.specs.Journals.{Opens}
 use Rattle.stating_modes.specs.declared.finished.FinishedKept.{FinishedKept}
 
 -- the two disks as a call gets them and as it gives them back

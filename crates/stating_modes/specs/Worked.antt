@@ -1,13 +1,9 @@
 -- Worked texts of an empty file, over one disk and over two, put down by hand from the format
 use Rattle.std.specs.Prelude.{◌≡◌, [], ◌∷◌, ◌++◌, codes, pos, negsuc, ◌⊎◌, ℕ, List}
-use Rattle.outside_io.specs.declared.disks.Disk.{Ghosts}
+use Rattle.stating_modes.specs.Names.{Ghosts, Stream, WroteAll, WroteLine, CheckpointBytes, IsNoCheckpoint, Snapshot, BadJournal, DiskFault, Done}
 use Rattle.policy_types.specs.Accounts.{sum_of}
-use Rattle.program_endings.specs.Writing.{Stream, WroteAll, WroteLine}
 use Rattle.stating_modes.specs.Books.{books_text, policy_account}
 use Rattle.stating_modes.specs.Stating.{IsStated}
-use Rattle.checkpoint_store.specs.Checkpoints.{CheckpointBytes, IsNoCheckpoint}
-use Rattle.checkpoint_store.specs.declared.snapshot.Snapshot.{Snapshot}
-use Rattle.program_endings.specs.declared.ending.Ending.TheVariants.{BadJournal, DiskFault, Done}
 use Rattle.stating_modes.specs.Saved.{EndsCheckpoint, IsSaved}
 use Rattle.stating_modes.specs.Stated.{EndsStateKept, snapshot_text}
 use Rattle.stating_modes.specs.Telling.{TellsSnapshot}

@@ -1,10 +1,8 @@
 // One policy's entries, and the policy as they left it. The journal's records are read again for them.
 ghost use Rattle.std.specs.Prelude.{◌≡◌, ◌≤◌, List, [], ◌∷◌, codes, decimal, IfOk};
-ghost use Rattle.policy_types.specs.declared.command.Command.{Command as ACommand};
-ghost use Rattle.text_lines.specs.Lines.{line_of};
+ghost use Rattle.stating_modes.specs.Names.{ACommand, line_of, between};
 ghost use Rattle.stating_modes.specs.Books.{account_text, policy_account};
 ghost use Rattle.stating_modes.specs.Stating.{EndsState};
-ghost use Rattle.program_endings.specs.Writing.{between};
 ghost use Rattle.stating_modes.specs.inside.Rereading.{EndsReading, IsAccount};
 
 use crate::rereading::{Account, read_again};

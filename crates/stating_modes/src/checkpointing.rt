@@ -1,7 +1,6 @@
 // The journal's snapshot is saved on the second disk.
 ghost use Rattle.std.specs.Prelude.{◌≡◌, ◌≢◌, ◌<◌, IfOk};
-ghost use Rattle.checkpoint_store.specs.Checkpoints.{IsSoundSnapshot};
-ghost use Rattle.program_endings.specs.Writing.{between};
+ghost use Rattle.stating_modes.specs.Names.{IsSoundSnapshot, between};
 ghost use Rattle.stating_modes.specs.Saved.{EndsCheckpoint, checkpoint_text};
 ghost use Rattle.stating_modes.specs.TwoDisks.{disks_of};
 ghost use Rattle.stating_modes.specs.inside.Saving.{EndsSaving};

@@ -1,9 +1,7 @@
 // What the definitions have to mean, as a function that does nothing.
-ghost use Rattle.outside_io.specs.Faults.{Rose};
+ghost use Rattle.stating_modes.specs.Names.{Rose, Stream, Ending};
 ghost use Rattle.stating_modes.specs.Books.{books_text};
 ghost use Rattle.stating_modes.specs.Stating.{EndsState};
-ghost use Rattle.program_endings.specs.Writing.{Stream};
-ghost use Rattle.program_endings.specs.declared.ending.Ending.{Ending};
 ghost use Rattle.stating_modes.specs.Stated.{EndsStateKept};
 ghost use Rattle.stating_modes.specs.TwoDisks.{AreTrue, TwoDisks};
 

@@ -1,7 +1,6 @@
 // The two disks are opened, and the journal's snapshot is read from them.
 ghost use Rattle.std.specs.Prelude.{◌≡◌, IfErr, IfOk};
-ghost use Rattle.checkpoint_store.specs.Stores.{store_disk};
-ghost use Rattle.posting_journal.specs.States.{disk_of};
+ghost use Rattle.stating_modes.specs.Names.{store_disk, disk_of};
 ghost use Rattle.stating_modes.specs.Stated.{ReadsFew};
 ghost use Rattle.stating_modes.specs.inside.Reopened.{HasJournalOn, HasNoSnapshot, HasReopened, HasStoreOn, as_start_cause, disks_under};
 ghost use Rattle.stating_modes.specs.TwoDisks.{TwoDisks};

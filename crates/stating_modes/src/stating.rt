@@ -1,10 +1,7 @@
 // What an administrator reads: all policies, and the balances.
 ghost use Rattle.std.specs.Prelude.{◌≡◌, IfOk};
-ghost use Rattle.std.specs.List.{AllByRecursion, flat_map};
+ghost use Rattle.stating_modes.specs.Names.{AllByRecursion, flat_map, policy_text, IsSoundSnapshot, between};
 ghost use Rattle.policy_machine.specs.Rules.{IsSound};
-ghost use Rattle.statements.specs.Statements.{policy_text};
-ghost use Rattle.checkpoint_store.specs.Checkpoints.{IsSoundSnapshot};
-ghost use Rattle.program_endings.specs.Writing.{between};
 ghost use Rattle.stating_modes.specs.Books.{books_text};
 ghost use Rattle.stating_modes.specs.Stating.{EndsState};
 ghost use Rattle.stating_modes.specs.Stated.{EndsStateKept, IsStateTold, ReadsFew, snapshot_text};

@@ -1,29 +1,10 @@
 -- The accepted lines that are told of a run are the accepted commands of its history, in order
-use Rattle.std.proofs.Common.{◌≡◌, ℕ, zero, suc, ◌+◌, ◌<◌, Bool, true, false, cond, List, [], ◌∷◌, ◌++◌, length, map, take, Some, refl, ap, sym, ◌∙◌, subst, inl, inr, arith}
-use Rattle.std.specs.Prelude.{slice_get}
-use Rattle.std.specs.List.{AllZip, cons_option, count_by, enumerate_from}
-use Rattle.std.proofs.lemmas.Bool.{cond-false, cond-true, false≢true}
+use Rattle.transcript_text.proofs.Names.{◌≡◌, ℕ, zero, suc, ◌+◌, ◌<◌, Bool, true, false, cond, List, [], ◌∷◌, ◌++◌, length, map, take, Some, refl, ap, sym, ◌∙◌, subst, inl, inr, arith, slice_get, AllZip, cons_option, count_by, enumerate_from, cond-false, cond-true, false≢true, Dated, AreRising, Command, Call, PostCall, Pin, PinAt, Read, Unpin, TrimCall, Entry, Reply, Line, accepted_by, accepted_of, AnAccepted, ARefused, DiskFault, NoMemory, accepted_lines, tells_accepted, IsOutcome, TranscriptLine, Outcome, Posted, Trimmed, Valued, ValueRefused, ValueNoMemory, Has, front_back}
 use Rattle.std.proofs.lemmas.List.{take_at}
 use Rattle.std.proofs.lemmas.List.Elements.{filter_map-append}
 use Rattle.std.proofs.lemmas.List.Sums.{sum_by-cons}
-use Rattle.basis_book.specs.Dated.{Dated}
-use Rattle.policy_types.specs.Lanes.{AreRising}
-use Rattle.policy_types.specs.declared.command.Command.{Command}
-use Rattle.policy_types.specs.declared.entry.Call.{Call}
-use Rattle.policy_types.specs.declared.entry.Call.TheVariants.{Post as PostCall, Pin, PinAt, Read, Unpin, Trim as TrimCall}
-use Rattle.policy_types.specs.declared.entry.Entry.{Entry}
-use Rattle.policy_types.specs.declared.entry.Reply.{Reply}
 use Rattle.policy_types.specs.declared.entry.Reply.TheVariants.{Accepted, Refused, Faulted, Pinned, PinRefused, Slice, Unpinned, Floor, Blank}
-use Rattle.policy_types.specs.declared.script.Line.{Line}
 use Rattle.policy_types.specs.declared.script.Line.TheVariants.{Post, Value, Trim}
-use Rattle.policy_machine.specs.History.{accepted_by, accepted_of}
-use Rattle.office_state.specs.declared.answer.Answer.TheVariants.{Accepted as AnAccepted, Refused as ARefused, DiskFault, NoMemory}
-use Rattle.lane_runner.specs.Tallies.{accepted_lines, tells_accepted}
-use Rattle.lane_runner.specs.Transcripts.{IsOutcome}
-use Rattle.lane_runner.specs.declared.transcript.TranscriptLine.{TranscriptLine}
-use Rattle.lane_runner.specs.declared.transcript.Outcome.{Outcome}
-use Rattle.lane_runner.specs.declared.transcript.Outcome.TheVariants.{Posted, Trimmed, Valued, ValueRefused, ValueNoMemory}
-use Rattle.program_endings.proofs.ListSteps.{Has, front_back}
 use Rattle.transcript_text.proofs.PlaceSteps.{above, counted, counted_to, places, places_rise, rest_rises, rises, rising_alike}
 
 -- whether a turn was an accepted posting

@@ -1,15 +1,5 @@
 -- What the answers of a legal history can say
-use Rattle.std.proofs.Common.{ℕ, List}
-use Rattle.std.specs.List.{AllByRecursion}
-use Rattle.policy_types.specs.declared.command.Command.{Command}
-use Rattle.policy_types.specs.declared.entry.Call.TheVariants.{Post}
-use Rattle.policy_types.specs.declared.entry.Entry.{Entry}
-use Rattle.policy_types.specs.Valid.{IsValid}
-use Rattle.policy_machine.specs.History.{Opening, IsDue, commands_after}
-use Rattle.office_state.specs.declared.answer.Answer.{Answer}
-use Rattle.office_state.specs.declared.answer.Answer.TheVariants.{Accepted, Refused, DiskFault, NoMemory}
-use Rattle.office_state.specs.Posting.{reply_of}
-use Rattle.transcript_text.specs.Told.{IsToldAnswer}
+use Rattle.transcript_text.proofs.Names.{ℕ, List, AllByRecursion, Command, Post, Entry, IsValid, Opening, IsDue, commands_after, Answer, Accepted, Refused, DiskFault, NoMemory, reply_of, IsToldAnswer}
 use Rattle.transcript_text.proofs.RefusalSteps.{due_printable}
 
 -- an answer that is due after valid commands can be written

@@ -1,3 +1,4 @@
+pub mod Names
 pub mod RefusalSteps
 pub mod AnswerSteps
 pub mod TextSteps

@@ -1,12 +1,7 @@
 -- The places of what passes a test in a list, and how many stand before one of them
-use Rattle.std.proofs.Common.{◌≡◌, ◌⊎◌, ℕ, zero, suc, ◌+◌, ◌<◌, ◌≤◌, Bool, true, false, cond, List, [], ◌∷◌, ◌++◌, length, take, refl, ap, sym, ◌∙◌, subst, inl, inr, Some, arith}
-use Rattle.std.specs.Prelude.{slice_get}
-use Rattle.std.specs.List.{count_by}
+use Rattle.transcript_text.proofs.Names.{◌≡◌, ◌⊎◌, ℕ, zero, suc, ◌+◌, ◌<◌, ◌≤◌, Bool, true, false, cond, List, [], ◌∷◌, ◌++◌, length, take, refl, ap, sym, ◌∙◌, subst, inl, inr, Some, arith, slice_get, count_by, cond-false, cond-true, AreRising, Has}
 use Rattle.std.proofs.lemmas.List.Sums.{sum_by-cons}
-use Rattle.std.proofs.lemmas.Bool.{cond-false, cond-true}
 use Rattle.std.proofs.lemmas.Option.{same_Some}
-use Rattle.policy_types.specs.Lanes.{AreRising}
-use Rattle.program_endings.proofs.ListSteps.{Has}
 
 -- no number stands behind a greater one
 pub rest_rises : (n : ℕ) (ns : List ℕ) → AreRising (n ∷ ns) → AreRising ns

@@ -1,8 +1,5 @@
 -- The day or amount of every refusal that is due can be written
-use Rattle.std.proofs.Common.{◌≡◌, ℕ, ◌+◌, ◌*◌, ◌≤◌, ◌<◌, ◌==◌, Bool, true, false, if◌then◌else◌, List, [], ◌∷◌, length, refl, ap, subst, ◌⊎◌, inl, inr, Ok, Err, Some, None, Option, arith, ℤ}
-use Rattle.std.specs.Prelude.{IfSome}
-use Rattle.std.specs.List.{AllByRecursion}
-use Rattle.policy_types.specs.declared.command.Command.{Command}
+use Rattle.transcript_text.proofs.Names.{◌≡◌, ℕ, ◌+◌, ◌*◌, ◌≤◌, ◌<◌, ◌==◌, Bool, true, false, if◌then◌else◌, List, [], ◌∷◌, length, refl, ap, subst, ◌⊎◌, inl, inr, Ok, Err, Some, None, Option, arith, ℤ, IfSome, AllByRecursion, Command, AreYears, IsValid, id_of, IsTermDay, refusal_due, IsPrintable}
 use Rattle.policy_types.specs.declared.command.Command.TheVariants.{Issue, Premium, Alter, Lapse, Reinstate, Claim, Settle, Mature, PaidUp as MakePaidUp, Upgrade}
 use Rattle.policy_types.specs.declared.command.Plan.{Plan}
 use Rattle.policy_types.specs.declared.command.Plan.TheVariants.{Term, Whole, Endowment, Limited}
@@ -10,18 +7,14 @@ use Rattle.policy_types.specs.declared.policy.Policy.{Policy}
 use Rattle.policy_types.specs.declared.refusal.Refusal.{Refusal}
 use Rattle.policy_types.specs.declared.refusal.Refusal.TheVariants.{Full, NotUpgraded, Unknown, Upgraded}
 use Rattle.policy_types.specs.Limits.{most_commands}
-use Rattle.policy_types.specs.Valid.{AreYears, IsValid, id_of}
-use Rattle.life_dates.specs.Calendar.{IsTermDay}
 use Rattle.life_dates.proofs.AnniversaryLemmas.{anniversary_in}
 use Rattle.command_csv.proofs.FieldTexts.{term_day}
 use Rattle.policy_machine.specs.Book.{judge, policy_of, upgrade_of}
-use Rattle.policy_machine.specs.History.{refusal_due}
 use Rattle.policy_machine.specs.Rules.{Check, IsSound, changed, checks_of, decided, due_of, end_of, first_refusal, issued, next, payments_in, payments_of, premiums_missed, reinstatement_end_of, reinstatement_sum, years_in, years_of}
 use Rattle.policy_machine.proofs.AcceptedLemmas.{IsIssueHere, NeedsPolicy, issue_or_other}
 use Rattle.policy_machine.proofs.BookLemmas.{policy_of-sound}
 use Rattle.policy_machine.proofs.JudgeLemmas.{judged_refusal}
 use Rattle.policy_machine.proofs.MissedLemmas.{premiums_missed-le}
-use Rattle.transcript_text.specs.Told.{IsPrintable}
 
 few_years : (plan : Plan) (age years : ℕ) → AreYears plan age years → years_in plan age years ≤ 131
 few_years Term age years within = omega (arith, within)

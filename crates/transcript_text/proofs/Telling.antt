@@ -1,36 +1,16 @@
 -- What is told of the lanes that were run, against the history of their office
-use Rattle.std.proofs.Common.{◌≡◌, ◌⊎◌, ℕ, ◌+◌, ◌-◌, ◌==◌, Bool, true, false, List, [], ◌∷◌, ◌++◌, length, map, take, Some, refl, ap, sym, ◌∙◌, subst, inl, inr, arith}
-use Rattle.std.specs.Prelude.{slice_get}
-use Rattle.std.specs.List.{AllByRecursion, AllZip, Contains, enumerate_from}
-use Rattle.std.proofs.lemmas.Bool.{eq-eqb}
-use Rattle.basis_book.specs.Dated.{Dated}
-use Rattle.policy_types.specs.declared.command.Command.{Command}
-use Rattle.policy_types.specs.declared.entry.Call.{Call}
-use Rattle.policy_types.specs.declared.entry.Call.TheVariants.{Post as PostCall}
-use Rattle.policy_types.specs.declared.entry.Entry.{Entry}
-use Rattle.policy_types.specs.declared.entry.Reply.{Reply}
-use Rattle.policy_types.specs.declared.entry.Reply.TheVariants.{Faulted}
-use Rattle.policy_types.specs.declared.script.Line.{Line}
+use Rattle.transcript_text.proofs.Names.{◌≡◌, ◌⊎◌, ℕ, ◌+◌, ◌-◌, ◌==◌, Bool, true, false, List, [], ◌∷◌, ◌++◌, length, map, take, Some, refl, ap, sym, ◌∙◌, subst, inl, inr, arith, slice_get, AllByRecursion, AllZip, Contains, enumerate_from, eq-eqb, Dated, Command, Call, PostCall, Entry, Reply, Faulted, Line, AreRising, IsDue, accepted_of, commands_after, AnsweredLine, turns_in, HasAnsweredLanes, IsOutcome, IsToldOf, dry_of, lacked_memory, TranscriptLine, Has, all_has, any_none, any_some, contains_of_has, has_at, has_enumerate, has_filter, has_map, has_of_contains, of_all, of_enumerate, of_filter, of_map, parted, zip_left, zip_right, same_opened, IsLineText, accepted_lines, any_faulted, any_lacked, has_faulted, lacks_memory, tells_accepted, told_text}
 use Rattle.policy_types.specs.declared.script.Line.TheVariants.{Post}
 use Rattle.policy_types.specs.declared.script.Lane.{Lane}
-use Rattle.policy_types.specs.Lanes.{AreRising}
-use Rattle.policy_machine.specs.History.{IsDue, accepted_of, commands_after}
 use Rattle.policy_machine.specs.Merge.{AnswersLine, IsMerge, Placed}
 use Rattle.office_state.specs.Images.{HasFaulted}
 use Rattle.shared_office.specs.Offices.{IsOfficeHistory, OfficeOpening}
 use Rattle.turn_lock.specs.History.{entries_of}
 use Rattle.turn_lock.specs.Passes.{Holding, IsFirst, OwnsAll, Page, PassFacts, callers as numbers_of}
-use Rattle.lane_runner.specs.AnsweredLines.{AnsweredLine, turns_in}
-use Rattle.lane_runner.specs.Transcripts.{HasAnsweredLanes, IsOutcome, IsTold as IsToldOf, dry_of, lacked_memory}
-use Rattle.lane_runner.specs.declared.transcript.TranscriptLine.{TranscriptLine}
 use Rattle.lane_runner.specs.declared.transcript.Transcript.{Transcript}
 use Rattle.program_endings.specs.Replies.{ArePins, HasBlank, IsAnswered, IsPinned, IsUnfaulted}
-use Rattle.program_endings.proofs.ListSteps.{Has, all_has, any_none, any_some, contains_of_has, has_at, has_enumerate, has_filter, has_map, has_of_contains, of_all, of_enumerate, of_filter, of_map, parted, zip_left, zip_right, same_opened}
 use Rattle.program_endings.proofs.TurnSteps.{due_at, posted_first, posts, quiet_reply, unfaulted_if_answered}
-use Rattle.transcript_text.specs.Transcript.{IsLineText}
 use Rattle.transcript_text.specs.Lanes.{AreScriptLanes}
-use Rattle.lane_runner.specs.Tallies.{accepted_lines, any_faulted, any_lacked, has_faulted, lacks_memory, tells_accepted}
-use Rattle.transcript_text.specs.Told.{told_text}
 use Rattle.transcript_text.proofs.AcceptedSteps.{accepted_in_all, accepted_to, accepted_told, accepted_turns, accepts, enumerated, has_turns, is_acceptance, posting_told, posts_accepted}
 use Rattle.transcript_text.proofs.PlaceSteps.{has_places, of_places, places}
 use Rattle.transcript_text.proofs.TextSteps.{texts_of}

@@ -1,24 +1,8 @@
 -- The text of what is told of answered lines is that of the lines
-use Rattle.std.proofs.Common.{◌≡◌, ◌↔◌, ℕ, ℤ, true, List, [], ◌∷◌, map, take, refl, ap, ap₂, sym, ◌∙◌, subst, inl, inr}
-use Rattle.std.specs.List.{AllZip, Contains}
-use Rattle.std.proofs.lemmas.Bool.{false≢true}
-use Rattle.basis_book.specs.Dated.{Dated}
-use Rattle.life_dates.specs.Calendar.{IsDay}
-use Rattle.policy_types.specs.declared.command.Command.{Command}
+use Rattle.transcript_text.proofs.Names.{◌≡◌, ◌↔◌, ℕ, ℤ, true, List, [], ◌∷◌, map, take, refl, ap, ap₂, sym, ◌∙◌, subst, inl, inr, AllZip, Contains, false≢true, Dated, IsDay, Command, Entry, Reply, Line, Opening, commands_after, AnsweredLine, AreDry, IsOutcome, IsToldOf, lacked_memory, TranscriptLine, Outcome, Posted, Trimmed, Valued, ValueRefused, ValueNoMemory, IsLineText, IsReplyText, IsValuedText, posting_text, unpinned_text, unvalued_text, IsWritableOutcome, outcome_text, told_text}
 use Rattle.policy_types.specs.declared.entry.At.{At}
-use Rattle.policy_types.specs.declared.entry.Entry.{Entry}
-use Rattle.policy_types.specs.declared.entry.Reply.{Reply}
-use Rattle.policy_types.specs.declared.script.Line.{Line}
 use Rattle.policy_types.specs.declared.script.Line.TheVariants.{Post, Value, Trim}
-use Rattle.policy_machine.specs.History.{Opening, commands_after}
 use Rattle.report_text.specs.Block.{block_text}
-use Rattle.lane_runner.specs.AnsweredLines.{AnsweredLine}
-use Rattle.lane_runner.specs.Transcripts.{AreDry, IsOutcome, IsTold as IsToldOf, lacked_memory}
-use Rattle.lane_runner.specs.declared.transcript.TranscriptLine.{TranscriptLine}
-use Rattle.lane_runner.specs.declared.transcript.Outcome.{Outcome}
-use Rattle.lane_runner.specs.declared.transcript.Outcome.TheVariants.{Posted, Trimmed, Valued, ValueRefused, ValueNoMemory}
-use Rattle.transcript_text.specs.Transcript.{IsLineText, IsReplyText, IsValuedText, posting_text, unpinned_text, unvalued_text}
-use Rattle.transcript_text.specs.Told.{IsWritableOutcome, outcome_text, told_text}
 
 -- a valuation that can be written is on a day
 pub value_day : (on : ℤ) (at : At) (workers : ℕ) (outcome : Outcome) → IsWritableOutcome (Value on at workers) outcome → IsDay on

@@ -1,37 +1,15 @@
 -- What is told of a line, against its first reply
-use Rattle.std.proofs.Common.{◌≡◌, ◌⊎◌, ℕ, ◌==◌, true, false, List, [], ◌∷◌, ◌++◌, map, take, refl, ap, sym, ◌∙◌, subst, inl, inr}
-use Rattle.std.specs.List.{AllByRecursion, enumerate_from}
-use Rattle.std.proofs.lemmas.Bool.{eq-eqb, false≢true}
+use Rattle.transcript_text.proofs.Names.{◌≡◌, ◌⊎◌, ℕ, ◌==◌, true, false, List, [], ◌∷◌, ◌++◌, map, take, refl, ap, sym, ◌∙◌, subst, inl, inr, AllByRecursion, enumerate_from, eq-eqb, false≢true, Dated, IsValid, Command, PostCall, Entry, Reply, Blank, Faulted, Line, Opening, accepted_by, accepted_of, commands_after, reply_of, Answer, Accepted, Refused, DiskFault, NoMemory, AnsweredLine, AreOfLanes, lines_by, turns_in, lines_in, IsOutcome, lacked_memory, Outcome, Posted, Trimmed, Valued, ValueRefused, ValueNoMemory, Has, front_back, has_filter, has_flat_map, has_left, has_map, has_right, of_filter, of_flat_map, has_faulted, is_faulted, lacks_memory, IsToldAnswer, IsWritableOutcome}
 use Rattle.std.proofs.lemmas.List.Elements.{filter_map-append}
-use Rattle.basis_book.specs.Dated.{Dated}
-use Rattle.policy_types.specs.Valid.{IsValid}
-use Rattle.policy_types.specs.declared.command.Command.{Command}
-use Rattle.policy_types.specs.declared.entry.Call.TheVariants.{Post as PostCall}
-use Rattle.policy_types.specs.declared.entry.Entry.{Entry}
-use Rattle.policy_types.specs.declared.entry.Reply.{Reply}
-use Rattle.policy_types.specs.declared.entry.Reply.TheVariants.{Blank, Faulted}
-use Rattle.policy_types.specs.declared.script.Line.{Line}
 use Rattle.policy_types.specs.declared.script.Line.TheVariants.{Post, Value, Trim}
 use Rattle.policy_types.specs.declared.script.Lane.{Lane}
-use Rattle.policy_machine.specs.History.{Opening, accepted_by, accepted_of, commands_after}
 use Rattle.policy_machine.specs.Merge.{AnswersLine, Placed, turns_of}
-use Rattle.office_state.specs.Posting.{reply_of}
-use Rattle.office_state.specs.declared.answer.Answer.{Answer}
-use Rattle.office_state.specs.declared.answer.Answer.TheVariants.{Accepted, Refused, DiskFault, NoMemory}
 use Rattle.turn_lock.specs.History.{entries_of}
 use Rattle.turn_lock.specs.Passes.{Page}
-use Rattle.lane_runner.specs.AnsweredLines.{AnsweredLine, AreOfLanes, lines_by, turns_in}
 use Rattle.lane_runner.specs.Lanes.{IsRightLine}
-use Rattle.policy_types.specs.Lanes.{lines_in}
-use Rattle.lane_runner.specs.Transcripts.{IsOutcome, lacked_memory}
-use Rattle.lane_runner.specs.declared.transcript.Outcome.{Outcome}
-use Rattle.lane_runner.specs.declared.transcript.Outcome.TheVariants.{Posted, Trimmed, Valued, ValueRefused, ValueNoMemory}
 use Rattle.program_endings.specs.Replies.{IsAnswered, IsPinned, IsUnfaulted}
-use Rattle.program_endings.proofs.ListSteps.{Has, front_back, has_filter, has_flat_map, has_left, has_map, has_right, of_filter, of_flat_map}
 use Rattle.policy_value.specs.declared.worth.Measure.TheVariants.{Terminal}
 use Rattle.program_endings.proofs.BlockSteps.{block_writable}
-use Rattle.lane_runner.specs.Tallies.{has_faulted, is_faulted, lacks_memory}
-use Rattle.transcript_text.specs.Told.{IsToldAnswer, IsWritableOutcome}
 
 -- the turns of an answered line are those of a caller
 pub line_turn : (answered : List AnsweredLine) (history : List Entry) (lanes : List Lane) (callers : List ℕ) (one : AnsweredLine) (turn : Placed)

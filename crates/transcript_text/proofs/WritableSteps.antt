@@ -1,31 +1,15 @@
 -- What is told of a line that a legal history answers can be written, and its text is not empty
-use Rattle.std.proofs.Common.{◌≡◌, ℕ, ℤ, ◌<◌, List, [], ◌∷◌, ◌++◌, length, take, Some, Result, Ok, Err, sym, subst, length-append, arith}
-use Rattle.std.specs.Prelude.{OnErr, codes, decimal}
-use Rattle.std.specs.List.{flat_map}
+use Rattle.transcript_text.proofs.Names.{◌≡◌, ℕ, ℤ, ◌<◌, List, [], ◌∷◌, ◌++◌, length, take, Some, Result, Ok, Err, sym, subst, length-append, arith, OnErr, codes, decimal, flat_map, id_of, Command, Call, PostCall, Reply, Line, IsDue, commands_after, reply_of, Answer, TranscriptLine, Outcome, Posted, Trimmed, Valued, ValueRefused, ValueNoMemory, IsToldAnswer, IsWritable, IsWritableOutcome, outcome_text, told_text, pin_refusal_fields, reply_fields, reports_text, watcher_text, watcher_texts}
 use Rattle.life_dates.specs.DayText.{day_text}
-use Rattle.policy_types.specs.Valid.{id_of}
 use Rattle.policy_types.specs.Words.{kind_word}
-use Rattle.policy_types.specs.declared.command.Command.{Command}
-use Rattle.policy_types.specs.declared.entry.Call.{Call}
-use Rattle.policy_types.specs.declared.entry.Call.TheVariants.{Post as PostCall}
-use Rattle.policy_types.specs.declared.entry.Reply.{Reply}
-use Rattle.policy_types.specs.declared.script.Line.{Line}
 use Rattle.policy_types.specs.declared.script.Line.TheVariants.{Post, Value, Trim}
 use Rattle.policy_types.specs.declared.watcher.Report.{Report}
-use Rattle.policy_machine.specs.History.{IsDue, commands_after}
-use Rattle.office_state.specs.Posting.{reply_of}
-use Rattle.office_state.specs.declared.answer.Answer.{Answer}
 use Rattle.policy_value.specs.declared.worth.Measure.{Measure}
 use Rattle.report_text.specs.Block.{heading_text, measure_fields, row_text, total_text}
 use Rattle.text_lines.specs.Lines.{behind_commas, line_of}
 use Rattle.program_endings.proofs.TurnSteps.{due_at}
 use Rattle.lane_runner.specs.Lanes.{IsRightLine}
 use Rattle.lane_runner.specs.Telling.{IsLegallyTold}
-use Rattle.lane_runner.specs.declared.transcript.TranscriptLine.{TranscriptLine}
-use Rattle.lane_runner.specs.declared.transcript.Outcome.{Outcome}
-use Rattle.lane_runner.specs.declared.transcript.Outcome.TheVariants.{Posted, Trimmed, Valued, ValueRefused, ValueNoMemory}
-use Rattle.transcript_text.specs.Told.{IsToldAnswer, IsWritable, IsWritableOutcome, outcome_text, told_text}
-use Rattle.transcript_text.specs.Transcript.{pin_refusal_fields, reply_fields, reports_text, watcher_text, watcher_texts}
 use Rattle.transcript_text.proofs.AnswerSteps.{is_told}
 use Rattle.transcript_text.proofs.ToldSteps.{outcome_writable, post_call, valid_front}
 

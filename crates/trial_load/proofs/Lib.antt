@@ -1,3 +1,4 @@
+pub mod Names
 pub mod LoadCounts
 pub mod LoadLanes
 pub mod LoadTurns

@@ -1,40 +1,14 @@
 -- What a load's turns and answers are
-use Rattle.std.proofs.Common.{◌≡◌, ℕ, zero, suc, ◌==◌, Bool, true, false, cond, List, [], ◌∷◌, ◌++◌, map, Some, Ok, Err, inl, inr, refl, ap, sym, ◌∙◌, subst, arith, append-nil, append_assoc}
-use Rattle.std.specs.Prelude.{slice_get}
-use Rattle.std.specs.List.{AllByRecursion, AllZip}
-use Rattle.std.proofs.lemmas.Bool.{cond-false, eq-eqb, false≢true}
+use Rattle.trial_load.proofs.Names.{◌≡◌, ℕ, zero, suc, ◌==◌, Bool, true, false, cond, List, [], ◌∷◌, ◌++◌, map, Some, Ok, Err, inl, inr, refl, ap, sym, ◌∙◌, subst, arith, append-nil, append_assoc, slice_get, AllByRecursion, AllZip, cond-false, eq-eqb, false≢true, sum_by-cons, Dated, Command, Call, PostCall, PinCall, PinAt, Read, Unpin, TrimCall, Entry, Reply, Accepted, Refused, Faulted, Pinned, PinRefused, Slice, Unpinned, Floor, Blank, Line, Post, Lane, lines_in, Opening, IsDue, IsLegalAfter, commands_after, Terminal, IsValueAnswer, IsValuedRow, Valuation, AnsweredLine, AreOfLanes, lines_by, IsOutcome, dry_of, lacked_memory, TranscriptLine, Has, has_filter, has_left, has_map, has_right, ArePostless, posts, quiet_reply, is_refusal, load_day, refused_in}
 use Rattle.std.proofs.lemmas.List.{take_all}
-use Rattle.std.proofs.lemmas.List.Sums.{sum_by-cons}
-use Rattle.basis_book.specs.Dated.{Dated}
-use Rattle.policy_types.specs.declared.command.Command.{Command}
-use Rattle.policy_types.specs.declared.entry.Call.{Call}
-use Rattle.policy_types.specs.declared.entry.Call.TheVariants.{Post as PostCall, Pin as PinCall, PinAt, Read, Unpin, Trim as TrimCall}
-use Rattle.policy_types.specs.declared.entry.Entry.{Entry}
 use Rattle.policy_types.specs.declared.entry.PinRefusal.{PinRefusal}
-use Rattle.policy_types.specs.declared.entry.Reply.{Reply}
-use Rattle.policy_types.specs.declared.entry.Reply.TheVariants.{Accepted, Refused, Faulted, Pinned, PinRefused, Slice, Unpinned, Floor, Blank}
-use Rattle.policy_types.specs.declared.script.Line.{Line}
-use Rattle.policy_types.specs.declared.script.Line.TheVariants.{Post}
-use Rattle.policy_types.specs.declared.script.Lane.{Lane}
-use Rattle.policy_types.specs.Lanes.{lines_in}
 use Rattle.policy_machine.specs.Book.{book}
-use Rattle.policy_machine.specs.History.{Opening, IsDue, IsLegalAfter, commands_after}
-use Rattle.policy_value.specs.declared.worth.Measure.TheVariants.{Terminal}
-use Rattle.snapshot_value.specs.Valuing.{AnswersPin as IsValueAnswer, IsValuedRow}
-use Rattle.snapshot_value.specs.declared.valuation.Valuation.{Valuation}
 use Rattle.snapshot_value.specs.declared.valuation.ValueFault.TheVariants.{Pin as NoPin, NoMemory as NoValues}
-use Rattle.lane_runner.specs.AnsweredLines.{AnsweredLine, AreOfLanes, lines_by}
-use Rattle.lane_runner.specs.Transcripts.{IsOutcome, dry_of, lacked_memory}
-use Rattle.lane_runner.specs.declared.transcript.TranscriptLine.{TranscriptLine}
 use Rattle.lane_runner.specs.declared.transcript.Outcome.{Outcome}
 use Rattle.lane_runner.specs.declared.transcript.Outcome.TheVariants.{Posted, Trimmed, Valued, ValueRefused, ValueNoMemory}
 use Rattle.program_endings.specs.Replies.{IsAnswered, IsPinned}
 use Rattle.program_endings.specs.Blocks.{IsWritableBlock}
-use Rattle.program_endings.proofs.ListSteps.{Has, has_filter, has_left, has_map, has_right}
-use Rattle.program_endings.proofs.QuietTurns.{ArePostless}
-use Rattle.program_endings.proofs.TurnSteps.{posts, quiet_reply}
 use Rattle.program_endings.proofs.BlockSteps.{block_writable}
-use Rattle.trial_load.specs.Loading.{is_refusal, load_day, refused_in}
 
 -- turns that post nothing are answered
 pub legal_back : (opening : Opening) (before xs ys : List Entry) → IsLegalAfter opening before (xs ++ ys) → IsLegalAfter opening (before ++ xs) ys

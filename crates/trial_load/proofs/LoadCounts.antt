@@ -1,31 +1,9 @@
 -- How many postings of a history were accepted and refused is what is told of the lines that they answer
-use Rattle.std.proofs.Common.{◌≡◌, ℕ, ◌+◌, ◌<◌, ◌==◌, Bool, false, cond, List, [], ◌∷◌, ◌++◌, length, map, take, refl, ap, sym, ◌∙◌, subst, inl, inr, arith}
-use Rattle.std.specs.Prelude.{nat_eq}
-use Rattle.std.specs.List.{AllByRecursion, AllZip, Contains, IsDistinct, count_by, enumerate_from, filter, flat_map, sum_by}
-use Rattle.std.proofs.lemmas.Bool.{cond-false, cond-true, eq-eqb, eqb-false, ne_eqb}
-use Rattle.std.proofs.lemmas.List.Sums.{sum_by-cons}
-use Rattle.basis_book.specs.Dated.{Dated}
-use Rattle.policy_types.specs.declared.command.Command.{Command}
-use Rattle.policy_types.specs.declared.entry.Call.{Call}
-use Rattle.policy_types.specs.declared.entry.Call.TheVariants.{Post as PostCall}
-use Rattle.policy_types.specs.declared.entry.Entry.{Entry}
-use Rattle.policy_types.specs.declared.entry.Reply.{Reply}
-use Rattle.policy_types.specs.declared.script.Line.{Line}
-use Rattle.policy_types.specs.declared.script.Line.TheVariants.{Post, Value, Trim}
-use Rattle.policy_types.specs.declared.script.Lane.{Lane}
-use Rattle.policy_machine.specs.History.{Opening, accepted_of, commands_after}
-use Rattle.policy_machine.specs.Merge.{AnswersLine, Placed}
+use Rattle.trial_load.proofs.Names.{◌≡◌, ℕ, ◌+◌, ◌<◌, ◌==◌, Bool, false, cond, List, [], ◌∷◌, ◌++◌, length, map, take, refl, ap, sym, ◌∙◌, subst, inl, inr, arith, nat_eq, AllByRecursion, AllZip, Contains, IsDistinct, count_by, enumerate_from, filter, flat_map, sum_by, cond-false, cond-true, eq-eqb, eqb-false, ne_eqb, sum_by-cons, Dated, Command, Call, PostCall, Entry, Reply, Line, Post, Value, Trim, Lane, Opening, accepted_of, commands_after, AnswersLine, Placed, AnsweredLine, AreLinesOf, AreOfLanes, lines_by, turns_in, AreRising, IsOutcome, IsTold, TranscriptLine, IsValidPosting, Has, has_of_contains, of_all, of_filter, is_refusal, refused_in}
 use Rattle.office_state.specs.declared.answer.Answer.TheVariants.{Accepted as AnAccepted, Refused as ARefused, DiskFault, NoMemory}
-use Rattle.lane_runner.specs.AnsweredLines.{AnsweredLine, AreLinesOf, AreOfLanes, lines_by, turns_in}
-use Rattle.policy_types.specs.Lanes.{AreRising}
-use Rattle.lane_runner.specs.Transcripts.{IsOutcome, IsTold}
-use Rattle.lane_runner.specs.declared.transcript.TranscriptLine.{TranscriptLine}
 use Rattle.lane_runner.specs.declared.transcript.Outcome.{Outcome}
 use Rattle.lane_runner.specs.declared.transcript.Outcome.TheVariants.{Posted, Trimmed, Valued, ValueRefused, ValueNoMemory}
-use Rattle.load_maker.specs.GeneratedLanes.{IsValidPosting}
-use Rattle.program_endings.proofs.ListSteps.{Has, has_of_contains, of_all, of_filter}
 use Rattle.transcript_text.proofs.AcceptedSteps.{accepted_counted, accepted_told, is_acceptance}
-use Rattle.trial_load.specs.Loading.{is_refusal, refused_in}
 use Rattle.lane_runner.specs.Tallies.{accepted_lines, refused_lines, tells_accepted, tells_refused}
 
 -- Sums over a list, key by key.

@@ -1,25 +1,12 @@
 -- The generated lanes can be run, and what is written of a generated script
-use Rattle.std.proofs.Common.{◌≡◌, ℕ, ◌≤◌, List, [], ◌∷◌, length, Result, Ok, Err, Vec, Global, refl, sym, subst, arith}
-use Rattle.std.specs.Prelude.{IfOk}
-use Rattle.std.specs.List.{AllByRecursion, filter}
-use Rattle.std.proofs.lemmas.List.Elements.{All-from_recursion}
+use Rattle.trial_load.proofs.Names.{◌≡◌, ℕ, ◌≤◌, List, [], ◌∷◌, length, Result, Ok, Err, Vec, Global, refl, sym, subst, arith, IfOk, AllByRecursion, filter, All-from_recursion, Line, Post, Value, Trim, Lane, lines_in, AreDealt, IsValidPosting, Ending, Done, WriteFault, NoMemory, Stream, WroteAll, all_has, has_flat_map, of_all, AreLoadLanes}
 use Rattle.outside_io.specs.Streams.{AppendsPart}
-use Rattle.policy_types.specs.declared.script.Line.{Line}
-use Rattle.policy_types.specs.declared.script.Line.TheVariants.{Post, Value, Trim}
-use Rattle.policy_types.specs.declared.script.Lane.{Lane}
 use Rattle.policy_types.specs.declared.watcher.NoMemory.{NoMemory as Lack}
 use Rattle.command_csv.specs.Reads.{IsScriptLine}
-use Rattle.policy_types.specs.Lanes.{lines_in}
 use Rattle.lane_runner.specs.Lanes.{IsRightLane, IsRightLine, is_value}
-use Rattle.load_maker.specs.GeneratedLanes.{AreDealt, IsValidPosting}
 use Rattle.load_maker.specs.GeneratedScript.{generated_text}
-use Rattle.program_endings.specs.declared.ending.Ending.{Ending}
-use Rattle.program_endings.specs.declared.ending.Ending.TheVariants.{Done, WriteFault, NoMemory}
-use Rattle.program_endings.specs.Writing.{Stream, WroteAll}
 use Rattle.program_endings.specs.Texts.{EndsText}
-use Rattle.program_endings.proofs.ListSteps.{all_has, has_flat_map, of_all}
 use Rattle.trial_load.specs.Generating.{EndsGenerate}
-use Rattle.trial_load.specs.inside.Loaded.{AreLoadLanes}
 
 right_line : (line : Line) → IsValidPosting line → IsRightLine line
 right_line (Post command) posting = posting

@@ -1,24 +1,8 @@
 -- Where callers only posted, no pin is live, so that the next pin is taken
-use Rattle.std.proofs.Common.{◌≡◌, ℕ, ◌≤◌, ◌==◌, true, List, [], ◌∷◌, ◌++◌, length, Option, Some, None, filter_map, refl, ap, sym, ◌∙◌, subst, inl, inr, arith}
-use Rattle.std.specs.List.{AllByRecursion, cons_option, enumerate_from, range_with_len}
-use Rattle.std.proofs.lemmas.Bool.{eq-eqb, false≢true}
-use Rattle.policy_types.specs.declared.entry.Call.{Call}
-use Rattle.policy_types.specs.declared.entry.Call.TheVariants.{Post as PostCall, Pin, PinAt, Read, Unpin, Trim as TrimCall}
-use Rattle.policy_types.specs.declared.entry.Entry.{Entry}
+use Rattle.trial_load.proofs.Names.{◌≡◌, ℕ, ◌≤◌, ◌==◌, true, List, [], ◌∷◌, ◌++◌, length, Option, Some, None, filter_map, refl, ap, sym, ◌∙◌, subst, inl, inr, arith, AllByRecursion, cons_option, enumerate_from, range_with_len, eq-eqb, false≢true, Call, PostCall, Pin, PinAt, Read, Unpin, TrimCall, Entry, Reply, Accepted, Refused, Faulted, Pinned, PinRefused, Slice, Unpinned, Floor, Blank, Line, Post, Value, Trim, Lane, Opening, IsDue, IsLegalAfter, live_pin, live_positions, pin_of, pinned_position, AnswersLanes, AnswersLine, AnswersLines, Placed, turns_of, lines_in, IsValidPosting, Has, has_at, has_either, has_enumerate, has_filter, of_all, posts}
 use Rattle.policy_types.specs.declared.entry.PinRefusal.{PinRefusal}
 use Rattle.policy_types.specs.declared.entry.PinRefusal.TheVariants.{Ahead, Trimmed, PinsFull}
-use Rattle.policy_types.specs.declared.entry.Reply.{Reply}
-use Rattle.policy_types.specs.declared.entry.Reply.TheVariants.{Accepted, Refused, Faulted, Pinned, PinRefused, Slice, Unpinned, Floor, Blank}
-use Rattle.policy_types.specs.declared.script.Line.{Line}
-use Rattle.policy_types.specs.declared.script.Line.TheVariants.{Post, Value, Trim}
-use Rattle.policy_types.specs.declared.script.Lane.{Lane}
-use Rattle.policy_machine.specs.History.{Opening, IsDue, IsLegalAfter, live_pin, live_positions, pin_of, pinned_position}
-use Rattle.policy_machine.specs.Merge.{AnswersLanes, AnswersLine, AnswersLines, Placed, turns_of}
 use Rattle.policy_machine.proofs.HistoryGrowth.{live_parts}
-use Rattle.policy_types.specs.Lanes.{lines_in}
-use Rattle.load_maker.specs.GeneratedLanes.{IsValidPosting}
-use Rattle.program_endings.proofs.ListSteps.{Has, has_at, has_either, has_enumerate, has_filter, of_all}
-use Rattle.program_endings.proofs.TurnSteps.{posts}
 use Rattle.trial_load.proofs.LoadTurns.{all_back, all_front}
 
 -- the turns of lanes that only post are postings

@@ -1,29 +1,19 @@
 -- What the exit status tells of a generated script, written or run
-use Rattle.std.proofs.Common.{◌≡◌, ℕ, ◌⊎◌, List, codes, refl, ap, inl, inr}
+use Rattle.trial_load.proofs.Names.{◌≡◌, ℕ, ◌⊎◌, List, codes, refl, ap, inl, inr, Command, Entry, Lane, Opening, Dated, generated_lanes, Ending, Done, Usage, BadBasis, BadJournal, WriteFault, DiskFault, NoMemory, Ahead, Shelving, Stream, EndsLoad, EndsLoading, IsLoadOf}
 use Rattle.outside_io.specs.Faults.{Rose}
 use Rattle.outside_io.specs.Shelves.{Files}
 use Rattle.outside_io.specs.declared.disks.Disk.{Ghosts}
-use Rattle.policy_types.specs.declared.command.Command.{Command}
-use Rattle.policy_types.specs.declared.entry.Entry.{Entry}
-use Rattle.policy_types.specs.declared.script.Lane.{Lane}
-use Rattle.policy_machine.specs.History.{Opening}
-use Rattle.basis_book.specs.Dated.{Dated}
 use Rattle.basis_shelf.specs.Bases.{IsBasis}
 use Rattle.basis_shelf.specs.FirstBad.{IsFirstBadFile}
 use Rattle.basis_shelf.specs.declared.fault.BadBasis.{BadBasis as ABadBasis}
 use Rattle.basis_shelf.proofs.OneBasis.{basis_or_bad}
-use Rattle.load_maker.specs.GeneratedLanes.{generated_lanes}
 use Rattle.office_state.specs.Journals.{Opens, OpensToNone}
 use Rattle.office_state.proofs.OpeningSteps.{finished}
-use Rattle.program_endings.specs.declared.ending.Ending.{Ending}
-use Rattle.program_endings.specs.declared.ending.Ending.TheVariants.{Done, Usage, BadBasis, BadJournal, WriteFault, DiskFault, NoMemory, Ahead}
 use Rattle.program_endings.specs.Status.{status_of}
 use Rattle.program_endings.specs.WithoutBasis.{EndsNoBasis, SaysBadFile}
-use Rattle.program_endings.specs.Writing.{Shelving, Stream}
 use Rattle.program_endings.proofs.ReadOnlySteps.{opens_to_none}
 use Rattle.program_endings.proofs.BasisSteps.{bad_refused, basis_refused}
 use Rattle.trial_load.specs.Generating.{EndsGenerate}
-use Rattle.trial_load.specs.Loading.{EndsLoad, EndsLoading, IsLoadOf}
 
 pub generate_to_end : (seed count lanes : ℕ) (output : Stream) (ending : Ending) → EndsGenerate seed count lanes output ending
     → (Rose output.faults_before output.faults_after → ⊥) → (status_of ending ≡ 0) ⊎ (status_of ending ≡ 9)

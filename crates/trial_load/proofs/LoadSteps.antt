@@ -1,25 +1,12 @@
 -- How a load ends, by what its parts did
-use Rattle.std.proofs.Common.{◌≡◌, ℕ, Bool, true, false, cond, List, [], ◌∷◌, ◌++◌, length, map, take, Some, Result, Ok, Err, refl, ap, sym, ◌∙◌, subst, inl, inr, arith, append-nil, append_assoc, Option}
-use Rattle.std.specs.Prelude.{slice_get, if◌then◌else◌}
-use Rattle.std.specs.List.{AllByRecursion, AllZip, Contains}
-use Rattle.std.proofs.lemmas.List.Elements.{filter_map-append}
-use Rattle.std.proofs.lemmas.List.Sums.{sum_by-append}
+use Rattle.trial_load.proofs.Names.{◌≡◌, ℕ, Bool, true, false, cond, List, [], ◌∷◌, ◌++◌, length, map, take, Some, Result, Ok, Err, refl, ap, sym, ◌∙◌, subst, inl, inr, arith, append-nil, append_assoc, Option, slice_get, if◌then◌else◌, AllByRecursion, AllZip, Contains, filter_map-append, sum_by-append, Dated, Command, PostCall, PinCall, Entry, Faulted, Line, Lane, Opening, IsDue, IsLegal, IsLegalAfter, accepted_by, accepted_of, commands_after, opened_on, AnswersLine, IsMerge, Terminal, HasValued, IsValueAnswer, IsValuedRow, dry_pins, Valuation, AnsweredLine, turns_in, lines_in, HasAnsweredLanes, IsOutcome, IsTold, dry_of, lacked_memory, TranscriptLine, IsValidPosting, Ending, Done, BadJournal, WriteFault, DiskFault, NoMemory, Stream, WroteAll, Has, all_and, all_has, has_of_contains, of_all, zip_right, same_opened, none_accepted, unfaulted_if_answered, EndsLoading, HasLine, HasNoLine, IsLoadOf, is_refusal, load_day, load_text, refused_in, valuation_lane, AreLoadLanes, EndsLine, EndsLoaded, IsLoadAnswer}
 use Rattle.outside_io.specs.Faults.{Rose}
 use Rattle.outside_io.specs.Streams.{AppendsPart}
 use Rattle.outside_io.specs.declared.disks.Disk.{Ghosts}
-use Rattle.basis_book.specs.Dated.{Dated}
 use Rattle.policy_types.specs.Accounts.{Booking}
-use Rattle.policy_types.specs.declared.command.Command.{Command}
 use Rattle.policy_types.specs.declared.entry.At.TheVariants.{Now}
-use Rattle.policy_types.specs.declared.entry.Call.TheVariants.{Post as PostCall, Pin as PinCall}
-use Rattle.policy_types.specs.declared.entry.Entry.{Entry}
-use Rattle.policy_types.specs.declared.entry.Reply.TheVariants.{Faulted}
-use Rattle.policy_types.specs.declared.script.Line.{Line}
-use Rattle.policy_types.specs.declared.script.Lane.{Lane}
 use Rattle.policy_types.specs.declared.watcher.Report.{Report}
 use Rattle.policy_machine.specs.Book.{book}
-use Rattle.policy_machine.specs.History.{Opening, IsDue, IsLegal, IsLegalAfter, accepted_by, accepted_of, commands_after, opened_on}
-use Rattle.policy_machine.specs.Merge.{AnswersLine, IsMerge}
 use Rattle.policy_value.specs.declared.worth.Row.{Row}
 use Rattle.watcher_set.specs.declared.watching.Watching.{Ghosts as WatcherGhosts}
 use Rattle.office_state.specs.declared.faults.StartCause.{StartCause}
@@ -29,33 +16,17 @@ use Rattle.office_state.specs.Opening.{HasNotOpened}
 use Rattle.shared_office.specs.Offices.{IsOfficeHistory, OfficeOpening}
 use Rattle.office_state.specs.States.{MomentRing}
 use Rattle.shared_office.specs.Starting.{HasClosed, HasStartedOffice}
-use Rattle.policy_value.specs.declared.worth.Measure.TheVariants.{Terminal}
-use Rattle.snapshot_value.specs.Valuing.{HasValued, AnswersPin as IsValueAnswer, IsValuedRow, dry_pins}
-use Rattle.snapshot_value.specs.declared.valuation.Valuation.{Valuation}
 use Rattle.snapshot_value.specs.declared.valuation.ValueFault.{ValueFault}
 use Rattle.snapshot_value.specs.declared.valuation.ValueFault.TheVariants.{Pin as NoPin, NoMemory as NoValues}
 use Rattle.turn_lock.specs.History.{entries_of}
 use Rattle.turn_lock.specs.Passes.{Holding, Page, PassFacts, callers as numbers_of}
-use Rattle.lane_runner.specs.AnsweredLines.{AnsweredLine, turns_in}
-use Rattle.policy_types.specs.Lanes.{lines_in}
-use Rattle.lane_runner.specs.Transcripts.{HasAnsweredLanes, IsOutcome, IsTold, dry_of, lacked_memory}
-use Rattle.lane_runner.specs.declared.transcript.TranscriptLine.{TranscriptLine}
 use Rattle.lane_runner.specs.declared.transcript.Transcript.{Transcript}
-use Rattle.load_maker.specs.GeneratedLanes.{IsValidPosting}
-use Rattle.program_endings.specs.declared.ending.Ending.{Ending}
-use Rattle.program_endings.specs.declared.ending.Ending.TheVariants.{Done, BadJournal, WriteFault, DiskFault, NoMemory}
 use Rattle.program_endings.specs.Replies.{AreAnswered, AreAny, ArePins, HasBlank, HaveAFault, IsAnswered, IsUnfaulted, LackMemory}
-use Rattle.program_endings.specs.Writing.{Stream, WroteAll}
 use Rattle.program_endings.specs.Refusals.{SaysUnopened}
 use Rattle.program_endings.proofs.FaultSteps.{rose_in}
-use Rattle.program_endings.proofs.ListSteps.{Has, all_and, all_has, has_of_contains, of_all, zip_right, same_opened}
-use Rattle.program_endings.proofs.QuietTurns.{none_accepted}
-use Rattle.program_endings.proofs.TurnSteps.{unfaulted_if_answered}
 use Rattle.lane_runner.specs.Tallies.{accepted_lines, any_faulted, any_lacked, refused_lines}
 use Rattle.transcript_text.proofs.Telling.{Telling, telling}
 use Rattle.transcript_text.proofs.ToldSteps.{page_numbers}
-use Rattle.trial_load.specs.Loading.{EndsLoading, HasLine, HasNoLine, IsLoadOf, is_refusal, load_day, load_text, refused_in, valuation_lane}
-use Rattle.trial_load.specs.inside.Loaded.{AreLoadLanes, EndsLine, EndsLoaded, IsLoadAnswer}
 use Rattle.trial_load.proofs.LoadCounts.{accepted_is, only_turn, refused_is}
 use Rattle.trial_load.proofs.LoadPins.{entries_post, not_full}
 use Rattle.trial_load.proofs.LoadTurns.{IsBehind, is_behind}

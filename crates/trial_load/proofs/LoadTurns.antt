@@ -1,33 +1,11 @@
 -- The turns of a valuation behind those of lanes: nobody else turned meanwhile
-use Rattle.std.proofs.Common.{◌≡◌, ◌≢◌, ℕ, ◌+◌, ◌==◌, false, List, [], ◌∷◌, ◌++◌, length, map, take, Some, Result, refl, ap, sym, ◌∙◌, subst, inl, inr, arith, append-nil, length-append}
-use Rattle.std.specs.Prelude.{nat_eq, slice_get}
-use Rattle.std.specs.List.{AllByRecursion, Contains, IsDistinct, enumerate_from, filter}
-use Rattle.std.proofs.lemmas.Bool.{cond-false, eq-eqb, ne_eqb}
-use Rattle.std.proofs.lemmas.List.Elements.{filter-append}
+use Rattle.trial_load.proofs.Names.{◌≡◌, ◌≢◌, ℕ, ◌+◌, ◌==◌, false, List, [], ◌∷◌, ◌++◌, length, map, take, Some, Result, refl, ap, sym, ◌∙◌, subst, inl, inr, arith, append-nil, length-append, nat_eq, slice_get, AllByRecursion, Contains, IsDistinct, enumerate_from, filter, cond-false, eq-eqb, ne_eqb, filter-append, Dated, Call, Pin, Entry, Line, Post, Value, Trim, Lane, IsDue, commands_after, AnswersLanes, AnswersLine, AnswersLines, Placed, turns_of, Terminal, HasValued, AnswersPin, dry_pins, Valuation, lines_in, IsValidPosting, Has, all_has, has_filter, has_of_contains, of_all, of_map, same_opened, ArePostless, all_own, entries_in, postless_entries, same_first, same_rest, due_at, posts, quiet_follow, quiet_pin, quiet_turns, load_day, valuation_lane}
 use Rattle.std.proofs.Math.Seq.{take-append_seam}
-use Rattle.basis_book.specs.Dated.{Dated}
 use Rattle.policy_types.specs.declared.entry.At.TheVariants.{Now}
-use Rattle.policy_types.specs.declared.entry.Call.{Call}
-use Rattle.policy_types.specs.declared.entry.Call.TheVariants.{Pin}
-use Rattle.policy_types.specs.declared.entry.Entry.{Entry}
-use Rattle.policy_types.specs.declared.script.Line.{Line}
-use Rattle.policy_types.specs.declared.script.Line.TheVariants.{Post, Value, Trim}
-use Rattle.policy_types.specs.declared.script.Lane.{Lane}
-use Rattle.policy_machine.specs.History.{IsDue, commands_after}
-use Rattle.policy_machine.specs.Merge.{AnswersLanes, AnswersLine, AnswersLines, Placed, turns_of}
 use Rattle.turn_lock.specs.History.{entries_of}
 use Rattle.turn_lock.specs.Passes.{Holding, OwnsAll, Page, PassFacts, callers as numbers_of}
 use Rattle.shared_office.specs.Offices.{IsOfficeHistory, OfficeOpening}
-use Rattle.policy_value.specs.declared.worth.Measure.TheVariants.{Terminal}
-use Rattle.snapshot_value.specs.Valuing.{HasValued, AnswersPin, dry_pins}
-use Rattle.snapshot_value.specs.declared.valuation.Valuation.{Valuation}
 use Rattle.snapshot_value.specs.declared.valuation.ValueFault.{ValueFault}
-use Rattle.policy_types.specs.Lanes.{lines_in}
-use Rattle.load_maker.specs.GeneratedLanes.{IsValidPosting}
-use Rattle.program_endings.proofs.ListSteps.{Has, all_has, has_filter, has_of_contains, of_all, of_map, same_opened}
-use Rattle.program_endings.proofs.QuietTurns.{ArePostless, all_own, entries_in, postless_entries, same_first, same_rest}
-use Rattle.program_endings.proofs.TurnSteps.{due_at, posts, quiet_follow, quiet_pin, quiet_turns}
-use Rattle.trial_load.specs.Loading.{load_day, valuation_lane}
 
 -- the front of what holds of all
 pub all_front : {A : Type 0} (P : A → Type 0) (xs ys : List A) → AllByRecursion P (xs ++ ys) → AllByRecursion P xs

@@ -1,8 +1,6 @@
 -- The generated text reads back as its rows, and these as the generated lanes
-use Rattle.std.proofs.Common.{◌≡◌, ℕ, zero, suc, ◌+◌, ◌/◌, ◌%◌, ◌^◌, ◌<◌, ◌≤◌, ◌==◌, ℤ, false, List, [], ◌∷◌, ◌++◌, length, map, refl, ap, sym, ◌∙◌, subst, inl, inr, arith, add-one, append-nil}
+use Rattle.trial_load.proofs.Names.{◌≡◌, ℕ, zero, suc, ◌+◌, ◌/◌, ◌%◌, ◌^◌, ◌<◌, ◌≤◌, ◌==◌, ℤ, false, List, [], ◌∷◌, ◌++◌, length, map, refl, ap, sym, ◌∙◌, subst, inl, inr, arith, add-one, append-nil, AllByRecursion, AllZip, flat_map, list_any, cases_Bool, cases_lt, ne_eqb, Command, Lane, Line, Post, dealt_lanes, dealt_lines, generated_lanes, lane_with}
 use Rattle.std.specs.Prelude.{decimal, Some, None, Option}
-use Rattle.std.specs.List.{AllByRecursion, AllZip, flat_map, list_any}
-use Rattle.std.proofs.lemmas.Bool.{cases_Bool, cases_lt, ne_eqb}
 use Rattle.std.specs.Int.Digits.{digits_of}
 use Rattle.std.proofs.lemmas.Fmt.{decimal_digit, decimal-digits_of}
 use Rattle.std.proofs.lemmas.List.{length-append}
@@ -19,18 +17,13 @@ use Rattle.text_lines.specs.Lines.{behind_commas, line_of}
 use Rattle.text_lines.specs.Fields.{day_fields, entry_fields, term_fields}
 use Rattle.policy_types.specs.Words.{kind_word, plan_word}
 use Rattle.policy_types.specs.Valid.{AreYears, IsValid, day_of, id_of, is_upgrade}
-use Rattle.policy_types.specs.declared.command.Command.{Command}
 use Rattle.policy_types.specs.declared.command.Command.TheVariants.{Issue, Premium, Alter, Lapse, Reinstate, Claim, Settle, Mature, PaidUp, Upgrade}
 use Rattle.policy_types.specs.declared.command.Plan.{Plan}
 use Rattle.policy_types.specs.declared.command.Plan.TheVariants.{Term, Whole, Endowment, Limited}
-use Rattle.policy_types.specs.declared.script.Lane.{Lane}
-use Rattle.policy_types.specs.declared.script.Line.{Line}
-use Rattle.policy_types.specs.declared.script.Line.TheVariants.{Post}
 use Rattle.command_csv.specs.declared.row.ClerkLine.{ClerkLine}
 use Rattle.command_csv.specs.Reads.{IsLineRow, Reads, all_lines, lane_of, lanes_up_to, lines_of, valuations_in}
 use Rattle.command_csv.specs.Rows.{rows_of}
 use Rattle.command_csv.specs.Spelling.{row_fields}
-use Rattle.load_maker.specs.GeneratedLanes.{dealt_lanes, dealt_lines, generated_lanes, lane_with}
 use Rattle.load_maker.specs.GeneratedRows.{ScriptRow, generated_rows}
 use Rattle.load_maker.specs.GeneratedScript.{generated_text, script_row_text}
 use Rattle.load_maker.proofs.Drawing.{IsRowFor, rows_right}

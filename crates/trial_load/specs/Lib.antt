@@ -1,3 +1,4 @@
+pub mod Names
 pub mod Generating
 pub mod Loading
 pub mod Worked

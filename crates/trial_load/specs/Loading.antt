@@ -2,8 +2,7 @@
 use Rattle.std.specs.Prelude.{◌≡◌, ◌≢◌, ℕ, ◌⊎◌, ℤ, pos, Bool, true, false, List, [], ◌∷◌, ◌++◌, codes, decimal, length}
 use Rattle.std.specs.Io.KnownBytes.{Appends}
 use Rattle.std.specs.List.{AllByRecursion, AllZip, count_by}
-use Rattle.outside_io.specs.Faults.{Rose}
-use Rattle.outside_io.specs.Streams.{AppendsPart}
+use Rattle.trial_load.specs.Names.{Rose, AppendsPart, lower_sum, unvalued_count, upper_sum, generated_lanes, Shelving, Stream, WroteAll, WroteLine, Ending, Done, BadJournal, WriteFault, DiskFault, NoMemory}
 use Rattle.outside_io.specs.declared.disks.Disk.{Ghosts}
 use Rattle.policy_types.specs.declared.command.Command.{Command}
 use Rattle.policy_types.specs.declared.entry.At.TheVariants.{Now}
@@ -20,19 +19,14 @@ use Rattle.policy_machine.specs.Merge.{IsMerge}
 use Rattle.basis_book.specs.Dated.{Dated}
 use Rattle.policy_value.specs.declared.worth.Measure.TheVariants.{Terminal}
 use Rattle.policy_value.specs.declared.worth.Row.{Row}
-use Rattle.report_text.specs.Block.{lower_sum, unvalued_count, upper_sum}
 use Rattle.snapshot_value.specs.Valuing.{IsValuedRow}
 use Rattle.office_state.specs.Images.{IsLeftAlone, IsLeftBy}
 use Rattle.office_state.specs.Journals.{Opens}
 use Rattle.money_core.specs.CentsText.{cents_text}
 use Rattle.text_lines.specs.Lines.{line_of}
-use Rattle.load_maker.specs.GeneratedLanes.{generated_lanes}
 use Rattle.program_endings.specs.Replies.{AreAnswered, AreAny, ArePins, HaveAFault, LackMemory}
 use Rattle.program_endings.specs.Refusals.{IsRefusedJournal}
 use Rattle.lone_office.specs.Beginning.{EndsOverBasis}
-use Rattle.program_endings.specs.Writing.{Shelving, Stream, WroteAll, WroteLine}
-use Rattle.program_endings.specs.declared.ending.Ending.{Ending}
-use Rattle.program_endings.specs.declared.ending.Ending.TheVariants.{Done, BadJournal, WriteFault, DiskFault, NoMemory}
 
 -- 2020-12-31, on which the policies are valued
 abbrev pub load_day : ℤ

@@ -1,24 +1,9 @@
 -- Split and join keep the rule; so does the table at its start; and what a seat with all shares sees at the end.
-use Rattle.std.proofs.Common.{◌≡◌, ℕ, ◌+◌, ◌-◌, ◌/◌, ◌<◌, ◌≤◌, ◌≢◌, ◌⊎◌, Bool, cond, eqb, List, [], ◌∷◌, ◌++◌, length, set, sym, refl, ap, ◌∙◌, subst, inl, inr, ⊎_elim, arith, rules, Option, Some, None}
-use mathlib.Core.Logic.{dite}
-use mathlib.Core.Option.{some, none, some-injective, some-ne-none}
+use Rattle.turn_lock.proofs.Names.{◌≡◌, ℕ, ◌+◌, ◌-◌, ◌/◌, ◌<◌, ◌≤◌, ◌≢◌, ◌⊎◌, Bool, cond, eqb, List, [], ◌∷◌, ◌++◌, length, set, sym, refl, ap, ◌∙◌, subst, inl, inr, ⊎_elim, arith, rules, Option, Some, None, dite, some, none, some-injective, some-ne-none, ℕ_discrete, get_elem?, AllByRecursion, Contains, IsDistinct, State, Splits, Joins, at_set, set_here, set_else, at_snoc, at_longer, Entry, StartsWith, longer, Page, Kept, View, Spent, Unnamed, Idle, Inside, IsLive, IsNamed, units_at, units, shares, own, pages, numbers, total, shorter, first_view, kept_half, given_half, joined, spent_view, PageStands, StageStands, SeatStands, SlotStands, LockRule}
 use mathlib.Core.Option as maybe
-use native.Mathlib.Decide.{ℕ_discrete}
-use lib.ListN.{get_elem?}
-use Rattle.std.specs.List.{AllByRecursion, Contains, IsDistinct}
 use Rattle.std.proofs.lemmas.List.Elements.{Contains-append_left, Contains-append_right}
-use Rattle.atomic_table.specs.Table.{State, Splits, Joins}
 use Rattle.atomic_table.specs.Table as table
-use Rattle.atomic_table.proofs.Lists.{at_set, set_here, set_else, at_snoc, at_longer}
-use Rattle.policy_types.specs.declared.entry.Entry.{Entry}
-use Rattle.turn_lock.specs.History.{StartsWith, longer}
-use Rattle.turn_lock.specs.Passes.{Page}
-use Rattle.turn_lock.specs.declared.seats.Kept.{Kept}
-use Rattle.turn_lock.specs.declared.seats.View.{View}
 use Rattle.turn_lock.specs.declared.seats.Stage.{Stage}
-use Rattle.turn_lock.specs.declared.seats.Stage.TheVariants.{Spent, Unnamed, Idle, Inside}
-use Rattle.turn_lock.specs.inside.Seats.{IsLive, IsNamed, units_at, units, shares, own, pages, numbers, total, shorter, first_view, kept_half, given_half, joined, spent_view}
-use Rattle.turn_lock.specs.inside.Rule.{PageStands, StageStands, SeatStands, SlotStands, LockRule}
 use Rattle.turn_lock.proofs.Entries.{same_start, starts_empty, nested, sandwiched, start_fits, full_start, longer_cases}
 use Rattle.turn_lock.proofs.Pages.{all_weaker, all_append, all_numbers, numbers-append, distinct_append, distinct_none, distinct_one, among_none}
 use Rattle.turn_lock.proofs.Totals.{has_place, total_set, total_push, total_two}

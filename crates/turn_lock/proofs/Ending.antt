@@ -1,15 +1,6 @@
 -- What a closed table has for the pass with all shares.
-use Rattle.std.proofs.Common.{◌≡◌, ℕ, List, sym, ap, ◌∙◌, subst, Option, Some, None}
-use mathlib.Core.Option.{some, some-injective}
-use lib.ListN.{get_elem?}
-use Rattle.atomic_table.specs.Table.{Final, Seen}
+use Rattle.turn_lock.proofs.Names.{◌≡◌, ℕ, List, sym, ap, ◌∙◌, subst, Option, Some, None, some, some-injective, get_elem?, Final, Seen, Entry, Holding, OwnsAll, Kept, View, LockRule, IsPass, holding}
 use Rattle.atomic_table.specs.declared.shared.Seat.{Seat}
-use Rattle.policy_types.specs.declared.entry.Entry.{Entry}
-use Rattle.turn_lock.specs.Passes.{Holding, OwnsAll}
-use Rattle.turn_lock.specs.declared.seats.Kept.{Kept}
-use Rattle.turn_lock.specs.declared.seats.View.{View}
-use Rattle.turn_lock.specs.inside.Rule.{LockRule}
-use Rattle.turn_lock.specs.inside.Places.{IsPass, holding}
 use Rattle.turn_lock.proofs.Dividing.{closes}
 
 module _ {T O : Type 0} (opens : T → O) (legal : O → List Entry → Type 0) (stands : T → List Entry → Type 0) (opening : O) where

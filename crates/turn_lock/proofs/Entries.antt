@@ -1,12 +1,8 @@
 -- Lists of entries: the entries of one caller, beginnings, and the longer of two lists.
-use Rattle.std.proofs.Common.{◌≡◌, ℕ, ◌+◌, ◌<◌, ◌≤◌, ◌≢◌, Bool, cond, eqb, List, [], ◌∷◌, ◌++◌, length, sym, refl, ap, ◌∙◌, subst, inl, inr, arith, eq-eqb, ne_eqb, length-append}
-use Rattle.std.specs.List.{AllByRecursion}
+use Rattle.turn_lock.proofs.Names.{◌≡◌, ℕ, ◌+◌, ◌<◌, ◌≤◌, ◌≢◌, Bool, cond, eqb, List, [], ◌∷◌, ◌++◌, length, sym, refl, ap, ◌∙◌, subst, inl, inr, arith, eq-eqb, ne_eqb, length-append, AllByRecursion, Entry, entries_of, StartsWith, longer, shorter}
 use Rattle.std.proofs.lemmas.List.{append-nil}
 use Rattle.std.proofs.lemmas.List.Elements.{filter-append}
 use Rattle.std.proofs.lemmas.Bool.{cases_lt, lt-ltb, le-ltb}
-use Rattle.policy_types.specs.declared.entry.Entry.{Entry}
-use Rattle.turn_lock.specs.History.{entries_of, StartsWith, longer}
-use Rattle.turn_lock.specs.inside.Seats.{shorter}
 
 pub entries-append : (xs ys : List Entry) (n : ℕ) → entries_of (xs ++ ys) n ≡ entries_of xs n ++ entries_of ys n
 entries-append xs ys n = filter-append (λ e. eqb e.caller n) xs ys

@@ -1,14 +1,6 @@
 -- What one seat knows: read at its stage, and kept while others step.
-use Rattle.std.proofs.Common.{◌≡◌, ℕ, ◌<◌, ◌≤◌, ◌≢◌, eqb, List, [], ◌∷◌, ◌++◌, length, sym, refl, ap, ◌∙◌, subst, arith, Option, Some, None, length-append}
-use Rattle.std.specs.List.{AllByRecursion, IsDistinct}
-use Rattle.policy_types.specs.declared.entry.Entry.{Entry}
-use Rattle.turn_lock.specs.History.{entries_of}
-use Rattle.turn_lock.specs.Passes.{Page}
-use Rattle.turn_lock.specs.declared.seats.View.{View}
+use Rattle.turn_lock.proofs.Names.{◌≡◌, ℕ, ◌<◌, ◌≤◌, ◌≢◌, eqb, List, [], ◌∷◌, ◌++◌, length, sym, refl, ap, ◌∙◌, subst, arith, Option, Some, None, length-append, AllByRecursion, IsDistinct, Entry, entries_of, Page, View, Spent, Unnamed, Idle, Inside, IsLive, IsNamed, pages_at, units_at, own, pages, numbers, SeatFacts, PageStands, StageStands, SeatStands}
 use Rattle.turn_lock.specs.declared.seats.Stage.{Stage}
-use Rattle.turn_lock.specs.declared.seats.Stage.TheVariants.{Spent, Unnamed, Idle, Inside}
-use Rattle.turn_lock.specs.inside.Seats.{IsLive, IsNamed, pages_at, units_at, own, pages, numbers, SeatFacts}
-use Rattle.turn_lock.specs.inside.Rule.{PageStands, StageStands, SeatStands}
 use Rattle.turn_lock.proofs.Entries.{entries-other, starts_more}
 use Rattle.turn_lock.proofs.Pages.{all_weaker}
 

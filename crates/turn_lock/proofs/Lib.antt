@@ -7,3 +7,4 @@ mod Stepping
 mod Dividing
 mod Passing
 mod Ending
+pub mod Names

@@ -1,18 +1,6 @@
 -- A step of one seat keeps the rule, where it keeps what the others know.
-use Rattle.std.proofs.Common.{◌≡◌, ℕ, ◌+◌, ◌<◌, ◌≤◌, ◌≢◌, ◌⊎◌, List, [], ◌∷◌, length, set, sym, ap, ◌∙◌, subst, ⊎_elim, arith, Option, Some, None}
-use mathlib.Core.Logic.{dite}
-use mathlib.Core.Option.{some, some-injective, some-ne-none}
+use Rattle.turn_lock.proofs.Names.{◌≡◌, ℕ, ◌+◌, ◌<◌, ◌≤◌, ◌≢◌, ◌⊎◌, List, [], ◌∷◌, length, set, sym, ap, ◌∙◌, subst, ⊎_elim, arith, Option, Some, None, dite, some, some-injective, some-ne-none, ℕ_discrete, get_elem?, AllByRecursion, Contains, State, at_set, set_here, set_else, Entry, Kept, View, IsLive, units, shares, pages, numbers, SeatStands, SlotStands, LockRule}
 use mathlib.Core.Option as maybe
-use native.Mathlib.Decide.{ℕ_discrete}
-use lib.ListN.{get_elem?}
-use Rattle.std.specs.List.{AllByRecursion, Contains}
-use Rattle.atomic_table.specs.Table.{State}
-use Rattle.atomic_table.proofs.Lists.{at_set, set_here, set_else}
-use Rattle.policy_types.specs.declared.entry.Entry.{Entry}
-use Rattle.turn_lock.specs.declared.seats.Kept.{Kept}
-use Rattle.turn_lock.specs.declared.seats.View.{View}
-use Rattle.turn_lock.specs.inside.Seats.{IsLive, units, shares, pages, numbers}
-use Rattle.turn_lock.specs.inside.Rule.{SeatStands, SlotStands, LockRule}
 use Rattle.turn_lock.proofs.Totals.{has_place, total_set}
 use Rattle.turn_lock.proofs.Knowing.{IsFree, free_outside}
 

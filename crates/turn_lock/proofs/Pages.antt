@@ -1,9 +1,6 @@
 -- Pages of a seat: facts of each, their numbers apart, and a number among them.
-use Rattle.std.proofs.Common.{◌≡◌, ℕ, ◌≢◌, false, eqb, List, [], ◌∷◌, ◌++◌, sym, refl, ap, ◌∙◌, arith, eq-eqb, ne_eqb}
-use Rattle.std.specs.List.{AllByRecursion, Contains, IsDistinct}
+use Rattle.turn_lock.proofs.Names.{◌≡◌, ℕ, ◌≢◌, false, eqb, List, [], ◌∷◌, ◌++◌, sym, refl, ap, ◌∙◌, arith, eq-eqb, ne_eqb, AllByRecursion, Contains, IsDistinct, Page, numbers}
 use Rattle.std.proofs.lemmas.Bool.{false≢true}
-use Rattle.turn_lock.specs.Passes.{Page}
-use Rattle.turn_lock.specs.inside.Seats.{numbers}
 
 pub all_weaker : {A : Type 0} (P Q : A → Type 0) (xs : List A) → ((x : A) → P x → Q x) → AllByRecursion P xs → AllByRecursion Q xs
 all_weaker P Q [] f a = tt

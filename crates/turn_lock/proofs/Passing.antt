@@ -1,14 +1,8 @@
 -- What the steps of a call make of a pass, in the words of its contract.
-use Rattle.std.proofs.Common.{◌≡◌, ℕ, ◌<◌, ◌≤◌, ◌≢◌, List, [], ◌∷◌, sym, refl, ap, ◌∙◌, subst, arith, Option}
+use Rattle.turn_lock.proofs.Names.{◌≡◌, ℕ, ◌<◌, ◌≤◌, ◌≢◌, List, [], ◌∷◌, sym, refl, ap, ◌∙◌, subst, arith, Option, Entry, Holding, Page, all_turns, all_shares, PassFacts, Enters, Kept, View, SeatFacts, own, first_view, kept_half, given_half, named, IsNow, IsPass, holding}
 use Rattle.atomic_table.specs.declared.shared.Seat.{Seat}
 use Rattle.atomic_table.specs.Seated.{TableId}
-use Rattle.policy_types.specs.declared.entry.Entry.{Entry}
-use Rattle.turn_lock.specs.Passes.{Holding, Page, all_turns, all_shares, PassFacts, Enters}
-use Rattle.turn_lock.specs.declared.seats.Kept.{Kept}
-use Rattle.turn_lock.specs.declared.seats.View.{View}
-use Rattle.turn_lock.specs.inside.Seats.{SeatFacts, own, first_view, kept_half, given_half, named}
 use Rattle.turn_lock.specs.inside.Steps.{Sat}
-use Rattle.turn_lock.specs.inside.Places.{IsNow, IsPass, holding}
 use Rattle.turn_lock.proofs.Pages.{all_weaker, all_numbers, distinct_one}
 
 abbrev S : Type 0 → Type 0 → Type 0

@@ -1,23 +1,9 @@
 -- Name, take, compare and give keep the rule, and tell what they tell.
-use Rattle.std.proofs.Common.{◌≡◌, ℕ, ◌+◌, ◌%◌, ◌^◌, ◌<◌, ◌≤◌, ◌≢◌, Bool, cond, eqb, List, [], ◌∷◌, ◌++◌, length, get_or, set, sym, refl, ap, ◌∙◌, subst, inl, inr, arith, Option, Some, None, eq-eqb, ne_eqb, length-append}
-use mathlib.Core.Logic.{dite}
-use mathlib.Core.Option.{some, none, some-injective}
+use Rattle.turn_lock.proofs.Names.{◌≡◌, ℕ, ◌+◌, ◌%◌, ◌^◌, ◌<◌, ◌≤◌, ◌≢◌, Bool, cond, eqb, List, [], ◌∷◌, ◌++◌, length, get_or, set, sym, refl, ap, ◌∙◌, subst, inl, inr, arith, Option, Some, None, eq-eqb, ne_eqb, length-append, dite, some, none, some-injective, ℕ_discrete, get_elem?, set_here, set_again, exchanged, AllByRecursion, Contains, State, step, Act, keeps, takes, gives, stepped, Allows, Entry, StartsWith, entries_of, Kept, View, Unnamed, Idle, Inside, IsLive, IsNamed, units_at, units, shares, own, pages, numbers, SeatFacts, named, inside, handed_on, compared, PageStands, StageStands, SeatStands, SlotStands, LockRule}
 use mathlib.Core.Option as maybe
-use native.Mathlib.Decide.{ℕ_discrete}
 use prog.Atomic.{either}
-use lib.ListN.{get_elem?}
 use lib.Seq.{set-get_or}
-use Rattle.atomic_table.proofs.Lists.{set_here, set_again, exchanged}
-use Rattle.std.specs.List.{AllByRecursion, Contains}
-use Rattle.atomic_table.specs.Table.{State, step, Act, keeps, takes, gives, stepped, Allows}
 use Rattle.atomic_table.specs.Table as table
-use Rattle.policy_types.specs.declared.entry.Entry.{Entry}
-use Rattle.turn_lock.specs.History.{StartsWith, entries_of}
-use Rattle.turn_lock.specs.declared.seats.Kept.{Kept}
-use Rattle.turn_lock.specs.declared.seats.View.{View}
-use Rattle.turn_lock.specs.declared.seats.Stage.TheVariants.{Unnamed, Idle, Inside}
-use Rattle.turn_lock.specs.inside.Seats.{IsLive, IsNamed, units_at, units, shares, own, pages, numbers, SeatFacts, named, inside, handed_on, compared}
-use Rattle.turn_lock.specs.inside.Rule.{PageStands, StageStands, SeatStands, SlotStands, LockRule}
 use Rattle.turn_lock.specs.inside.Steps as steps
 use Rattle.turn_lock.specs.inside.Steps.{Sat, IsTaken}
 use Rattle.turn_lock.proofs.Entries.{entries-own, entries-other, entries-none, none_at_start, same_start, starts_more, starts_empty, nested}

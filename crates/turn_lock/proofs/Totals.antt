@@ -1,9 +1,5 @@
 -- Lists of views: one seat's view, a change of it, and the sum of a number over all.
-use Rattle.std.proofs.Common.{◌≡◌, ℕ, zero, suc, ◌+◌, ◌<◌, ◌≤◌, ◌≢◌, List, [], ◌∷◌, ◌++◌, length, set, sym, refl, ap, arith}
-use mathlib.Core.Option.{some, some-injective, some-ne-none}
-use lib.ListN.{get_elem?}
-use Rattle.turn_lock.specs.declared.seats.View.{View}
-use Rattle.turn_lock.specs.inside.Seats.{total}
+use Rattle.turn_lock.proofs.Names.{◌≡◌, ℕ, zero, suc, ◌+◌, ◌<◌, ◌≤◌, ◌≢◌, List, [], ◌∷◌, ◌++◌, length, set, sym, refl, ap, arith, some, some-injective, some-ne-none, get_elem?, View, total}
 
 pub has_place : {A : Type 0} (xs : List A) (i : ℕ) (x : A) → get_elem? xs i ≡ some x → i < length xs
 has_place [] i x e = absurd (some-ne-none x (sym e))

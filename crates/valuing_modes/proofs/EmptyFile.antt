@@ -1,21 +1,8 @@
 -- What is told of an empty file.
-use Rattle.std.proofs.Common.{◌≡◌, ℕ, List, [], ◌∷◌, inr, inl, refl, subst, lit≤, pos}
-use Rattle.std.specs.Fmt.{digits}
-use Rattle.std.specs.List.{AllZip}
-use Rattle.outside_io.specs.declared.disks.Disk.{Ghosts}
-use Rattle.life_dates.specs.Calendar.{date_of, date_at, year_of, month_of, days_before_year, days_of_months}
-use Rattle.life_dates.specs.DayText.{day_text}
-use Rattle.policy_types.specs.declared.command.Command.{Command}
-use Rattle.policy_types.specs.declared.policy.Policy.{Policy}
-use Rattle.policy_types.specs.declared.entry.At.TheVariants.{Now, Position}
+use Rattle.valuing_modes.proofs.Names.{◌≡◌, ℕ, List, [], ◌∷◌, inr, inl, refl, subst, lit≤, pos, digits, AllZip, Ghosts, date_of, date_at, year_of, month_of, days_before_year, days_of_months, day_text, Command, Policy, Now, Position, block_text, total_text, heading_text, IsValuedRow, Opens, WroteAll, IsBeyond, IsValuation}
 use Rattle.policy_value.specs.declared.worth.Measure.TheVariants.{Terminal}
 use Rattle.policy_value.specs.declared.worth.Row.{Row}
-use Rattle.report_text.specs.Block.{block_text, total_text, heading_text}
-use Rattle.snapshot_value.specs.Valuing.{IsValuedRow}
-use Rattle.office_state.specs.Journals.{Opens}
 use Rattle.office_state.proofs.JournalLaws.{opens_to_one}
-use Rattle.program_endings.specs.Writing.{WroteAll}
-use Rattle.valuing_modes.specs.Valuing.{IsBeyond, IsValuation}
 use Rattle.valuing_modes.specs.Worked.{IsAheadOfAnEmptyFile, ValuesAnEmptyFile}
 
 pub no_commands : (bytes : List ℕ) (commands : List Command) → bytes ≡ [] → Opens bytes commands → commands ≡ []

@@ -1,3 +1,4 @@
+pub mod Names
 pub mod ValueSteps
 pub mod LoneSteps
 pub mod ValueStatus

@@ -1,26 +1,11 @@
 -- An office at which one caller turned, to value its policies
-use Rattle.std.proofs.Common.{ℕ, ℤ, List, [], Result, subst, append-nil, Option}
-use Rattle.outside_io.specs.declared.disks.Disk.{Ghosts}
-use Rattle.basis_book.specs.Dated.{Dated}
+use Rattle.valuing_modes.proofs.Names.{ℕ, ℤ, List, [], Result, subst, append-nil, Option, Ghosts, Dated, Command, At, IsDue, commands_after, opened_on, pin_call, IsLeftBy, IsOfficeHistory, OfficeOpening, Holding, PassFacts, Measure, HasValued, IsValueAnswer, ValueFault, Ending, Stream, EndsValuing}
 use Rattle.policy_types.specs.Accounts.{Booking}
-use Rattle.policy_types.specs.declared.command.Command.{Command}
-use Rattle.policy_types.specs.declared.entry.At.{At}
 use Rattle.policy_types.specs.declared.watcher.Report.{Report}
-use Rattle.policy_machine.specs.History.{IsDue, commands_after, opened_on}
-use Rattle.policy_machine.specs.Merge.{pin_call}
-use Rattle.office_state.specs.Images.{IsLeftBy}
-use Rattle.shared_office.specs.Offices.{IsOfficeHistory, OfficeOpening}
 use Rattle.office_state.specs.States.{MomentRing}
 use Rattle.shared_office.specs.Starting.{HasClosed, HasStartedOffice}
 use Rattle.watcher_set.specs.declared.watching.Watching.{Ghosts as WatcherGhosts}
-use Rattle.turn_lock.specs.Passes.{Holding, PassFacts}
-use Rattle.policy_value.specs.declared.worth.Measure.{Measure}
-use Rattle.snapshot_value.specs.Valuing.{HasValued, AnswersPin as IsValueAnswer}
 use Rattle.snapshot_value.specs.declared.valuation.Valuation.{Valuation}
-use Rattle.snapshot_value.specs.declared.valuation.ValueFault.{ValueFault}
-use Rattle.program_endings.specs.declared.ending.Ending.{Ending}
-use Rattle.program_endings.specs.Writing.{Stream}
-use Rattle.valuing_modes.specs.Valuing.{EndsValuing}
 use Rattle.valuing_modes.specs.inside.Valued.{EndsAnswer, EndsValued}
 use Rattle.lone_office.proofs.LoneTurns.{lone_answered, lone_due, lone_left}
 use Rattle.valuing_modes.proofs.ValueSteps.{ends_valued, lone_ends}

@@ -1,14 +1,6 @@
 -- The projection of nobody, and what is told of an empty file
-use Rattle.std.proofs.Common.{◌≡◌, ℕ, zero, suc, ◌<◌, List, [], ◌∷◌, length, pos, refl, inl, inr, ◌∙◌, subst, lit<, lit≤, arith}
+use Rattle.valuing_modes.proofs.Names.{◌≡◌, ℕ, zero, suc, ◌<◌, List, [], ◌∷◌, length, pos, refl, inl, inr, ◌∙◌, subst, lit<, lit≤, arith, AllZip, digits, Ghosts, date_of, date_at, year_of, month_of, days_before_year, days_of_months, day_text, Command, Policy, Dated, Shelving, Stream, WroteAll, IsProjectionText}
 use Rattle.std.specs.Prelude.{slice_index_or}
-use Rattle.std.specs.List.{AllZip}
-use Rattle.std.specs.Fmt.{digits}
-use Rattle.outside_io.specs.declared.disks.Disk.{Ghosts}
-use Rattle.life_dates.specs.Calendar.{date_of, date_at, year_of, month_of, days_before_year, days_of_months}
-use Rattle.life_dates.specs.DayText.{day_text}
-use Rattle.policy_types.specs.declared.command.Command.{Command}
-use Rattle.policy_types.specs.declared.policy.Policy.{Policy}
-use Rattle.basis_book.specs.Dated.{Dated}
 use Rattle.cash_projection.specs.Cash.{EnclosesExpected, no_year, rounded_year, total_of}
 use Rattle.cash_projection.specs.Pinned.{IsProjectionAt}
 use Rattle.cash_projection.specs.Policies.{IsCashOf, IsProspect}
@@ -17,9 +9,7 @@ use Rattle.cash_projection.specs.Text.{asked_text, projection_text, words_text, 
 use Rattle.cash_projection.specs.declared.printing.Projection.{Projection}
 use Rattle.cash_projection.specs.declared.years.Year.{Year}
 use Rattle.cash_projection.proofs.CallerLemmas.{cash_tellable}
-use Rattle.program_endings.specs.Writing.{Shelving, Stream, WroteAll}
 use Rattle.valuing_modes.proofs.EmptyFile.{no_commands}
-use Rattle.valuing_modes.specs.Projecting.{IsProjectionText}
 use Rattle.valuing_modes.specs.WorkedProjections.{IsNeverAhead, NobodyProjected, ProjectsAnEmptyFile, nobodys_text}
 
 abbrev idle_years : List Year

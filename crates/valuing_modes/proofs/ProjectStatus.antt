@@ -1,22 +1,14 @@
 -- What the exit status tells of a projection
-use Rattle.std.proofs.Common.{◌≡◌, ℕ, ◌⊎◌, ℤ, List, ap, inl, inr}
+use Rattle.valuing_modes.proofs.Names.{◌≡◌, ℕ, ◌⊎◌, ℤ, List, ap, inl, inr, Ghosts, Command, Dated, Opens, OpensToNone, Ending, Shelving, Stream, read_as_before, read_refused, read_to_end, EndsProject, IsProjected}
 use Rattle.outside_io.specs.Faults.{Rose}
 use Rattle.outside_io.specs.Shelves.{Files}
-use Rattle.outside_io.specs.declared.disks.Disk.{Ghosts}
-use Rattle.policy_types.specs.declared.command.Command.{Command}
-use Rattle.basis_book.specs.Dated.{Dated}
 use Rattle.basis_shelf.specs.Bases.{IsBasis}
 use Rattle.basis_shelf.specs.FirstBad.{IsFirstBadFile}
 use Rattle.basis_shelf.specs.declared.fault.BadBasis.{BadBasis as ABadBasis}
 use Rattle.basis_shelf.proofs.OneBasis.{basis_or_bad}
-use Rattle.office_state.specs.Journals.{Opens, OpensToNone}
-use Rattle.program_endings.specs.declared.ending.Ending.{Ending}
 use Rattle.program_endings.specs.Status.{status_of}
 use Rattle.program_endings.specs.WithoutBasis.{SaysBadFile}
-use Rattle.program_endings.specs.Writing.{Shelving, Stream}
 use Rattle.program_endings.proofs.BasisSteps.{bad_refused, basis_refused}
-use Rattle.program_endings.proofs.ReadOnlySteps.{read_as_before, read_refused, read_to_end}
-use Rattle.valuing_modes.specs.Projecting.{EndsProject, IsProjected}
 
 module _ {D : Type 0} (g : Ghosts D) (old new : D) (on : ℤ) (years : ℕ) (output : Stream) where
   -- nothing is projected of a file that opens to no commands

@@ -1,40 +1,22 @@
 -- How `project` ends, by what its parts did
-use Rattle.std.proofs.Common.{◌≡◌, ℕ, ◌≤◌, ℤ, List, [], length, take, subst, Result, Ok, Err, IfOk, append-nil, arith, Option}
-use Rattle.std.proofs.lemmas.Int.{ints}
+use Rattle.valuing_modes.proofs.Names.{◌≡◌, ℕ, ◌≤◌, ℤ, List, [], length, take, subst, Result, Ok, Err, IfOk, append-nil, arith, Option, ints, AppendsPart, Ghosts, IsDay, Dated, Command, Policy, Now, Opening, IsDue, commands_after, opened_on, pin_call, IsLeftBy, IsOfficeHistory, OfficeOpening, Holding, PassFacts, ValueFault, Ending, Done, WriteFault, NoMemory, Stream, WroteAll, EndsProjecting, IsProjectionText}
 use Rattle.std.proofs.lemmas.List.{take_all}
-use Rattle.outside_io.specs.Streams.{AppendsPart}
-use Rattle.outside_io.specs.declared.disks.Disk.{Ghosts}
-use Rattle.life_dates.specs.Calendar.{IsDay}
-use Rattle.basis_book.specs.Dated.{Dated}
 use Rattle.policy_types.specs.Accounts.{Booking}
-use Rattle.policy_types.specs.declared.command.Command.{Command}
-use Rattle.policy_types.specs.declared.policy.Policy.{Policy}
-use Rattle.policy_types.specs.declared.entry.At.TheVariants.{Now}
 use Rattle.policy_types.specs.declared.entry.PinRefusal.{PinRefusal}
 use Rattle.policy_types.specs.declared.entry.PinRefusal.TheVariants.{Ahead, Trimmed, PinsFull}
 use Rattle.policy_types.specs.declared.entry.Reply.{Reply}
 use Rattle.policy_types.specs.declared.entry.Reply.TheVariants.{Accepted, Refused, Faulted, Pinned, PinRefused, Slice, Unpinned, Floor, Blank}
 use Rattle.policy_types.specs.declared.watcher.Report.{Report}
 use Rattle.policy_machine.specs.Book.{book}
-use Rattle.policy_machine.specs.History.{Opening, IsDue, commands_after, opened_on}
-use Rattle.policy_machine.specs.Merge.{pin_call}
-use Rattle.office_state.specs.Images.{IsLeftBy}
-use Rattle.shared_office.specs.Offices.{IsOfficeHistory, OfficeOpening}
 use Rattle.office_state.specs.States.{MomentRing}
 use Rattle.shared_office.specs.Starting.{HasClosed, HasStartedOffice}
 use Rattle.watcher_set.specs.declared.watching.Watching.{Ghosts as WatcherGhosts}
-use Rattle.turn_lock.specs.Passes.{Holding, PassFacts}
 use Rattle.snapshot_value.specs.Reading.{AnswersPinned}
-use Rattle.snapshot_value.specs.declared.valuation.ValueFault.{ValueFault}
 use Rattle.snapshot_value.specs.declared.valuation.ValueFault.TheVariants.{Pin, NoMemory as NoValues}
 use Rattle.cash_projection.specs.Pinned.{HasProjected, IsProjectionAt}
 use Rattle.cash_projection.specs.Text.{projection_text}
 use Rattle.cash_projection.specs.declared.printing.Projection.{Projection}
-use Rattle.program_endings.specs.declared.ending.Ending.{Ending}
-use Rattle.program_endings.specs.declared.ending.Ending.TheVariants.{Done, WriteFault, NoMemory}
-use Rattle.program_endings.specs.Writing.{Stream, WroteAll}
 use Rattle.lone_office.proofs.LoneTurns.{lone_answered, lone_due, lone_left}
-use Rattle.valuing_modes.specs.Projecting.{EndsProjecting, IsProjectionText}
 use Rattle.valuing_modes.specs.inside.Projected.{EndsPrinted, EndsProjected, CanBePrinted}
 
 -- an office was opened, and the projection was written

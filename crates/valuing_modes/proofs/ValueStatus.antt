@@ -1,28 +1,16 @@
 -- What the exit status tells of a valuation
-use Rattle.std.proofs.Common.{◌≡◌, ℕ, ◌≤◌, ◌<◌, ◌⊎◌, ℤ, List, length, refl, ap, subst, inl, inr, arith}
+use Rattle.valuing_modes.proofs.Names.{◌≡◌, ℕ, ◌≤◌, ◌<◌, ◌⊎◌, ℤ, List, length, refl, ap, subst, inl, inr, arith, AppendsPart, Ghosts, Command, At, Dated, Measure, Opens, OpensToNone, Ending, Done, Usage, BadBasis, BadJournal, WriteFault, DiskFault, NoMemory, Ahead, Shelving, Stream, WroteAll, opens_to_none, read_as_before, read_refused, read_to_end, EndsValue, EndsValuing, IsAhead, IsValued, position_of}
 use Rattle.outside_io.specs.Faults.{Rose}
 use Rattle.outside_io.specs.Shelves.{Files}
-use Rattle.outside_io.specs.Streams.{AppendsPart}
-use Rattle.outside_io.specs.declared.disks.Disk.{Ghosts}
-use Rattle.policy_types.specs.declared.command.Command.{Command}
-use Rattle.policy_types.specs.declared.entry.At.{At}
-use Rattle.basis_book.specs.Dated.{Dated}
 use Rattle.basis_shelf.specs.Bases.{IsBasis}
-use Rattle.policy_value.specs.declared.worth.Measure.{Measure}
 use Rattle.basis_shelf.specs.FirstBad.{IsFirstBadFile}
 use Rattle.basis_shelf.specs.declared.fault.BadBasis.{BadBasis as ABadBasis}
 use Rattle.basis_shelf.proofs.OneBasis.{basis_or_bad}
-use Rattle.office_state.specs.Journals.{Opens, OpensToNone}
 use Rattle.office_state.proofs.JournalLaws.{opens_to_one}
-use Rattle.program_endings.specs.declared.ending.Ending.{Ending}
-use Rattle.program_endings.specs.declared.ending.Ending.TheVariants.{Done, Usage, BadBasis, BadJournal, WriteFault, DiskFault, NoMemory, Ahead}
 use Rattle.program_endings.specs.Texts.{EndsReadOnly}
 use Rattle.program_endings.specs.Status.{status_of}
 use Rattle.program_endings.specs.WithoutBasis.{EndsNoBasis, SaysBadFile}
-use Rattle.program_endings.specs.Writing.{Shelving, Stream, WroteAll}
 use Rattle.program_endings.proofs.BasisSteps.{bad_refused, basis_refused}
-use Rattle.program_endings.proofs.ReadOnlySteps.{opens_to_none, read_as_before, read_refused, read_to_end}
-use Rattle.valuing_modes.specs.Valuing.{EndsValue, EndsValuing, IsAhead, IsValued, position_of}
 
 module _ {D : Type 0} (g : Ghosts D) (old new : D) (on : ℤ) (at : At) (measure : Measure) (output : Stream) where
   -- nothing is valued of a file that opens to no commands

@@ -1,34 +1,14 @@
 -- How `value` ends, by what its parts did
-use Rattle.std.proofs.Common.{◌≡◌, ℕ, ◌≤◌, ◌<◌, ℤ, List, [], length, take, refl, ap₂, sym, ◌∙◌, subst, inl, inr, Result, Ok, Err, IfOk, arith}
-use Rattle.std.specs.List.{AllZip}
-use Rattle.outside_io.specs.Streams.{AppendsPart}
-use Rattle.outside_io.specs.declared.disks.Disk.{Ghosts}
-use Rattle.basis_book.specs.Dated.{Dated}
-use Rattle.policy_types.specs.declared.command.Command.{Command}
-use Rattle.policy_types.specs.declared.entry.At.{At}
-use Rattle.policy_types.specs.declared.entry.At.TheVariants.{Now, Position}
+use Rattle.valuing_modes.proofs.Names.{◌≡◌, ℕ, ◌≤◌, ◌<◌, ℤ, List, [], length, take, refl, ap₂, sym, ◌∙◌, subst, inl, inr, Result, Ok, Err, IfOk, arith, AllZip, AppendsPart, Ghosts, Dated, Command, At, Now, Position, Opening, IsDue, commands_after, opened_on, pin_call, Measure, block_text, IsLeftBy, AnswersPin, HasValued, IsValuedRow, IsSnapshot, ValueFault, Ending, Done, Ahead, WriteFault, NoMemory, Stream, WroteAll, Holding, OfficeOpening, EndsValuing, IsValuation, position_of}
 use Rattle.policy_types.specs.declared.entry.PinRefusal.{PinRefusal}
 use Rattle.policy_types.specs.declared.entry.PinRefusal.TheVariants.{Ahead as PastTheEnd, Trimmed, PinsFull}
 use Rattle.policy_types.specs.declared.entry.Reply.{Reply}
 use Rattle.policy_types.specs.declared.entry.Reply.TheVariants.{Accepted, Refused, Faulted, Pinned, PinRefused, Slice, Unpinned, Floor, Blank}
 use Rattle.policy_machine.specs.Book.{book}
-use Rattle.policy_machine.specs.History.{Opening, IsDue, commands_after, opened_on}
-use Rattle.policy_machine.specs.Merge.{pin_call}
-use Rattle.policy_value.specs.declared.worth.Measure.{Measure}
-use Rattle.report_text.specs.Block.{block_text}
-use Rattle.office_state.specs.Images.{IsLeftBy}
-use Rattle.snapshot_value.specs.Valuing.{AnswersPin, HasValued, IsValuedRow, IsSnapshot}
 use Rattle.snapshot_value.specs.declared.valuation.Valuation.{Valuation}
-use Rattle.snapshot_value.specs.declared.valuation.ValueFault.{ValueFault}
 use Rattle.snapshot_value.specs.declared.valuation.ValueFault.TheVariants.{Pin, NoMemory as NoValues}
-use Rattle.program_endings.specs.declared.ending.Ending.{Ending}
-use Rattle.program_endings.specs.declared.ending.Ending.TheVariants.{Done, Ahead, WriteFault, NoMemory}
-use Rattle.program_endings.specs.Writing.{Stream, WroteAll}
 use Rattle.program_endings.specs.Blocks.{IsWritableBlock}
 use Rattle.program_endings.proofs.BlockSteps.{block_writable}
-use Rattle.turn_lock.specs.Passes.{Holding}
-use Rattle.shared_office.specs.Offices.{OfficeOpening}
-use Rattle.valuing_modes.specs.Valuing.{EndsValuing, IsValuation, position_of}
 use Rattle.valuing_modes.specs.inside.Valued.{EndsAnswer, EndsValued, SaysAhead}
 
 -- an office was opened, and its values were written

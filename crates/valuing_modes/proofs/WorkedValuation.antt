@@ -1,13 +1,10 @@
 -- What the worked valuation is computed from.
-use Rattle.std.proofs.Common.{◌≡◌, ◌≤◌, ◌≤ℤ◌, ◌<ℤ◌, ℕ, pos, true, List, [], ◌∷◌, All, Ok, inl, inr, refl, subst, lit≤, lit<, arith}
+use Rattle.valuing_modes.proofs.Names.{◌≡◌, ◌≤◌, ◌≤ℤ◌, ◌<ℤ◌, ℕ, pos, true, List, [], ◌∷◌, All, Ok, inl, inr, refl, subst, lit≤, lit<, arith, ints, IsDay, day_number, date_of, date_at, year_of, month_of, days_before, days_before_year, days_of_months, Policy, Dated, IsPicked, IsValuedRow}
 use Rattle.std.proofs.lemmas.Bool.{cases_lt}
-use Rattle.std.proofs.lemmas.Int.{ints}
 use Rattle.std.proofs.lemmas.List.Elements.{All-nil, All-cons}
-use Rattle.life_dates.specs.Calendar.{IsDay, day_number, date_of, date_at, year_of, month_of, days_before, days_before_year, days_of_months}
 use Rattle.life_dates.specs.Anniversary.{anniversary_of}
 use Rattle.life_dates.proofs.AnniversaryLemmas.{anniversary_lt}
 use Rattle.policy_types.specs.declared.command.Plan.TheVariants.{Endowment}
-use Rattle.policy_types.specs.declared.policy.Policy.{Policy}
 use Rattle.policy_types.specs.declared.policy.Status.TheVariants.{InForce, PaidUp}
 use Rattle.policy_machine.specs.Rules.{issued}
 use Rattle.rate_table.specs.declared.shape.Shape.{Shape}
@@ -21,7 +18,6 @@ use Rattle.present_value.specs.Reserve.{Encloses, reserve}
 use Rattle.present_value.specs.Recursion.{rounded_ben, rounded_ann, ben_lo, ben_hi, ann_lo, ann_hi}
 use Rattle.present_value.specs.Worked.{five_ages}
 use Rattle.crvm_reserve.specs.Rounded.{term_lo, term_hi, level_lo, level_hi, excess_lo, excess_hi, beta_lo, beta_hi, reserve_lo, reserve_hi, amount_lo, amount_hi, paid_up_lo, paid_up_hi}
-use Rattle.basis_book.specs.Dated.{Dated, IsPicked}
 use Rattle.basis_book.proofs.CallerLemmas.{none_picked, one_picked}
 use Rattle.policy_value.specs.Covers.{AreByDuration, cap_along, cover_along}
 use Rattle.policy_value.specs.Measures.{IsExactFor}
@@ -29,7 +25,6 @@ use Rattle.policy_value.specs.Rows.{IsExact, IsInsured, IsReserveOf, IsYear}
 use Rattle.policy_value.specs.declared.worth.Measure.TheVariants.{Terminal}
 use Rattle.policy_value.specs.declared.worth.Worth.{Worth}
 use Rattle.policy_value.specs.declared.worth.Worth.TheVariants.{Bounds, Word}
-use Rattle.snapshot_value.specs.Valuing.{IsValuedRow}
 use Rattle.valuing_modes.specs.Worked.Valued.{from_2000, from_2020}
 
 abbrev both : List Dated

@@ -1,3 +1,4 @@
+pub mod Names
 pub mod Projecting
 pub mod Valuing
 pub mod Worked

@@ -1,18 +1,14 @@
 -- How `project` ends: what was written of the policies that the disk's file leaves, by the basis on the shelf
 use Rattle.std.specs.Prelude.{ℕ, ℤ, List, [], length}
-use Rattle.outside_io.specs.declared.disks.Disk.{Ghosts}
-use Rattle.policy_types.specs.declared.command.Command.{Command}
+use Rattle.valuing_modes.specs.Names.{Ghosts, Command, Dated, Shelving, Stream, Ending}
 use Rattle.policy_machine.specs.Book.{book}
 use Rattle.policy_machine.specs.History.{opened_on}
-use Rattle.basis_book.specs.Dated.{Dated}
 use Rattle.office_state.specs.Images.{IsLeftBy}
 use Rattle.office_state.specs.Journals.{Opens}
 use Rattle.cash_projection.specs.Pinned.{IsProjectionAt}
 use Rattle.cash_projection.specs.Text.{projection_text}
 use Rattle.cash_projection.specs.declared.printing.Projection.{Projection}
 use Rattle.program_endings.specs.Texts.{EndsReadOnly}
-use Rattle.program_endings.specs.Writing.{Shelving, Stream}
-use Rattle.program_endings.specs.declared.ending.Ending.{Ending}
 use Rattle.lone_office.specs.Beginning.{EndsOverBasis}
 
 -- of the policies that all of these commands leave, projected by so many years from the day on, the text was written

@@ -1,10 +1,8 @@
 -- Worked valuations of a journal without commands, of an empty file, and of positions
 use Rattle.std.specs.Prelude.{◌≡◌, [], ◌∷◌, ◌++◌, codes, pos}
-use Rattle.outside_io.specs.declared.disks.Disk.{Ghosts}
-use Rattle.policy_types.specs.declared.entry.At.TheVariants.{Now, Position}
+use Rattle.valuing_modes.specs.Names.{Ghosts, Now, Position, Stream, WroteAll, WroteLine}
 use Rattle.policy_value.specs.declared.worth.Measure.TheVariants.{Terminal, Mean, Deficiency}
 use Rattle.program_endings.specs.Worked.{output_with}
-use Rattle.program_endings.specs.Writing.{Stream, WroteAll, WroteLine}
 use Rattle.valuing_modes.specs.Valuing.{IsAhead, IsBeyond, IsValuation, IsValued, position_of}
 pub mod Files
 pub mod Valued

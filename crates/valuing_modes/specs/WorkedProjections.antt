@@ -1,8 +1,6 @@
 -- Worked projections: of a journal without commands, and of an empty file
 use Rattle.std.specs.Prelude.{◌≡◌, ℕ, List, [], ◌∷◌, ◌++◌, codes, pos}
-use Rattle.outside_io.specs.declared.disks.Disk.{Ghosts}
-use Rattle.program_endings.specs.declared.ending.Ending.TheVariants.{Done, Ahead}
-use Rattle.program_endings.specs.Writing.{Shelving, Stream, WroteAll}
+use Rattle.valuing_modes.specs.Names.{Ghosts, Done, Ahead, Shelving, Stream, WroteAll}
 use Rattle.valuing_modes.specs.Projecting.{EndsProject, IsProjectionText}
 
 -- two years from 2020-12-31 on in which nobody pays and nobody is paid

@@ -1,8 +1,6 @@
 // The projection of the policies from a day on, by the basis on the shelf.
 ghost use Rattle.std.specs.Prelude.{◌≡◌, ◌<◌, ◌≤◌, IfOk, Ok};
-ghost use Rattle.life_dates.specs.Calendar.{IsDay};
-ghost use Rattle.program_endings.specs.Writing.{between, shelf_between};
-ghost use Rattle.program_endings.specs.declared.ending.Ending.TheVariants.{ReadFault};
+ghost use Rattle.valuing_modes.specs.Names.{IsDay, between, shelf_between, ReadFault};
 ghost use Rattle.valuing_modes.specs.Projecting.{EndsProject};
 ghost use Rattle.valuing_modes.specs.inside.Projected.{EndsPrinted, CanBePrinted};
 

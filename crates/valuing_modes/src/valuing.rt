@@ -1,9 +1,7 @@
 // The values of the policies on a day, by the basis on the shelf.
 ghost use Rattle.std.specs.Prelude.{◌≡◌, ◌<◌, ◌≤◌, IfOk};
-ghost use Rattle.life_dates.specs.Calendar.{IsDay};
+ghost use Rattle.valuing_modes.specs.Names.{IsDay, between, shelf_between, ReadFault};
 ghost use Rattle.valuing_modes.specs.Valuing.{EndsValue};
-ghost use Rattle.program_endings.specs.Writing.{between, shelf_between};
-ghost use Rattle.program_endings.specs.declared.ending.Ending.TheVariants.{ReadFault};
 ghost use Rattle.program_endings.specs.Blocks.{IsWritableBlock};
 ghost use Rattle.valuing_modes.specs.inside.Valued.{EndsAnswer, SaysAhead};
 

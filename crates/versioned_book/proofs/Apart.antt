@@ -1,10 +1,5 @@
 -- Keys that are apart: each stands at one place.
-use Rattle.std.proofs.Common.{◌≡◌, ℕ, zero, suc, slice_get, Bool, true, false, nat_eq, List, [], ◌∷◌, ◌++◌, Some, refl, sym, ap, ◌∙◌, subst, cond, if◌then◌else◌, ◌||◌, eq-eqb, arith}
-use Rattle.std.proofs.lemmas.Bool.{eqb-true}
-use Rattle.std.specs.List.{list_any}
-use Rattle.std.specs.Map.{lookup, keys_of as entry_keys}
-use Rattle.versioned_book.specs.Pasts.{AreApart}
-use Rattle.versioned_book.specs.Settings.{Setting, keys_after, with_key}
+use Rattle.versioned_book.proofs.Names.{◌≡◌, ℕ, zero, suc, slice_get, Bool, true, false, nat_eq, List, [], ◌∷◌, ◌++◌, Some, refl, sym, ap, ◌∙◌, subst, cond, if◌then◌else◌, ◌||◌, eq-eqb, arith, eqb-true, list_any, lookup, entry_keys, AreApart, Setting, keys_after, with_key}
 use Rattle.versioned_book.proofs.VersionSteps.{some_same}
 use Rattle.versioned_book.proofs.SettingSteps.{any_found}
 

@@ -1,15 +1,5 @@
 -- What a call does to what a book stands for.
-use Rattle.std.proofs.Common.{◌≡◌, ℕ, ◌+◌, ◌<◌, ◌≤◌, Bool, true, false, nat_eq, nat_le, List, [], ◌∷◌, ◌++◌, length, filter, slice_get, Option, None, Some, refl, sym, ap, ◌∙◌, subst, ◌⊎◌, inl, inr, arith}
-use Rattle.std.proofs.lemmas.Bool.{eqb-true, cases_lt}
-use Rattle.std.proofs.lemmas.List.{length-map}
-use Rattle.std.specs.List.{list_any}
-use Rattle.indexmap.specs.IndexMap.{get, keys, Updates}
-use Rattle.versioned_book.specs.Versions.{IsRisingTo, first_position, versions_from}
-use Rattle.versioned_book.specs.Pasts.{AreWhereTold, IsDeeper, newest, older_of, olders_in, places_in}
-use Rattle.versioned_book.specs.Settings.{Setting, keys_of, own, positions, until}
-use Rattle.versioned_book.specs.Books.{IsBookOf, kept_of, kept_versions, versions_in}
-use Rattle.versioned_book.specs.declared.chain.Chain.{Chain}
-use Rattle.versioned_book.specs.declared.book.VersionedBook.{VersionedBook}
+use Rattle.versioned_book.proofs.Names.{◌≡◌, ℕ, ◌+◌, ◌<◌, ◌≤◌, Bool, true, false, nat_eq, nat_le, List, [], ◌∷◌, ◌++◌, length, filter, slice_get, Option, None, Some, refl, sym, ap, ◌∙◌, subst, ◌⊎◌, inl, inr, arith, eqb-true, cases_lt, length-map, list_any, get, keys, Updates, IsRisingTo, first_position, versions_from, AreWhereTold, IsDeeper, newest, older_of, olders_in, places_in, Setting, keys_of, own, positions, until, IsBookOf, kept_of, kept_versions, versions_in, Chain, VersionedBook}
 use Rattle.versioned_book.proofs.VersionSteps.{some_same, trimmed-push}
 use Rattle.versioned_book.proofs.SettingSteps.{all_until, any_found, keys_of-old, own-other, own-push, positions_rise, rising-longer, until_all, until_past}
 

@@ -1,18 +1,6 @@
 -- The first setting of a key.
-use Rattle.std.proofs.Common.{◌≡◌, ℕ, ◌+◌, ◌<◌, ◌≤◌, Bool, true, false, nat_eq, nat_le, List, [], ◌∷◌, ◌++◌, length, filter, slice_get, None, Some, refl, sym, ap, ◌∙◌, subst, cond, ◌⊎◌, inl, inr, append-nil, arith}
-use Rattle.std.proofs.lemmas.Bool.{lt-leb, eqb-true, cases_lt}
-use Rattle.std.proofs.lemmas.List.{length_push, map-append}
+use Rattle.versioned_book.proofs.Names.{◌≡◌, ℕ, ◌+◌, ◌<◌, ◌≤◌, Bool, true, false, nat_eq, nat_le, List, [], ◌∷◌, ◌++◌, length, filter, slice_get, None, Some, refl, sym, ap, ◌∙◌, subst, cond, ◌⊎◌, inl, inr, append-nil, arith, lt-leb, eqb-true, cases_lt, length_push, map-append, slice_get_within, list_any, entry_keys, get, Updates, IsRisingTo, first_position, versions_from, AreWhereTold, newest, older_of, olders_in, places_in, older_total, Setting, keys_of, own, positions, until, IsBookOf, Chain, VersionedBook}
 use Rattle.std.proofs.lemmas.List.Elements.{filter-append}
-use Rattle.std.proofs.lemmas.Option.{slice_get_within}
-use Rattle.std.specs.List.{list_any}
-use Rattle.std.specs.Map.{keys_of as entry_keys}
-use Rattle.indexmap.specs.IndexMap.{get, Updates}
-use Rattle.versioned_book.specs.Versions.{IsRisingTo, first_position, versions_from}
-use Rattle.versioned_book.specs.Pasts.{AreWhereTold, newest, older_of, olders_in, places_in, older_total}
-use Rattle.versioned_book.specs.Settings.{Setting, keys_of, own, positions, until}
-use Rattle.versioned_book.specs.Books.{IsBookOf}
-use Rattle.versioned_book.specs.declared.chain.Chain.{Chain}
-use Rattle.versioned_book.specs.declared.book.VersionedBook.{VersionedBook}
 use Rattle.versioned_book.proofs.VersionSteps.{some_same}
 use Rattle.versioned_book.proofs.SettingSteps.{all_until, any_absent, keys_of-new, own-other, own-push, positions_rise, rising-push, until_all, until_past}
 use Rattle.versioned_book.proofs.BookSteps.{as_many}

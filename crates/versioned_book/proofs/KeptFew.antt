@@ -1,16 +1,5 @@
 -- How many versions are kept: at most one for each key, and one for each setting after the floor.
-use Rattle.std.proofs.Common.{◌≡◌, ℕ, zero, suc, slice_get, ◌+◌, ◌≤◌, Bool, true, false, nat_eq, List, [], ◌∷◌, length, map, Some, refl, sym, ap, subst, if◌then◌else◌, ◌||◌, arith}
-use Rattle.std.proofs.lemmas.Bool.{eqb-true}
-use Rattle.std.proofs.lemmas.List.{length-map, length_push}
-use Rattle.std.specs.List.{list_any}
-use Rattle.std.specs.Map.{keys_of as entry_keys}
-use Rattle.indexmap.specs.IndexMap.{keys}
-use Rattle.versioned_book.specs.Settings.{Setting, settings_after, keys_of, own}
-use Rattle.versioned_book.specs.Pasts.{AreApart, newest, older_of, olders_in, places_in, older_total}
-use Rattle.versioned_book.specs.Books.{IsBookOf, kept_of}
-use Rattle.versioned_book.specs.declared.chain.Chain.{Chain}
-use Rattle.versioned_book.specs.declared.past.Past.{Past}
-use Rattle.versioned_book.specs.declared.book.VersionedBook.{VersionedBook}
+use Rattle.versioned_book.proofs.Names.{◌≡◌, ℕ, zero, suc, slice_get, ◌+◌, ◌≤◌, Bool, true, false, nat_eq, List, [], ◌∷◌, length, map, Some, refl, sym, ap, subst, if◌then◌else◌, ◌||◌, arith, eqb-true, length-map, length_push, list_any, entry_keys, keys, Setting, settings_after, keys_of, own, AreApart, newest, older_of, olders_in, places_in, older_total, IsBookOf, kept_of, Chain, Past, VersionedBook}
 use Rattle.versioned_book.proofs.VersionSteps.{few_trimmed, some_same}
 use Rattle.versioned_book.proofs.SettingSteps.{own-after, own_rising}
 use Rattle.versioned_book.proofs.Apart.{apart-after, lookup_at}

@@ -1,3 +1,4 @@
+pub mod Names
 pub mod VersionSteps
 pub mod SettingSteps
 pub mod Apart

@@ -1,16 +1,5 @@
 -- How many keys there are at a position, and the value of one of them.
-use Rattle.std.proofs.Common.{◌≡◌, ℕ, zero, suc, ◌+◌, ◌<◌, ◌≤◌, Bool, true, false, nat_eq, nat_le, List, [], ◌∷◌, ◌++◌, length, filter, slice_get, get_or, Option, None, Some, IsSome, is_some, Result, Ok, OnOk, refl, sym, ap, ◌∙◌, subst, cond, if◌then◌else◌, arith}
-use Rattle.std.proofs.lemmas.Bool.{le-leb, leb-true, leb-false, lt-leb}
-use Rattle.std.proofs.lemmas.List.{length-map}
-use Rattle.std.proofs.lemmas.Option.{slice_get_within}
-use Rattle.std.specs.List.{list_any}
-use Rattle.indexmap.specs.IndexMap.{get}
-use Rattle.versioned_book.specs.Versions.{IsRising, IsRisingTo, first_position, or_else, versions_from, value_at}
-use Rattle.versioned_book.specs.Pasts.{newest, older_of, olders_in, own_older, places_in}
-use Rattle.versioned_book.specs.Settings.{Setting, keys_of, own, until}
-use Rattle.versioned_book.specs.Books.{IsBookOf}
-use Rattle.versioned_book.specs.declared.chain.Chain.{Chain}
-use Rattle.versioned_book.specs.declared.book.VersionedBook.{VersionedBook}
+use Rattle.versioned_book.proofs.Names.{◌≡◌, ℕ, zero, suc, ◌+◌, ◌<◌, ◌≤◌, Bool, true, false, nat_eq, nat_le, List, [], ◌∷◌, ◌++◌, length, filter, slice_get, get_or, Option, None, Some, IsSome, is_some, Result, Ok, OnOk, refl, sym, ap, ◌∙◌, subst, cond, if◌then◌else◌, arith, le-leb, leb-true, leb-false, lt-leb, length-map, slice_get_within, list_any, get, IsRising, IsRisingTo, first_position, or_else, versions_from, value_at, newest, older_of, olders_in, own_older, places_in, Setting, keys_of, own, until, IsBookOf, Chain, VersionedBook}
 use Rattle.versioned_book.proofs.VersionSteps.{rising-trimmed, some_same, value_at-past, value_at-trimmed}
 use Rattle.versioned_book.proofs.SettingSteps.{first_until, none_until, own_rising}
 use Rattle.versioned_book.proofs.BookSteps.{as_many}

@@ -1,15 +1,8 @@
 -- A book's pasts: what is found at a place, and one older version more.
-use Rattle.std.proofs.Common.{◌≡◌, ℕ, zero, suc, ◌+◌, ◌<◌, ◌≤◌, Bool, true, false, ◌||◌, nat_eq, List, [], ◌∷◌, ◌++◌, length, map, get_or, slice_get, vec_len, vec_capacity, Option, None, Some, refl, sym, ap, ◌∙◌, subst, if◌then◌else◌, ◌⊎◌, inl, inr, arith}
+use Rattle.versioned_book.proofs.Names.{◌≡◌, ℕ, zero, suc, ◌+◌, ◌<◌, ◌≤◌, Bool, true, false, ◌||◌, nat_eq, List, [], ◌∷◌, ◌++◌, length, map, get_or, slice_get, vec_len, vec_capacity, Option, None, Some, refl, sym, ap, ◌∙◌, subst, if◌then◌else◌, ◌⊎◌, inl, inr, arith, length_push, list_any, lookup, entry_keys, set_value_at, Chain, Past, AreApart, AreWhereTold, HasPastRoom, IsDeeper, PlacesAfter, is_key, older_of, own_older, places_in, place_by_entry, older_total}
 use Rattle.std.proofs.Math.ListN.{set}
 use Rattle.std.proofs.lemmas.Bool.{eqb-true, eq-eqb}
-use Rattle.std.proofs.lemmas.List.{length_push}
-use Rattle.std.specs.List.{list_any}
-use Rattle.std.specs.Map.{lookup, keys_of as entry_keys}
-use Rattle.indexmap.specs.IndexMap.{set_value_at}
-use Rattle.versioned_book.specs.declared.chain.Chain.{Chain}
-use Rattle.versioned_book.specs.declared.past.Past.{Past}
 use Rattle.versioned_book.specs.declared.past.Pasts.{Pasts}
-use Rattle.versioned_book.specs.Pasts.{AreApart, AreWhereTold, HasPastRoom, IsDeeper, PlacesAfter, is_key, older_of, own_older, places_in, place_by_entry, older_total}
 use Rattle.versioned_book.proofs.VersionSteps.{some_same}
 use Rattle.versioned_book.proofs.SettingSteps.{any_absent}
 use Rattle.versioned_book.proofs.Apart.{any-place, apart_from, key_there, lookup_at, past_at, same_place}

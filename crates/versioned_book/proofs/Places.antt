@@ -1,14 +1,9 @@
 -- The entry of a key in a map of chains, before and after a write to its chain.
-use Rattle.std.proofs.Common.{◌≡◌, ℕ, zero, suc, ◌<◌, true, nat_eq, List, [], ◌∷◌, map, slice_get, get_or, length, None, Some, IfSome, is_some, Result, Ok, Err, OnOk, sym, ap, ◌∙◌, subst, arith}
-use Rattle.std.proofs.lemmas.Bool.{eqb-true}
-use Rattle.std.proofs.lemmas.List.{length-map}
+use Rattle.versioned_book.proofs.Names.{◌≡◌, ℕ, zero, suc, ◌<◌, true, nat_eq, List, [], ◌∷◌, map, slice_get, get_or, length, None, Some, IfSome, is_some, Result, Ok, Err, OnOk, sym, ap, ◌∙◌, subst, arith, eqb-true, length-map, get_or_from_slice_get, IndexMap, get, index_of, keys, values, with_value_at, IsUnique, Updates, Chain}
 use Rattle.std.proofs.lemmas.List.Quantifiers.{position-Some}
-use Rattle.std.proofs.lemmas.Option.{get_or_from_slice_get}
 use Rattle.std.specs.Cmp.{nat_eq_equiv}
-use Rattle.indexmap.specs.IndexMap.{IndexMap, get, index_of, keys, values, with_value_at, IsUnique, Updates}
 use Rattle.indexmap.proofs.CallerLemmas.{keys-with_value_at, updates-with_value_at}
 use Rattle.indexmap.proofs.MapLemmas.{some_index, value_index}
-use Rattle.versioned_book.specs.declared.chain.Chain.{Chain}
 use Rattle.versioned_book.proofs.Apart.{key_there}
 use Rattle.versioned_book.proofs.Looking.{none_of}
 use Rattle.versioned_book.proofs.VersionSteps.{some_same}

@@ -1,11 +1,6 @@
 -- One more setting: the keys, the versions of each, and how many keys there were at a position.
-use Rattle.std.proofs.Common.{◌≡◌, ℕ, zero, suc, ◌+◌, ◌<◌, ◌≤◌, Bool, true, false, nat_eq, nat_le, nat_lt, List, [], ◌∷◌, ◌++◌, length, filter, slice_get, None, Some, refl, sym, ap, ◌∙◌, subst, if◌then◌else◌, cond, ◌||◌, eq-eqb, append-nil, arith}
-use Rattle.std.proofs.lemmas.Bool.{leb-true, leb-false, le-leb, lt-leb}
+use Rattle.versioned_book.proofs.Names.{◌≡◌, ℕ, zero, suc, ◌+◌, ◌<◌, ◌≤◌, Bool, true, false, nat_eq, nat_le, nat_lt, List, [], ◌∷◌, ◌++◌, length, filter, slice_get, None, Some, refl, sym, ap, ◌∙◌, subst, if◌then◌else◌, cond, ◌||◌, eq-eqb, append-nil, arith, leb-true, leb-false, le-leb, lt-leb, list_any, lookup, entry_keys, IsRising, IsRisingTo, Setting, settings_after, keys_after, keys_of, own, positions, until, with_key}
 use Rattle.std.proofs.lemmas.List.Elements.{filter-append}
-use Rattle.std.specs.List.{list_any}
-use Rattle.std.specs.Map.{lookup, keys_of as entry_keys}
-use Rattle.versioned_book.specs.Versions.{IsRising, IsRisingTo}
-use Rattle.versioned_book.specs.Settings.{Setting, settings_after, keys_after, keys_of, own, positions, until, with_key}
 
 -- a key is among the keys exactly where a look-up finds it
 pub any_found : {X : Type 0} (key : ℕ) (es : List (ℕ × X)) (x : X) → lookup (nat_eq key) es ≡ Some x → list_any (nat_eq key) (entry_keys es) ≡ true

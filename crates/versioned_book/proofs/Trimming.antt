@@ -1,14 +1,6 @@
 -- A trim, past by past.
-use Rattle.std.proofs.Common.{◌≡◌, ℕ, zero, suc, ◌+◌, ◌<◌, ◌≤◌, Bool, true, false, nat_eq, List, [], ◌∷◌, ◌++◌, length, map, get_or, slice_get, add-one, None, Some, refl, sym, ap, ◌∙◌, subst, if◌then◌else◌, arith}
+use Rattle.versioned_book.proofs.Names.{◌≡◌, ℕ, zero, suc, ◌+◌, ◌<◌, ◌≤◌, Bool, true, false, nat_eq, List, [], ◌∷◌, ◌++◌, length, map, get_or, slice_get, add-one, None, Some, refl, sym, ap, ◌∙◌, subst, if◌then◌else◌, arith, eqb-true, length-map, slice_get_read, lookup, versions_from, AreWhereTold, newest, older_of, older_total, Chain, Past}
 use Rattle.std.proofs.Math.ListN.{set}
-use Rattle.std.proofs.lemmas.Bool.{eqb-true}
-use Rattle.std.proofs.lemmas.List.{length-map}
-use Rattle.std.proofs.lemmas.Option.{slice_get_read}
-use Rattle.std.specs.Map.{lookup}
-use Rattle.versioned_book.specs.Versions.{versions_from}
-use Rattle.versioned_book.specs.Pasts.{AreWhereTold, newest, older_of, older_total}
-use Rattle.versioned_book.specs.declared.chain.Chain.{Chain}
-use Rattle.versioned_book.specs.declared.past.Past.{Past}
 use Rattle.versioned_book.proofs.PastSteps.{older_at, older_in, olders-set, place_of, told_of}
 use Rattle.versioned_book.proofs.VersionSteps.{some_same}
 

@@ -1,10 +1,6 @@
 -- Versions in order: what was last set, and what a trim leaves.
-use Rattle.std.proofs.Common.{◌≡◌, ℕ, zero, suc, ◌+◌, ◌*◌, ◌^◌, ◌<◌, ◌≤◌, Bool, true, false, nat_le, nat_lt, List, [], ◌∷◌, ◌++◌, length, filter, take, drop, slice_get, Option, None, Some, unwrap_or, refl, sym, ap, ◌∙◌, subst, add-one, pow-suc, if◌then◌else◌, cond, arith}
-use Rattle.std.proofs.lemmas.Bool.{leb-true, leb-false, le-leb, lt-leb}
-use Rattle.std.proofs.lemmas.List.{take_more}
-use Rattle.std.proofs.lemmas.Option.{slice_get_within, get_or_from_slice_get}
+use Rattle.versioned_book.proofs.Names.{◌≡◌, ℕ, zero, suc, ◌+◌, ◌*◌, ◌^◌, ◌<◌, ◌≤◌, Bool, true, false, nat_le, nat_lt, List, [], ◌∷◌, ◌++◌, length, filter, take, drop, slice_get, Option, None, Some, unwrap_or, refl, sym, ap, ◌∙◌, subst, add-one, pow-suc, if◌then◌else◌, cond, arith, leb-true, leb-false, le-leb, lt-leb, take_more, slice_get_within, get_or_from_slice_get, IsRising, newest_of, or_else, versions_from, trimmed_from, value_at}
 use Rattle.std.proofs.Math.Nat.{mul-le-mul_left}
-use Rattle.versioned_book.specs.Versions.{IsRising, newest_of, or_else, versions_from, trimmed_from, value_at}
 
 pub some_same : {X : Type 0} (x y : X) → Some x ≡ Some y → x ≡ y
 some_same x y h = ap (λ o. unwrap_or o x) h

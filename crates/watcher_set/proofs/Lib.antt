@@ -1,3 +1,4 @@
+pub mod Names
 pub mod Halfway
 pub mod Noting
 pub mod Telling

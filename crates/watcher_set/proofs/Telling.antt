@@ -1,5 +1,5 @@
 -- What the calls of one auditor, or of a whole round, mean for what has become of the auditors
-use Rattle.std.proofs.Common.{◌≡◌, ℕ, ◌+◌, ◌<◌, Bool, true, false, List, [], ◌∷◌, ◌++◌, length, length-append, map, refl, sym, ap, subst, ◌∙◌, arith}
+use Rattle.watcher_set.proofs.Names.{◌≡◌, ℕ, ◌+◌, ◌<◌, Bool, true, false, List, [], ◌∷◌, ◌++◌, length, length-append, map, refl, sym, ap, subst, ◌∙◌, arith, auditor_of, HasHeard, Listens, HasReported, HasSpareRoom, AreTold, MayBeTold, Stays, Hears, report_at}
 use Rattle.std.specs.List.{AllByRecursion, AllZip}
 use Rattle.policy_types.specs.declared.command.Command.{Command}
 use Rattle.policy_types.specs.declared.watcher.Report.{Report}
@@ -8,8 +8,6 @@ use Rattle.policy_types.specs.Limits.{most_commands}
 use Rattle.watcher_set.specs.Noted.{Auditor, noted_of, is_done, report_of, reports_of}
 use Rattle.watcher_set.specs.declared.place.Place.{Place}
 use Rattle.watcher_set.specs.declared.place.Place.TheVariants.{Listening, Reported}
-use Rattle.watcher_set.specs.Told.{auditor_of, HasHeard, Listens, HasReported, HasSpareRoom, AreTold}
-use Rattle.watcher_set.specs.inside.Calls.{MayBeTold, Stays, Hears, report_at}
 use Rattle.watcher_set.proofs.Halfway.{AllByRecursion-from_zip, AllZip-then}
 use Rattle.watcher_set.proofs.Noting.{noted_all, is_done-more, noted_of-more, is_done-stays, noted_of-stays}
 

@@ -1,8 +1,7 @@
 -- What an auditor notes of the commands that it is told of, and the report that it gives of them
 use Rattle.std.specs.Prelude.{◌≡◌, ◌⊎◌, ℕ, ◌<◌, Bool, true, false, ◌||◌, if◌then◌else◌}
 use Rattle.std.specs.Prelude.{List, [], ◌∷◌, ◌++◌, length, map, take}
-use Rattle.policy_types.specs.declared.command.Command.{Command}
-use Rattle.policy_types.specs.declared.watcher.Report.{Report}
+use Rattle.watcher_set.specs.Names.{Command, Report}
 
 -- an auditor as it was handed in: of which lists it says that it is done, and its own number of a list
 pub record Auditor : Type 0 where

@@ -1,8 +1,6 @@
 -- What has become of the auditors that were handed in, each at its place
 use Rattle.std.specs.Prelude.{◌≡◌, ℕ, ◌+◌, ◌≤◌, true, false, List, length}
-use Rattle.std.specs.List.{AllByRecursion, AllZip}
-use Rattle.policy_types.specs.declared.command.Command.{Command}
-use Rattle.policy_types.specs.declared.watcher.Report.{Report}
+use Rattle.watcher_set.specs.Names.{AllByRecursion, AllZip, Command, Report}
 use Rattle.policy_types.specs.declared.watcher.Watcher.{Ghosts}
 use Rattle.watcher_set.specs.Noted.{Auditor, is_done, report_of}
 use Rattle.watcher_set.specs.declared.place.Place.{Place}

@@ -1,7 +1,5 @@
 ghost use Rattle.std.specs.Prelude.{◌≡◌, ℕ, ◌+◌, ◌<◌, List, [], ◌∷◌, ◌++◌, length, OnOk};
-ghost use Rattle.policy_types.specs.declared.command.Command.{Command as ACommand};
-ghost use Rattle.policy_types.specs.Limits.{most_commands};
-ghost use Rattle.policy_types.specs.Valid.{IsValid};
+ghost use Rattle.watcher_set.specs.Names.{ACommand, most_commands, IsValid};
 ghost use Rattle.watcher_set.specs.Noted.{Auditor, reports_of};
 
 use crate::reports::Reports;

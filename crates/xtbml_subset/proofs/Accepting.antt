@@ -1,17 +1,5 @@
 -- The walk goes through each document to its end.
-use Rattle.std.proofs.Common.{◌≡◌, ℕ, zero, suc, ◌+◌, ◌<◌, true, false, eqb, ltb, List, [], ◌∷◌, ◌++◌, length, Some, None, refl, sym, ap, subst, ◌∙◌, inl, inr, append_assoc, arith}
-use Rattle.std.proofs.lemmas.Bool.{lt-ltb}
-use Rattle.std.proofs.lemmas.List.{append-nil}
-use Rattle.std.proofs.lemmas.Slice.Eq.{bytes_eq-Decides}
-use Rattle.std.specs.Str.{bytes_eq}
-use Rattle.xtbml_subset.specs.declared.class.Class.TheVariants.{White, Text}
-use Rattle.xtbml_subset.specs.declared.state.Phase.{Phase}
-use Rattle.xtbml_subset.specs.declared.state.Phase.TheVariants.{Opening, Prolog, Epilog}
-use Rattle.xtbml_subset.specs.Classes.{is_in, InClass}
-use Rattle.xtbml_subset.specs.Pieces.{Tag, Piece, byte, comment, declaration, start, whole, finish, IsPiece, IsMark, Spell}
-use Rattle.xtbml_subset.specs.inside.Machine.{State, outside, past, after_piece}
-use Rattle.xtbml_subset.specs.inside.Walk.{walk_at, walk_from, after_mark, fault_place, fault_at}
-use Rattle.xtbml_subset.specs.Documents.{Content, nothing, letter, remark, element, IsElement, IsContent, AreMisc, IsMisc, IsDocumentOpening, Node, IsDocument}
+use Rattle.xtbml_subset.proofs.Names.{◌≡◌, ℕ, zero, suc, ◌+◌, ◌<◌, true, false, eqb, ltb, List, [], ◌∷◌, ◌++◌, length, Some, None, refl, sym, ap, subst, ◌∙◌, inl, inr, append_assoc, arith, lt-ltb, append-nil, bytes_eq-Decides, bytes_eq, White, Text, Phase, Opening, Prolog, Epilog, is_in, InClass, Tag, Piece, byte, comment, declaration, start, whole, finish, IsPiece, IsMark, Spell, State, outside, past, after_piece, walk_at, walk_from, after_mark, fault_place, fault_at, Content, nothing, letter, remark, element, IsElement, IsContent, AreMisc, IsMisc, IsDocumentOpening, Node, IsDocument}
 use Rattle.xtbml_subset.proofs.LexAgain.{at_white, white_is_text}
 use Rattle.xtbml_subset.proofs.PieceAgain.{piece_again}
 use Rattle.xtbml_subset.proofs.Walking.{walk_step}

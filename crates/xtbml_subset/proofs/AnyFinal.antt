@@ -1,18 +1,5 @@
 -- The answer of the reader of tables of either kind is the one that is due.
-use Rattle.std.proofs.Common.{◌≡◌, ℕ, List, [], ◌∷◌, length, Some, None, Result, Ok, Err, refl, sym, ap, subst, ◌∙◌, ◌⊎◌, inl, inr, codes}
-use Rattle.std.specs.Prelude.{IfOk, IfErr}
-use Rattle.rate_table.specs.Rates.{Rates}
-use Rattle.select_rates.specs.declared.any.AnyTable.{AnyTable}
-use Rattle.xtbml_subset.specs.declared.fault.TableKind.TheVariants.{NotDocument, Select}
-use Rattle.xtbml_subset.specs.declared.fault.TableFault.{TableFault}
-use Rattle.xtbml_subset.specs.declared.fault.TableFault.TheVariants.{Bad, NoMemory}
-use Rattle.xtbml_subset.specs.Checks.{Asks, ◌>=>◌, Parts, path, rates_of, aggregate_parts, IsTable}
-use Rattle.xtbml_subset.specs.Documents.{Node, IsDocument, node_asks}
-use Rattle.xtbml_subset.specs.Answers.{IsTableAnswer, Unless}
-use Rattle.xtbml_subset.specs.AnyChecks.{AnyParts, parts_by_axes, any_parts_of, aggregated, IsAnyTable, IsAnyJudged, IsAnyAnswer, GivesAny, SaysSelect}
-use Rattle.xtbml_subset.specs.inside.Elements.{Found, elements_at}
-use Rattle.xtbml_subset.specs.inside.Rows.{found_asks}
-use Rattle.xtbml_subset.specs.inside.Walk.{fault_at}
+use Rattle.xtbml_subset.proofs.Names.{◌≡◌, ℕ, List, [], ◌∷◌, length, Some, None, Result, Ok, Err, refl, sym, ap, subst, ◌∙◌, ◌⊎◌, inl, inr, codes, IfOk, IfErr, Rates, AnyTable, NotDocument, Select, TableFault, Bad, NoMemory, Asks, ◌>=>◌, Parts, path, rates_of, aggregate_parts, IsTable, Node, IsDocument, node_asks, IsTableAnswer, Unless, AnyParts, parts_by_axes, any_parts_of, aggregated, IsAnyTable, IsAnyJudged, IsAnyAnswer, GivesAny, SaysSelect, Found, elements_at, found_asks, fault_at}
 use Rattle.xtbml_subset.proofs.Sounding.{whole_document, longest_nested}
 use Rattle.xtbml_subset.proofs.Matching.{Matches, finds_root}
 use Rattle.xtbml_subset.proofs.AnyParts.{lifted}

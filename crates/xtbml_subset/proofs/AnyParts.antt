@@ -1,14 +1,5 @@
 -- By the path that was found and the axes in its axis, which checks are made.
-use Rattle.std.proofs.Common.{◌≡◌, ℕ, List, [], ◌∷◌, Result, Ok, Err, refl, sym, ap, subst, ◌∙◌, codes}
-use Rattle.rate_table.specs.Rates.{Rates}
-use Rattle.select_rates.specs.Select.{Selected}
-use Rattle.xtbml_subset.specs.declared.fault.TableFault.{TableFault}
-use Rattle.xtbml_subset.specs.Checks.{Asks, ◌>=>◌, Parts, path, aggregate_parts, parts_of, IsTable, in_first}
-use Rattle.xtbml_subset.specs.SelectChecks.{behind_first, select_parts, IsSelectTable}
-use Rattle.xtbml_subset.specs.AnyChecks.{AnyParts, aggregate, selected, parts_by_axes, any_parts_of, aggregated, as_select, IsAnyTable}
-use Rattle.xtbml_subset.specs.inside.Elements.{Found, children_at, siblings_at}
-use Rattle.xtbml_subset.specs.inside.Rows.{found_asks}
-use Rattle.xtbml_subset.specs.inside.Searches.{ElementPath, hit, IsFirstIn, IsFirstUnder, IsFound}
+use Rattle.xtbml_subset.proofs.Names.{◌≡◌, ℕ, List, [], ◌∷◌, Result, Ok, Err, refl, sym, ap, subst, ◌∙◌, codes, Rates, Selected, TableFault, Asks, ◌>=>◌, Parts, path, aggregate_parts, parts_of, IsTable, in_first, behind_first, select_parts, IsSelectTable, AnyParts, aggregate, selected, parts_by_axes, any_parts_of, aggregated, as_select, IsAnyTable, Found, children_at, siblings_at, found_asks, ElementPath, hit, IsFirstIn, IsFirstUnder, IsFound}
 
 -- the answer of a table by age alone, as one of either kind
 pub lifted : (parts : Result Parts TableFault) (answer : Result Rates TableFault) → IsTable parts answer → IsAnyTable (parts >=> λ one. Ok (aggregate one)) (aggregated answer)

@@ -1,9 +1,5 @@
 -- Attributes read one after the other.
-use Rattle.std.proofs.Common.{cond, ◌≡◌, ℕ, List, [], ◌∷◌, ◌++◌, length, Some, None, refl, ap, ◌∙◌}
-use Rattle.std.specs.Str.{bytes_eq}
-use Rattle.xtbml_subset.specs.Texts.{value_of}
-use Rattle.xtbml_subset.specs.Pieces.{Attribute, IsSpace}
-use Rattle.xtbml_subset.specs.inside.Reading.{attribute_at, attributes_from, attributes_at, with_attribute}
+use Rattle.xtbml_subset.proofs.Names.{cond, ◌≡◌, ℕ, List, [], ◌∷◌, ◌++◌, length, Some, None, refl, ap, ◌∙◌, bytes_eq, value_of, Attribute, IsSpace, attribute_at, attributes_from, attributes_at, with_attribute}
 use Rattle.xtbml_subset.proofs.Behind.{IsBehind, behind_count}
 use Rattle.xtbml_subset.proofs.Lexing.{attribute_takes}
 

@@ -1,6 +1,5 @@
 -- What is left of the bytes after something was taken from their front.
-use Rattle.std.proofs.Common.{◌≡◌, ℕ, ◌-◌, ◌<◌, List, ◌∷◌, ◌++◌, length, arith}
-use Rattle.std.proofs.lemmas.List.{length-append}
+use Rattle.xtbml_subset.proofs.Names.{◌≡◌, ℕ, ◌-◌, ◌<◌, List, ◌∷◌, ◌++◌, length, arith, length-append}
 
 -- rest is what is left of the bytes after one byte or more
 pub record IsBehind (bytes rest : List ℕ) : Type 0 where

@@ -1,14 +1,5 @@
 -- Rows with blank ones at their end, and issue ages one after the other.
-use Rattle.std.proofs.Common.{◌≡◌, ℕ, true, false, List, [], ◌∷◌, ◌++◌, map, Option, None, Some, refl, sym, ap, ◌∙◌, append_assoc, codes}
-use Rattle.std.proofs.lemmas.List.{map-append}
-use Rattle.std.specs.Option.{MatchOption}
-use Rattle.xtbml_subset.specs.declared.found.Element.{Element}
-use Rattle.xtbml_subset.specs.inside.Elements.{Found, siblings_at}
-use Rattle.xtbml_subset.specs.inside.Rows.{row_of, rows_from, found_asks}
-use Rattle.xtbml_subset.specs.inside.Issues.{issues_from}
-use Rattle.xtbml_subset.specs.inside.Views.{found_of}
-use Rattle.xtbml_subset.specs.Checks.{RateElement}
-use Rattle.xtbml_subset.specs.SelectChecks.{Issue, durations_of, issue_age_of, is_blank, has_filled, filled}
+use Rattle.xtbml_subset.proofs.Names.{◌≡◌, ℕ, true, false, List, [], ◌∷◌, ◌++◌, map, Option, None, Some, refl, sym, ap, ◌∙◌, append_assoc, codes, map-append, MatchOption, Element, Found, siblings_at, row_of, rows_from, found_asks, issues_from, found_of, RateElement, Issue, durations_of, issue_age_of, is_blank, has_filled, filled}
 
 pub passed_blank : (row : RateElement) (rows : List RateElement) → is_blank row.text ≡ true → has_filled rows ≡ has_filled (row ∷ rows)
 passed_blank row rows e = rw e refl

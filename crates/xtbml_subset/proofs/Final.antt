@@ -1,22 +1,8 @@
 -- The answer of the reader is the one that is due.
-use Rattle.std.proofs.Common.{◌≡◌, ℕ, ◌≤◌, List, [], ◌∷◌, length, Some, None, Result, Ok, Err, refl, sym, ap, subst, ◌∙◌, inl, inr, arith}
-use Rattle.std.specs.Prelude.{IfOk, IfErr}
-use Rattle.rate_table.specs.Rates.{Rates}
-use Rattle.xtbml_subset.specs.declared.fault.TableKind.TheVariants.{NotDocument}
-use Rattle.xtbml_subset.specs.declared.fault.TableFault.{TableFault}
-use Rattle.xtbml_subset.specs.declared.fault.TableFault.TheVariants.{Bad, NoMemory}
-use Rattle.xtbml_subset.specs.inside.Walk.{fault_at}
-use Rattle.xtbml_subset.specs.declared.found.Element.{Element}
+use Rattle.xtbml_subset.proofs.Names.{◌≡◌, ℕ, ◌≤◌, List, [], ◌∷◌, length, Some, None, Result, Ok, Err, refl, sym, ap, subst, ◌∙◌, inl, inr, arith, IfOk, IfErr, Rates, NotDocument, TableFault, Bad, NoMemory, fault_at, Element, Found, depth_in, elements_from, elements_at, Stands, IsPath, IsFound, found_of, sought_of, path_of, Parts, parts_of, IsTable, found_asks, Node, IsDocument, node_asks, IsLongestNested, IsJudged, IsNoDocument, IsTableAnswer, Gives, Unless}
 use Rattle.xtbml_subset.specs.declared.search.Search.{Search}
 use Rattle.xtbml_subset.specs.declared.search.Search.TheVariants.{Seeking, Hit, Missed}
 use Rattle.xtbml_subset.specs.declared.path.ElementPath.{ElementPath as APath}
-use Rattle.xtbml_subset.specs.inside.Elements.{Found, depth_in, elements_from, elements_at}
-use Rattle.xtbml_subset.specs.inside.Searches.{Stands, IsPath, IsFound}
-use Rattle.xtbml_subset.specs.inside.Views.{found_of, sought_of, path_of}
-use Rattle.xtbml_subset.specs.Checks.{Parts, parts_of, IsTable}
-use Rattle.xtbml_subset.specs.inside.Rows.{found_asks}
-use Rattle.xtbml_subset.specs.Documents.{Node, IsDocument, node_asks}
-use Rattle.xtbml_subset.specs.Answers.{IsLongestNested, IsJudged, IsNoDocument, IsTableAnswer, Gives, Unless}
 use Rattle.xtbml_subset.proofs.Accepting.{document_accepted}
 use Rattle.xtbml_subset.proofs.Sounding.{whole_document, longest_nested}
 use Rattle.xtbml_subset.proofs.Matching.{Matches, finds_root}

@@ -1,18 +1,6 @@
 -- The checks find the same of the elements that are found as of the document, and one answer.
-use Rattle.std.proofs.Common.{◌≡◌, ℕ, ◌+◌, Bool, true, false, cond, List, [], ◌∷◌, map, Option, Some, None, Result, Ok, Err, refl, sym, ap, subst, ◌∙◌, codes}
-use Rattle.std.specs.Prelude.{MatchBool}
-use Rattle.std.specs.Str.{bytes_eq}
+use Rattle.xtbml_subset.proofs.Names.{◌≡◌, ℕ, ◌+◌, Bool, true, false, cond, List, [], ◌∷◌, map, Option, Some, None, Result, Ok, Err, refl, sym, ap, subst, ◌∙◌, codes, MatchBool, bytes_eq, Rates, NoTable, Select, TableFault, Bad, ◌>>=◌, trimmed, Tag, Found, children_at, row_of, found_asks, Node, named_in, node_row, node_asks, RateElement, first, ◌>=>◌, or_fault, within, rooted, path, rates_in, rates_of, factor_of, age_of, is_due, ReadsRate, rated, IsAged, with_rate, Continues, ReadsRows, IsScale, Parts, option_row, aggregate_parts, parts_of, first_age, IsScaledTable, IsTable}
 use Rattle.decimal_text.proofs.CallerLemmas.{one_rate}
-use Rattle.rate_table.specs.Rates.{Rates}
-use Rattle.xtbml_subset.specs.declared.fault.TableKind.TheVariants.{NoTable, Select}
-use Rattle.xtbml_subset.specs.declared.fault.TableFault.{TableFault}
-use Rattle.xtbml_subset.specs.declared.fault.TableFault.TheVariants.{Bad}
-use Rattle.xtbml_subset.specs.Texts.{◌>>=◌, trimmed}
-use Rattle.xtbml_subset.specs.Pieces.{Tag}
-use Rattle.xtbml_subset.specs.inside.Elements.{Found, children_at}
-use Rattle.xtbml_subset.specs.inside.Rows.{row_of, found_asks}
-use Rattle.xtbml_subset.specs.Documents.{Node, named_in, node_row, node_asks}
-use Rattle.xtbml_subset.specs.Checks.{RateElement, first, ◌>=>◌, or_fault, within, rooted, path, rates_in, rates_of, factor_of, age_of, is_due, ReadsRate, rated, IsAged, with_rate, Continues, ReadsRows, IsScale, Parts, option_row, aggregate_parts, parts_of, first_age, IsScaledTable, IsTable}
 use Rattle.xtbml_subset.proofs.Matching.{Matches, AllMatch, children_match, row_match}
 
 -- ---- what is found is what the document has

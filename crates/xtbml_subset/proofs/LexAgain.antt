@@ -1,11 +1,5 @@
 -- What is a part by the grammar is read again, whatever follows it.
-use Rattle.std.proofs.Common.{◌≡◌, ℕ, Bool, true, false, eqb, ◌||◌, List, [], ◌∷◌, ◌++◌, Some, None, refl, sym, ap, subst, ◌∙◌, ◌⊎◌, inl, inr, append_assoc}
-use Rattle.std.proofs.lemmas.Bool.{eqb-true, eq-eqb, or_cases, cases_Bool, true≢false}
-use Rattle.xtbml_subset.specs.declared.class.Class.{Class}
-use Rattle.xtbml_subset.specs.declared.class.Class.TheVariants.{White, Name, DoubleQuoted, SingleQuoted, Text}
-use Rattle.xtbml_subset.specs.Classes.{is_in, starts_name, InClass, front, after}
-use Rattle.xtbml_subset.specs.Pieces.{Attribute, IsSpace, IsTagName, IsQuoted, IsAttribute}
-use Rattle.xtbml_subset.specs.inside.Reading.{spaces_at, name_at, closed_at, quoted_at, attribute_at}
+use Rattle.xtbml_subset.proofs.Names.{◌≡◌, ℕ, Bool, true, false, eqb, ◌||◌, List, [], ◌∷◌, ◌++◌, Some, None, refl, sym, ap, subst, ◌∙◌, ◌⊎◌, inl, inr, append_assoc, eqb-true, eq-eqb, or_cases, cases_Bool, true≢false, Class, White, Name, DoubleQuoted, SingleQuoted, Text, is_in, starts_name, InClass, front, after, Attribute, IsSpace, IsTagName, IsQuoted, IsAttribute, spaces_at, name_at, closed_at, quoted_at, attribute_at}
 
 -- the bytes are over, or go on with a byte that isn't of the class
 abbrev pub Stops : Class → List ℕ → Type 0

@@ -1,12 +1,5 @@
 -- What the readers of the small parts take is as the grammar has it.
-use Rattle.std.proofs.Common.{◌≡◌, ℕ, true, cond, eqb, List, [], ◌∷◌, ◌++◌, Some, None, refl, sym, ap, subst, ◌∙◌, inl, inr, append_assoc}
-use Rattle.std.proofs.lemmas.Bool.{eqb-true}
-use Rattle.xtbml_subset.specs.declared.class.Class.{Class}
-use Rattle.xtbml_subset.specs.declared.class.Class.TheVariants.{White, Name, DoubleQuoted, SingleQuoted}
-use Rattle.xtbml_subset.specs.Classes.{is_in, starts_name, InClass, front, after}
-use Rattle.xtbml_subset.specs.Pieces.{Attribute, IsSpace, IsTagName, IsQuoted, IsAttribute}
-use Rattle.xtbml_subset.specs.inside.Reading.{byte_at, spaces_at, name_at, closed_at, quoted_at, attribute_at}
-use Rattle.xtbml_subset.specs.Texts.{◌>>=◌}
+use Rattle.xtbml_subset.proofs.Names.{◌≡◌, ℕ, true, cond, eqb, List, [], ◌∷◌, ◌++◌, Some, None, refl, sym, ap, subst, ◌∙◌, inl, inr, append_assoc, eqb-true, Class, White, Name, DoubleQuoted, SingleQuoted, is_in, starts_name, InClass, front, after, Attribute, IsSpace, IsTagName, IsQuoted, IsAttribute, byte_at, spaces_at, name_at, closed_at, quoted_at, attribute_at, ◌>>=◌}
 use Rattle.xtbml_subset.proofs.Options.{bind_some, chosen, some_is, pair_is}
 use Rattle.xtbml_subset.proofs.Runs.{front-after, front_in}
 

@@ -1,3 +1,4 @@
+pub mod Names
 pub mod Options
 pub mod Runs
 pub mod Lexing

@@ -1,20 +1,8 @@
 -- The elements that the search finds are those of the document.
-use Rattle.std.proofs.Common.{◌≡◌, ℕ, zero, suc, ◌+◌, ◌-◌, Bool, true, false, cond, eqb, List, [], ◌∷◌, ◌++◌, length, Option, Some, None, refl, sym, ap, subst, ◌∙◌, ◌⊎◌, inl, inr, append_assoc, arith, codes}
+use Rattle.xtbml_subset.proofs.Names.{◌≡◌, ℕ, zero, suc, ◌+◌, ◌-◌, Bool, true, false, cond, eqb, List, [], ◌∷◌, ◌++◌, length, Option, Some, None, refl, sym, ap, subst, ◌∙◌, ◌⊎◌, inl, inr, append_assoc, arith, codes, ne_eqb, and_left, length-append, bytes_eq, White, Text, is_in, starts_name, InClass, front, after, Tag, Piece, byte, comment, declaration, start, whole, finish, IsPiece, IsTagName, IsMark, Spell, byte_at, ◌>>=◌, value_of, Found, on, found, closed, is_wanted, is_hit, step_of, elements_at, children_at, text_at, Content, nothing, letter, remark, element, IsElement, IsContent, AreMisc, IsDocumentOpening, Node, IsDocument, with_named, named_in, with_letter, text_of, node_row, row_of, after_mark}
 use Rattle.std.proofs.Math.Numerals.{add-one}
-use Rattle.std.proofs.lemmas.Bool.{ne_eqb, and_left}
-use Rattle.std.proofs.lemmas.List.{length-append}
-use Rattle.std.specs.Str.{bytes_eq}
-use Rattle.xtbml_subset.specs.declared.class.Class.TheVariants.{White, Text}
-use Rattle.xtbml_subset.specs.Classes.{is_in, starts_name, InClass, front, after}
-use Rattle.xtbml_subset.specs.Pieces.{Tag, Piece, byte, comment, declaration, start, whole, finish, IsPiece, IsTagName, IsMark, Spell}
-use Rattle.xtbml_subset.specs.inside.Reading.{byte_at}
-use Rattle.xtbml_subset.specs.Texts.{◌>>=◌, value_of}
-use Rattle.xtbml_subset.specs.inside.Elements.{Found, on, found, closed, is_wanted, is_hit, step_of, elements_at, children_at, text_at}
-use Rattle.xtbml_subset.specs.Documents.{Content, nothing, letter, remark, element, IsElement, IsContent, AreMisc, IsDocumentOpening, Node, IsDocument, with_named, named_in, with_letter, text_of, node_row}
-use Rattle.xtbml_subset.specs.inside.Rows.{row_of}
 use Rattle.xtbml_subset.proofs.LexAgain.{white_is_text}
 use Rattle.xtbml_subset.proofs.PieceAgain.{not_start, piece_again}
-use Rattle.xtbml_subset.specs.inside.Walk.{after_mark}
 use Rattle.xtbml_subset.proofs.Searching.{elements_by}
 use Rattle.xtbml_subset.proofs.Sounding.{splits_mark}
 

@@ -1,15 +1,6 @@
 -- The machine goes through pieces exactly where they nest.
-use Rattle.std.proofs.Common.{◌≡◌, ℕ, ◌<◌, ◌||◌, Bool, true, false, cond, ltb, List, [], ◌∷◌, ◌++◌, length, map, Option, Some, None, refl, sym, ap, subst, ◌∙◌, arith}
-use Rattle.std.proofs.lemmas.Bool.{ltb-true, lt-ltb, true≢false}
-use Rattle.std.proofs.lemmas.Slice.Eq.{bytes_eq-Decides}
-use Rattle.std.specs.Str.{bytes_eq}
-use Rattle.xtbml_subset.specs.declared.class.Class.TheVariants.{White}
-use Rattle.xtbml_subset.specs.declared.state.Phase.{Phase}
-use Rattle.xtbml_subset.specs.declared.state.Phase.TheVariants.{Opening, Prolog, Epilog}
-use Rattle.xtbml_subset.specs.Classes.{is_in}
-use Rattle.xtbml_subset.specs.Pieces.{Piece, byte, comment, declaration, start, whole, finish, IsMark, Spell}
+use Rattle.xtbml_subset.proofs.Names.{◌≡◌, ℕ, ◌<◌, ◌||◌, Bool, true, false, cond, ltb, List, [], ◌∷◌, ◌++◌, length, map, Option, Some, None, refl, sym, ap, subst, ◌∙◌, arith, ltb-true, lt-ltb, true≢false, bytes_eq-Decides, bytes_eq, White, Phase, Opening, Prolog, Epilog, is_in, Piece, byte, comment, declaration, start, whole, finish, IsMark, Spell, State, outside, past, after_names, after_piece, Steps, IsWalked}
 use Rattle.xtbml_subset.specs.Nesting.{Part, mark, piece, AreParts, opened, open_from, open_after, is_tag, has_tag, IsBlank, AreBlank, MayStart, MayFollow, Follow, Nests, IsNested}
-use Rattle.xtbml_subset.specs.inside.Machine.{State, outside, past, after_names, after_piece, Steps, IsWalked}
 
 -- ---- one part more
 

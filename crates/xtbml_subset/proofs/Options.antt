@@ -1,7 +1,5 @@
 -- Options, tests and tuples taken apart.
-use Rattle.std.proofs.Common.{◌≡◌, Bool, true, false, cond, Option, Some, None, refl, ap, ◌⊎◌, inl, inr}
-use Rattle.xtbml_subset.specs.inside.Reading.{first_of}
-use Rattle.xtbml_subset.specs.Texts.{◌>>=◌}
+use Rattle.xtbml_subset.proofs.Names.{◌≡◌, Bool, true, false, cond, Option, Some, None, refl, ap, ◌⊎◌, inl, inr, first_of, ◌>>=◌}
 
 pub bind_some : {A B : Type 0} (o : Option A) (f : A → Option B) (y : B) → (o >>= f) ≡ Some y → (x : A) × (o ≡ Some x) × (f x ≡ Some y)
 bind_some None f y e = absurd cc

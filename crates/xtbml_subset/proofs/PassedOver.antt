@@ -1,14 +1,5 @@
 -- Runs of single bytes that are passed over.
-use Rattle.std.proofs.Common.{◌≡◌, ℕ, zero, suc, true, List, [], ◌∷◌, Option, Some, refl, sym, ◌∙◌, inl, inr, arith}
-use Rattle.std.proofs.lemmas.Bool.{cases_Bool}
-use Rattle.xtbml_subset.specs.declared.class.Class.{Class}
-use Rattle.xtbml_subset.specs.declared.class.Class.TheVariants.{White, Text}
-use Rattle.xtbml_subset.specs.declared.state.Phase.{Phase}
-use Rattle.xtbml_subset.specs.Classes.{is_in, after}
-use Rattle.xtbml_subset.specs.Pieces.{byte}
-use Rattle.xtbml_subset.specs.inside.Machine.{State, outside, after_piece}
-use Rattle.xtbml_subset.specs.inside.Walk.{names_of, walk_at}
-use Rattle.xtbml_subset.specs.inside.Elements.{on, elements_at}
+use Rattle.xtbml_subset.proofs.Names.{◌≡◌, ℕ, zero, suc, true, List, [], ◌∷◌, Option, Some, refl, sym, ◌∙◌, inl, inr, arith, cases_Bool, Class, White, Text, Phase, is_in, after, byte, State, outside, after_piece, names_of, walk_at, on, elements_at}
 use Rattle.xtbml_subset.proofs.LexAgain.{white_is_text}
 use Rattle.xtbml_subset.proofs.PieceReading.{piece_byte}
 use Rattle.xtbml_subset.proofs.Walking.{walk_step}

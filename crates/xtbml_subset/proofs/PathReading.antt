@@ -1,15 +1,7 @@
 -- What the searches found is what the checks ask for.
-use Rattle.std.proofs.Common.{◌≡◌, ℕ, ◌-◌, List, [], ◌∷◌, length, Ok, Err, sym, ap, subst, ◌∙◌, ◌⊎◌, inl, inr}
-use Rattle.xtbml_subset.specs.declared.fault.TableKind.TheVariants.{NoTable}
-use Rattle.xtbml_subset.specs.declared.fault.TableFault.TheVariants.{Bad}
-use Rattle.xtbml_subset.specs.declared.found.Element.{Element}
+use Rattle.xtbml_subset.proofs.Names.{◌≡◌, ℕ, ◌-◌, List, [], ◌∷◌, length, Ok, Err, sym, ap, subst, ◌∙◌, ◌⊎◌, inl, inr, NoTable, Bad, Element, first, or_fault, within, Found, children_at, siblings_at, row_of, found_asks, IsFirstIn, found_of, sought_of}
 use Rattle.xtbml_subset.specs.declared.search.Search.{Search}
 use Rattle.xtbml_subset.specs.declared.search.Search.TheVariants.{Seeking, Hit, Missed}
-use Rattle.xtbml_subset.specs.Checks.{first, or_fault, within}
-use Rattle.xtbml_subset.specs.inside.Elements.{Found, children_at, siblings_at}
-use Rattle.xtbml_subset.specs.inside.Rows.{row_of, found_asks}
-use Rattle.xtbml_subset.specs.inside.Searches.{IsFirstIn}
-use Rattle.xtbml_subset.specs.inside.Views.{found_of, sought_of}
 
 -- one that was found is the first child
 pub hit_first : (name : List ℕ) (parent : Found) (search : Search) (e : Element) → search ≡ Hit e → IsFirstIn name parent (sought_of search)

@@ -1,10 +1,5 @@
 -- What is a piece by the grammar is read as this piece, whatever follows it.
-use Rattle.std.proofs.Common.{◌≡◌, ◌≢◌, ℕ, ◌≤◌, Bool, true, false, cond, eqb, List, [], ◌∷◌, ◌++◌, length, Option, Some, None, refl, sym, ap, subst, ◌∙◌, inl, inr, append_assoc, arith}
-use Rattle.std.proofs.lemmas.Bool.{eqb-true, true≢false, cases_Bool, not-true}
-use Rattle.xtbml_subset.specs.declared.class.Class.TheVariants.{White, Name, Declared, Text}
-use Rattle.xtbml_subset.specs.Classes.{is_in, starts_name, InClass, after}
-use Rattle.xtbml_subset.specs.Pieces.{Attribute, Tag, Piece, byte, comment, declaration, start, whole, finish, IsSpace, IsTagName, AreAttributes, EndsByDashes, IsPiece}
-use Rattle.xtbml_subset.specs.inside.Reading.{spaces_at, attribute_at, attributes_at, with_attribute, first_of, dashes_at, comment_end_at, comment_at, declaration_at, end_tag_at, tag_at, marked_at, piece_at}
+use Rattle.xtbml_subset.proofs.Names.{◌≡◌, ◌≢◌, ℕ, ◌≤◌, Bool, true, false, cond, eqb, List, [], ◌∷◌, ◌++◌, length, Option, Some, None, refl, sym, ap, subst, ◌∙◌, inl, inr, append_assoc, arith, eqb-true, true≢false, cases_Bool, not-true, White, Name, Declared, Text, is_in, starts_name, InClass, after, Attribute, Tag, Piece, byte, comment, declaration, start, whole, finish, IsSpace, IsTagName, AreAttributes, EndsByDashes, IsPiece, spaces_at, attribute_at, attributes_at, with_attribute, first_of, dashes_at, comment_end_at, comment_at, declaration_at, end_tag_at, tag_at, marked_at, piece_at}
 use Rattle.xtbml_subset.proofs.AttributeRuns.{attributes_step, attributes_stop}
 use Rattle.xtbml_subset.proofs.PieceReading.{dashes_take}
 use Rattle.xtbml_subset.proofs.LexAgain.{Stops, after_again, stops_white, name_again, attribute_again, attribute_stops, no_attribute}

@@ -1,11 +1,5 @@
 -- A piece that is read is a piece of the grammar, and something stands before what is left.
-use Rattle.std.proofs.Common.{◌≡◌, ◌≢◌, ℕ, zero, suc, ◌<◌, ◌≤◌, true, false, cond, eqb, List, [], ◌∷◌, ◌++◌, length, Option, Some, None, refl, sym, ap, subst, ◌∙◌, inl, inr, append_assoc, arith}
-use Rattle.std.proofs.lemmas.Bool.{eqb-true, not-true}
-use Rattle.xtbml_subset.specs.declared.class.Class.TheVariants.{White, Declared, Text}
-use Rattle.xtbml_subset.specs.Classes.{is_in, front, after}
-use Rattle.xtbml_subset.specs.Pieces.{Attribute, Tag, Piece, byte, comment, declaration, start, whole, finish, IsTagName, AreAttributes, IsTag, IsEndTag, EndsByDashes, IsDeclaration, IsPiece}
-use Rattle.xtbml_subset.specs.inside.Reading.{byte_at, spaces_at, name_at, attribute_at, attributes_from, attributes_at, with_attribute, dashes_at, comment_end_at, comment_at, declaration_at, end_tag_at, start_at, whole_at, tag_end_at, tag_at, marked_at, piece_at}
-use Rattle.xtbml_subset.specs.Texts.{◌>>=◌}
+use Rattle.xtbml_subset.proofs.Names.{◌≡◌, ◌≢◌, ℕ, zero, suc, ◌<◌, ◌≤◌, true, false, cond, eqb, List, [], ◌∷◌, ◌++◌, length, Option, Some, None, refl, sym, ap, subst, ◌∙◌, inl, inr, append_assoc, arith, eqb-true, not-true, White, Declared, Text, is_in, front, after, Attribute, Tag, Piece, byte, comment, declaration, start, whole, finish, IsTagName, AreAttributes, IsTag, IsEndTag, EndsByDashes, IsDeclaration, IsPiece, byte_at, spaces_at, name_at, attribute_at, attributes_from, attributes_at, with_attribute, dashes_at, comment_end_at, comment_at, declaration_at, end_tag_at, start_at, whole_at, tag_end_at, tag_at, marked_at, piece_at, ◌>>=◌}
 use Rattle.xtbml_subset.proofs.Options.{bind_some, first_of_some, chosen, pair_is, some_pair}
 use Rattle.xtbml_subset.proofs.Runs.{front-after, front_in}
 use Rattle.xtbml_subset.proofs.Lexing.{byte_takes, spaces_takes, name_takes, attribute_takes}

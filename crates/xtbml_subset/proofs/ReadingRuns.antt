@@ -1,8 +1,5 @@
 -- Items read one after the other, and what is read as one thing only.
-use Rattle.std.proofs.Common.{◌≡◌, suc, List, [], ◌∷◌, ◌++◌, length, Result, Ok, Err, refl, sym, ap, subst, ◌∙◌, append_assoc}
-use Rattle.std.proofs.lemmas.List.{append-nil}
-use Rattle.xtbml_subset.specs.declared.fault.TableFault.{TableFault}
-use Rattle.xtbml_subset.specs.SelectChecks.{Further, InTurn, ReadsAll}
+use Rattle.xtbml_subset.proofs.Names.{◌≡◌, suc, List, [], ◌∷◌, ◌++◌, length, Result, Ok, Err, refl, sym, ap, subst, ◌∙◌, append_assoc, append-nil, TableFault, Further, InTurn, ReadsAll}
 
 -- values that were read, before those to come
 abbrev pub behind : {B : Type 0} → List B → Result (List B) TableFault → Result (List B) TableFault

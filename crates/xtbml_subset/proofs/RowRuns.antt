@@ -1,15 +1,5 @@
 -- Rows read one after the other.
-use Rattle.std.proofs.Common.{◌≡◌, ℕ, ◌+◌, List, [], ◌∷◌, ◌++◌, map, Option, None, Some, Result, Ok, Err, refl, sym, ap, subst, append_assoc, codes}
-use Rattle.std.specs.Option.{MatchOption}
-use Rattle.std.proofs.lemmas.List.{append-nil}
-use Rattle.xtbml_subset.specs.declared.found.Element.{Element}
-use Rattle.xtbml_subset.specs.declared.fault.TableFault.{TableFault}
-use Rattle.xtbml_subset.specs.declared.fault.TableFault.TheVariants.{Bad, NoMemory}
-use Rattle.xtbml_subset.specs.inside.Elements.{Found, siblings_at}
-use Rattle.xtbml_subset.specs.Checks.{RateElement, ReadsRow, ReadsRows, with_rate}
-use Rattle.xtbml_subset.specs.inside.Rows.{row_of, rows_from}
-use Rattle.xtbml_subset.specs.Answers.{Unless}
-use Rattle.xtbml_subset.specs.inside.Views.{found_of}
+use Rattle.xtbml_subset.proofs.Names.{◌≡◌, ℕ, ◌+◌, List, [], ◌∷◌, ◌++◌, map, Option, None, Some, Result, Ok, Err, refl, sym, ap, subst, append_assoc, codes, MatchOption, append-nil, Element, TableFault, Bad, NoMemory, Found, siblings_at, RateElement, ReadsRow, ReadsRows, with_rate, row_of, rows_from, Unless, found_of}
 
 -- rates that were read, before those to come
 abbrev pub ahead : List ℕ → Result (List ℕ) TableFault → Result (List ℕ) TableFault

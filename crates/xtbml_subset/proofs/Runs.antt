@@ -1,12 +1,6 @@
 -- A run of bytes of one class.
-use Rattle.std.proofs.Common.{◌≡◌, ℕ, zero, suc, ◌+◌, ◌-◌, ◌<◌, ◌≤◌, Bool, true, false, cond, eqb, not, Option, Some, None, List, [], ◌∷◌, ◌++◌, length, get_or, take, drop, refl, sym, ap, ◌∙◌, inl, inr, append_assoc, arith}
-use Rattle.std.proofs.lemmas.List.{drop_more, take_more, drop_all, take_all, append-nil}
-use Rattle.std.proofs.lemmas.Bool.{cases_Bool, false_from_ne_true}
+use Rattle.xtbml_subset.proofs.Names.{◌≡◌, ℕ, zero, suc, ◌+◌, ◌-◌, ◌<◌, ◌≤◌, Bool, true, false, cond, eqb, not, Option, Some, None, List, [], ◌∷◌, ◌++◌, length, get_or, take, drop, refl, sym, ap, ◌∙◌, inl, inr, append_assoc, arith, drop_more, take_more, drop_all, take_all, append-nil, cases_Bool, false_from_ne_true, Class, Text, first_of, dashes_at, comment_end_at, from_byte, is_in, InClass, front, after}
 use Rattle.memchr.specs.Find.{Nowhere, Passes, IsFirstByte, is_byte}
-use Rattle.xtbml_subset.specs.declared.class.Class.{Class}
-use Rattle.xtbml_subset.specs.declared.class.Class.TheVariants.{Text}
-use Rattle.xtbml_subset.specs.inside.Reading.{first_of, dashes_at, comment_end_at, from_byte}
-use Rattle.xtbml_subset.specs.Classes.{is_in, InClass, front, after}
 
 pub front_more : (class : Class) (bytes : List ℕ) (i : ℕ) → i < length bytes → is_in class (get_or bytes i 0) ≡ true
     → take i bytes ++ front class (drop i bytes) ≡ take (i + 1) bytes ++ front class (drop (i + 1) bytes)

@@ -1,14 +1,6 @@
 -- Which factors leave the rates as they are.
-use Rattle.std.proofs.Common.{◌≡◌, ℕ, Bool, true, false, eqb, ◌||◌, List, [], ◌++◌, Some, refl, sym, ap, subst, ◌∙◌, ◌⊎◌, inl, inr}
-use Rattle.std.specs.Prelude.{MatchBool}
-use Rattle.std.proofs.lemmas.Bool.{eqb-true, eq-eqb, or_cases, or_left, or_right, true≢false}
-use Rattle.std.proofs.lemmas.List.{append-nil}
-use Rattle.decimal_text.specs.Rate.{IsRate}
+use Rattle.xtbml_subset.proofs.Names.{◌≡◌, ℕ, Bool, true, false, eqb, ◌||◌, List, [], ◌++◌, Some, refl, sym, ap, subst, ◌∙◌, ◌⊎◌, inl, inr, MatchBool, eqb-true, eq-eqb, or_cases, or_left, or_right, true≢false, append-nil, IsRate, White, InClass, front, after, trimmed, IsUnscaled}
 use Rattle.decimal_text.proofs.CallerLemmas.{one_rate}
-use Rattle.xtbml_subset.specs.declared.class.Class.TheVariants.{White}
-use Rattle.xtbml_subset.specs.Classes.{InClass, front, after}
-use Rattle.xtbml_subset.specs.Texts.{trimmed}
-use Rattle.xtbml_subset.specs.Checks.{IsUnscaled}
 use Rattle.xtbml_subset.proofs.Runs.{front-after, front_in}
 use Rattle.xtbml_subset.proofs.LexAgain.{after_again}
 

@@ -1,9 +1,5 @@
 -- The search for elements, one piece on and at its end.
-use Rattle.std.proofs.Common.{true, false, inl, inr, ◌≡◌, ℕ, zero, suc, ◌+◌, ◌≤◌, List, [], ◌∷◌, ◌++◌, length, Option, Some, None, refl, sym, subst, arith}
-use Rattle.std.specs.Option.{option_map_or}
-use Rattle.xtbml_subset.specs.Pieces.{Piece, byte, comment, declaration, start, whole, finish}
-use Rattle.xtbml_subset.specs.inside.Reading.{piece_at}
-use Rattle.xtbml_subset.specs.inside.Elements.{Found, is_hit, Step, on, found, step_of, depth_after, found_by, elements_from, elements_at}
+use Rattle.xtbml_subset.proofs.Names.{true, false, inl, inr, ◌≡◌, ℕ, zero, suc, ◌+◌, ◌≤◌, List, [], ◌∷◌, ◌++◌, length, Option, Some, None, refl, sym, subst, arith, option_map_or, Piece, byte, comment, declaration, start, whole, finish, piece_at, Found, is_hit, Step, on, found, step_of, depth_after, found_by, elements_from, elements_at}
 use Rattle.xtbml_subset.proofs.Options.{chosen}
 use Rattle.xtbml_subset.proofs.Behind.{behind_count}
 use Rattle.xtbml_subset.proofs.PieceReading.{piece_behind}

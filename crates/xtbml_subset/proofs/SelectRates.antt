@@ -1,16 +1,5 @@
 -- Select rates that are read, with no gap before the ultimate ones, make a table with these.
-use Rattle.std.proofs.Common.{◌≡◌, ℕ, zero, suc, ◌+◌, ◌-◌, ◌<◌, ◌≤◌, true, false, leb, ltb, List, [], ◌∷◌, length, map, get_or, Option, Some, None, Result, Ok, Err, refl, sym, ap, subst, ◌∙◌, inl, inr, arith}
-use Rattle.std.specs.Option.{unwrap_or}
-use Rattle.std.proofs.lemmas.Bool.{eqb-true, leb-true, le-leb, ltb-false, and_parts, and_cases, true≢false}
-use Rattle.std.proofs.lemmas.List.{length-map}
-use Rattle.rate_table.specs.Rates.{Rates, ONE, last_age_of}
-use Rattle.select_rates.specs.Select.{IsSelectPeriod, AreSelected}
-use Rattle.xtbml_subset.specs.declared.fault.TableFault.{TableFault}
-use Rattle.xtbml_subset.specs.declared.fault.TableKind.TheVariants.{BadDuration}
-use Rattle.xtbml_subset.specs.declared.fault.TableFault.TheVariants.{Bad}
-use Rattle.xtbml_subset.specs.declared.period.Attained.{Attained}
-use Rattle.xtbml_subset.specs.Checks.{RateElement, age_of, is_due, ReadsRate}
-use Rattle.xtbml_subset.specs.SelectChecks.{Issue, Further, ReadsAll, duration_of, follows, is_duration, timed, IsTimed, ReadsDuration, ReadsPeriod, IsIssuedAt, ReadsIssue, first_issue_age, leaves_gap, first_gap}
+use Rattle.xtbml_subset.proofs.Names.{◌≡◌, ℕ, zero, suc, ◌+◌, ◌-◌, ◌<◌, ◌≤◌, true, false, leb, ltb, List, [], ◌∷◌, length, map, get_or, Option, Some, None, Result, Ok, Err, refl, sym, ap, subst, ◌∙◌, inl, inr, arith, unwrap_or, eqb-true, leb-true, le-leb, ltb-false, and_parts, and_cases, true≢false, length-map, Rates, ONE, last_age_of, IsSelectPeriod, AreSelected, TableFault, BadDuration, Bad, Attained, RateElement, age_of, is_due, ReadsRate, Issue, Further, ReadsAll, duration_of, follows, is_duration, timed, IsTimed, ReadsDuration, ReadsPeriod, IsIssuedAt, ReadsIssue, first_issue_age, leaves_gap, first_gap}
 use Rattle.xtbml_subset.proofs.Options.{chosen}
 use Rattle.xtbml_subset.proofs.TableRates.{at_test, age_bound, rate_bound}
 use Rattle.xtbml_subset.proofs.ReadingRuns.{first_of_all, ok_is_list, all_count}

@@ -1,15 +1,5 @@
 -- By what the reader found, the answer of the checks of a select table.
-use Rattle.std.proofs.Common.{◌≡◌, ℕ, List, ◌∷◌, map, Option, None, Some, Ok, Err, refl, sym, ap, ◌∙◌, codes}
-use Rattle.rate_table.specs.Rates.{Rates}
-use Rattle.select_rates.specs.Select.{Selected}
-use Rattle.xtbml_subset.specs.declared.fault.TableKind.TheVariants.{UltimateGap}
-use Rattle.xtbml_subset.specs.declared.fault.TableFault.{TableFault}
-use Rattle.xtbml_subset.specs.declared.fault.TableFault.TheVariants.{Bad}
-use Rattle.xtbml_subset.specs.Checks.{IsScale}
-use Rattle.xtbml_subset.specs.SelectChecks.{Issue, SelectParts, issue_axes, issue_age_of, ReadsAll, ReadsIssue, ReadsUltimate, first_issue_age, first_gap, without_gap, IsSelectTable}
-use Rattle.xtbml_subset.specs.inside.Elements.{Found, siblings_at}
-use Rattle.xtbml_subset.specs.inside.Rows.{found_asks}
-use Rattle.xtbml_subset.specs.inside.Issues.{issues_from}
+use Rattle.xtbml_subset.proofs.Names.{◌≡◌, ℕ, List, ◌∷◌, map, Option, None, Some, Ok, Err, refl, sym, ap, ◌∙◌, codes, Rates, Selected, UltimateGap, TableFault, Bad, IsScale, Issue, SelectParts, issue_axes, issue_age_of, ReadsAll, ReadsIssue, ReadsUltimate, first_issue_age, first_gap, without_gap, IsSelectTable, Found, siblings_at, found_asks, issues_from}
 
 pub scale_refused : (parts : SelectParts) (fault : TableFault) → IsScale parts.factor (Err fault) → IsSelectTable parts (Err fault)
 scale_refused parts fault h = (Err fault, h, refl)

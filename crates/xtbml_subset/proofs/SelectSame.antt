@@ -1,12 +1,5 @@
 -- The checks of a select table find the same of the elements that are found as of the document.
-use Rattle.std.proofs.Common.{◌≡◌, ℕ, Bool, true, false, cond, List, [], ◌∷◌, map, Option, Result, Ok, refl, ap, ◌∙◌, codes}
-use Rattle.xtbml_subset.specs.declared.fault.TableFault.{TableFault}
-use Rattle.xtbml_subset.specs.inside.Elements.{Found, children_at}
-use Rattle.xtbml_subset.specs.inside.Rows.{row_of, found_asks}
-use Rattle.xtbml_subset.specs.Documents.{Node, named_in, node_row, node_asks}
-use Rattle.xtbml_subset.specs.Checks.{RateElement, ◌>=>◌, path, Parts, in_first}
-use Rattle.xtbml_subset.specs.SelectChecks.{behind_first, or_these, first_factor, is_labelled, issue_axes, durations_of, filled, Issue, issue_age_of, SelectParts, ultimate_of, select_parts}
-use Rattle.xtbml_subset.specs.AnyChecks.{aggregate, selected, parts_by_axes, any_parts_of}
+use Rattle.xtbml_subset.proofs.Names.{◌≡◌, ℕ, Bool, true, false, cond, List, [], ◌∷◌, map, Option, Result, Ok, refl, ap, ◌∙◌, codes, TableFault, Found, children_at, row_of, found_asks, Node, named_in, node_row, node_asks, RateElement, ◌>=>◌, path, Parts, in_first, behind_first, or_these, first_factor, is_labelled, issue_axes, durations_of, filled, Issue, issue_age_of, SelectParts, ultimate_of, select_parts, aggregate, selected, parts_by_axes, any_parts_of}
 use Rattle.xtbml_subset.proofs.Matching.{Matches, AllMatch, children_match, row_match}
 use Rattle.xtbml_subset.proofs.Judging.{TiedPairs, then_same, equal_by, path_same, factor_same, rows_same, aggregate_same, by_equal}
 

@@ -1,12 +1,5 @@
 -- The checks of a table of either kind have one answer.
-use Rattle.std.proofs.Common.{◌≡◌, ℕ, ◌+◌, List, [], ◌∷◌, Option, Some, None, Result, Ok, Err, sym, ap, ◌∙◌}
-use Rattle.rate_table.specs.Rates.{Rates}
-use Rattle.select_rates.specs.Select.{Selected}
-use Rattle.xtbml_subset.specs.declared.fault.TableFault.{TableFault}
-use Rattle.xtbml_subset.specs.declared.period.Attained.{Attained}
-use Rattle.xtbml_subset.specs.Checks.{RateElement, age_of, is_due, IsScale}
-use Rattle.xtbml_subset.specs.SelectChecks.{Issue, SelectParts, InTurn, ReadsAll, duration_of, is_duration, timed, IsTimed, ReadsDuration, ReadsPeriod, IsIssuedAt, ReadsIssue, ReadsUltimate, IsJoinedBy, IsSelectTable}
-use Rattle.xtbml_subset.specs.AnyChecks.{AnyParts, aggregate, selected, aggregated, as_select, IsAnyTable}
+use Rattle.xtbml_subset.proofs.Names.{◌≡◌, ℕ, ◌+◌, List, [], ◌∷◌, Option, Some, None, Result, Ok, Err, sym, ap, ◌∙◌, Rates, Selected, TableFault, Attained, RateElement, age_of, is_due, IsScale, Issue, SelectParts, InTurn, ReadsAll, duration_of, is_duration, timed, IsTimed, ReadsDuration, ReadsPeriod, IsIssuedAt, ReadsIssue, ReadsUltimate, IsJoinedBy, IsSelectTable, AnyParts, aggregate, selected, aggregated, as_select, IsAnyTable}
 use Rattle.xtbml_subset.proofs.Judging.{reads_one, by_bool, scale_one, scaled_one, table_one}
 use Rattle.xtbml_subset.proofs.ReadingRuns.{Single, then_single, all_single}
 

@@ -1,18 +1,5 @@
 -- How far the walk goes is how far the bytes nest.
-use Rattle.std.proofs.Common.{◌≡◌, ℕ, zero, suc, ◌+◌, ◌-◌, ◌<◌, ◌≤◌, List, [], ◌∷◌, ◌++◌, length, take, drop, Option, Some, None, refl, sym, ap, subst, ◌∙◌, inl, inr, append_assoc, arith}
-use Rattle.std.proofs.lemmas.List.{length-append, take-append-drop, take_at, length-take, append-nil}
-use Rattle.std.specs.Option.{unwrap_or}
-use Rattle.xtbml_subset.specs.declared.state.Phase.{Phase}
-use Rattle.xtbml_subset.specs.declared.state.Phase.TheVariants.{Opening, Prolog, Epilog}
-use Rattle.xtbml_subset.specs.declared.class.Class.TheVariants.{White}
-use Rattle.xtbml_subset.specs.Classes.{is_in}
-use Rattle.xtbml_subset.specs.Pieces.{Piece, byte, comment, declaration, start, whole, finish, IsPiece, IsMark, Spell}
-use Rattle.xtbml_subset.specs.inside.Reading.{byte_at, piece_at}
-use Rattle.xtbml_subset.specs.Texts.{◌>>=◌}
-use Rattle.xtbml_subset.specs.inside.Machine.{State, outside, after_piece, Steps}
-use Rattle.xtbml_subset.specs.inside.Walk.{walk_at, after_mark, fault_place, fault_at}
-use Rattle.xtbml_subset.specs.Documents.{Node, IsDocument}
-use Rattle.xtbml_subset.specs.Answers.{IsLongestNested}
+use Rattle.xtbml_subset.proofs.Names.{◌≡◌, ℕ, zero, suc, ◌+◌, ◌-◌, ◌<◌, ◌≤◌, List, [], ◌∷◌, ◌++◌, length, take, drop, Option, Some, None, refl, sym, ap, subst, ◌∙◌, inl, inr, append_assoc, arith, length-append, take-append-drop, take_at, length-take, append-nil, unwrap_or, Phase, Opening, Prolog, Epilog, White, is_in, Piece, byte, comment, declaration, start, whole, finish, IsPiece, IsMark, Spell, byte_at, piece_at, ◌>>=◌, State, outside, after_piece, Steps, walk_at, after_mark, fault_place, fault_at, Node, IsDocument, IsLongestNested}
 use Rattle.xtbml_subset.proofs.Options.{bind_some, chosen, some_is}
 use Rattle.xtbml_subset.proofs.Lexing.{byte_takes}
 use Rattle.xtbml_subset.proofs.Behind.{behind_shorter}

@@ -1,15 +1,8 @@
 -- The stack of names of the elements that are open.
-use Rattle.std.proofs.Common.{ltb, Option, Some, None, Bool, true, false, ◌≡◌, ℕ, zero, suc, ◌+◌, ◌<◌, ◌≤◌, ◌≢◌, List, [], ◌∷◌, length, get_or, map, refl, ap, ◌∙◌, arith}
+use Rattle.xtbml_subset.proofs.Names.{ltb, Option, Some, None, Bool, true, false, ◌≡◌, ℕ, zero, suc, ◌+◌, ◌<◌, ◌≤◌, ◌≢◌, List, [], ◌∷◌, length, get_or, map, refl, ap, ◌∙◌, arith, ltb-true, ltb-false, get_or-set_same, get_or-set_other, map-set, length-map, MatchBool, Phase, Tag, start, whole, State, after_names, names_of}
 use Rattle.std.proofs.Math.ListN.{set}
 use Rattle.std.proofs.Math.Numerals.{add-one}
-use Rattle.std.proofs.lemmas.Bool.{ltb-true, ltb-false}
-use Rattle.std.proofs.lemmas.List.{get_or-set_same, get_or-set_other, map-set, length-map}
 use Rattle.std.specs.Borrow.{Bor}
-use Rattle.std.specs.Prelude.{MatchBool}
-use Rattle.xtbml_subset.specs.declared.state.Phase.{Phase}
-use Rattle.xtbml_subset.specs.Pieces.{Tag, start, whole}
-use Rattle.xtbml_subset.specs.inside.Machine.{State, after_names}
-use Rattle.xtbml_subset.specs.inside.Walk.{names_of}
 
 names_of-set : (depth : ℕ) (names : List (List ℕ)) (i : ℕ) (name : List ℕ) → depth ≤ i → names_of depth (set names i name) ≡ names_of depth names
 names_of-set zero names i name le = refl

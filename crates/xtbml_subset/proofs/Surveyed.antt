@@ -1,10 +1,6 @@
 -- Bytes that change no search, where the searches start, and what they found at the end.
-use Rattle.std.proofs.Common.{◌≡◌, ℕ, ◌+◌, ◌-◌, ◌<◌, ◌≤◌, Bool, true, false, cond, eqb, List, [], length, Option, Some, None, refl, sym, ap, subst, ◌∙◌, arith, codes}
-use Rattle.std.proofs.lemmas.Bool.{ne_eqb}
-use Rattle.std.specs.Prelude.{MatchBool}
+use Rattle.xtbml_subset.proofs.Names.{◌≡◌, ℕ, ◌+◌, ◌-◌, ◌<◌, ◌≤◌, Bool, true, false, cond, eqb, List, [], length, Option, Some, None, refl, sym, ap, subst, ◌∙◌, arith, codes, ne_eqb, MatchBool, Found, elements_at, children_at, Passing, Sought, seeking, hit, missed, sought_at, opens, sought_under, tallied, tally_under, no_tally, ElementPath, no_path, path_after, Stands, StandsUnder, TalliesUnder, IsPath, IsFirstIn, IsFirstUnder, IsCountUnder, IsFound}
 use Rattle.xtbml_subset.specs.declared.search.Passed.{Passed}
-use Rattle.xtbml_subset.specs.inside.Elements.{Found, elements_at, children_at}
-use Rattle.xtbml_subset.specs.inside.Searches.{Passing, Sought, seeking, hit, missed, sought_at, opens, sought_under, tallied, tally_under, no_tally, ElementPath, no_path, path_after, Stands, StandsUnder, TalliesUnder, IsPath, IsFirstIn, IsFirstUnder, IsCountUnder, IsFound}
 
 -- ---- bytes that are passed over
 

@@ -1,18 +1,6 @@
 -- The searches go on rightly as the pieces pass.
-use Rattle.std.proofs.Common.{◌≡◌, ℕ, zero, suc, ◌+◌, ◌-◌, ◌≤◌, Bool, true, false, cond, eqb, ltb, List, [], ◌∷◌, length, Option, Some, None, refl, sym, ap, subst, ◌∙◌, ◌⊎◌, inl, inr, arith, codes}
-use Rattle.std.proofs.lemmas.Bool.{eqb-true, eq-eqb, ne_eqb, cases_Bool, and_left, true≢false}
-use Rattle.std.specs.Str.{bytes_eq}
-use Rattle.std.specs.Prelude.{MatchBool}
-use Rattle.xtbml_subset.specs.declared.class.Class.TheVariants.{White}
-use Rattle.xtbml_subset.specs.declared.state.Phase.{Phase}
-use Rattle.xtbml_subset.specs.declared.state.Phase.TheVariants.{Opening, Prolog, Epilog}
+use Rattle.xtbml_subset.proofs.Names.{◌≡◌, ℕ, zero, suc, ◌+◌, ◌-◌, ◌≤◌, Bool, true, false, cond, eqb, ltb, List, [], ◌∷◌, length, Option, Some, None, refl, sym, ap, subst, ◌∙◌, ◌⊎◌, inl, inr, arith, codes, eqb-true, eq-eqb, ne_eqb, cases_Bool, and_left, true≢false, bytes_eq, MatchBool, White, Phase, Opening, Prolog, Epilog, is_in, Tag, Piece, byte, comment, declaration, start, whole, finish, State, outside, past, after_names, after_piece, piece_at, depth_in, Found, on, found, closed, is_wanted, is_hit, step_of, elements_at, children_at, Passing, Sought, seeking, hit, missed, by_step, sought_at, opens, sought_under, tallied, tally_at, tally_under, no_tally, ElementPath, path_after, Stands, StandsUnder, Tallies, TalliesUnder, IsPath}
 use Rattle.xtbml_subset.specs.declared.search.Passed.{Passed}
-use Rattle.xtbml_subset.specs.Classes.{is_in}
-use Rattle.xtbml_subset.specs.Pieces.{Tag, Piece, byte, comment, declaration, start, whole, finish}
-use Rattle.xtbml_subset.specs.inside.Machine.{State, outside, past, after_names, after_piece}
-use Rattle.xtbml_subset.specs.inside.Reading.{piece_at}
-use Rattle.xtbml_subset.specs.inside.Elements.{depth_in, Found, on, found, closed, is_wanted, is_hit, step_of, elements_at, children_at}
-use Rattle.xtbml_subset.specs.inside.Searches.{Passing, Sought, seeking, hit, missed, by_step, sought_at, opens, sought_under, tallied, tally_at, tally_under, no_tally, ElementPath, path_after, Stands, StandsUnder, Tallies, TalliesUnder, IsPath}
 use Rattle.xtbml_subset.proofs.Options.{chosen}
 use Rattle.xtbml_subset.proofs.Searching.{elements_by}
 

@@ -1,15 +1,8 @@
 -- Rows that are read make the rates of a table.
-use Rattle.std.proofs.Common.{◌≡◌, ℕ, zero, suc, ◌+◌, ◌<◌, ◌≤◌, Bool, true, false, cond, leb, List, [], ◌∷◌, length, get_or, Option, Some, None, Result, Ok, Err, refl, sym, ap, subst, ◌∙◌, ◌⊎◌, inl, inr, arith}
-use Rattle.std.specs.Prelude.{MatchBool}
-use Rattle.std.specs.Option.{unwrap_or}
-use Rattle.std.proofs.lemmas.Bool.{eqb-true, leb-true}
-use Rattle.rate_table.specs.Rates.{Rates, ONE, AreRates}
+use Rattle.xtbml_subset.proofs.Names.{◌≡◌, ℕ, zero, suc, ◌+◌, ◌<◌, ◌≤◌, Bool, true, false, cond, leb, List, [], ◌∷◌, length, get_or, Option, Some, None, Result, Ok, Err, refl, sym, ap, subst, ◌∙◌, ◌⊎◌, inl, inr, arith, MatchBool, unwrap_or, eqb-true, leb-true, Rates, ONE, AreRates, TableFault, ◌>>=◌, RateElement, short_number, age_of, is_due, ReadsRate, rated, IsAged, ReadsRow, with_rate, Continues, ReadsRows, first_age}
 use Rattle.rate_table.specs.Faults.{IsFirstFault}
 use Rattle.rate_table.specs.declared.fault.RatesFault.{RatesFault}
 use Rattle.rate_table.specs.declared.fault.RatesFault.TheVariants.{Empty, PastAge130, RateAboveOne}
-use Rattle.xtbml_subset.specs.declared.fault.TableFault.{TableFault}
-use Rattle.xtbml_subset.specs.Texts.{◌>>=◌}
-use Rattle.xtbml_subset.specs.Checks.{RateElement, short_number, age_of, is_due, ReadsRate, rated, IsAged, ReadsRow, with_rate, Continues, ReadsRows, first_age}
 use Rattle.xtbml_subset.proofs.Options.{bind_some, chosen, some_is}
 
 abbrev ok_row : ℕ × ℕ → Result (ℕ × ℕ) TableFault

@@ -1,9 +1,5 @@
 -- The walk over the pieces of the bytes, one piece on and at its end.
-use Rattle.std.proofs.Common.{◌≡◌, ℕ, ◌-◌, List, [], ◌∷◌, ◌++◌, length, Some, None, refl, ap, subst, ◌∙◌}
-use Rattle.xtbml_subset.specs.Pieces.{Piece}
-use Rattle.xtbml_subset.specs.inside.Reading.{piece_at}
-use Rattle.xtbml_subset.specs.inside.Machine.{State, after_piece}
-use Rattle.xtbml_subset.specs.inside.Walk.{walk_from, walk_at, fault_place}
+use Rattle.xtbml_subset.proofs.Names.{◌≡◌, ℕ, ◌-◌, List, [], ◌∷◌, ◌++◌, length, Some, None, refl, ap, subst, ◌∙◌, Piece, piece_at, State, after_piece, walk_from, walk_at, fault_place}
 use Rattle.xtbml_subset.proofs.Behind.{behind_count}
 use Rattle.xtbml_subset.proofs.PieceReading.{piece_behind}
 

@@ -1,8 +1,5 @@
 -- Worked rows of the place up to which a file nests.
-use Rattle.std.proofs.Common.{◌∷◌, refl, codes}
-use Rattle.xtbml_subset.specs.Answers.{IsLongestNested}
-use Rattle.xtbml_subset.specs.inside.Reading.{piece_at, marked_at, tag_at, name_at, attributes_from, attribute_at, spaces_at, quoted_at, closed_at, end_tag_at, comment_at, declaration_at}
-use Rattle.xtbml_subset.specs.inside.Walk.{fault_at, walk_from}
+use Rattle.xtbml_subset.proofs.Names.{◌∷◌, refl, codes, IsLongestNested, piece_at, marked_at, tag_at, name_at, attributes_from, attribute_at, spaces_at, quoted_at, closed_at, end_tag_at, comment_at, declaration_at, fault_at, walk_from}
 use Rattle.xtbml_subset.proofs.Sounding.{longest_nested}
 
 -- an end tag of another name

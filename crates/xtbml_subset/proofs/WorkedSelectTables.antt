@@ -1,13 +1,5 @@
 -- What worked select tables are computed from.
-use Rattle.std.proofs.Common.{◌≡◌, ℕ, List, [], ◌∷◌, length, None, Result, refl}
-use Rattle.std.specs.Prelude.{⊤}
-use Rattle.select_rates.specs.declared.any.AnyTable.{AnyTable}
-use Rattle.xtbml_subset.specs.declared.fault.TableFault.{TableFault}
-use Rattle.xtbml_subset.specs.AnyChecks.{any_parts_of, IsAnyTable, IsAnyJudged}
-use Rattle.xtbml_subset.specs.SelectChecks.{issue_axes, durations_of, ultimate_of, duration_of}
-use Rattle.xtbml_subset.specs.inside.Elements.{Found, elements_at}
-use Rattle.xtbml_subset.specs.inside.Rows.{found_asks}
-use Rattle.xtbml_subset.specs.inside.Walk.{fault_at}
+use Rattle.xtbml_subset.proofs.Names.{◌≡◌, ℕ, List, [], ◌∷◌, length, None, Result, refl, ⊤, AnyTable, TableFault, any_parts_of, IsAnyTable, IsAnyJudged, issue_axes, durations_of, ultimate_of, duration_of, Found, elements_at, found_asks, fault_at}
 use Rattle.xtbml_subset.proofs.AnyFinal.{any_judged_by}
 use Rattle.xtbml_subset.proofs.WorkedTables.{tables_on_literals}
 

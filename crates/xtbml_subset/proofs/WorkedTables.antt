@@ -1,17 +1,6 @@
 -- What worked tables are computed from.
-use Rattle.std.proofs.Common.{◌≡◌, ℕ, List, [], ◌∷◌, length, None, Result, refl, inl, inr, codes, lit≤}
-use Rattle.std.specs.Prelude.{⊤}
-use Rattle.decimal_text.specs.Rate.{IsRate}
+use Rattle.xtbml_subset.proofs.Names.{◌≡◌, ℕ, List, [], ◌∷◌, length, None, Result, refl, inl, inr, codes, lit≤, ⊤, IsRate, Rates, TableFault, IsJudged, parts_of, within, path, rates_of, factor_of, age_of, IsTable, trimmed, Found, elements_at, elements_from, text_at, piece_at, marked_at, tag_at, name_at, attributes_from, attribute_at, spaces_at, quoted_at, closed_at, end_tag_at, comment_at, declaration_at, found_asks, fault_at, walk_from}
 use Rattle.decimal_text.proofs.Spelt.{spelt}
-use Rattle.rate_table.specs.Rates.{Rates}
-use Rattle.xtbml_subset.specs.declared.fault.TableFault.{TableFault}
-use Rattle.xtbml_subset.specs.Answers.{IsJudged}
-use Rattle.xtbml_subset.specs.Checks.{parts_of, within, path, rates_of, factor_of, age_of, IsTable}
-use Rattle.xtbml_subset.specs.Texts.{trimmed}
-use Rattle.xtbml_subset.specs.inside.Elements.{Found, elements_at, elements_from, text_at}
-use Rattle.xtbml_subset.specs.inside.Reading.{piece_at, marked_at, tag_at, name_at, attributes_from, attribute_at, spaces_at, quoted_at, closed_at, end_tag_at, comment_at, declaration_at}
-use Rattle.xtbml_subset.specs.inside.Rows.{found_asks}
-use Rattle.xtbml_subset.specs.inside.Walk.{fault_at, walk_from}
 use Rattle.xtbml_subset.proofs.Final.{judged_by}
 
 unfoldable pub tables_on_literals : ⊤

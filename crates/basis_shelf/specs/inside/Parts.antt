@@ -1,11 +1,10 @@
 -- What the parts of the fetching answer.
 use Rattle.std.specs.Prelude.{◌≡◌, ℕ, ⊤, ◌⊎◌, List, Option, IsSome, IfSome}
-use Rattle.select_rates.specs.declared.any.AnyTable.{AnyTable}
+use Rattle.basis_shelf.specs.Names.{AnyTable, TableKind}
 use Rattle.basis_book.specs.declared.fault.BasisFault.{BasisFault}
 use Rattle.basis_book.specs.declared.fault.BasisFault.TheVariants as fault
 use Rattle.xtbml_subset.specs.declared.fault.TableFault.{TableFault}
 use Rattle.xtbml_subset.specs.declared.fault.TableFault.TheVariants as table
-use Rattle.xtbml_subset.specs.declared.fault.TableKind.{TableKind}
 use Rattle.xtbml_subset.specs.declared.fault.TableKind.TheVariants as kind
 use Rattle.basis_shelf.specs.declared.fault.BadBasis.{BadBasis}
 use Rattle.basis_shelf.specs.declared.fault.BasisWord.{BasisWord}

@@ -1,12 +1,6 @@
 -- Those alive of an age, as a path holds them.
 use Rattle.std.specs.Prelude.{◌≡◌, ℕ, ◌+◌, ◌*◌, ◌%◌, ◌<◌, ◌≤◌, List, length, All, slice_index_or, slice_get, Some}
-use Rattle.rate_table.specs.Rates.{Rates, rate_at}
-use Rattle.select_rates.specs.Along.{table_along}
-use Rattle.select_rates.specs.declared.any.AnyTable.{AnyTable}
-use Rattle.present_value.specs.Rounding.{down, up}
-use Rattle.present_value.specs.Values.{pair_of, pair_at}
-use Rattle.present_value.specs.declared.pair.Pair.{Pair}
-use Rattle.basis_book.specs.Dated.{Dated}
+use Rattle.cash_projection.specs.Names.{Rates, rate_at, table_along, AnyTable, down, up, pair_of, pair_at, Pair, Dated}
 use Rattle.cash_projection.specs.Survival.{alive_by, dying_by}
 use Rattle.cash_projection.specs.declared.path.SurvivalPath.{SurvivalPath}
 use Rattle.cash_projection.specs.declared.path.PathKey.{PathKey}

@@ -1,9 +1,6 @@
 -- The portions of a list of policies, and what the workers of a projection make of them
 use Rattle.std.specs.Prelude.{ℕ, ◌≤◌, List, [], ◌∷◌, ◌++◌, length, ℤ}
-use Rattle.std.specs.List.{AllByRecursion, AllZip}
-use Rattle.policy_types.specs.Limits.{most_commands}
-use Rattle.policy_types.specs.declared.policy.Policy.{Policy}
-use Rattle.basis_book.specs.Dated.{Dated}
+use Rattle.cash_projection.specs.Names.{AllByRecursion, AllZip, most_commands, Policy, Dated}
 use Rattle.cash_projection.specs.Policies.{IsOfIssue}
 use Rattle.cash_projection.specs.inside.Paths.{ArePaths}
 use Rattle.cash_projection.specs.inside.Tallies.{IsTallyOf}

@@ -1,9 +1,6 @@
 -- What was tallied of the policies that were read
 use Rattle.std.specs.Prelude.{◌≡◌, ℕ, ◌≤◌, List, ◌++◌, length, ℤ}
-use Rattle.std.specs.List.{AllByRecursion}
-use Rattle.policy_types.specs.Limits.{most_commands}
-use Rattle.policy_types.specs.declared.policy.Policy.{Policy}
-use Rattle.basis_book.specs.Dated.{Dated}
+use Rattle.cash_projection.specs.Names.{AllByRecursion, most_commands, Policy, Dated}
 use Rattle.cash_projection.specs.Policies.{IsOfIssue}
 use Rattle.cash_projection.specs.inside.Portions.{IsProjectorFor}
 use Rattle.cash_projection.specs.inside.Tallies.{IsTallyOf}

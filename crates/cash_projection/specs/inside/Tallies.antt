@@ -1,16 +1,8 @@
 -- The sums of what policies pay and are paid.
 use Rattle.std.specs.Prelude.{◌≡◌, ℕ, ◌+◌, ◌*◌, ◌<◌, ◌≤◌, List, length, slice_index_or, ℤ, Result}
-use Rattle.std.specs.List.{AllByRecursion, AllZip}
-use Rattle.policy_types.specs.Limits.{most_commands}
-use Rattle.policy_types.specs.declared.policy.Policy.{Policy}
-use Rattle.rate_table.specs.Rates.{Rates}
+use Rattle.cash_projection.specs.Names.{AllByRecursion, AllZip, most_commands, Policy, Rates, AnyTable, down, up, pair_at, Pair, Dated}
 use Rattle.rate_table.specs.declared.shape.Shape.{Shape}
-use Rattle.select_rates.specs.declared.any.AnyTable.{AnyTable}
 use Rattle.plan_benefits.specs.declared.fault.NotValued.{NotValued}
-use Rattle.present_value.specs.Rounding.{down, up}
-use Rattle.present_value.specs.Values.{pair_at}
-use Rattle.present_value.specs.declared.pair.Pair.{Pair}
-use Rattle.basis_book.specs.Dated.{Dated}
 use Rattle.cash_projection.specs.Prospects.{Prospect, IsSmall, due, premium_due, death_due, maturity_due}
 use Rattle.cash_projection.specs.Cash.{total_of, premium_by, death_by, maturity_by}
 use Rattle.cash_projection.specs.Policies.{IsProspect, IsProspectBy}

@@ -1,7 +1,6 @@
 -- The books by number, while records are decided anew
 use Rattle.std.specs.Prelude.{◌≡◌, ℕ, List, map}
-use Rattle.std.specs.List.{AllByRecursion}
-use Rattle.policy_types.specs.declared.policy.Policy.{Policy}
+use Rattle.checkpoint_store.specs.Names.{AllByRecursion, Policy}
 
 abbrev pub Entries : Type 0
 Entries = List (ℕ × Policy)

@@ -1,14 +1,7 @@
 -- What the books by number are the books of, for the contracts of the steps alone
 use Rattle.std.specs.Prelude.{◌≡◌, nat_eq, ◌+◌, List}
-use Rattle.std.specs.List.{AllByRecursion, IsDistinct}
-use Rattle.std.specs.Map.{keys_of}
+use Rattle.checkpoint_store.specs.Names.{AllByRecursion, IsDistinct, keys_of, balances, IsAccepted, added, booking_of, Command, Policy, IsValid, id_of}
 use Rattle.indexmap.specs.IndexMap.{insert_entry}
-use Rattle.money_ledgers.specs.Balances.{balances}
-use Rattle.policy_machine.specs.Book.{IsAccepted}
-use Rattle.policy_types.specs.Accounts.{added, booking_of}
-use Rattle.policy_types.specs.declared.command.Command.{Command}
-use Rattle.policy_types.specs.declared.policy.Policy.{Policy}
-use Rattle.policy_types.specs.Valid.{IsValid, id_of}
 use Rattle.checkpoint_store.specs.declared.numbered.NumberedBooks.{NumberedBooks}
 use Rattle.checkpoint_store.specs.declared.snapshot.Snapshot.{Snapshot}
 use Rattle.checkpoint_store.specs.Checkpoints.{IsSnapshotOf, IsSoundSnapshot}

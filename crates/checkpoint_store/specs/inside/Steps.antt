@@ -1,7 +1,6 @@
 -- What the steps of the calls do, for the contracts of the steps alone.
 use Rattle.std.specs.Prelude.{◌≡◌, ◌⊎◌, ℕ, Bool, false, List, ◌∷◌, drop, Result, OnOk}
-use Rattle.outside_io.specs.declared.disks.Disk.{Ghosts}
-use Rattle.posting_journal.specs.Runs.{IsSafe, Passes}
+use Rattle.checkpoint_store.specs.Names.{Ghosts, IsSafe, Passes}
 use Rattle.checkpoint_store.specs.declared.snapshot.Snapshot.{Snapshot}
 use Rattle.checkpoint_store.specs.Checkpoints.{CheckpointBytes, IsNoCheckpoint}
 use Rattle.checkpoint_store.specs.Stores.{AreShut, DifferInGate, IsShut, KnowsGate, MightBeLeft}

@@ -1,12 +1,6 @@
 -- What reading a checkpoint's file tells
 use Rattle.std.specs.Prelude.{◌≡◌, nat_eq, ℕ, ◌+◌, ◌*◌, ◌≤◌, Bool, true, false, List, [], ◌∷◌, ◌++◌, length, take, drop, Option, Some, None}
-use Rattle.std.specs.List.{AllByRecursion, IsDistinct, flat_map}
-use Rattle.std.specs.Map.{keys_of, lookup}
-use Rattle.money_ledgers.specs.Balances.{balances}
-use Rattle.policy_machine.specs.Rules.{IsSound}
-use Rattle.policy_types.specs.Accounts.{AreWithin}
-use Rattle.policy_types.specs.Limits.{most_commands}
-use Rattle.policy_types.specs.declared.policy.Policy.{Policy}
+use Rattle.checkpoint_store.specs.Names.{AllByRecursion, IsDistinct, flat_map, keys_of, lookup, balances, IsSound, AreWithin, most_commands, Policy}
 use Rattle.checkpoint_store.specs.declared.front.Front.{Front}
 use Rattle.checkpoint_store.specs.declared.numbered.NumberedBooks.{NumberedBooks}
 use Rattle.checkpoint_store.specs.declared.snapshot.Snapshot.{Snapshot}

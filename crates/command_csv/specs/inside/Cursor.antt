@@ -1,8 +1,7 @@
 -- A row that is read field by field
 use Rattle.std.specs.Prelude.{◌≡◌, ◌≢◌, ℕ, ◌+◌, List, [], ◌∷◌, ◌++◌, length, drop, take}
-use Rattle.csv.specs.Records.{fields_of}
+use Rattle.command_csv.specs.Names.{fields_of, Line}
 use Rattle.command_csv.specs.declared.fields.LineFields.{LineFields}
-use Rattle.policy_types.specs.declared.script.Line.{Line}
 use Rattle.command_csv.specs.declared.kind.Kind.{Kind}
 use Rattle.command_csv.specs.declared.row.ClerkLine.{ClerkLine}
 use Rattle.command_csv.specs.Reads.{IsScriptLine, IsLineRow, MayStandBehind}

@@ -1,18 +1,9 @@
 -- The parts of running lanes
 use Rattle.std.specs.Prelude.{◌≡◌, ℕ, zero, suc, ◌+◌, ◌≤◌, ◌<◌, Some, slice_get, List, [], ◌∷◌, ◌++◌, length, map, Result, Ok, Err, Box, Vec, vec_capacity}
-use Rattle.rtrb.specs.Ring.{IsPair, SameProducer, known_free, received, sent}
+use Rattle.lane_runner.specs.Names.{IsPair, SameProducer, known_free, received, sent, AllByRecursion, AllZip, flat_map, Dated, Line, Value, Lane, AnswersLine, Holding, PassFacts, TableId, pages, IsOfficeHistory, OfficeOpening, most_turns}
 use Rattle.std.specs.Global.{Global}
-use Rattle.std.specs.List.{AllByRecursion, AllZip, flat_map}
-use Rattle.basis_book.specs.Dated.{Dated}
-use Rattle.policy_types.specs.declared.script.Line.{Line}
-use Rattle.policy_types.specs.declared.script.Line.TheVariants.{Value}
-use Rattle.policy_types.specs.declared.script.Lane.{Lane}
-use Rattle.policy_machine.specs.Merge.{AnswersLine}
 use Rattle.turn_lock.specs.History.{StartsWith}
-use Rattle.turn_lock.specs.Passes.{Holding, PassFacts, TableId, pages}
-use Rattle.shared_office.specs.Offices.{IsOfficeHistory, OfficeOpening}
 use Rattle.snapshot_value.specs.Growing.{Grows}
-use Rattle.snapshot_value.specs.Valuing.{most_turns}
 use Rattle.snapshot_value.specs.declared.valuation.Valuation.{Valuation}
 use Rattle.snapshot_value.specs.declared.valuation.ValueFault.{ValueFault}
 use Rattle.snapshot_value.specs.declared.valuation.ValueFault.TheVariants.{Pin, NoMemory}

@@ -1,7 +1,6 @@
 -- A text that is gathered before it is handed on, and the moments of its lines
 use Rattle.std.specs.Prelude.{◌≡◌, ℕ, ◌≤◌, ◌<◌, List, ◌++◌, length, take, Option, Some, None}
-use Rattle.std.specs.List.{AllByRecursion}
-use Rattle.outside_io.specs.Streams.{TakenPiece, taken_bytes}
+use Rattle.lane_runner.specs.Names.{AllByRecursion, TakenPiece, taken_bytes}
 use Rattle.lane_runner.specs.declared.transcript.TranscriptLine.{TranscriptLine}
 use Rattle.lane_runner.specs.declared.wording.Unwritten.{Unwritten}
 use Rattle.lane_runner.specs.Tallies.{accepted_lines}

@@ -1,48 +1,19 @@
 -- The worked run over both disks holds what its cases say.
-use Rattle.std.proofs.Common.{◌≡◌, ◌⊎◌, ℕ, ◌≤◌, true, List, [], ◌∷◌, ◌++◌, length, take, drop, get_or, refl, sym, ◌∙◌, ap, subst, inl, inr, lit≤, lit<, arith, codes, None, Some, append-nil}
-use Rattle.std.specs.Fmt.{digits}
-use Rattle.std.proofs.lemmas.Bool.{cases_eq}
-use Rattle.std.proofs.lemmas.List.{take_at}
+use Rattle.life_app.proofs.Names.{◌≡◌, ◌⊎◌, ℕ, ◌≤◌, true, List, [], ◌∷◌, ◌++◌, length, take, drop, get_or, refl, sym, ◌∙◌, ap, subst, inl, inr, lit≤, lit<, arith, codes, None, Some, append-nil, digits, cases_eq, take_at, books_text, EndsState, anniversary_of, day_number, date_of, date_at, year_of, month_of, days_before, days_before_year, days_of_months, day_text, account_line, count_text, policy_text, EndsCheckpoint, IsNoneOrEarlierOrHeld, AreTrue, IsHeldWhereTrue, IsMadeSafe, TellsTruth, Checkpoint, State, AreWords, NotAJournal, IsShown, hand_issue, hand_premium, shown_opens_to_none, both, valid_issue, Synced, Leaves, LooksOn, Done, Usage, spelling_of, SaysUnasked, HasJournal, HasNoJournal, AskForCheckpoint, letters, letters_filing, no_input, CalledDisk, called, cut_disk, cut_file, called_disk, empty_disk, last_disk, puts, reopening, output_of, shelf_that_told, two_auditors, both_commands, looked_disk, second_opening}
 use Rattle.checkpoint_store.specs.Checkpoints.{CheckpointBytes, IsNoCheckpoint, IsSnapshotOf}
 use Rattle.checkpoint_store.specs.Reopening.{IsSnapshotOfFront}
 use Rattle.checkpoint_store.specs.Spelling.{balance_bytes, policy_bytes, position_bytes, snapshot_bytes}
 use Rattle.checkpoint_store.specs.Worked.{issued_file, issued_snapshot}
 use Rattle.checkpoint_store.proofs.ClaimedFile.{issued_checkpoint, issued_sound}
 use Rattle.checkpoint_store.proofs.OneSnapshot.{one_snapshot}
-use Rattle.stating_modes.specs.Books.{books_text}
-use Rattle.stating_modes.specs.Stating.{EndsState}
-use Rattle.life_dates.specs.Anniversary.{anniversary_of}
-use Rattle.life_dates.specs.Calendar.{day_number, date_of, date_at, year_of, month_of, days_before, days_before_year, days_of_months}
-use Rattle.life_dates.specs.DayText.{day_text}
 use Rattle.policy_machine.proofs.LedgerLemmas.{sum_of-ledger}
-use Rattle.statements.specs.Statements.{account_line, count_text, policy_text}
 use Rattle.stating_modes.specs.Stated.{EndsStateKept, snapshot_text}
-use Rattle.stating_modes.specs.Saved.{EndsCheckpoint, IsNoneOrEarlierOrHeld}
-use Rattle.stating_modes.specs.TwoDisks.{AreTrue, IsHeldWhereTrue, IsMadeSafe, TellsTruth}
-use Rattle.life_args.specs.declared.mode.Mode.TheVariants.{Checkpoint, State}
-use Rattle.life_args.specs.Words.{AreWords}
-use Rattle.office_state.specs.declared.faults.StartCause.TheVariants.{NotAJournal}
-use Rattle.office_state.specs.Journals.{IsShown}
-use Rattle.office_state.specs.Worked.{hand_issue, hand_premium}
-use Rattle.office_state.proofs.JournalLaws.{shown_opens_to_none}
-use Rattle.office_state.proofs.WorkedOffices.{both, valid_issue}
 use Rattle.outside_io.specs.Disks.{Torn}
-use Rattle.outside_io.specs.FileCalls.{Synced}
-use Rattle.posting_journal.specs.Runs.{Leaves, LooksOn}
 use Rattle.posting_journal.proofs.Bytes.{same_byte}
 use Rattle.posting_journal.proofs.Unique.{opens_once}
-use Rattle.program_endings.specs.declared.ending.Ending.TheVariants.{Done, Usage}
-use Rattle.record_codec.specs.Spelling.{spelling_of}
 use Rattle.life_app.specs.KeptRuns.{AreRunsOfTwo, IsRunOfTwo, IsSnapshotOfFirst, KeepsSecond, LeavesSaved, LeavesSecond, SavedOfFirst, SavesBooks, WasCutAfter, WasLeftOf}
-use Rattle.life_app.specs.Obeys.{SaysUnasked}
-use Rattle.life_app.specs.Due.{HasJournal, HasNoJournal}
-use Rattle.life_app.specs.Words.{AskForCheckpoint}
 use Rattle.life_app.proofs.ProgramSteps.{due}
 use Rattle.life_app.proofs.KeptRunLaws.{two_left}
-use Rattle.life_app.specs.WorkedRun.Due.{letters, letters_filing, no_input}
-use Rattle.life_app.specs.WorkedRun.Calls.{CalledDisk, called, cut_disk, cut_file, called_disk, empty_disk, last_disk, puts, reopening}
-use Rattle.life_app.specs.WorkedRun.Promise.{output_of, shelf_that_told, two_auditors}
-use Rattle.life_app.specs.WorkedRun.Runs.{both_commands, looked_disk, second_opening}
 use Rattle.life_app.specs.WorkedRun.Both.{DueOfBothByHand, DueOfTheSaving, LeftOfTwoByHand, OtherwiseByHand, PartsOfTwoByHand, RowOfTwoByHand, SavedByHand, StatedByHand, TrustedByHand, cut_of_two, empty_filing, issue_books, letters_disks, looked_filing, read_disk, runs_of_two, saved_disk, saved_file, saved_filing, saved_of_two, saving, saving_disks, second_disk, stating_disks, whole_of_two}
 use Rattle.life_app.proofs.WorkedRun.Calls.{Left, reads}
 use Rattle.life_app.proofs.WorkedRun.Due.{none_failed}

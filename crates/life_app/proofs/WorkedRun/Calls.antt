@@ -1,20 +1,11 @@
 -- What a worked run's calls leave.
-use Rattle.std.proofs.Common.{◌≡◌, ◌≢◌, ◌⊎◌, ℕ, ◌<◌, Bool, true, false, List, [], ◌∷◌, ◌++◌, length, take, drop, get_or, refl, sym, ◌∙◌, ap, subst, inl, inr, lit≤, lit<, arith, length-append}
+use Rattle.life_app.proofs.Names.{◌≡◌, ◌≢◌, ◌⊎◌, ℕ, ◌<◌, Bool, true, false, List, [], ◌∷◌, ◌++◌, length, take, drop, get_or, refl, sym, ◌∙◌, ap, subst, inl, inr, lit≤, lit<, arith, length-append, cases_eq, le-leb, FileCall, WrittenTo, file_reads, writes_within, sync_failed, SafeUnless, AreAllowed, FileImage, FileLeft, left_only_now, Command, HasRecords, IsJournal, IsStaged, Leaves, spelling_of, JournalBytes, Opens, Unsynced, called, creation, called_disk, posts, stages, untorn}
 use Rattle.std.specs.Prelude.{nat_le, slice_index, ◌&&◌}
-use Rattle.std.proofs.lemmas.Bool.{cases_eq, le-leb}
 use Rattle.outside_io.specs.Disks.{Torn}
-use Rattle.outside_io.specs.FileCalls.{FileCall, WrittenTo, file_reads, writes_within, sync_failed, SafeUnless, AreAllowed, FileImage, FileLeft}
-use Rattle.outside_io.specs.FileLaws.{left_only_now}
-use Rattle.policy_types.specs.declared.command.Command.{Command}
 use Rattle.posting_journal.specs.Creation.{IsUnfinished}
-use Rattle.posting_journal.specs.Files.{HasRecords, IsJournal, IsStaged}
 use Rattle.posting_journal.specs.Layout.{body_place, gate_place, header}
-use Rattle.posting_journal.specs.Runs.{Leaves}
 use Rattle.posting_journal.proofs.Bytes.{same_behind, same_byte, written_torn}
 use Rattle.posting_journal.proofs.Written.{staged_either, torn_gate, torn_stage, within, written_opened, written_stage}
-use Rattle.record_codec.specs.Spelling.{spelling_of}
-use Rattle.office_state.specs.Journals.{JournalBytes, Opens}
-use Rattle.life_app.specs.WorkedRun.Calls.{Unsynced, called, creation, called_disk, posts, stages, untorn}
 
 abbrev pub Image : List ℕ → List FileCall → List ℕ → Type 0
 Image first calls image = FileImage first untorn Unsynced calls image

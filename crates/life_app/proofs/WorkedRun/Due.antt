@@ -1,31 +1,11 @@
 -- Worked cases have what is due.
-use Rattle.std.proofs.Common.{◌≡◌, ◌≤◌, ◌<◌, ◌+◌, ◌⊎◌, ℕ, replicate, List, [], ◌∷◌, refl, inl, inr, lit≤, arith, codes, Option, None, Some}
-use Rattle.std.proofs.lemmas.Int.{ints}
-use Rattle.std.proofs.lemmas.List.Elements.{All-nil}
+use Rattle.life_app.proofs.Names.{◌≡◌, ◌≤◌, ◌<◌, ◌+◌, ◌⊎◌, ℕ, replicate, List, [], ◌∷◌, refl, inl, inr, lit≤, arith, codes, Option, None, Some, ints, All-nil, Run, State, bare, Terminal, NotAJournal, IsShown, hand_issue, shown_opens_to_none, HasBasis, HasJournal, HasNoBasis, HasNoJournal, HasNoScript, HasScript, IsDueEnding, IsHeld, status_of, Ending, Done, GivesMore, most_script_bytes, length-replicate, Without, CalledDisk, called, cut_disk, last_disk, given_script, output_of, premium_lanes, premium_script, premium_text, shelf_that_told, two_auditors, BasisByHand, DueByHand, DueOfTheRun, NeedsByHand, basisless_shelf, cut_filing, faulty_script, letters, letters_filing, stocked_shelf, value_lanes, value_script}
 use Rattle.basis_shelf.specs.Worked.{BasisOfOneRow, FirstBadFiles, certain_death, one_row, shelf_with}
 use Rattle.command_csv.specs.Worked.{NoClerk, ValueLine}
-use Rattle.life_args.specs.declared.mode.Mode.TheVariants.{Run, State}
-use Rattle.life_args.specs.Pieces.{bare}
-use Rattle.policy_value.specs.declared.worth.Measure.TheVariants.{Terminal}
 use Rattle.life_args.proofs.WorkedWords.{new_year}
-use Rattle.office_state.specs.declared.faults.StartCause.TheVariants.{NotAJournal}
-use Rattle.office_state.specs.Journals.{IsShown}
-use Rattle.office_state.specs.Worked.{hand_issue}
-use Rattle.office_state.proofs.JournalLaws.{shown_opens_to_none}
-use Rattle.life_app.specs.Due.{HasBasis, HasJournal, HasNoBasis, HasNoJournal, HasNoScript, HasScript, IsDueEnding, IsHeld}
-use Rattle.program_endings.specs.Status.{status_of}
-use Rattle.program_endings.specs.declared.ending.Ending.{Ending}
-use Rattle.program_endings.specs.declared.ending.Ending.TheVariants.{Done}
-use Rattle.outside_io.specs.Streams.{GivesMore}
-use Rattle.script_run.specs.Script.{most_script_bytes}
 use Rattle.script_run.specs.Worked.{input_that_gave}
-use Rattle.std.proofs.lemmas.List.{length-replicate}
-use Rattle.life_app.specs.Needs.{Without}
 use Rattle.life_app.proofs.BooksSteps.{second_between}
 use Rattle.life_app.proofs.ProgramSteps.{due}
-use Rattle.life_app.specs.WorkedRun.Calls.{CalledDisk, called, cut_disk, last_disk}
-use Rattle.life_app.specs.WorkedRun.Promise.{given_script, output_of, premium_lanes, premium_script, premium_text, shelf_that_told, two_auditors}
-use Rattle.life_app.specs.WorkedRun.Due.{BasisByHand, DueByHand, DueOfTheRun, NeedsByHand, basisless_shelf, cut_filing, faulty_script, letters, letters_filing, stocked_shelf, value_lanes, value_script}
 use Rattle.life_app.proofs.WorkedRun.Promise.{asks_run, did, reads_premium}
 use Rattle.life_app.proofs.WorkedRun.First.{honest_last}
 use Rattle.life_app.proofs.WorkedRun.Row.{second_left}

@@ -1,20 +1,6 @@
 -- The worked run's first half: the journals that are read, the answers, what a crash leaves, and the cut.
-use Rattle.std.proofs.Common.{◌≡◌, ◌⊎◌, ℕ, true, List, [], ◌∷◌, length, refl, sym, subst, inl, inr, lit≤, lit<}
-use Rattle.outside_io.specs.FileCalls.{AreAllowed, Synced, writes_within}
-use Rattle.outside_io.specs.FileLaws.{left_only_now}
-use Rattle.policy_types.specs.declared.entry.Reply.TheVariants.{Accepted}
-use Rattle.posting_journal.specs.Files.{IsJournal}
-use Rattle.posting_journal.specs.Runs.{IsSafe}
-use Rattle.record_codec.specs.Spelling.{spelling_of}
-use Rattle.office_state.specs.Images.{HasKept, HoldsAtLeast, HoldsNow, HoldsOnce, IsLeftBy, KeepsAccepted}
-use Rattle.office_state.specs.Journals.{JournalBytes, Opens}
-use Rattle.office_state.specs.Worked.{hand_issue, hand_premium, premium_turn}
+use Rattle.life_app.proofs.Names.{◌≡◌, ◌⊎◌, ℕ, true, List, [], ◌∷◌, length, refl, sym, subst, inl, inr, lit≤, lit<, AreAllowed, Synced, writes_within, left_only_now, Accepted, IsJournal, IsSafe, spelling_of, HasKept, HoldsAtLeast, HoldsNow, HoldsOnce, IsLeftBy, KeepsAccepted, JournalBytes, Opens, hand_issue, hand_premium, premium_turn, both, valid_issue, HasRun, HasAnsweredSome, WasCut, CalledDisk, HonestCalls, Unsynced, called, creation, cut_file, called_disk, empty_disk, issuing, last_disk, paid_disk, first_calls, second_calls, reopening, untorn, both_commands, cut_run, first_opening, first_turns, issue_turn}
 use Rattle.office_state.proofs.KeptSteps.{keeps_first, keeps_more, kept_now}
-use Rattle.office_state.proofs.WorkedOffices.{both, valid_issue}
-use Rattle.life_app.specs.Crashes.{HasRun}
-use Rattle.life_app.specs.Runs.{HasAnsweredSome, WasCut}
-use Rattle.life_app.specs.WorkedRun.Calls.{CalledDisk, HonestCalls, Unsynced, called, creation, cut_file, called_disk, empty_disk, issuing, last_disk, paid_disk, first_calls, second_calls, reopening, untorn}
-use Rattle.life_app.specs.WorkedRun.Runs.{both_commands, cut_run, first_opening, first_turns, issue_turn}
 use Rattle.life_app.proofs.WorkedRun.Calls.{AreSafe, Left, created, creation_left, creation_safe, first_bytes, is_posted, is_still, posted_left, posted_safe, posted_within, posting_leaves, reads}
 
 -- ---- the commands

@@ -1,31 +1,12 @@
 -- The two lanes are as their cases say.
-use Rattle.std.proofs.Common.{◌≡◌, ℕ, List, [], ◌∷◌, ◌++◌, refl, inl, inr, lit≤, lit<, arith, pos}
-use Rattle.std.specs.Fmt.{digits}
-use Rattle.std.specs.List.{IsDistinct}
-use Rattle.std.proofs.lemmas.Int.{ints}
+use Rattle.life_app.proofs.Names.{◌≡◌, ℕ, List, [], ◌∷◌, ◌++◌, refl, inl, inr, lit≤, lit<, arith, pos, digits, IsDistinct, ints, anniversary_of, day_number, date_of, date_at, year_of, month_of, days_before, days_before_year, days_of_months, day_text, Dated, hand_premium, valid_issue, valid_premium, NoBasis, Now, Entry, InForce, HasFaultedBefore, Row, Word, heading_text, row_text, total_text, IsEnclosingRow, table_reserves}
 use Rattle.csv.proofs.OnLiterals.{csv_on_literals}
-use Rattle.life_dates.specs.Anniversary.{anniversary_of}
-use Rattle.life_dates.specs.Calendar.{day_number, date_of, date_at, year_of, month_of, days_before, days_before_year, days_of_months}
-use Rattle.life_dates.specs.DayText.{day_text}
 use Rattle.command_csv.proofs.WorkedScripts.{reads, row_of}
 use Rattle.command_csv.specs.declared.row.ClerkLine.{ClerkLine}
-use Rattle.basis_book.specs.Dated.{Dated}
-use Rattle.office_state.specs.Worked.{hand_premium}
-use Rattle.office_state.proofs.WorkedOffices.{valid_issue, valid_premium}
-use Rattle.plan_benefits.specs.declared.fault.NotValued.TheVariants.{NoBasis}
 use Rattle.policy_machine.specs.Merge.{AnswersLine, Placed}
 use Rattle.policy_machine.proofs.Turns.{◌then◌}
 use Rattle.policy_types.specs.Valid.{IsValid}
-use Rattle.policy_types.specs.declared.entry.At.TheVariants.{Now}
-use Rattle.policy_types.specs.declared.entry.Entry.{Entry}
-use Rattle.policy_types.specs.declared.policy.Status.TheVariants.{InForce}
 use Rattle.policy_types.specs.declared.script.Line.TheVariants.{Post as PostLine, Value}
-use Rattle.office_state.specs.Images.{HasFaultedBefore}
-use Rattle.policy_value.specs.declared.worth.Row.{Row}
-use Rattle.policy_value.specs.declared.worth.Worth.TheVariants.{Word}
-use Rattle.report_text.specs.Block.{heading_text, row_text, total_text}
-use Rattle.life_app.specs.Headline.{IsEnclosingRow}
-use Rattle.life_app.specs.TableReserves.{table_reserves}
 use Rattle.life_app.specs.WorkedRun.Lanes.{LegalLanes, ReopenedLanes, ToldLanes, lanes_script, lanes_turns, other_issue, other_premium, paid_turn, lanes_pin, rows_turn, refused_turn, short_premium, unpaid_policy, given_up_turn, fault_turn}
 
 valid_other : IsValid other_issue

@@ -1,46 +1,15 @@
 -- The worked run is as the headline says.
-use Rattle.std.proofs.Common.{◌≡◌, ◌+◌, ◌++◌, ℕ, List, [], ◌∷◌, length, arith, refl, ap, sym, subst, inl, inr, lit≤, lit<, codes, Option, None}
-use Rattle.std.specs.Fmt.{digits}
+use Rattle.life_app.proofs.Names.{◌≡◌, ◌+◌, ◌++◌, ℕ, List, [], ◌∷◌, length, arith, refl, ap, sym, subst, inl, inr, lit≤, lit<, codes, Option, None, digits, IsDistinct, flat_map, date_of, date_at, year_of, month_of, days_before, days_before_year, days_of_months, day_text, Reads, Accepted, Run, Command, accepted_of, Opens, hand_issue, hand_premium, premium_turn, valid_premium, Ending, Done, BadScript, BadBasis, BadJournal, ReadFault, DiskFault, NoMemory, status_of, IsWholeInput, IsRunOf, EndsLanes, EndsRead, EndsRun, posting_text, reports_text, reports_of, IsPromised, IsUnrun, SaysUnrun, Does, Obeys, table_reserves, run_wording, AskForRun, CalledDisk, Unsynced, called, cut_disk, cut_file, last_disk, untorn, second_turns, GivenByHand, HeadlineByHand, ObeyedByHand, PromisedByHand, ToldOnceSafe, given_script, output_of, premium_lanes, premium_line, premium_script, premium_text, shelf_that_told, two_auditors, FileCall, FileLeft, TakenPiece, opens_to_one}
 use Rattle.std.specs.Prelude.{take}
-use Rattle.std.specs.List.{IsDistinct, flat_map}
 use Rattle.csv.proofs.OnLiterals.{csv_on_literals}
-use Rattle.life_dates.specs.Calendar.{date_of, date_at, year_of, month_of, days_before, days_before_year, days_of_months}
-use Rattle.life_dates.specs.DayText.{day_text}
-use Rattle.command_csv.specs.Reads.{Reads}
 use Rattle.command_csv.proofs.WorkedScripts.{says_one}
-use Rattle.policy_types.specs.declared.entry.Reply.TheVariants.{Accepted}
 use Rattle.policy_types.specs.declared.script.Line.TheVariants.{Post}
-use Rattle.life_args.specs.declared.mode.Mode.TheVariants.{Run}
 use Rattle.lane_runner.specs.AnsweredLines.{AnsweredLine, AreLinesOf}
 use Rattle.policy_machine.specs.Merge.{IsMerge, Placed}
-use Rattle.policy_types.specs.declared.command.Command.{Command}
-use Rattle.policy_machine.specs.History.{accepted_of}
 use Rattle.script_run.specs.Shown.{AreSafeWhenShown}
-use Rattle.office_state.specs.Journals.{Opens}
-use Rattle.office_state.specs.Worked.{hand_issue, hand_premium, premium_turn}
-use Rattle.office_state.proofs.WorkedOffices.{valid_premium}
-use Rattle.program_endings.specs.declared.ending.Ending.{Ending}
-use Rattle.program_endings.specs.declared.ending.Ending.TheVariants.{Done, BadScript, BadBasis, BadJournal, ReadFault, DiskFault, NoMemory}
-use Rattle.program_endings.specs.Status.{status_of}
 use Rattle.program_endings.specs.Replies.{AreAnswered}
-use Rattle.program_endings.specs.Writing.{IsWholeInput}
-use Rattle.script_run.specs.Outcome.{IsRunOf}
 use Rattle.script_run.specs.Texts.{WroteWhole}
-use Rattle.script_run.specs.Running.{EndsLanes, EndsRead, EndsRun}
-use Rattle.transcript_text.specs.Transcript.{posting_text, reports_text}
-use Rattle.watcher_set.specs.Noted.{reports_of}
-use Rattle.life_app.specs.Headline.{IsPromised, IsUnrun, SaysUnrun}
-use Rattle.life_app.specs.Obeys.{Does, Obeys}
-use Rattle.life_app.specs.TableReserves.{table_reserves}
-use Rattle.life_app.specs.Texts.{run_wording}
-use Rattle.life_app.specs.Words.{AskForRun}
 use Rattle.life_app.proofs.HeadlineLaws.{by_script, headline}
-use Rattle.life_app.specs.WorkedRun.Calls.{CalledDisk, Unsynced, called, cut_disk, cut_file, last_disk, untorn}
-use Rattle.life_app.specs.WorkedRun.Runs.{second_turns}
-use Rattle.life_app.specs.WorkedRun.Promise.{GivenByHand, HeadlineByHand, ObeyedByHand, PromisedByHand, ToldOnceSafe, given_script, output_of, premium_lanes, premium_line, premium_script, premium_text, shelf_that_told, two_auditors}
-use Rattle.outside_io.specs.FileCalls.{FileCall, FileLeft}
-use Rattle.outside_io.specs.Streams.{TakenPiece}
-use Rattle.office_state.proofs.JournalLaws.{opens_to_one}
 use Rattle.life_app.proofs.WorkedRun.First.{honest_last}
 use Rattle.life_app.proofs.WorkedRun.Row.{both_now, facts, found_by_hand, legal_second, second_left}
 

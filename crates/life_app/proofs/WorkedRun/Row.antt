@@ -1,27 +1,9 @@
 -- The worked run holds what its cases say.
-use Rattle.std.proofs.Common.{◌≡◌, ◌⊎◌, ℕ, true, List, [], ◌∷◌, refl, sym, subst, inl, inr, lit≤, lit<}
+use Rattle.life_app.proofs.Names.{◌≡◌, ◌⊎◌, ℕ, true, List, [], ◌∷◌, refl, sym, subst, inl, inr, lit≤, lit<, Synced, left_by_now, reads_as_left, Command, Entry, Accepted, IsLegal, accepted_of, IsJournal, LooksOn, spelling_of, HoldsNow, HoldsOnce, IsLeftAlone, IsLeftBy, KeepsAccepted, JournalBytes, Opens, hand_issue, hand_premium, premium_turn, opens_to_one, valid_issue, HasRun, AreLeft, AreRuns, CalledDisk, Unsynced, called, cut_disk, cut_file, called_disk, empty_disk, last_disk, paid_disk, second_calls, reopening, untorn, CrashesByHand, ImagesByHand, FoundByHand, LeftByHand, OpenedByHand, RanByHand, RowByHand, both_commands, cut_run, first_opening, first_turns, looked_disk, second_opening, second_turns, whole_run}
 use Rattle.life_dates.specs.Anniversary as dates
-use Rattle.outside_io.specs.FileCalls.{Synced}
-use Rattle.outside_io.specs.FileLaws.{left_by_now, reads_as_left}
-use Rattle.policy_types.specs.declared.command.Command.{Command}
-use Rattle.policy_types.specs.declared.entry.Entry.{Entry}
-use Rattle.policy_types.specs.declared.entry.Reply.TheVariants.{Accepted}
-use Rattle.policy_machine.specs.History.{IsLegal, accepted_of}
-use Rattle.posting_journal.specs.Files.{IsJournal}
-use Rattle.posting_journal.specs.Runs.{LooksOn}
-use Rattle.record_codec.specs.Spelling.{spelling_of}
-use Rattle.office_state.specs.Images.{HoldsNow, HoldsOnce, IsLeftAlone, IsLeftBy, KeepsAccepted}
-use Rattle.office_state.specs.Journals.{JournalBytes, Opens}
-use Rattle.office_state.specs.Worked.{hand_issue, hand_premium, premium_turn}
-use Rattle.office_state.proofs.JournalLaws.{opens_to_one}
 use Rattle.office_state.proofs.KeptSteps.{keeps_first, keeps_more, kept_now}
-use Rattle.office_state.proofs.WorkedOffices.{valid_issue}
-use Rattle.life_app.specs.Crashes.{HasRun}
-use Rattle.life_app.specs.Runs.{AreLeft, AreRuns}
 use Rattle.life_app.proofs.CrashLaws.{afterwards, during, next_commands, opened_again}
 use Rattle.life_app.proofs.RunLaws.{Facts, runs_left}
-use Rattle.life_app.specs.WorkedRun.Calls.{CalledDisk, Unsynced, called, cut_disk, cut_file, called_disk, empty_disk, last_disk, paid_disk, second_calls, reopening, untorn}
-use Rattle.life_app.specs.WorkedRun.Runs.{CrashesByHand, ImagesByHand, FoundByHand, LeftByHand, OpenedByHand, RanByHand, RowByHand, both_commands, cut_run, first_opening, first_turns, looked_disk, second_opening, second_turns, whole_run}
 use Rattle.life_app.proofs.WorkedRun.Calls.{Left, posted_left, posting_leaves}
 use Rattle.life_app.proofs.WorkedRun.First.{answered_some, cut, first_left, first_ran, found_safe, honest_last, honest_paid, journal_of_both, journal_of_issue, least_issue, only_now, paid_again, paid_again_safe, premium_size, reopened_allowed, reopened_safe, was_cut}
 

@@ -1,44 +1,16 @@
 -- What the laws and the contract conclude holds of small values.
-use Rattle.std.proofs.Common.{◌≡◌, List, [], ◌∷◌, ◌++◌, refl, inl, inr, lit≤, arith, codes, pos}
-use Rattle.std.specs.Fmt.{digits}
-use Rattle.std.specs.List.{AllZip}
-use Rattle.std.specs.Prelude.{◌<ℤ◌}
-use Rattle.std.proofs.lemmas.Int.{ints}
-use Rattle.std.proofs.lemmas.List.Elements.{All-from_recursion}
-use Rattle.life_dates.specs.Anniversary.{anniversary_of}
-use Rattle.life_dates.specs.Calendar.{day_number, date_of, date_at, year_of, month_of, days_before, days_before_year, days_of_months}
+use Rattle.life_app.proofs.Names.{◌≡◌, List, [], ◌∷◌, ◌++◌, refl, inl, inr, lit≤, arith, codes, pos, digits, AllZip, ◌<ℤ◌, ints, All-from_recursion, anniversary_of, day_number, date_of, date_at, year_of, month_of, days_before, days_before_year, days_of_months, Dated, IsPicked, day_text, BelowTable, NoBasis, Bounds, Word, block_text, row_text, total_text, heading_text, bare, joined, Opens, hand_issue, hand_premium, InForce, PaidUp, Terminal, Row, Done, BadBasis, NoMemory, EndsNoBasis, ReadsForValues, IsEnclosingRow, IsEnclosingText, IsUnrun, HasBadFile, called, cut_disk, value_lanes, value_script, given_script, output_of, shelf_that_told, table_reserves, run_wording}
 use Rattle.basis_shelf.specs.Lines.{bad_basis_text}
 use Rattle.basis_shelf.specs.declared.fault.BasisWord.TheVariants.{Absent}
-use Rattle.basis_book.specs.Dated.{Dated, IsPicked}
 use Rattle.valuing_modes.specs.Worked.Valued.{five_endowments, from_2000, from_2020}
 use Rattle.valuing_modes.proofs.WorkedValuation.{first_row, second_row, third_row, fourth_row, fifth_row}
-use Rattle.life_dates.specs.DayText.{day_text}
-use Rattle.plan_benefits.specs.declared.fault.NotValued.TheVariants.{BelowTable, NoBasis}
-use Rattle.policy_value.specs.declared.worth.Worth.TheVariants.{Bounds, Word}
-use Rattle.report_text.specs.Block.{block_text, row_text, total_text, heading_text}
 use Rattle.command_csv.specs.Worked.{ValueLine}
-use Rattle.life_args.specs.Pieces.{bare, joined}
 use Rattle.life_args.proofs.WorkedWords.{new_year}
-use Rattle.office_state.specs.Journals.{Opens}
-use Rattle.office_state.specs.Worked.{hand_issue, hand_premium}
 use Rattle.policy_machine.specs.Book.{book}
-use Rattle.policy_types.specs.declared.policy.Status.TheVariants.{InForce, PaidUp}
 use Rattle.policy_value.specs.Rows.{IsInsured}
-use Rattle.policy_value.specs.declared.worth.Measure.TheVariants.{Terminal}
-use Rattle.policy_value.specs.declared.worth.Row.{Row}
 use Rattle.snapshot_value.specs.Valuing.{IsValuedRow}
-use Rattle.program_endings.specs.declared.ending.Ending.TheVariants.{Done, BadBasis, NoMemory}
-use Rattle.program_endings.specs.WithoutBasis.{EndsNoBasis}
 use Rattle.life_app.proofs.WorkedRun.Both.{stated_alone}
-use Rattle.script_run.specs.Running.{ReadsForValues}
-use Rattle.life_app.specs.Headline.{IsEnclosingRow, IsEnclosingText, IsUnrun}
-use Rattle.life_app.specs.Needs.{HasBadFile}
-use Rattle.life_app.specs.WorkedRun.Calls.{called, cut_disk}
-use Rattle.life_app.specs.WorkedRun.Due.{value_lanes, value_script}
-use Rattle.life_app.specs.WorkedRun.Promise.{given_script, output_of, shelf_that_told}
 use Rattle.life_app.specs.WorkedRun.Told.{EnclosedByHand, EndedByHand, ModesByHand, ReasonsByHand, absent_basis, first_endowment, first_value, five_text, two_bases, unstocked_shelf}
-use Rattle.life_app.specs.TableReserves.{table_reserves}
-use Rattle.life_app.specs.Texts.{run_wording}
 use Rattle.life_app.proofs.HeadlineLaws.{each_pair, enclosing}
 use Rattle.life_app.proofs.WorkedRun.Promise.{asks_run}
 use Rattle.life_app.proofs.WorkedRun.First.{honest_last}

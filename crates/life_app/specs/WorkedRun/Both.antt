@@ -3,18 +3,8 @@ use Rattle.std.specs.Prelude.{◌≡◌, ◌⊎◌, ℕ, true, List, [], ◌∷�
 use Rattle.checkpoint_store.specs.Checkpoints.{CheckpointBytes}
 use Rattle.checkpoint_store.specs.Spelling.{snapshot_bytes}
 use Rattle.checkpoint_store.specs.Worked.{issued_snapshot}
-use Rattle.outside_io.specs.FileCalls.{FileCall, Measured, Synced, file_reads}
-use Rattle.office_state.specs.Journals.{Opens}
-use Rattle.office_state.specs.Worked.{hand_issue}
-use Rattle.policy_types.specs.declared.command.Command.{Command}
-use Rattle.program_endings.specs.Status.{status_of}
-use Rattle.program_endings.specs.declared.ending.Ending.{Ending}
-use Rattle.program_endings.specs.declared.ending.Ending.TheVariants.{Done, Usage, BadJournal, NoMemory}
-use Rattle.stating_modes.specs.Books.{books_text}
+use Rattle.life_app.specs.Names.{FileCall, Measured, Synced, file_reads, Opens, hand_issue, Command, status_of, Ending, Done, Usage, BadJournal, NoMemory, books_text, EndsCheckpoint, EndsStateKept, AreTrue, IsMadeSafe, TellsTruth, TwoDisks}
 use Rattle.stating_modes.specs.Stating.{EndsState}
-use Rattle.stating_modes.specs.Saved.{EndsCheckpoint}
-use Rattle.stating_modes.specs.Stated.{EndsStateKept}
-use Rattle.stating_modes.specs.TwoDisks.{AreTrue, IsMadeSafe, TellsTruth, TwoDisks}
 use Rattle.life_app.specs.Due.{HasJournal, HasNoJournal, IsDueEnding}
 use Rattle.life_app.specs.KeptRuns.{AreRunsOfTwo, IsLeftByCall, IsRunOfTwo, IsSnapshotOfFirst, KeepsSecond, LeavesSaved, LeavesSecond, OneRunOfTwo, SavedOfFirst, SavesBooks, WasCutAfter, WasCutBefore, WasLeftOf}
 use Rattle.life_app.specs.Obeys.{EndsBooks, EndsSave, EndsUnasked, Obeys, SaysUnasked}

@@ -1,12 +1,9 @@
 -- A worked run, told by the calls of its file: an empty file becomes a journal, a policy is issued, and a premium is posted of
 -- which a crash leaves the body behind a closed gate; the file is opened again, and the premium is posted anew
 use Rattle.std.specs.Prelude.{◌≡◌, ℕ, true, List, [], ◌∷◌, ◌++◌, Some, length, take, drop}
-use Rattle.outside_io.specs.FileCalls.{FileCall, Measured, ReadFrom, WrittenTo, Synced, file_reads, writes_within, AreAllowed, FileImage, FileLeft}
-use Rattle.outside_io.specs.declared.disks.Disk.{Ghosts}
-use Rattle.policy_types.specs.declared.command.Command.{Command}
+use Rattle.life_app.specs.Names.{FileCall, Measured, ReadFrom, WrittenTo, Synced, file_reads, writes_within, AreAllowed, FileImage, FileLeft, Ghosts, Command, hand_issue, hand_premium, issue_record, journal_of_two, premium_body}
 use Rattle.posting_journal.specs.Layout.{body_place, gate_place, header}
 use Rattle.record_codec.specs.Spelling.{spelling_of}
-use Rattle.office_state.specs.Worked.{hand_issue, hand_premium, issue_record, journal_of_two, premium_body}
 
 -- no write failed
 abbrev pub untorn : ℕ → List ℕ

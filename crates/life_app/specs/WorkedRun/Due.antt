@@ -1,23 +1,8 @@
 -- Which endings are due in worked cases, of the run's script and of files by hand, so that what is due can come about
 use Rattle.std.specs.Prelude.{◌≡◌, ◌⊎◌, ℕ, true, List, [], ◌∷◌, None, Some, codes, pos, replicate}
-use Rattle.basis_book.specs.Dated.{Dated, IsPicked}
-use Rattle.basis_shelf.specs.Bases.{IsBasis}
+use Rattle.life_app.specs.Names.{Dated, IsPicked, IsBasis, lane_of, Measured, ReadFrom, Synced, Absent, Found, GivesMore, Now, Position, Lane, Terminal, Run, ToValue, State, hand_issue, status_of, Input, Shelving, Ending, Done, Usage, BadScript, BadJournal, IsReadable, IsUnreadable, most_script_bytes}
 use Rattle.basis_shelf.specs.Worked.{certain_death, one_row}
-use Rattle.command_csv.specs.Reads.{lane_of}
-use Rattle.outside_io.specs.FileCalls.{Measured, ReadFrom, Synced}
-use Rattle.outside_io.specs.Shelves.{Absent, Found}
-use Rattle.outside_io.specs.Streams.{GivesMore}
-use Rattle.policy_types.specs.declared.entry.At.TheVariants.{Now, Position}
-use Rattle.policy_types.specs.declared.script.Lane.{Lane}
 use Rattle.policy_types.specs.declared.script.Line.TheVariants.{Value}
-use Rattle.policy_value.specs.declared.worth.Measure.TheVariants.{Terminal}
-use Rattle.life_args.specs.declared.mode.Mode.TheVariants.{Run, Value as ToValue, State}
-use Rattle.office_state.specs.Worked.{hand_issue}
-use Rattle.program_endings.specs.Status.{status_of}
-use Rattle.program_endings.specs.Writing.{Input, Shelving}
-use Rattle.program_endings.specs.declared.ending.Ending.{Ending}
-use Rattle.program_endings.specs.declared.ending.Ending.TheVariants.{Done, Usage, BadScript, BadJournal}
-use Rattle.script_run.specs.Script.{IsReadable, IsUnreadable, most_script_bytes}
 use Rattle.script_run.specs.Worked.{input_that_gave}
 use Rattle.life_app.specs.Due.{HasBasis, HasItsJournal, HasItsNeeds, HasJournal, HasNoBasis, HasNoJournal, HasNoScript, HasScript, IsDueEnding, LacksItsBasis, LacksItsJournal}
 use Rattle.life_app.specs.Headline.{IsGivenBasis}

@@ -1,27 +1,14 @@
 -- Two lanes whose turns lie between one another: a premium is refused, two policies are valued while the other clerk posts, and
 -- that clerk's second premium meets a fault of the disk; the run ends, and the file is opened again
 use Rattle.std.specs.Prelude.{ℕ, List, [], ◌∷◌, ◌++◌, codes, pos}
-use Rattle.std.specs.List.{AllZip}
-use Rattle.command_csv.specs.Reads.{Reads}
-use Rattle.lane_runner.specs.AnsweredLines.{AnsweredLine, AreLinesOf}
-use Rattle.office_state.specs.Worked.{hand_issue, hand_premium}
-use Rattle.policy_machine.specs.History.{IsLegal, Opening, opened_on}
+use Rattle.life_app.specs.Names.{AllZip, Reads, AnsweredLine, AreLinesOf, hand_issue, hand_premium, IsLegal, Opening, opened_on, Command, Endowment, Now, Entry, Reply, Accepted, Refused, Faulted, Pinned, Policies, Unpinned, Policy, Lane, HaveAFault}
 use Rattle.policy_machine.specs.Merge.{IsMerge}
 use Rattle.policy_machine.specs.Rules.{issued}
-use Rattle.policy_types.specs.declared.command.Command.{Command}
 use Rattle.policy_types.specs.declared.command.Command.TheVariants.{Issue, Premium}
-use Rattle.policy_types.specs.declared.command.Plan.TheVariants.{Endowment}
-use Rattle.policy_types.specs.declared.entry.At.TheVariants.{Now}
 use Rattle.policy_types.specs.declared.entry.Call.{Call}
 use Rattle.policy_types.specs.declared.entry.Call.TheVariants.{Post, Pin, Read, Unpin}
-use Rattle.policy_types.specs.declared.entry.Entry.{Entry}
-use Rattle.policy_types.specs.declared.entry.Reply.{Reply}
-use Rattle.policy_types.specs.declared.entry.Reply.TheVariants.{Accepted, Refused, Faulted, Pinned, Slice as Policies, Unpinned}
-use Rattle.policy_types.specs.declared.policy.Policy.{Policy}
 use Rattle.policy_types.specs.declared.refusal.Refusal.TheVariants.{TooEarly, WrongAmount}
-use Rattle.policy_types.specs.declared.script.Lane.{Lane}
 use Rattle.policy_types.specs.declared.script.Line.TheVariants.{Post as PostLine, Value}
-use Rattle.program_endings.specs.Replies.{HaveAFault}
 use Rattle.life_app.specs.Crashes.{AreAllHeld, AreHeld}
 use Rattle.life_app.specs.Headline.{IsToldLine, WasFaulted}
 use Rattle.life_app.specs.TableReserves.{table_reserves}

@@ -1,23 +1,10 @@
 -- What the headline says of the worked run's second half: the script, what is written, and the basis that is given
 use Rattle.std.specs.Prelude.{◌⊎◌, ◌==◌, ℕ, false, length, List, [], ◌∷◌, ◌++◌, Option, Some, codes}
-use Rattle.basis_shelf.specs.Bases.{IsBasis}
-use Rattle.command_csv.specs.Reads.{Reads, lane_of}
-use Rattle.outside_io.specs.Shelves.{Agrees, Answer}
-use Rattle.policy_types.specs.declared.script.Lane.{Lane}
-use Rattle.policy_types.specs.declared.script.Line.TheVariants.{Post}
-use Rattle.office_state.specs.Journals.{Opens}
-use Rattle.lane_runner.specs.AnsweredLines.{AnsweredLine}
-use Rattle.office_state.specs.Worked.{hand_issue, hand_premium, premium_turn}
-use Rattle.policy_types.specs.declared.entry.Reply.TheVariants.{Accepted}
+use Rattle.life_app.specs.Names.{IsBasis, Reads, lane_of, Agrees, Answer, Lane, Post, Opens, AnsweredLine, hand_issue, hand_premium, premium_turn, Accepted, AreAnswered, Input, IsWholeInput, Shelving, Stream, Done, EndsLanes, EndsRead, EndsRun, Auditor}
 use Rattle.script_run.specs.Shown.{AreSafeWhenShown}
-use Rattle.program_endings.specs.Replies.{AreAnswered}
-use Rattle.program_endings.specs.Writing.{Input, IsWholeInput, Shelving, Stream}
-use Rattle.program_endings.specs.declared.ending.Ending.TheVariants.{Done}
 use Rattle.script_run.specs.Outcome.{EndsScript, IsRunOf}
 use Rattle.script_run.specs.Texts.{WroteWhole}
-use Rattle.script_run.specs.Running.{EndsLanes, EndsRead, EndsRun}
 use Rattle.script_run.specs.Worked.{input_that_gave}
-use Rattle.watcher_set.specs.Noted.{Auditor}
 use Rattle.watcher_set.specs.Premiums.{premiums_of}
 use Rattle.life_app.specs.Headline.{IsGivenBasis, IsPromised, IsPromisedFromStart, IsUnrun}
 use Rattle.life_app.specs.Obeys.{Obeys}

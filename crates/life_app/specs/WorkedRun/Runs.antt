@@ -1,13 +1,7 @@
 -- What the laws of a crash and of runs in a row say of the worked run
 use Rattle.std.specs.Prelude.{ℕ, List, [], ◌∷◌}
-use Rattle.policy_types.specs.declared.command.Command.{Command}
+use Rattle.life_app.specs.Names.{Command, Accepted, Entry, IsLegal, Opening, opened_on, HoldsOnce, IsLeftAlone, Opens, hand_issue, hand_premium, premium_turn}
 use Rattle.policy_types.specs.declared.entry.Call.TheVariants.{Post}
-use Rattle.policy_types.specs.declared.entry.Reply.TheVariants.{Accepted}
-use Rattle.policy_types.specs.declared.entry.Entry.{Entry}
-use Rattle.policy_machine.specs.History.{IsLegal, Opening, opened_on}
-use Rattle.office_state.specs.Images.{HoldsOnce, IsLeftAlone}
-use Rattle.office_state.specs.Journals.{Opens}
-use Rattle.office_state.specs.Worked.{hand_issue, hand_premium, premium_turn}
 use Rattle.life_app.specs.Crashes.{AreAllHeld, AreHeld, HasRun}
 use Rattle.life_app.specs.Headline.{IsFirstFound}
 use Rattle.life_app.specs.Runs.{AreLeft, AreRuns, HasAnsweredSome, HasReturned, OneRun, WasCut}

@@ -1,29 +1,14 @@
 -- What the laws and the contract conclude, of the worked run and of small values by hand
 use Rattle.std.specs.Prelude.{ℕ, List, None, [], ◌∷◌, ◌++◌, codes, pos}
-use Rattle.basis_book.specs.Dated.{Dated, IsPicked}
+use Rattle.life_app.specs.Names.{Dated, IsPicked, Absent, Faulted, Endowment, Policy, Row, Bounds, Opens, hand_issue, hand_premium, premium_turn, Shelving, Done, BadBasis, NoMemory, EndsValue, State, Now, Terminal, ReadsForValues}
 use Rattle.valuing_modes.specs.Worked.Valued.{five_endowments, from_2000, from_2020}
-use Rattle.outside_io.specs.Shelves.{Absent}
-use Rattle.policy_types.specs.declared.entry.Reply.TheVariants.{Faulted}
 use Rattle.policy_machine.specs.Rules.{issued}
-use Rattle.policy_types.specs.declared.command.Plan.TheVariants.{Endowment}
-use Rattle.policy_types.specs.declared.policy.Policy.{Policy}
 use Rattle.policy_types.specs.declared.policy.Status.TheVariants.{InForce}
 use Rattle.policy_value.specs.Rows.{IsInsured}
-use Rattle.policy_value.specs.declared.worth.Row.{Row}
-use Rattle.policy_value.specs.declared.worth.Worth.TheVariants.{Bounds}
-use Rattle.office_state.specs.Journals.{Opens}
-use Rattle.office_state.specs.Worked.{hand_issue, hand_premium, premium_turn}
-use Rattle.program_endings.specs.Writing.{Shelving}
-use Rattle.program_endings.specs.declared.ending.Ending.TheVariants.{Done, BadBasis, NoMemory}
 use Rattle.valuing_modes.specs.Projecting.{EndsProject}
-use Rattle.valuing_modes.specs.Valuing.{EndsValue}
-use Rattle.life_args.specs.declared.mode.Mode.TheVariants.{State}
-use Rattle.policy_types.specs.declared.entry.At.TheVariants.{Now}
-use Rattle.policy_value.specs.declared.worth.Measure.TheVariants.{Terminal}
 use Rattle.trial_load.specs.Generating.{EndsGenerate}
 use Rattle.trial_load.specs.Loading.{EndsLoad}
 use Rattle.life_app.specs.Obeys.{EndsMode}
-use Rattle.script_run.specs.Running.{ReadsForValues}
 use Rattle.life_app.specs.Headline.{IsEnclosingRow, IsEnclosingText, IsUnrun, IsWorthBy, WasFaulted}
 use Rattle.life_app.specs.Needs.{HasBadFile, IsPastTheEnd, NeedBasis, Without}
 use Rattle.life_app.specs.Reasons.{HasReason, IsReasoned}

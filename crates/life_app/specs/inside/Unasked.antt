@@ -2,9 +2,7 @@
 use Rattle.std.specs.Prelude.{codes}
 use Rattle.life_args.specs.declared.fault.WordsFault.{WordsFault}
 use Rattle.life_args.specs.declared.fault.WordsFault.TheVariants.{Usage as BadWords, NoMemory as NoWords}
-use Rattle.program_endings.specs.Writing.{Stream, WroteLine}
-use Rattle.program_endings.specs.declared.ending.Ending.{Ending}
-use Rattle.program_endings.specs.declared.ending.Ending.TheVariants.{NoMemory, Usage}
+use Rattle.life_app.specs.Names.{Stream, WroteLine, Ending, NoMemory, Usage}
 
 -- the line that says why the words aren't obeyed
 abbrev pub SaysNoMode : WordsFault → Stream → Ending → Type 0

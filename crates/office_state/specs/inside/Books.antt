@@ -1,13 +1,8 @@
 -- What is seen of the books
 use Rattle.std.specs.Prelude.{◌≡◌, ℕ, List, filter_map}
 use Rattle.indexmap.specs.IndexMap.{keys}
-use Rattle.policy_types.specs.declared.command.Command.{Command}
-use Rattle.policy_types.specs.declared.policy.Policy.{Policy}
+use Rattle.office_state.specs.Names.{Command, Policy, balances, id_of, CanSet, IsPlaceIn, kept_of, versions_in, newest_of}
 use Rattle.policy_types.specs.Accounts.{Booking}
-use Rattle.money_ledgers.specs.Balances.{balances}
-use Rattle.policy_types.specs.Valid.{id_of}
-use Rattle.versioned_book.specs.Books.{CanSet, IsPlaceIn, kept_of, versions_in}
-use Rattle.versioned_book.specs.Versions.{newest_of}
 use Rattle.versioned_book.specs.declared.place.KeyPlace.{KeyPlace}
 use Rattle.office_state.specs.declared.books.Books.{Books}
 

@@ -1,16 +1,7 @@
 -- What has to hold of an office's journal and disk from one turn to the next
 use Rattle.std.specs.Prelude.{◌≡◌, ℕ, ◌≤◌, false, List, [], ◌∷◌, ◌++◌}
-use Rattle.std.specs.List.{AllByRecursion, filter_map}
-use Rattle.outside_io.specs.declared.disks.Disk.{Ghosts}
-use Rattle.policy_types.specs.declared.command.Command.{Command}
-use Rattle.policy_types.specs.declared.entry.Entry.{Entry}
-use Rattle.policy_types.specs.Valid.{IsValid}
-use Rattle.policy_machine.specs.Book.{IsAccepted}
-use Rattle.policy_machine.specs.History.{Opening, commands_after, fault_of}
+use Rattle.office_state.specs.Names.{AllByRecursion, filter_map, Ghosts, Command, Entry, IsValid, IsAccepted, Opening, commands_after, fault_of, StandsFor, disk_of, is_clean, Journal, bodies_of}
 use Rattle.record_codec.specs.Spelling.{spelling_of}
-use Rattle.posting_journal.specs.States.{StandsFor, disk_of, is_clean}
-use Rattle.posting_journal.specs.declared.journal.Journal.{Journal}
-use Rattle.journal_replay.specs.Replays.{bodies_of}
 use Rattle.office_state.specs.Images.{IsPending}
 
 -- a fault left this body behind the commands' records, and the posting of its command is pending

@@ -1,20 +1,12 @@
 -- The versions and the ledger that are kept of the accepted commands
 use Rattle.std.specs.Prelude.{◌≡◌, ℕ, ◌≤◌, List, [], ◌∷◌, ◌++◌, length}
 use Rattle.std.specs.Coded.{×_prop, Unit-prop}
-use Rattle.std.specs.List.{AllByRecursion}
+use Rattle.office_state.specs.Names.{AllByRecursion, Command, Issue, Premium, Alter, Lapse, Reinstate, Claim, Settle, Mature, PaidUp, Upgrade, Policy, IsValid, balances, ledger_of, IsAccepted, IsAcceptedAfter, upgrade_of, IsBookOf, IsBookOf-prop}
 use Rattle.std.proofs.Props.{props}
-use Rattle.policy_types.specs.declared.command.Command.{Command}
-use Rattle.policy_types.specs.declared.command.Command.TheVariants.{Issue, Premium, Alter, Lapse, Reinstate, Claim, Settle, Mature, PaidUp, Upgrade}
 use Rattle.policy_types.specs.declared.command.Plan.TheVariants.{Term, Whole, Endowment, Limited}
-use Rattle.policy_types.specs.declared.policy.Policy.{Policy}
 use Rattle.policy_types.specs.Limits.{most_commands}
-use Rattle.policy_types.specs.Valid.{IsValid}
-use Rattle.money_ledgers.specs.Balances.{balances}
 use Rattle.money_ledgers.specs.declared.ledger.Ledger.{Ledger}
-use Rattle.policy_machine.specs.Accounts.{ledger_of}
-use Rattle.policy_machine.specs.Book.{IsAccepted, IsAcceptedAfter, upgrade_of}
 use Rattle.office_state.specs.versions.Commands.{sets_of}
-use Rattle.versioned_book.specs.Books.{IsBookOf, IsBookOf-prop}
 use Rattle.versioned_book.specs.declared.book.VersionedBook.{VersionedBook}
 
 -- The commands are accepted one after the other. Each of them but an upgrade set the version of its policy at its own

@@ -1,10 +1,7 @@
 -- What making a record does to a journal, which may have to be repaired first
 use Rattle.std.specs.Prelude.{◌≡◌, ◌⊎◌, ℕ, false, List, [], ◌∷◌, ◌++◌, Result, OnOk, OnErr}
-use Rattle.outside_io.specs.declared.disks.Disk.{Ghosts}
+use Rattle.office_state.specs.Names.{Ghosts, Leaves, StandsFor, disk_of, is_clean, Journal}
 use Rattle.posting_journal.specs.Files.{IsJournal}
-use Rattle.posting_journal.specs.Runs.{Leaves}
-use Rattle.posting_journal.specs.States.{StandsFor, disk_of, is_clean}
-use Rattle.posting_journal.specs.declared.journal.Journal.{Journal}
 
 -- The journal of these bodies may have the body of an earlier fault behind them, where it isn't clean; after a fault
 -- it may have that one still, or the new one.

@@ -1,18 +1,10 @@
 -- What deciding a journal's records anew tells, while an office is opened
 use Rattle.std.specs.Prelude.{◌≡◌, List, [], Option, None, Err}
-use Rattle.std.specs.List.{AllByRecursion}
-use Rattle.outside_io.specs.declared.disks.Disk.{Ghosts}
-use Rattle.policy_types.specs.declared.command.Command.{Command}
-use Rattle.policy_types.specs.Valid.{IsValid}
-use Rattle.policy_machine.specs.Book.{IsAccepted, judge}
-use Rattle.posting_journal.specs.States.{disk_of}
-use Rattle.posting_journal.specs.declared.journal.Journal.{Journal}
+use Rattle.office_state.specs.Names.{AllByRecursion, Ghosts, Command, IsValid, IsAccepted, judge, disk_of, Journal, BodiesHave, HasReplayCause, IsLookedAt, IsQuiet, StaysAs, Stops, bodies_of, WatcherGhosts}
 use Rattle.posting_journal.specs.declared.faults.JournalCause.{JournalCause}
 use Rattle.posting_journal.specs.declared.faults.JournalCause.TheVariants.{DiskFault as FaultyDisk, NotAJournal as IsNoJournal, BadRecord as IsBadRecord}
-use Rattle.journal_replay.specs.Replays.{BodiesHave, HasReplayCause, IsLookedAt, IsQuiet, StaysAs, Stops, bodies_of}
 use Rattle.journal_replay.specs.declared.replaying.ReplayFault.{ReplayFault}
 use Rattle.journal_replay.specs.declared.replaying.ReplayFault.TheVariants as replay
-use Rattle.watcher_set.specs.declared.watching.Watching.{Ghosts as WatcherGhosts}
 use Rattle.office_state.specs.declared.faults.StartCause.{StartCause}
 use Rattle.office_state.specs.declared.faults.StartCause.TheVariants.{DiskFault, NotAJournal, BadRecord, NoMemory}
 use Rattle.office_state.specs.declared.state.OfficeState.{OfficeState}

@@ -1,7 +1,6 @@
 -- The count of turns
 use Rattle.std.specs.Prelude.{◌+◌}
-use Rattle.outside_io.specs.declared.disks.Disk.{Ghosts}
-use Rattle.watcher_set.specs.declared.watching.Watching.{Ghosts as WatcherGhosts}
+use Rattle.office_state.specs.Names.{Ghosts, WatcherGhosts}
 use Rattle.office_state.specs.declared.state.OfficeState.{OfficeState}
 
 -- the office once one turn more is counted

@@ -1,10 +1,6 @@
 -- The book at a position is the values there, over the keys that were set by then
 use Rattle.std.specs.Prelude.{◌≡◌, ℕ, ◌<◌, List, length, take, slice_get, Some}
-use Rattle.std.specs.List.{filter_map}
-use Rattle.policy_types.specs.declared.command.Command.{Command}
-use Rattle.policy_machine.specs.Book.{book, issue_id, IsAccepted}
-use Rattle.versioned_book.specs.Versions.{value_at}
-use Rattle.versioned_book.specs.Settings.{keys_of, own, until}
+use Rattle.office_state.specs.Names.{filter_map, Command, book, issue_id, IsAccepted, value_at, keys_of, own, until}
 use Rattle.office_state.specs.versions.Commands.{sets_of}
 
 -- the settings until a position are those of so many commands, also where some were refused

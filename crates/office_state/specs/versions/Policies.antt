@@ -1,11 +1,6 @@
 -- A policy's versions are what the commands made of it
 use Rattle.std.specs.Prelude.{◌≡◌, ℕ, ◌+◌, List, take, slice_get, Some, false}
-use Rattle.policy_types.specs.declared.command.Command.{Command}
-use Rattle.policy_types.specs.declared.policy.Policy.{Policy}
-use Rattle.policy_types.specs.Valid.{id_of, is_upgrade}
-use Rattle.policy_machine.specs.Book.{policy_of, IsAccepted}
-use Rattle.versioned_book.specs.Versions.{newest_of, value_at}
-use Rattle.versioned_book.specs.Settings.{own}
+use Rattle.office_state.specs.Names.{Command, Policy, id_of, is_upgrade, policy_of, IsAccepted, newest_of, value_at, own}
 use Rattle.office_state.specs.versions.Commands.{sets_of}
 
 -- the value at a position is the policy after so many commands, also where some were refused

@@ -1,15 +1,7 @@
 -- What one more command sets, and how many settings there are
 use Rattle.std.specs.Prelude.{◌≡◌, ℕ, ◌+◌, ◌-◌, ◌≤◌, List, [], ◌∷◌, ◌++◌, length, Ok, Err}
-use Rattle.std.specs.List.{filter}
-use Rattle.policy_types.specs.declared.command.Command.{Command}
-use Rattle.policy_types.specs.declared.command.Command.TheVariants.{Upgrade}
-use Rattle.policy_types.specs.declared.policy.Policy.{Policy}
+use Rattle.office_state.specs.Names.{filter, Command, Upgrade, Policy, id_of, is_upgrade, next, policy_of, IsAccepted, IsRisingTo, positions, settings_after}
 use Rattle.policy_types.specs.declared.refusal.Refusal.{Refusal}
-use Rattle.policy_types.specs.Valid.{id_of, is_upgrade}
-use Rattle.policy_machine.specs.Rules.{next}
-use Rattle.policy_machine.specs.Book.{policy_of, IsAccepted}
-use Rattle.versioned_book.specs.Versions.{IsRisingTo}
-use Rattle.versioned_book.specs.Settings.{positions, settings_after}
 use Rattle.office_state.specs.versions.Commands.{sets_of}
 
 -- one more accepted command sets its policy at the next position

@@ -1,9 +1,6 @@
 -- Worked cases of alterations. Where a refusal is due, reasons that come after it in order apply as well
 use Rattle.std.specs.Prelude.{[], ◌∷◌, pos}
-use Rattle.policy_types.specs.declared.command.Command.TheVariants.{Premium, Alter}
-use Rattle.policy_types.specs.declared.command.Plan.TheVariants.{Endowment}
-use Rattle.policy_types.specs.declared.policy.Status.TheVariants.{InForce, Lapsed}
-use Rattle.policy_types.specs.declared.refusal.Refusal.TheVariants.{Unknown, BeforeLast, WrongStatus, TermOver, GraceOver, WrongAmount, NotAReduction}
+use Rattle.policy_machine.specs.Names.{Premium, Alter, Endowment, InForce, Lapsed, Unknown, BeforeLast, WrongStatus, TermOver, GraceOver, WrongAmount, NotAReduction}
 use Rattle.policy_machine.specs.Worked.Cases.{Accepts, Refuses, LeavePolicies, policy_issue, premium_on, unpaid, paid_once, paid_up, lapsed_once}
 
 -- there is no policy, or one of another number

@@ -1,8 +1,6 @@
 -- Worked balances, added up by hand
 use Rattle.std.specs.Prelude.{◌≡◌, List, [], ◌∷◌, ◌++◌, ℤ, pos, negsuc}
-use Rattle.policy_types.specs.declared.command.Command.{Command}
-use Rattle.policy_types.specs.declared.command.Command.TheVariants.{Issue, Alter, Lapse, Reinstate, Claim, Settle, Mature}
-use Rattle.policy_types.specs.declared.command.Plan.TheVariants.{Term, Whole}
+use Rattle.policy_machine.specs.Names.{Command, Issue, Alter, Lapse, Reinstate, Claim, Settle, Mature, Term, Whole}
 use Rattle.policy_machine.specs.Accounts.{ledger_of}
 use Rattle.policy_machine.specs.Worked.Cases.{policy_issue, premium_on, unpaid, paid_once, paid_up, lapsed_once}
 

@@ -1,17 +1,7 @@
 -- What the worked cases share. The policy is an endowment of 1000.00 for three years at age 0, with an annual premium
 -- of 400.00, issued on 2020-01-01 (day 18262) as number 7001; its anniversaries are the days 18628, 18993 and 19358
 use Rattle.std.specs.Prelude.{◌≡◌, ℕ, List, [], ◌∷◌, ℤ, pos, Some, None}
-use Rattle.policy_types.specs.declared.command.Command.{Command}
-use Rattle.policy_types.specs.declared.command.Command.TheVariants.{Issue, Premium, Lapse, Claim}
-use Rattle.policy_types.specs.declared.command.Plan.TheVariants.{Endowment, Term}
-use Rattle.policy_types.specs.declared.policy.Policy.{Policy}
-use Rattle.policy_types.specs.declared.policy.Status.{Status}
-use Rattle.policy_types.specs.declared.policy.Status.TheVariants.{InForce}
-use Rattle.policy_types.specs.declared.refusal.Refusal.{Refusal}
-use Rattle.policy_types.specs.declared.entry.Call.{Call}
-use Rattle.policy_types.specs.declared.entry.Call.TheVariants.{Post}
-use Rattle.policy_types.specs.declared.entry.Reply.{Reply}
-use Rattle.policy_types.specs.declared.entry.Entry.{Entry}
+use Rattle.policy_machine.specs.Names.{Command, Issue, Premium, Lapse, Claim, Endowment, Term, Policy, Status, InForce, Refusal, Call, Post, Reply, Entry}
 use Rattle.policy_machine.specs.Book.{book}
 use Rattle.policy_machine.specs.History.{Opening, refusal_due}
 

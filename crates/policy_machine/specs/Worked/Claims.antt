@@ -1,9 +1,6 @@
 -- Worked cases of claims and their settlement. Where a refusal is due, reasons that come after it in order apply as well
 use Rattle.std.specs.Prelude.{[], ◌∷◌, pos}
-use Rattle.policy_types.specs.declared.command.Command.TheVariants.{Claim, Settle}
-use Rattle.policy_types.specs.declared.policy.Status.TheVariants.{InForce, Lapsed, Claimed, Settled}
-use Rattle.policy_types.specs.declared.refusal.Refusal.TheVariants.{Unknown, BeforeLast, WrongStatus, TermOver, GraceOver, OverSettled}
-use Rattle.policy_types.specs.declared.entry.Reply.TheVariants.{Accepted, Refused}
+use Rattle.policy_machine.specs.Names.{Claim, Settle, InForce, Lapsed, Claimed, Settled, Unknown, BeforeLast, WrongStatus, TermOver, GraceOver, OverSettled, Accepted, Refused}
 use Rattle.policy_machine.specs.History.{IsLegalAfter}
 use Rattle.policy_machine.specs.Worked.Cases.{Accepts, Refuses, LeavePolicies, policy_issue, policy_with, premium_on, unpaid, paid_once, paid_up, lapsed_once, claimed, empty_office, posting}
 

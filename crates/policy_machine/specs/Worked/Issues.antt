@@ -1,10 +1,6 @@
 -- Worked cases of issues
 use Rattle.std.specs.Prelude.{[], ◌∷◌, pos}
-use Rattle.policy_types.specs.declared.command.Command.TheVariants.{Issue}
-use Rattle.policy_types.specs.declared.command.Plan.TheVariants.{Term, Whole, Endowment, Limited}
-use Rattle.policy_types.specs.declared.policy.Status.TheVariants.{InForce}
-use Rattle.policy_types.specs.declared.refusal.Refusal.TheVariants.{Taken}
-use Rattle.policy_types.specs.declared.entry.Reply.TheVariants.{Accepted, Refused}
+use Rattle.policy_machine.specs.Names.{Issue, Term, Whole, Endowment, Limited, InForce, Taken, Accepted, Refused}
 use Rattle.policy_machine.specs.History.{IsLegalAfter}
 use Rattle.policy_machine.specs.Worked.Cases.{LeavePolicies, Refuses, policy_issue, term_policy, claimed, empty_office, posting}
 

@@ -1,11 +1,6 @@
 -- Worked cases of lapses and reinstatements. Where a refusal is due, reasons that come after it in order apply as well
 use Rattle.std.specs.Prelude.{[], ◌∷◌, List, pos}
-use Rattle.policy_types.specs.declared.command.Command.{Command}
-use Rattle.policy_types.specs.declared.command.Command.TheVariants.{Issue, Lapse, Reinstate}
-use Rattle.policy_types.specs.declared.command.Plan.TheVariants.{Endowment, Limited}
-use Rattle.policy_types.specs.declared.policy.Status.TheVariants.{InForce, Lapsed, Claimed}
-use Rattle.policy_types.specs.declared.refusal.Refusal.TheVariants.{Unknown, BeforeLast, WrongStatus, TermOver, NothingDue, NotInArrears, TooLate, WrongAmount}
-use Rattle.policy_types.specs.declared.entry.Reply.TheVariants.{Accepted, Refused}
+use Rattle.policy_machine.specs.Names.{Command, Issue, Lapse, Reinstate, Endowment, Limited, InForce, Lapsed, Claimed, Unknown, BeforeLast, WrongStatus, TermOver, NothingDue, NotInArrears, TooLate, WrongAmount, Accepted, Refused}
 use Rattle.policy_machine.specs.History.{IsLegalAfter}
 use Rattle.policy_machine.specs.Worked.Cases.{Accepts, Refuses, LeavePolicies, policy_issue, policy_with, premium_on, unpaid, paid_once, paid_up, lapsed_once, claimed, empty_office, posting}
 

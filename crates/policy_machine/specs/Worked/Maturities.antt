@@ -1,9 +1,6 @@
 -- Worked cases of the end of a term. Where a refusal is due, reasons that come after it in order apply as well
 use Rattle.std.specs.Prelude.{[], ◌∷◌, pos}
-use Rattle.policy_types.specs.declared.command.Command.TheVariants.{Issue, Settle, Mature}
-use Rattle.policy_types.specs.declared.command.Plan.TheVariants.{Term, Whole}
-use Rattle.policy_types.specs.declared.policy.Status.TheVariants.{Lapsed, Matured, Expired}
-use Rattle.policy_types.specs.declared.refusal.Refusal.TheVariants.{Unknown, BeforeLast, WrongStatus, GraceOver, NotMatured, OverSettled}
+use Rattle.policy_machine.specs.Names.{Issue, Settle, Mature, Term, Whole, Lapsed, Matured, Expired, Unknown, BeforeLast, WrongStatus, GraceOver, NotMatured, OverSettled}
 use Rattle.policy_machine.specs.Worked.Cases.{Accepts, Refuses, LeavePolicies, policy_issue, policy_with, premium_on, paid_once, paid_up, lapsed_once}
 
 -- there is no policy, or one of another number

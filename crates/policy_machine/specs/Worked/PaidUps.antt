@@ -1,14 +1,7 @@
 -- Worked cases of upgrades and of policies that are made paid up. Where a refusal is due, reasons that come after it in
 -- order apply as well
 use Rattle.std.specs.Prelude.{◌≡◌, ℕ, ℤ, List, [], ◌∷◌, ◌++◌, pos, negsuc}
-use Rattle.policy_types.specs.declared.command.Command.{Command}
-use Rattle.policy_types.specs.declared.command.Command.TheVariants.{Issue, Alter, Lapse, Reinstate, Claim, Mature, PaidUp, Upgrade}
-use Rattle.policy_types.specs.declared.command.Plan.TheVariants.{Term, Endowment}
-use Rattle.policy_types.specs.declared.policy.Policy.{Policy}
-use Rattle.policy_types.specs.declared.policy.Status.{Status}
-use Rattle.policy_types.specs.declared.policy.Status.TheVariants.{Lapsed, Claimed, Matured, Expired, PaidUp as IsPaidUp}
-use Rattle.policy_types.specs.declared.refusal.Refusal.TheVariants.{Unknown, BeforeLast, WrongStatus, TermOver, NothingDue, GraceOver, NotAReduction, NotMatured, NotUpgraded, Upgraded}
-use Rattle.policy_types.specs.declared.entry.Reply.TheVariants.{Accepted, Refused}
+use Rattle.policy_machine.specs.Names.{Command, Issue, Alter, Lapse, Reinstate, Claim, Mature, PaidUp, Upgrade, Term, Endowment, Policy, Status, Lapsed, Claimed, Matured, Expired, IsPaidUp, Unknown, BeforeLast, WrongStatus, TermOver, NothingDue, GraceOver, NotAReduction, NotMatured, NotUpgraded, Upgraded, Accepted, Refused}
 use Rattle.policy_machine.specs.Book.{upgrade_of}
 use Rattle.policy_machine.specs.History.{IsLegalAfter, opened_on}
 use Rattle.policy_machine.specs.Worked.Balances.{Books}

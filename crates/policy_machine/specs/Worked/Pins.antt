@@ -1,15 +1,6 @@
 -- Worked histories of pins, reads and floors. A pin's number is the place of its turn, counted from 0
 use Rattle.std.specs.Prelude.{List, [], ◌∷◌, ◌++◌, pos}
-use Rattle.std.specs.List.{repeat}
-use Rattle.policy_types.specs.declared.command.Command.{Command}
-use Rattle.policy_types.specs.declared.command.Command.TheVariants.{Issue}
-use Rattle.policy_types.specs.declared.command.Plan.TheVariants.{Term}
-use Rattle.policy_types.specs.declared.policy.Policy.{Policy}
-use Rattle.policy_types.specs.declared.policy.Status.TheVariants.{InForce}
-use Rattle.policy_types.specs.declared.entry.Call.TheVariants.{Pin, PinAt, Read, Unpin, Trim}
-use Rattle.policy_types.specs.declared.entry.Reply.TheVariants.{Accepted, Pinned, PinRefused, Slice as Policies, Unpinned, Floor}
-use Rattle.policy_types.specs.declared.entry.PinRefusal.TheVariants.{Ahead, Trimmed, PinsFull}
-use Rattle.policy_types.specs.declared.entry.Entry.{Entry}
+use Rattle.policy_machine.specs.Names.{repeat, Command, Issue, Term, Policy, InForce, Pin, PinAt, Read, Unpin, Trim, Accepted, Pinned, PinRefused, Policies, Unpinned, Floor, Ahead, Trimmed, PinsFull, Entry}
 use Rattle.policy_machine.specs.History.{IsDue, IsLegalAfter}
 use Rattle.policy_machine.specs.Worked.Cases.{policy_issue, policy_with, premium_on, term_policy, empty_office, turn, posting}
 

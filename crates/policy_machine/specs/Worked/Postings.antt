@@ -1,12 +1,6 @@
 -- Worked histories of postings: positions, faults, and what an office can be opened on
 use Rattle.std.specs.Prelude.{◌≡◌, ℕ, ◌-◌, ◌^◌, List, [], ◌∷◌, pos, Some, None, length}
-use Rattle.policy_types.specs.declared.command.Command.{Command}
-use Rattle.policy_types.specs.declared.command.Command.TheVariants.{Issue}
-use Rattle.policy_types.specs.declared.command.Plan.TheVariants.{Whole}
-use Rattle.policy_types.specs.declared.refusal.Refusal.{Refusal}
-use Rattle.policy_types.specs.declared.refusal.Refusal.TheVariants.{Taken, Unknown, Full}
-use Rattle.policy_types.specs.declared.entry.Call.TheVariants.{Post}
-use Rattle.policy_types.specs.declared.entry.Reply.TheVariants.{Accepted, Refused, Faulted, Blank}
+use Rattle.policy_machine.specs.Names.{Command, Issue, Whole, Refusal, Taken, Unknown, Full, Post, Accepted, Refused, Faulted, Blank}
 use Rattle.policy_machine.specs.Book.{judge}
 use Rattle.policy_machine.specs.History.{IsDue, IsLegalAfter, IsOpening, opened_on, refusal_due}
 use Rattle.policy_machine.specs.Worked.Cases.{policy_issue, premium_on, paid_once, empty_office, posting}

@@ -1,9 +1,6 @@
 -- Worked cases of premiums. Where a refusal is due, reasons that come after it in order apply as well
 use Rattle.std.specs.Prelude.{[], ◌∷◌, pos}
-use Rattle.policy_types.specs.declared.command.Command.TheVariants.{Issue, Premium}
-use Rattle.policy_types.specs.declared.command.Plan.TheVariants.{Whole, Endowment, Limited}
-use Rattle.policy_types.specs.declared.policy.Status.TheVariants.{InForce, Lapsed, Claimed}
-use Rattle.policy_types.specs.declared.refusal.Refusal.TheVariants.{Unknown, BeforeLast, WrongStatus, TermOver, NothingDue, TooEarly, GraceOver, WrongAmount}
+use Rattle.policy_machine.specs.Names.{Issue, Premium, Whole, Endowment, Limited, InForce, Lapsed, Claimed, Unknown, BeforeLast, WrongStatus, TermOver, NothingDue, TooEarly, GraceOver, WrongAmount}
 use Rattle.policy_machine.specs.Worked.Cases.{Accepts, Refuses, LeavePolicies, policy_issue, policy_with, premium_on, unpaid, paid_once, paid_up, lapsed_once, claimed}
 
 -- there is no policy, or one of another number

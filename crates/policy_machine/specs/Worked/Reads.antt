@@ -1,12 +1,6 @@
 -- A worked history of reads past the end of a batch: 257 policies are read as 256 and one
 use Rattle.std.specs.Prelude.{ℕ, map, List, [], ◌∷◌, pos}
-use Rattle.std.specs.List.{range_with_len}
-use Rattle.policy_types.specs.declared.command.Command.{Command}
-use Rattle.policy_types.specs.declared.command.Command.TheVariants.{Issue}
-use Rattle.policy_types.specs.declared.command.Plan.TheVariants.{Term}
-use Rattle.policy_types.specs.declared.policy.Policy.{Policy}
-use Rattle.policy_types.specs.declared.entry.Call.TheVariants.{Pin, Read, Unpin}
-use Rattle.policy_types.specs.declared.entry.Reply.TheVariants.{Pinned, Slice as Policies, Unpinned}
+use Rattle.policy_machine.specs.Names.{range_with_len, Command, Issue, Term, Policy, Pin, Read, Unpin, Pinned, Policies, Unpinned}
 use Rattle.policy_machine.specs.Rules.{issued}
 use Rattle.policy_machine.specs.History.{IsLegalAfter, opened_on}
 use Rattle.policy_machine.specs.Worked.Cases.{turn}

@@ -1,13 +1,7 @@
 -- What a policy is covered by, as the program has it at hand.
 use Rattle.std.specs.Prelude.{◌≡◌, ℕ, ◌+◌, List, Some, Ok, slice_get}
-use Rattle.rate_table.specs.Rates.{HoldsAge}
-use Rattle.select_rates.specs.Along.{table_along}
+use Rattle.policy_value.specs.Names.{HoldsAge, table_along, shape_of, Cover, cover_of, cap_of, CanReserve, Dated}
 use Rattle.policy_types.specs.declared.command.Plan.{Plan}
-use Rattle.plan_benefits.specs.Shapes.{shape_of}
-use Rattle.present_value.specs.Sums.{Cover, cover_of}
-use Rattle.present_value.specs.Premium.{cap_of}
-use Rattle.crvm_reserve.specs.Made.{CanReserve}
-use Rattle.basis_book.specs.Dated.{Dated}
 use Rattle.policy_value.specs.Caches.{IsRowOf}
 use Rattle.policy_value.specs.declared.covered.Covered.{Covered}
 use Rattle.policy_value.specs.declared.covered.IssueRates.{IssueRates}

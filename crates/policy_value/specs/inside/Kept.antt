@@ -1,9 +1,6 @@
 -- The stores of columns and of units.
 use Rattle.std.specs.Prelude.{◌≡◌, ℕ, ◌+◌, ◌-◌, ◌*◌, ◌%◌, ◌<◌, ◌≤◌, ◌⊎◌, List, Some, length, slice_get, slice_index_or}
-use Rattle.rate_table.specs.Rates.{Rates}
-use Rattle.present_value.specs.Ends.{value_to}
-use Rattle.present_value.specs.Values.{pair_at}
-use Rattle.present_value.specs.declared.pair.Pair.{Pair}
+use Rattle.policy_value.specs.Names.{Rates, value_to, pair_at, Pair}
 use Rattle.present_value.specs.declared.column.Stream.{Stream}
 use Rattle.present_value.specs.declared.column.Stream.TheVariants.{Insurance, Endowment, Annuity}
 use Rattle.policy_value.specs.declared.columns.ColumnKey.{ColumnKey}

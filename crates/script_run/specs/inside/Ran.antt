@@ -1,16 +1,11 @@
 -- How a run ends by what was told of its lines
 use Rattle.std.specs.Prelude.{◌≡◌, ◌⊎◌, ℕ, ◌≤◌, ◌++◌, Option, true, false, List, codes, map, Result, Ok, Err}
-use Rattle.outside_io.specs.Faults.{Rose}
-use Rattle.std.specs.List.{AllByRecursion}
-use Rattle.outside_io.specs.Streams.{AppendsPart, TakenPiece}
+use Rattle.script_run.specs.Names.{Rose, AllByRecursion, AppendsPart, TakenPiece, Ending, Done, WriteFault, DiskFailed, NoRoom, Stream, WroteAll, WroteLine}
 use Rattle.policy_types.specs.declared.watcher.NoMemory.{NoMemory as Lack}
 use Rattle.policy_types.specs.declared.watcher.Report.{Report}
 use Rattle.lane_runner.specs.declared.transcript.TranscriptLine.{TranscriptLine}
 use Rattle.lane_runner.specs.declared.running.Ran.{Ran}
 use Rattle.lane_runner.specs.Written.{HasEnded}
-use Rattle.program_endings.specs.declared.ending.Ending.{Ending}
-use Rattle.program_endings.specs.declared.ending.Ending.TheVariants.{Done, WriteFault, DiskFault as DiskFailed, NoMemory as NoRoom}
-use Rattle.program_endings.specs.Writing.{Stream, WroteAll, WroteLine}
 use Rattle.lane_runner.specs.Tallies.{any_faulted, any_lacked}
 use Rattle.transcript_text.specs.Told.{run_text, told_text}
 use Rattle.transcript_text.specs.Transcript.{reports_text}

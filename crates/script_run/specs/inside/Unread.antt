@@ -1,8 +1,6 @@
 -- The line that says why there is no script
 use Rattle.std.specs.Prelude.{codes}
-use Rattle.program_endings.specs.declared.ending.Ending.{Ending}
-use Rattle.program_endings.specs.declared.ending.Ending.TheVariants.{BadScript, ReadFault as InputFault, NoMemory}
-use Rattle.program_endings.specs.Writing.{Stream, WroteLine}
+use Rattle.script_run.specs.Names.{Ending, BadScript, InputFault, NoMemory, Stream, WroteLine}
 use Rattle.script_run.specs.declared.intake.Unread.{Unread}
 use Rattle.script_run.specs.declared.intake.Unread.TheVariants.{TooLong, BadRow, ReadFault, NoMemory as OutOfMemory}
 use Rattle.script_run.specs.Script.{bad_row_text}

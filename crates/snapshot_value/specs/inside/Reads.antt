@@ -1,15 +1,11 @@
 -- What the reads of a pin's policies do, whatever is made of the policies
 use Rattle.std.specs.Prelude.{◌≡◌, ℕ, ◌+◌, ◌*◌, ◌/◌, ◌<◌, List, [], ◌∷◌, ◌++◌, length, map, take, drop, Option, None, Some, Result, Ok, Err}
-use Rattle.policy_types.specs.declared.policy.Policy.{Policy}
+use Rattle.snapshot_value.specs.Names.{Policy, policies_per_read, Placed, reads_of, Holding, OfficeOpening}
 use Rattle.policy_types.specs.declared.entry.Call.{Call}
 use Rattle.policy_types.specs.declared.entry.Call.TheVariants.{Read, Unpin}
 use Rattle.policy_types.specs.declared.watcher.NoMemory.{NoMemory as Lack}
-use Rattle.policy_machine.specs.History.{policies_per_read}
-use Rattle.policy_machine.specs.Merge.{Placed, reads_of}
 use Rattle.schedule_laws.specs.PinnedReads.{book_at}
 use Rattle.office_state.specs.declared.held.Held.{Held}
-use Rattle.turn_lock.specs.Passes.{Holding}
-use Rattle.shared_office.specs.Offices.{OfficeOpening}
 use Rattle.snapshot_value.specs.Growing.{Grows}
 use Rattle.snapshot_value.specs.Reading.{most_turns}
 use Rattle.snapshot_value.specs.declared.valuation.ValueFault.{ValueFault}

@@ -1,13 +1,6 @@
 -- What a valuation has at hand between two reads
 use Rattle.std.specs.Prelude.{◌≡◌, ◌≤◌, ◌*◌, ℕ, ℤ, List, ◌++◌, length, min}
-use Rattle.std.specs.List.{AllByRecursion, AllZip}
-use Rattle.basis_book.specs.Dated.{Dated}
-use Rattle.policy_types.specs.declared.policy.Policy.{Policy}
-use Rattle.policy_machine.specs.Rules.{IsSound}
-use Rattle.policy_value.specs.Measures.{most_worth}
-use Rattle.policy_value.specs.Rows.{IsWithinAmount}
-use Rattle.policy_value.specs.declared.worth.Measure.{Measure}
-use Rattle.policy_value.specs.declared.worth.Row.{Row}
+use Rattle.snapshot_value.specs.Names.{AllByRecursion, AllZip, Dated, Policy, IsSound, most_worth, IsWithinAmount, Measure, Row}
 use Rattle.snapshot_value.specs.Valuing.{IsValuedRow, most_amount}
 use Rattle.snapshot_value.specs.declared.worksheet.Worksheet.{Worksheet}
 use Rattle.snapshot_value.specs.inside.Workers.{IsReadyWorker, ValuesBy}

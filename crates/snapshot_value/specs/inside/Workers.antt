@@ -1,13 +1,7 @@
 -- What one worker of a valuation takes and gives
 use Rattle.std.specs.Prelude.{ℤ, List}
-use Rattle.basis_book.specs.Dated.{Dated}
-use Rattle.policy_types.specs.declared.policy.Policy.{Policy}
-use Rattle.policy_machine.specs.Rules.{IsSound}
+use Rattle.snapshot_value.specs.Names.{Dated, Policy, IsSound, most_worth, IsWithinAmount, Measure, Row}
 use Rattle.policy_value.specs.Caches.{IsRightFor}
-use Rattle.policy_value.specs.Measures.{most_worth}
-use Rattle.policy_value.specs.Rows.{IsWithinAmount}
-use Rattle.policy_value.specs.declared.worth.Measure.{Measure}
-use Rattle.policy_value.specs.declared.worth.Row.{Row}
 use Rattle.snapshot_value.specs.Valuing.{IsValuedRow, most_amount}
 use Rattle.snapshot_value.specs.declared.worker.Worker.{Worker}
 

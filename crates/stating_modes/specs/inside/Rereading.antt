@@ -1,29 +1,17 @@
 -- What reading a journal's records again tells, for one policy
 use Rattle.std.specs.Prelude.{◌≡◌, ℕ, List, [], ◌⊎◌, Err, IsOk, codes}
-use Rattle.std.specs.List.{AllByRecursion}
-use Rattle.outside_io.specs.Faults.{Rose}
-use Rattle.outside_io.specs.Streams.{AppendsPart}
-use Rattle.outside_io.specs.declared.disks.Disk.{Ghosts}
-use Rattle.policy_types.specs.declared.command.Command.{Command}
+use Rattle.stating_modes.specs.Names.{AllByRecursion, Rose, AppendsPart, Ghosts, Command, IsUnfinished, LooksOn, disk_of, StartCause, IsOfTheFile, Opens, OpensToNone, Ending, Done, BadJournal, WriteFault, DiskFault, NoMemory, Stream, WroteAll, WroteLine}
 use Rattle.policy_types.specs.declared.command.Command.TheVariants.{Upgrade}
 use Rattle.policy_types.specs.Valid.{IsValid, id_of}
 use Rattle.policy_machine.specs.Book.{policy_of}
 use Rattle.policy_machine.specs.Rules.{next}
-use Rattle.posting_journal.specs.Creation.{IsUnfinished}
-use Rattle.posting_journal.specs.Runs.{LooksOn}
-use Rattle.posting_journal.specs.States.{disk_of}
 use Rattle.posting_journal.specs.declared.journal.Journal.{Journal}
 use Rattle.journal_replay.specs.Replays.{BodiesHave, HasReplayCause, IsLookedAt, IsQuiet, Stops, bodies_of}
 use Rattle.journal_replay.specs.declared.replaying.ReplayFault.{ReplayFault}
-use Rattle.office_state.specs.declared.faults.StartCause.{StartCause}
 use Rattle.office_state.specs.declared.faults.StartCause.TheVariants.{DiskFault as FaultyDisk}
-use Rattle.office_state.specs.Journals.{IsOfTheFile, Opens, OpensToNone}
 use Rattle.office_state.specs.Opening.{TellsFault}
 use Rattle.office_state.specs.inside.Replays.{as_replay_cause}
-use Rattle.program_endings.specs.declared.ending.Ending.{Ending}
-use Rattle.program_endings.specs.declared.ending.Ending.TheVariants.{Done, BadJournal, WriteFault, DiskFault, NoMemory}
 use Rattle.program_endings.specs.Refusals.{SaysWhy}
-use Rattle.program_endings.specs.Writing.{Stream, WroteAll, WroteLine}
 use Rattle.stating_modes.specs.declared.rereading.Account.{Account}
 use Rattle.stating_modes.specs.Books.{policy_entries, policy_account}
 

@@ -1,16 +1,7 @@
 -- How the saving of a snapshot ends, by the store before and after it
 use Rattle.std.specs.Prelude.{◌≡◌, ℕ, List, codes}
-use Rattle.outside_io.specs.Faults.{Rose}
-use Rattle.outside_io.specs.Streams.{AppendsPart}
-use Rattle.outside_io.specs.declared.disks.Disk.{Ghosts}
-use Rattle.posting_journal.specs.Runs.{Leaves}
-use Rattle.checkpoint_store.specs.Checkpoints.{CheckpointBytes}
-use Rattle.checkpoint_store.specs.Stores.{IsKeptOrSavedBy, Knows, MightLeave, store_disk}
-use Rattle.checkpoint_store.specs.declared.snapshot.Snapshot.{Snapshot}
+use Rattle.stating_modes.specs.Names.{Rose, AppendsPart, Ghosts, Leaves, CheckpointBytes, IsKeptOrSavedBy, Knows, MightLeave, store_disk, Snapshot, Stream, WroteAll, WroteLine, Ending, Done, WriteFault, DiskFault, NoMemory}
 use Rattle.checkpoint_store.specs.declared.store.Store.{Store}
-use Rattle.program_endings.specs.Writing.{Stream, WroteAll, WroteLine}
-use Rattle.program_endings.specs.declared.ending.Ending.{Ending}
-use Rattle.program_endings.specs.declared.ending.Ending.TheVariants.{Done, WriteFault, DiskFault, NoMemory}
 use Rattle.stating_modes.specs.Saved.{checkpoint_text}
 
 -- whether or not the saving succeeded, a crash leaves no checkpoint, or an earlier one, or the new one

@@ -2,8 +2,7 @@
 use Rattle.std.specs.Prelude.{◌≡◌, ◌⊎◌, true, false, List, [], Result, Ok, Err}
 use Rattle.std.specs.Io.KnownBytes.{Appends}
 use Rattle.std.specs.List.{AllByRecursion}
-use Rattle.outside_io.specs.Faults.{Rose}
-use Rattle.outside_io.specs.Streams.{AppendsPart}
+use Rattle.trial_load.specs.Names.{Rose, AppendsPart, IsValidPosting, Stream, WroteAll, Ending, Done, WriteFault, DiskFault, NoMemory}
 use Rattle.policy_types.specs.declared.script.Lane.{Lane}
 use Rattle.policy_value.specs.declared.worth.Row.{Row}
 use Rattle.snapshot_value.specs.declared.valuation.Valuation.{Valuation}
@@ -12,10 +11,6 @@ use Rattle.snapshot_value.specs.declared.valuation.ValueFault.TheVariants.{Pin, 
 use Rattle.policy_types.specs.Lanes.{lines_in}
 use Rattle.lane_runner.specs.declared.transcript.TranscriptLine.{TranscriptLine}
 use Rattle.lane_runner.specs.Tallies.{accepted_lines, any_faulted, any_lacked, refused_lines}
-use Rattle.load_maker.specs.GeneratedLanes.{IsValidPosting}
-use Rattle.program_endings.specs.Writing.{Stream, WroteAll}
-use Rattle.program_endings.specs.declared.ending.Ending.{Ending}
-use Rattle.program_endings.specs.declared.ending.Ending.TheVariants.{Done, WriteFault, DiskFault, NoMemory}
 use Rattle.program_endings.specs.Blocks.{IsWritableBlock}
 use Rattle.transcript_text.specs.Lanes.{AreScriptLanes}
 use Rattle.trial_load.specs.Loading.{load_text}

@@ -3,15 +3,10 @@ use Rattle.std.specs.Prelude.{ℕ, ◌≤◌, ℤ, List, codes, length, Result, 
 use Rattle.std.specs.List.{All}
 use Rattle.outside_io.specs.Faults.{Rose}
 use Rattle.outside_io.specs.Streams.{AppendsPart}
-use Rattle.life_dates.specs.Calendar.{IsTermDay}
-use Rattle.policy_types.specs.declared.command.Command.{Command}
-use Rattle.basis_book.specs.Dated.{Dated}
+use Rattle.valuing_modes.specs.Names.{IsTermDay, Command, Dated, Stream, WroteAll, WroteLine, Ending, Done, NoMemory, WriteFault}
 use Rattle.snapshot_value.specs.declared.valuation.ValueFault.{ValueFault}
 use Rattle.cash_projection.specs.Text.{IsTellable, projection_text}
 use Rattle.cash_projection.specs.declared.printing.Projection.{Projection}
-use Rattle.program_endings.specs.Writing.{Stream, WroteAll, WroteLine}
-use Rattle.program_endings.specs.declared.ending.Ending.{Ending}
-use Rattle.program_endings.specs.declared.ending.Ending.TheVariants.{Done, NoMemory, WriteFault}
 use Rattle.valuing_modes.specs.Projecting.{IsProjectionText}
 
 -- it can be printed

@@ -1,9 +1,7 @@
 -- What the calls of one auditor do at its place
 use Rattle.std.specs.Prelude.{◌≡◌, ℕ, ◌+◌, ◌<◌, ◌≤◌, true, false, List, [], ◌∷◌, ◌++◌, length}
-use Rattle.policy_types.specs.declared.command.Command.{Command}
-use Rattle.policy_types.specs.declared.watcher.Report.{Report}
+use Rattle.watcher_set.specs.Names.{Command, Report, most_commands}
 use Rattle.policy_types.specs.declared.watcher.Watcher.{Ghosts}
-use Rattle.policy_types.specs.Limits.{most_commands}
 use Rattle.watcher_set.specs.declared.place.Place.{Place}
 use Rattle.watcher_set.specs.declared.place.Place.TheVariants.{Listening, Reported}
 

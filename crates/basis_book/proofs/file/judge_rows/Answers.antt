@@ -1,6 +1,4 @@
-use Rattle.std.proofs.Common.{Bor, List, ℕ, ◌≡◌, ◌∙◌, ◌++◌, sym, refl, rules, inl, true, false, Some, ◌∷◌, [], is_ok}
-use Rattle.csv.specs.Reading.{Reached, default_config, strip_bom}
-use Rattle.csv.specs.Records.{fields_of}
+use Rattle.basis_book.proofs.Names.{Bor, List, ℕ, ◌≡◌, ◌∙◌, ◌++◌, sym, refl, rules, inl, true, false, Some, ◌∷◌, [], is_ok, Reached, default_config, strip_bom, fields_of}
 use Rattle.csv.specs.declared.parser.State.TheVariants as st
 use Rattle.csv.proofs.ReadFacts.{rows-end, rows-more}
 use Rattle.basis_book.proofs.Additions.{OnOk_holds}

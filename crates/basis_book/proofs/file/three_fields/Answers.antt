@@ -1,5 +1,4 @@
-use Rattle.std.proofs.Common.{sym, ◌∙◌, lit<}
-use Rattle.csv.specs.Records.{fields_of}
+use Rattle.basis_book.proofs.Names.{sym, ◌∙◌, lit<, fields_of}
 use Rattle.basis_book.proofs.ThreeFields.{not_three, all_three}
 use Rattle.basis_book.proofs.file.three_fields.Goals as goal
 

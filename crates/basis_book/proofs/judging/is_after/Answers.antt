@@ -1,6 +1,5 @@
-use Rattle.std.proofs.Common.{◌<ℤ◌, ◌≤ℤ◌, w32, to_z, of_z, arith}
+use Rattle.basis_book.proofs.Names.{◌<ℤ◌, ◌≤ℤ◌, w32, to_z, of_z, arith, ints}
 use Rattle.std.specs.Int.Signed.{lt_z}
-use Rattle.std.proofs.lemmas.Int.{ints}
 use Rattle.basis_book.proofs.Additions.{after_last, lt_true, lt_false}
 use Rattle.basis_book.proofs.judging.is_after.Goals as goal
 

@@ -1,5 +1,4 @@
-use Rattle.std.proofs.Common.{◌≡◌, true, is_ok, sym, subst, rules}
-use Rattle.basis_book.specs.Row.{IsRow}
+use Rattle.basis_book.proofs.Names.{◌≡◌, true, is_ok, sym, subst, rules, IsRow}
 use Rattle.basis_book.proofs.Additions.{falls_here, AreRows-push}
 use Rattle.basis_book.proofs.judging.judge.Goals as goal
 

@@ -1,7 +1,4 @@
-use Rattle.std.proofs.Common.{refl, [], ◌∷◌, codes, lit≤, arith}
-use Rattle.std.proofs.lemmas.Int.{ints}
-use Rattle.csv.proofs.OnLiterals.{csv_on_literals}
-use Rattle.csv.specs.Reading.{Reached}
+use Rattle.basis_book.proofs.Names.{refl, [], ◌∷◌, codes, lit≤, arith, ints, csv_on_literals, Reached}
 use Rattle.csv.specs.declared.parser.State.TheVariants as st
 use Rattle.basis_book.proofs.WorkedRows.{first_text, first_in, second_text, second_in, third_text, third_in, q_name, g_name, no_points, four_percent, twenty_percent}
 use Rattle.basis_book.proofs.worked.a_basis_by_hand.Goals as goal

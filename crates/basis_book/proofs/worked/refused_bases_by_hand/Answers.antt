@@ -1,8 +1,5 @@
-use Rattle.std.proofs.Common.{◌≡◌, ◌<◌, ◌≤◌, refl, [], ◌∷◌, codes, pos, lit≤, lit<, arith}
+use Rattle.basis_book.proofs.Names.{◌≡◌, ◌<◌, ◌≤◌, refl, [], ◌∷◌, codes, pos, lit≤, lit<, arith, ints, csv_on_literals, Reached}
 use Rattle.std.specs.Prelude.{replicate}
-use Rattle.std.proofs.lemmas.Int.{ints}
-use Rattle.csv.proofs.OnLiterals.{csv_on_literals}
-use Rattle.csv.specs.Reading.{Reached}
 use Rattle.basis_book.proofs.WorkedRows.{first_text, first_in, second_text, second_in, q_name, no_points, one_point, two_points, too_many_points, no_name}
 use Rattle.basis_book.proofs.worked.refused_bases_by_hand.Goals as goal
 

@@ -1,6 +1,4 @@
-use Rattle.std.proofs.Common.{List, All, IsSome, subst}
-use Rattle.indexmap.specs.IndexMap.{get_by_text}
-use Rattle.basis_book.specs.declared.row.BasisRow.{BasisRow as ARow}
+use Rattle.basis_shelf.proofs.Names.{List, All, IsSome, subst, get_by_text, ARow}
 use Rattle.basis_shelf.proofs.Fetched.{none_missing, basis_is}
 use Rattle.basis_shelf.proofs.fetching.fetch_parts.Goals as goal
 

@@ -1,8 +1,6 @@
-use Rattle.std.proofs.Common.{◌≡◌, string_bytes, ◌∙◌}
-use Rattle.std.specs.Str.{bytes_eq}
+use Rattle.basis_shelf.proofs.Names.{◌≡◌, string_bytes, ◌∙◌, bytes_eq, get_by_text}
 use Rattle.std.proofs.lemmas.Slice.Eq.{bytes_eq-Decides}
 use Rattle.std.proofs.lemmas.Map.Text.{hash_map_updates_text}
-use Rattle.indexmap.specs.IndexMap.{get_by_text}
 use Rattle.basis_shelf.proofs.Fetched.{known_still, tables_still}
 use Rattle.basis_shelf.proofs.tables.add_table.Goals as goal
 

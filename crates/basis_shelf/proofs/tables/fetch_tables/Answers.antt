@@ -1,9 +1,5 @@
-use Rattle.std.proofs.Common.{◌<◌, List, length, All, IsSome, take, ◌∙◌, subst, arith}
-use Rattle.std.proofs.lemmas.List.{take_all}
-use Rattle.std.proofs.lemmas.List.Elements.{All-more, All-weaker}
+use Rattle.basis_shelf.proofs.Names.{◌<◌, List, length, All, IsSome, take, ◌∙◌, subst, arith, take_all, All-more, All-weaker, get_by_text, ARow}
 use Rattle.std.proofs.lemmas.Result.{err_from_is_err_and}
-use Rattle.indexmap.specs.IndexMap.{get_by_text}
-use Rattle.basis_book.specs.declared.row.BasisRow.{BasisRow as ARow}
 use Rattle.basis_shelf.specs.declared.fault.NoBasis.TheVariants.{ReadFault}
 use Rattle.basis_shelf.proofs.Fetched.{row_is_bad, not_risen}
 use Rattle.basis_shelf.proofs.tables.fetch_tables.Goals as goal

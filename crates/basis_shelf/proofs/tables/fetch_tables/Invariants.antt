@@ -1,8 +1,5 @@
-use Rattle.std.proofs.Common.{◌≡◌, ◌≤◌, All, IsSome, take}
-use Rattle.indexmap.specs.IndexMap.{get_by_text}
+use Rattle.basis_shelf.proofs.Names.{◌≡◌, ◌≤◌, All, IsSome, take, get_by_text, ARow, AreTables}
 use Rattle.outside_io.specs.Shelves.{Files}
-use Rattle.basis_book.specs.declared.row.BasisRow.{BasisRow as ARow}
-use Rattle.basis_shelf.specs.inside.Parts.{AreTables}
 use Rattle.basis_shelf.proofs.tables.fetch_tables.Given as goal
 
 abbrev pub invariant-loop-index : goal.invariant-loop-index

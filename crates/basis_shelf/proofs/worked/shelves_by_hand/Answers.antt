@@ -1,16 +1,8 @@
-use Rattle.std.proofs.Common.{◌≡◌, ◌+◌, ℕ, All, List, [], ◌∷◌, Option, None, Some, Ok, Err, length, refl, inl, inr, codes, pos, lit≤, arith}
+use Rattle.basis_shelf.proofs.Names.{◌≡◌, ◌+◌, ℕ, All, List, [], ◌∷◌, Option, None, Some, Ok, Err, length, refl, inl, inr, codes, pos, lit≤, arith, All-nil, Aggregate, IsAnyAnswer, SpellsAny, NotDocument, Bad, any_fault_due, BasisRow, HasTable}
 use Rattle.std.specs.Fmt.{digits}
-use Rattle.std.proofs.lemmas.List.Elements.{All-nil}
-use Rattle.select_rates.specs.declared.any.AnyTable.TheVariants.{Aggregate}
-use Rattle.xtbml_subset.specs.AnyChecks.{IsAnyAnswer, SpellsAny}
-use Rattle.xtbml_subset.specs.declared.fault.TableKind.TheVariants.{NotDocument}
-use Rattle.xtbml_subset.specs.declared.fault.TableFault.TheVariants.{Bad}
-use Rattle.xtbml_subset.proofs.AnyFinal.{any_fault_due}
 use Rattle.xtbml_subset.proofs.WorkedTables.{tables_on_literals, one}
 use Rattle.xtbml_subset.proofs.WorkedSelectTables.{select_on_literals, any_judged}
-use Rattle.basis_book.specs.declared.row.BasisRow.{BasisRow}
 use Rattle.basis_book.proofs.WorkedRows.{one_right_row, one_bad_row}
-use Rattle.basis_shelf.specs.Bases.{HasTable}
 use Rattle.basis_shelf.specs.Lines.{bad_basis_text}
 use Rattle.basis_shelf.specs.Worked.{shelf_with, one_row, certain_death}
 use Rattle.basis_shelf.proofs.worked.shelves_by_hand.Goals as goal

@@ -1,5 +1,4 @@
-use Rattle.std.proofs.Common.{◌≡◌, w32, to_z, of_z}
-use Rattle.std.proofs.lemmas.Int.{to_z-of_z}
+use Rattle.cash_projection.proofs.Names.{◌≡◌, w32, to_z, of_z, to_z-of_z}
 use Rattle.cash_projection.proofs.pinned.project.Goals as goal
 
 pub returns-clause-projected : goal.returns-clause-projected

@@ -1,5 +1,4 @@
-use Rattle.std.proofs.Common.{◌≡◌, ◌+◌, ◌++◌, ◌∙◌, ap, ap₂, length, length-append, refl, arith, rules}
-use Rattle.std.proofs.lemmas.List.{take-append-drop}
+use Rattle.cash_projection.proofs.Names.{◌≡◌, ◌+◌, ◌++◌, ◌∙◌, ap, ap₂, length, length-append, refl, arith, rules, take-append-drop}
 use Rattle.cash_projection.proofs.Portioning.{portion_cut, portions_whole}
 use Rattle.cash_projection.proofs.portions.portions_of.Goals as goal
 

@@ -1,5 +1,4 @@
-use Rattle.std.proofs.Common.{◌≡◌, ◌≤◌, ◌++◌, length, vec_capacity}
-use Rattle.cash_projection.specs.inside.Portions.{policies_of_portions}
+use Rattle.cash_projection.proofs.Names.{◌≡◌, ◌≤◌, ◌++◌, length, vec_capacity, policies_of_portions}
 use Rattle.cash_projection.proofs.portions.portions_of.Given as goal
 
 abbrev pub invariant-loop : goal.invariant-loop

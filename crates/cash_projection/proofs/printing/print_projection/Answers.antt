@@ -1,5 +1,4 @@
-use Rattle.std.proofs.Common.{arith, ap, length, ◌<◌, List}
-use Rattle.cash_projection.specs.declared.years.Year.{Year}
+use Rattle.cash_projection.proofs.Names.{arith, ap, length, ◌<◌, List, Year}
 use Rattle.cash_projection.proofs.YearLines.{years_more}
 use Rattle.cash_projection.proofs.printing.print_projection.Goals as goal
 

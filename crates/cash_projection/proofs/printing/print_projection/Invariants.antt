@@ -1,5 +1,4 @@
-use Rattle.std.proofs.Common.{◌≡◌, ◌++◌, take}
-use Rattle.cash_projection.specs.Text.{asked_text, years_text}
+use Rattle.cash_projection.proofs.Names.{◌≡◌, ◌++◌, take, asked_text, years_text}
 use Rattle.cash_projection.proofs.printing.print_projection.Given as goal
 
 -- the years before this one are written

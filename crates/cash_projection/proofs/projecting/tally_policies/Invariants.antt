@@ -1,6 +1,4 @@
-use Rattle.std.proofs.Common.{take}
-use Rattle.cash_projection.specs.inside.Paths.{ArePaths}
-use Rattle.cash_projection.specs.inside.Tallies.{IsTallyOf}
+use Rattle.cash_projection.proofs.Names.{take, ArePaths, IsTallyOf}
 use Rattle.cash_projection.proofs.projecting.tally_policies.Given as goal
 
 -- the policies before this one are added

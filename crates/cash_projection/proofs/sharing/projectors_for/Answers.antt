@@ -1,6 +1,4 @@
-use Rattle.std.proofs.Common.{◌≡◌, ◌+◌, ◌∙◌, sym, subst, length-append, ap, length, arith, rules}
-use Rattle.std.specs.List.{AllByRecursion}
-use Rattle.cash_projection.specs.inside.Portions.{IsProjectorFor}
+use Rattle.cash_projection.proofs.Names.{◌≡◌, ◌+◌, ◌∙◌, sym, subst, length-append, ap, length, arith, rules, AllByRecursion, IsProjectorFor}
 use Rattle.cash_projection.proofs.Portioning.{all_behind}
 use Rattle.cash_projection.proofs.sharing.projectors_for.Goals as goal
 

@@ -1,6 +1,4 @@
-use Rattle.std.proofs.Common.{◌≡◌, ◌≤◌, length, vec_capacity}
-use Rattle.std.specs.List.{AllByRecursion}
-use Rattle.cash_projection.specs.inside.Portions.{IsProjectorFor}
+use Rattle.cash_projection.proofs.Names.{◌≡◌, ◌≤◌, length, vec_capacity, AllByRecursion, IsProjectorFor}
 use Rattle.cash_projection.proofs.sharing.projectors_for.Given as goal
 
 abbrev pub invariant-loop : goal.invariant-loop

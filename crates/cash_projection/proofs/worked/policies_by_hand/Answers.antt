@@ -1,6 +1,4 @@
-use Rattle.std.proofs.Common.{lit<, lit≤, refl}
-use Rattle.cash_projection.specs.Survival.{alive, alive_by}
-use Rattle.cash_projection.specs.Cash.{total_of}
+use Rattle.cash_projection.proofs.Names.{lit<, lit≤, refl, alive, alive_by, total_of}
 use Rattle.cash_projection.proofs.worked.policies_by_hand.Goals as goal
 
 pub returns : goal.returns

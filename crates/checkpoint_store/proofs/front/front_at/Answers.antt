@@ -1,7 +1,5 @@
 -- Another file was compared with what its figures spell.
-use Rattle.std.proofs.Common.{rules, ◌≡◌, ◌∷◌, ◌∙◌, sym, ap}
-use Rattle.checkpoint_store.specs.declared.front.Front.{Front}
-use Rattle.checkpoint_store.specs.inside.Parsing.{front_of}
+use Rattle.checkpoint_store.proofs.Names.{rules, ◌≡◌, ◌∷◌, ◌∙◌, sym, ap, Front, front_of}
 use Rattle.checkpoint_store.proofs.Reading.{front_read}
 use Rattle.checkpoint_store.proofs.front.front_at.Goals as goal
 

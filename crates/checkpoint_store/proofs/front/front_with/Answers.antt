@@ -1,6 +1,5 @@
 -- The balances stand behind what comes first.
-use Rattle.std.proofs.Common.{◌≡◌, List, ℕ, ◌++◌, length, ap, ◌∙◌, refl}
-use Rattle.checkpoint_store.specs.Spelling.{balance_bytes, checkpoint_header, position_bytes}
+use Rattle.checkpoint_store.proofs.Names.{◌≡◌, List, ℕ, ◌++◌, length, ap, ◌∙◌, refl, balance_bytes, checkpoint_header, position_bytes}
 use Rattle.checkpoint_store.proofs.Parts.{length-first, put_behind}
 use Rattle.checkpoint_store.proofs.front.front_with.Goals as goal
 

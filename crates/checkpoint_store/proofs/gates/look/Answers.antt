@@ -1,8 +1,5 @@
 -- Nothing is written, and after the sync each image is what is read.
-use Rattle.std.proofs.Common.{◌↔◌, IsTrue, subst, sym}
-use Rattle.posting_journal.proofs.Moments.{looked, looks_on}
-use Rattle.checkpoint_store.specs.Stores.{IsShut}
-use Rattle.checkpoint_store.specs.inside.Steps.{LooksAtGate}
+use Rattle.checkpoint_store.proofs.Names.{◌↔◌, IsTrue, subst, sym, looked, looks_on, IsShut, LooksAtGate}
 use Rattle.checkpoint_store.proofs.Stages.{looked_at, looks_safe, ok_map, synced_looks}
 use Rattle.checkpoint_store.proofs.gates.look.Goals as goal
 

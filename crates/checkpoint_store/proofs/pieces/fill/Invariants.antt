@@ -1,7 +1,5 @@
 -- The policies so far stand at the start of the piece.
-use Rattle.std.proofs.Common.{◌≡◌, ◌-◌, ◌*◌, ◌≤◌, length, take}
-use Rattle.std.specs.List.{flat_map}
-use Rattle.checkpoint_store.specs.Spelling.{policy_bytes}
+use Rattle.checkpoint_store.proofs.Names.{◌≡◌, ◌-◌, ◌*◌, ◌≤◌, length, take, flat_map, policy_bytes}
 use Rattle.checkpoint_store.proofs.pieces.fill.Given as goal
 
 abbrev pub invariant-loop-done : goal.invariant-loop-done

@@ -1,8 +1,6 @@
 -- The records behind the checkpoint are decided anew.
-use Rattle.std.proofs.Common.{◌≡◌, length, sym, ◌∙◌, subst, rules}
+use Rattle.checkpoint_store.proofs.Names.{◌≡◌, length, sym, ◌∙◌, subst, rules, IsSnapshotOfAll, IsStartOf, store_disk}
 use Rattle.std.proofs.lemmas.Result.{err_from_is_err_and}
-use Rattle.checkpoint_store.specs.Reopening.{IsSnapshotOfAll, IsStartOf}
-use Rattle.checkpoint_store.specs.Stores.{store_disk}
 use Rattle.checkpoint_store.proofs.StartSteps.{all_reopened, fault_shown, front_books, not_begun}
 use Rattle.checkpoint_store.proofs.reopening.reopen_books.Goals as goal
 

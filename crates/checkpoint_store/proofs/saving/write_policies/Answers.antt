@@ -1,9 +1,6 @@
 -- A piece of policies more stands behind those before.
-use Rattle.std.proofs.Common.{◌≡◌, ℕ, ◌+◌, ◌-◌, ◌*◌, ◌≤◌, List, length, take, drop, refl, sym, ◌∙◌, ap, arith}
+use Rattle.checkpoint_store.proofs.Names.{◌≡◌, ℕ, ◌+◌, ◌-◌, ◌*◌, ◌≤◌, List, length, take, drop, refl, sym, ◌∙◌, ap, arith, flat_map, Policy, policy_bytes}
 use Rattle.std.proofs.lemmas.List.{length-drop, length-take-le}
-use Rattle.std.specs.List.{flat_map}
-use Rattle.policy_types.specs.declared.policy.Policy.{Policy}
-use Rattle.checkpoint_store.specs.Spelling.{policy_bytes}
 use Rattle.checkpoint_store.proofs.Behind.{behind_long, policies_more}
 use Rattle.checkpoint_store.proofs.GateSteps.{shut_on}
 use Rattle.checkpoint_store.proofs.saving.write_policies.Goals as goal

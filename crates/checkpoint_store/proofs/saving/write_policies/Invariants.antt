@@ -1,9 +1,5 @@
 -- The policies so far stand behind the front, and the gate stays.
-use Rattle.std.proofs.Common.{◌≡◌, ◌+◌, ◌-◌, ◌*◌, ◌≤◌, ◌++◌, ℕ, List, length, take}
-use Rattle.std.specs.List.{flat_map}
-use Rattle.checkpoint_store.specs.Spelling.{policy_bytes, StandBehindGate}
-use Rattle.checkpoint_store.specs.Stores.{AreShut}
-use Rattle.checkpoint_store.specs.inside.Steps.{StaysShut}
+use Rattle.checkpoint_store.proofs.Names.{◌≡◌, ◌+◌, ◌-◌, ◌*◌, ◌≤◌, ◌++◌, ℕ, List, length, take, flat_map, policy_bytes, StandBehindGate, AreShut, StaysShut}
 use Rattle.checkpoint_store.proofs.saving.write_policies.Given as goal
 
 abbrev pub invariant-loop-done : goal.invariant-loop-done

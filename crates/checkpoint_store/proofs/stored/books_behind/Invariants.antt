@@ -1,7 +1,5 @@
 -- The policies so far stand in the books.
-use Rattle.std.proofs.Common.{◌≡◌, ◌-◌, ◌≤◌}
-use Rattle.posting_journal.specs.Runs.{LooksOn}
-use Rattle.checkpoint_store.specs.inside.Storing.{AreBegun, AreUpTo}
+use Rattle.checkpoint_store.proofs.Names.{◌≡◌, ◌-◌, ◌≤◌, LooksOn, AreBegun, AreUpTo}
 use Rattle.checkpoint_store.proofs.stored.books_behind.Given as goal
 
 abbrev pub invariant-loop-done : goal.invariant-loop-done

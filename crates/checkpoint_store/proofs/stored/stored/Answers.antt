@@ -1,6 +1,5 @@
 -- What the file shows.
-use Rattle.std.proofs.Common.{rules, subst, arith}
-use Rattle.checkpoint_store.specs.inside.Storing.{IsFrontOn}
+use Rattle.checkpoint_store.proofs.Names.{rules, subst, arith, IsFrontOn}
 use Rattle.checkpoint_store.proofs.InStore.{none_stored, other_figures, stored_all}
 use Rattle.checkpoint_store.proofs.stored.stored.Goals as goal
 use Rattle.checkpoint_store.proofs.stored.stored.Goals.{then-front-count-via-then-front-count, then-front-count-via-else-front-count+then-not-fits}

@@ -1,6 +1,4 @@
-use Rattle.std.proofs.Common.{◌≡◌, ◌≤◌, [], ◌∷◌, refl, arith}
-use Rattle.std.proofs.lemmas.Bool.{eqb-false}
-use Rattle.std.specs.List.{IsDistinct}
+use Rattle.checkpoint_store.proofs.Names.{◌≡◌, ◌≤◌, [], ◌∷◌, refl, arith, eqb-false, IsDistinct}
 use Rattle.checkpoint_store.proofs.ClaimedFile.{claimed_checkpoint, claimed_sound, claimed_spelled, claimed_stands}
 use Rattle.checkpoint_store.proofs.worked.checkpoints_by_hand.Goals as goal
 

@@ -1,16 +1,9 @@
-use Rattle.std.proofs.Common.{◌≡◌, ◌⊎◌, inl, inr, ℕ, List, [], ◌∷◌, length, refl, sym, subst, ap, ◌∙◌, arith, None}
-use Rattle.std.proofs.lemmas.Int.{ints}
-use Rattle.std.proofs.lemmas.List.{length-map}
+use Rattle.checkpoint_store.proofs.Names.{◌≡◌, ◌⊎◌, inl, inr, ℕ, List, [], ◌∷◌, length, refl, sym, subst, ap, ◌∙◌, arith, None, ints, length-map, judge, IsValid, Snapshot, CheckpointBytes, IsFaultOfTwo, IsSnapshotOfAll, IsSnapshotOfFront, IsStartOf}
 use Rattle.std.proofs.lemmas.Option.{none-some}
 use Rattle.policy_types.specs.declared.refusal.Refusal.TheVariants.{Taken}
-use Rattle.policy_machine.specs.Book.{judge}
 use Rattle.policy_types.specs.declared.command.Command.TheVariants.{Upgrade}
-use Rattle.policy_types.specs.Valid.{IsValid}
 use Rattle.record_codec.specs.Spelling.{spelling_of}
 use Rattle.record_codec.proofs.SpellingLemmas.{one_command}
-use Rattle.checkpoint_store.specs.declared.snapshot.Snapshot.{Snapshot}
-use Rattle.checkpoint_store.specs.Checkpoints.{CheckpointBytes}
-use Rattle.checkpoint_store.specs.Reopening.{IsFaultOfTwo, IsSnapshotOfAll, IsSnapshotOfFront, IsStartOf}
 use Rattle.checkpoint_store.specs.Worked.{claimed_bytes, claimed_snapshot, issue_of_7001, issued_file, issued_snapshot, two_bodies, upgraded_snapshot}
 use Rattle.checkpoint_store.proofs.ClaimedFile.{claimed_checkpoint, issued_checkpoint}
 use Rattle.checkpoint_store.proofs.OneSnapshot.{all_or_bad, one_of_all, one_snapshot}

@@ -1,5 +1,4 @@
-use Rattle.std.proofs.Common.{◌≡◌, take}
-use Rattle.command_csv.specs.Reads.{lines_of}
+use Rattle.command_csv.proofs.Names.{◌≡◌, take, lines_of}
 use Rattle.command_csv.proofs.reader.lines_of.Given as goal
 
 abbrev pub invariant-loop-entry : goal.invariant-loop-entry

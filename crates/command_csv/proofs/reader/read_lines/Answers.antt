@@ -1,5 +1,4 @@
-use Rattle.std.proofs.Common.{sym, refl, ◌∙◌, inr, true, false, [], arith}
-use Rattle.csv.specs.Reading.{Reached, strip_bom}
+use Rattle.command_csv.proofs.Names.{sym, refl, ◌∙◌, inr, true, false, [], arith, Reached, strip_bom}
 use Rattle.csv.specs.Records.{fields_of}
 use Rattle.command_csv.proofs.Progress.{found, row_counted, row_right, row_faulty, no_row, none_read, none_valued, few_valued}
 use Rattle.command_csv.proofs.reader.read_lines.Goals as goal

@@ -1,5 +1,4 @@
-use Rattle.std.proofs.Common.{◌≡◌}
-use Rattle.command_csv.specs.Reads.{lanes_up_to}
+use Rattle.command_csv.proofs.Names.{◌≡◌, lanes_up_to}
 use Rattle.command_csv.proofs.reader.script_of.Given as goal
 
 abbrev pub invariant-loop-before : goal.invariant-loop-before

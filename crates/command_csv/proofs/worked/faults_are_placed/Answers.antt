@@ -1,17 +1,4 @@
-use Rattle.std.proofs.Common.{refl, [], ◌∷◌, ◌++◌, codes, pos, arith, lit≤}
-use Rattle.std.specs.Fmt.{digits}
-use Rattle.std.proofs.lemmas.Int.{ints}
-use Rattle.csv.proofs.OnLiterals.{csv_on_literals}
-use Rattle.life_dates.specs.Calendar.{date_of, date_at, year_of, month_of, days_before, days_before_year, days_of_months}
-use Rattle.life_dates.specs.DayText.{day_text}
-use Rattle.std.specs.List.{AllZip}
-use Rattle.std.specs.Prelude.{decimal, replicate}
-use Rattle.policy_types.specs.declared.command.Command.TheVariants.{Lapse}
-use Rattle.policy_types.specs.declared.entry.At.TheVariants.{Now}
-use Rattle.policy_types.specs.declared.script.Line.{Line}
-use Rattle.policy_types.specs.declared.script.Line.TheVariants.{Post, Value, Trim}
-use Rattle.command_csv.specs.Spelling.{by_first, row_fields}
-use Rattle.command_csv.specs.Reads.{IsLineRow, IsScriptLine, most_valuations}
+use Rattle.command_csv.proofs.Names.{refl, [], ◌∷◌, ◌++◌, codes, pos, arith, lit≤, digits, ints, csv_on_literals, date_of, date_at, year_of, month_of, days_before, days_before_year, days_of_months, day_text, AllZip, decimal, replicate, Lapse, Now, Line, Post, Value, Trim, by_first, row_fields, IsLineRow, IsScriptLine, most_valuations}
 use Rattle.command_csv.proofs.Lines.{entry_of, surplus}
 use Rattle.command_csv.proofs.WorkedScripts.{row_is, row_of, rows_again, rows_both, bad_clerk, no_day, no_workers, no_room}
 use Rattle.command_csv.proofs.worked.faults_are_placed.Goals as goal

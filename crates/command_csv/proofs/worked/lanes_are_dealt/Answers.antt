@@ -1,13 +1,4 @@
-use Rattle.std.proofs.Common.{refl, [], ◌∷◌, pos, arith, lit≤}
-use Rattle.std.specs.Fmt.{digits}
-use Rattle.std.proofs.lemmas.Int.{ints}
-use Rattle.csv.proofs.OnLiterals.{csv_on_literals}
-use Rattle.life_dates.specs.Calendar.{date_of, date_at, year_of, month_of, days_before, days_before_year, days_of_months}
-use Rattle.life_dates.specs.DayText.{day_text}
-use Rattle.policy_types.specs.declared.command.Command.TheVariants.{Lapse, Claim}
-use Rattle.policy_types.specs.declared.entry.At.TheVariants.{Now}
-use Rattle.policy_types.specs.declared.script.Line.TheVariants.{Post, Value, Trim}
-use Rattle.command_csv.specs.Spelling.{row_fields}
+use Rattle.command_csv.proofs.Names.{refl, [], ◌∷◌, pos, arith, lit≤, digits, ints, csv_on_literals, date_of, date_at, year_of, month_of, days_before, days_before_year, days_of_months, day_text, Lapse, Claim, Now, Post, Value, Trim, row_fields}
 use Rattle.command_csv.proofs.Lines.{entry_of}
 use Rattle.command_csv.proofs.WorkedScripts.{reads, row_of}
 use Rattle.command_csv.proofs.worked.lanes_are_dealt.Goals as goal

@@ -1,9 +1,4 @@
-use Rattle.std.proofs.Common.{refl, arith, lit≤}
-use Rattle.std.specs.Fmt.{digits}
-use Rattle.std.proofs.lemmas.Int.{ints}
-use Rattle.csv.proofs.OnLiterals.{csv_on_literals}
-use Rattle.life_dates.specs.Calendar.{date_of, date_at, year_of, month_of, days_before, days_before_year, days_of_months}
-use Rattle.life_dates.specs.DayText.{day_text}
+use Rattle.command_csv.proofs.Names.{refl, arith, lit≤, digits, ints, csv_on_literals, date_of, date_at, year_of, month_of, days_before, days_before_year, days_of_months, day_text}
 use Rattle.command_csv.proofs.WorkedScripts.{says_one}
 use Rattle.command_csv.proofs.worked.lines_are_written.Goals as goal
 

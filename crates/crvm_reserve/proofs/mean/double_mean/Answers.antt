@@ -1,5 +1,4 @@
-use Rattle.std.proofs.Common.{ap, ◌∙◌}
-use Rattle.crvm_reserve.specs.RoundedMean.{net_lo, net_hi}
+use Rattle.crvm_reserve.proofs.Names.{ap, ◌∙◌, net_lo, net_hi}
 use Rattle.crvm_reserve.proofs.Tables.{small}
 use Rattle.crvm_reserve.proofs.MeanValues.{parts_start, parts_end, double_lo_is, double_hi_is}
 use Rattle.crvm_reserve.proofs.mean.double_mean.Goals as goal

@@ -1,7 +1,4 @@
-use Rattle.std.proofs.Common.{refl}
-use Rattle.present_value.specs.Recursion.{rounded_ben, ben_lo, ben_hi}
-use Rattle.crvm_reserve.specs.Rounded.{paid_up_lo, paid_up_hi}
-use Rattle.crvm_reserve.specs.RoundedMean.{paid_up_mean_lo, paid_up_mean_hi}
+use Rattle.crvm_reserve.proofs.Names.{refl, rounded_ben, ben_lo, ben_hi, paid_up_lo, paid_up_hi, paid_up_mean_lo, paid_up_mean_hi}
 use Rattle.crvm_reserve.proofs.worked.paid_up_mean_rows_by_hand.Goals as goal
 
 pub returns : goal.returns

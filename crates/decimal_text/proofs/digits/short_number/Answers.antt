@@ -1,7 +1,5 @@
-use Rattle.std.proofs.Common.{◌<◌, ◌≤◌, ◌^◌, length, arith}
-use Rattle.std.proofs.lemmas.List.{take_all}
+use Rattle.decimal_text.proofs.Names.{◌<◌, ◌≤◌, ◌^◌, length, arith, take_all, number}
 use Rattle.std.proofs.Math.Nat.{pow-le-pow_right}
-use Rattle.decimal_text.specs.Decimal.{number}
 use Rattle.decimal_text.proofs.Numbers.{number-lt}
 use Rattle.decimal_text.proofs.digits.short_number.Goals as goal
 

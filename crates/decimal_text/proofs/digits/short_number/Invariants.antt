@@ -1,5 +1,4 @@
-use Rattle.std.proofs.Common.{◌≡◌, take}
-use Rattle.decimal_text.specs.Decimal.{number}
+use Rattle.decimal_text.proofs.Names.{◌≡◌, take, number}
 use Rattle.decimal_text.proofs.digits.short_number.Given as goal
 
 abbrev pub invariant-loop-digit : goal.invariant-loop-digit

@@ -1,5 +1,4 @@
-use Rattle.std.proofs.Common.{◌≡◌, length, ap, arith}
-use Rattle.std.proofs.lemmas.Bool.Decides.{nat_tests}
+use Rattle.decimal_text.proofs.Names.{◌≡◌, length, ap, arith, nat_tests}
 use Rattle.decimal_text.proofs.Cuts.{all_digits}
 use Rattle.decimal_text.proofs.exponent.few_digits.Goals as goal
 use Rattle.decimal_text.proofs.exponent.few_digits.Goals.{then-is_empty-via-then-is_empty, then-is_empty-via-else-is_empty+then-digits-gt3, then-is_empty-via-else-is_empty+else-digits-gt3+then-not-is_empty}

@@ -1,5 +1,4 @@
-use Rattle.std.proofs.Common.{◌+◌, ◌<◌, ap, arith, length}
-use Rattle.std.proofs.lemmas.Bool.Decides.{nat_tests}
+use Rattle.decimal_text.proofs.Names.{◌+◌, ◌<◌, ap, arith, length, nat_tests}
 use Rattle.decimal_text.proofs.Readings.{reads_parts, spells_parts}
 use Rattle.decimal_text.proofs.reader.parts_of.Goals as goal
 use Rattle.decimal_text.proofs.reader.parts_of.Goals.{else-is_empty-via-then-is_empty+else-is_empty-2, else-is_empty-via-else-is_empty}

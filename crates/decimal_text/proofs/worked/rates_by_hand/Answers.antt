@@ -1,5 +1,4 @@
-use Rattle.std.proofs.Common.{◌≡◌, ℕ, List, [], ◌∷◌, ◌++◌, ◌+◌, ◌<◌, length, refl, inl, inr, codes, lit≤, arith}
-use Rattle.decimal_text.specs.Decimal.{Decimal, IsPlain, Spells}
+use Rattle.decimal_text.proofs.Names.{◌≡◌, ℕ, List, [], ◌∷◌, ◌++◌, ◌+◌, ◌<◌, length, refl, inl, inr, codes, lit≤, arith, Decimal, IsPlain, Spells}
 use Rattle.decimal_text.proofs.Spelt.{spelt}
 use Rattle.decimal_text.proofs.worked.rates_by_hand.Goals as goal
 

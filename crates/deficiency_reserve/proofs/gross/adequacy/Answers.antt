@@ -1,5 +1,4 @@
-use Rattle.std.proofs.Common.{arith}
-use Rattle.present_value.specs.Premium.{beta}
+use Rattle.deficiency_reserve.proofs.Names.{arith, beta}
 use Rattle.deficiency_reserve.proofs.Tests.{is_short, is_enough, is_close}
 use Rattle.deficiency_reserve.proofs.gross.adequacy.Goals as goal
 

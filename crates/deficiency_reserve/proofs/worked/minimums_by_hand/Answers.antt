@@ -1,12 +1,5 @@
-use Rattle.std.proofs.Common.{refl}
-use Rattle.present_value.specs.Fractions.{less, times, over, plus, lesser, whole}
-use Rattle.present_value.specs.Sums.{ben, ann, survivors, sum_below}
-use Rattle.present_value.specs.Premium.{beta, excess, term_premium, renewal_premium, level_premium}
-use Rattle.present_value.specs.Reserve.{reserve}
-use Rattle.present_value.specs.Recursion.{rounded_ben, rounded_ann, ben_lo, ben_hi, ann_lo, ann_hi}
+use Rattle.deficiency_reserve.proofs.Names.{refl, less, times, over, plus, lesser, whole, ben, ann, survivors, sum_below, beta, excess, term_premium, renewal_premium, level_premium, reserve, rounded_ben, rounded_ann, ben_lo, ben_hi, ann_lo, ann_hi, gross, counted_premium, deferred, total_below, value_of_dues, greater, minimum, gross_lo, gross_hi}
 use Rattle.crvm_reserve.specs.Rounded.{term_lo, term_hi, level_lo, level_hi, excess_lo, excess_hi, beta_lo, beta_hi, reserve_lo, reserve_hi, amount_lo, amount_hi}
-use Rattle.deficiency_reserve.specs.Minimum.{gross, counted_premium, deferred, total_below, value_of_dues, greater, minimum}
-use Rattle.deficiency_reserve.specs.RoundedMinimum.{gross_lo, gross_hi}
 use Rattle.deficiency_reserve.proofs.worked.minimums_by_hand.Goals as goal
 
 pub returns-clause-short : goal.returns-clause-short

@@ -1,9 +1,4 @@
-use Rattle.std.proofs.Common.{◌+◌, All, List, [], ◌∷◌, ◌++◌, length, take, refl, ap, sym, subst, ◌∙◌, arith, rules}
-use Rattle.std.proofs.lemmas.List.{take_all}
-use Rattle.rtrb.specs.Ring.{sent}
-use Rattle.policy_types.specs.declared.script.Line.{Line}
-use Rattle.lane_runner.specs.Lanes.{IsRightLine}
-use Rattle.lane_runner.specs.inside.Parts.{HasAnswered}
+use Rattle.lane_runner.proofs.Names.{◌+◌, All, List, [], ◌∷◌, ◌++◌, length, take, refl, ap, sym, subst, ◌∙◌, arith, rules, take_all, sent, Line, IsRightLine, HasAnswered}
 use Rattle.lane_runner.proofs.AnswerSteps.{answered_next, answered_none, next_left}
 use Rattle.lane_runner.proofs.TellSteps.{may_follow}
 use Rattle.lane_runner.proofs.answering.answer_lane.Goals as goal

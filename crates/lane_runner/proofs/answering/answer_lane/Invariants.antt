@@ -1,8 +1,4 @@
-use Rattle.std.proofs.Common.{◌≡◌, ◌+◌, take}
-use Rattle.rtrb.specs.Ring.{SameProducer, known_free, sent}
-use Rattle.turn_lock.specs.Passes.{PassFacts}
-use Rattle.shared_office.specs.Offices.{IsOfficeHistory}
-use Rattle.lane_runner.specs.inside.Parts.{HasAnswered}
+use Rattle.lane_runner.proofs.Names.{◌≡◌, ◌+◌, take, SameProducer, known_free, sent, PassFacts, IsOfficeHistory, HasAnswered}
 use Rattle.lane_runner.proofs.answering.answer_lane.Given as goal
 
 abbrev pub invariant-loop-line : goal.invariant-loop-line

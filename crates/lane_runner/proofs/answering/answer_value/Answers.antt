@@ -1,7 +1,5 @@
-use Rattle.std.proofs.Common.{◌≡◌, [], ◌∷◌, subst, arith, w32, to_z, of_z}
+use Rattle.lane_runner.proofs.Names.{◌≡◌, [], ◌∷◌, subst, arith, w32, to_z, of_z, Value, HasAnswered}
 use Rattle.std.proofs.lemmas.Int.{ints}
-use Rattle.policy_types.specs.declared.script.Line.TheVariants.{Value}
-use Rattle.lane_runner.specs.inside.Parts.{HasAnswered}
 use Rattle.lane_runner.proofs.AnswerSteps.{answered_value, valued_boxed, valued_line}
 use Rattle.lane_runner.proofs.answering.answer_value.Goals as goal
 

@@ -1,5 +1,4 @@
-use Rattle.std.proofs.Common.{◌≡◌, ◌+◌, drop}
-use Rattle.lane_runner.specs.inside.Merging.{all_to_come}
+use Rattle.lane_runner.proofs.Names.{◌≡◌, ◌+◌, drop, all_to_come}
 use Rattle.lane_runner.proofs.merging.count_to_come.Given as goal
 
 abbrev pub invariant-loop-inlet : goal.invariant-loop-inlet

@@ -1,10 +1,4 @@
-use Rattle.std.proofs.Common.{◌≡◌, List, length, refl, ap, sym, ◌∙◌, subst, arith}
-use Rattle.rtrb.specs.Ring.{received}
-use Rattle.lane_runner.specs.Tallies.{accepted_lines}
-use Rattle.lane_runner.specs.declared.transcript.TranscriptLine.{TranscriptLine}
-use Rattle.lane_runner.specs.inside.Gathering.{HasPutOut}
-use Rattle.lane_runner.specs.inside.Merging.{IsMerged}
-use Rattle.lane_runner.specs.inside.Showing.{IsShowing}
+use Rattle.lane_runner.proofs.Names.{◌≡◌, List, length, refl, ap, sym, ◌∙◌, subst, arith, received, accepted_lines, TranscriptLine, HasPutOut, IsMerged, IsShowing}
 use Rattle.lane_runner.proofs.GatherSteps.{put_none}
 use Rattle.lane_runner.proofs.ShowSteps.{showing_none}
 use Rattle.lane_runner.proofs.TakeSteps.{taken_more, taken_none}

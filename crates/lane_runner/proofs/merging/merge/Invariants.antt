@@ -1,10 +1,4 @@
-use Rattle.std.proofs.Common.{◌≡◌, ◌+◌, ◌≤◌, length}
-use Rattle.std.specs.List.{AllZip}
-use Rattle.rtrb.specs.Ring.{SameConsumer, received}
-use Rattle.lane_runner.specs.Tallies.{accepted_lines}
-use Rattle.lane_runner.specs.inside.Gathering.{HasPutOut}
-use Rattle.lane_runner.specs.inside.Merging.{HasTakenLines, IsMerged, all_to_come}
-use Rattle.lane_runner.specs.inside.Showing.{IsShowing}
+use Rattle.lane_runner.proofs.Names.{◌≡◌, ◌+◌, ◌≤◌, length, AllZip, SameConsumer, received, accepted_lines, HasPutOut, HasTakenLines, IsMerged, all_to_come, IsShowing}
 use Rattle.lane_runner.proofs.merging.merge.Given as goal
 
 abbrev pub invariant-loop : goal.invariant-loop

@@ -1,11 +1,5 @@
-use Rattle.std.proofs.Common.{List, sym, ◌∙◌, subst}
-use Rattle.std.specs.List.{slice_set}
+use Rattle.lane_runner.proofs.Names.{List, sym, ◌∙◌, subst, slice_set, received, TranscriptLine, HasPutOut, IsMerged, IsShowing}
 use Rattle.std.proofs.lemmas.Option.{slice_get-get_or}
-use Rattle.rtrb.specs.Ring.{received}
-use Rattle.lane_runner.specs.declared.transcript.TranscriptLine.{TranscriptLine}
-use Rattle.lane_runner.specs.inside.Gathering.{HasPutOut}
-use Rattle.lane_runner.specs.inside.Merging.{IsMerged}
-use Rattle.lane_runner.specs.inside.Showing.{IsShowing}
 use Rattle.lane_runner.proofs.TakeSteps.{can_take, looked_is_taken, looked_merged, looked_to_come, one_fewer, one_taken, taken_merged, taken_more}
 use Rattle.lane_runner.proofs.merging.merge_next.Goals as goal
 

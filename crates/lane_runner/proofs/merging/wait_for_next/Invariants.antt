@@ -1,10 +1,4 @@
-use Rattle.std.proofs.Common.{◌≡◌, ℕ, ◌≤◌, List, Option}
-use Rattle.std.specs.List.{AllZip}
-use Rattle.outside_io.specs.Streams.{TakenPiece}
-use Rattle.lane_runner.specs.declared.transcript.TranscriptLine.{TranscriptLine}
-use Rattle.lane_runner.specs.inside.Gathering.{HasPutOut}
-use Rattle.lane_runner.specs.inside.Merging.{HasLooked}
-use Rattle.lane_runner.specs.inside.Showing.{IsShowing}
+use Rattle.lane_runner.proofs.Names.{◌≡◌, ℕ, ◌≤◌, List, Option, AllZip, TakenPiece, TranscriptLine, HasPutOut, HasLooked, IsShowing}
 use Rattle.lane_runner.proofs.merging.wait_for_next.Given as goal
 
 abbrev pub invariant-loop : goal.invariant-loop

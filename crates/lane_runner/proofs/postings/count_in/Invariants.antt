@@ -1,6 +1,4 @@
-use Rattle.std.proofs.Common.{◌≡◌, take}
-use Rattle.std.specs.List.{count_by}
-use Rattle.lane_runner.specs.Lanes.{is_posting}
+use Rattle.lane_runner.proofs.Names.{◌≡◌, take, count_by, is_posting}
 use Rattle.lane_runner.proofs.postings.count_in.Given as goal
 
 abbrev pub invariant-loop-line : goal.invariant-loop-line

@@ -1,6 +1,4 @@
-use Rattle.std.proofs.Common.{◌≤◌, ◌+◌, [], ◌∷◌, length, take, sym, subst, arith}
-use Rattle.std.specs.List.{AllZip}
-use Rattle.lane_runner.specs.inside.Parts.{AreEnds, IsInletFor, IsRoomFor}
+use Rattle.lane_runner.proofs.Names.{◌≤◌, ◌+◌, [], ◌∷◌, length, take, sym, subst, arith, AllZip, AreEnds, IsInletFor, IsRoomFor}
 use Rattle.lane_runner.proofs.AnswerSteps.{zip_append}
 use Rattle.lane_runner.proofs.SeatSteps.{zip_next_is}
 use Rattle.lane_runner.proofs.rooms.rings_for.Goals as goal

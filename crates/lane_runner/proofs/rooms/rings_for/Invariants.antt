@@ -1,6 +1,4 @@
-use Rattle.std.proofs.Common.{◌≡◌, ◌≤◌, length, take, vec_len, vec_capacity}
-use Rattle.std.specs.List.{AllZip}
-use Rattle.lane_runner.specs.inside.Parts.{AreEnds, IsInletFor, IsRoomFor}
+use Rattle.lane_runner.proofs.Names.{◌≡◌, ◌≤◌, length, take, vec_len, vec_capacity, AllZip, AreEnds, IsInletFor, IsRoomFor}
 use Rattle.lane_runner.proofs.rooms.rings_for.Given as goal
 
 abbrev pub invariant-loop-lane : goal.invariant-loop-lane

@@ -1,6 +1,4 @@
-use Rattle.std.proofs.Common.{◌≤◌, [], ◌∷◌, ◌++◌, length, sym, ap, ◌∙◌, subst, append_assoc, length-append, arith, rules}
-use Rattle.std.specs.Vec.Iter.{into_iter_items}
-use Rattle.lane_runner.specs.inside.Parts.{HasEntered, shares_to_enter, turns_to_enter}
+use Rattle.lane_runner.proofs.Names.{◌≤◌, [], ◌∷◌, ◌++◌, length, sym, ap, ◌∙◌, subst, append_assoc, length-append, arith, rules, into_iter_items, HasEntered, shares_to_enter, turns_to_enter}
 use Rattle.lane_runner.proofs.SeatSteps.{entered_more, left_next, room_next, shares_next}
 use Rattle.lane_runner.proofs.running.enter_all.Goals as goal
 

@@ -1,6 +1,4 @@
-use Rattle.std.proofs.Common.{◌≡◌, ◌≤◌, ◌++◌, length, vec_len, vec_capacity}
-use Rattle.std.specs.Vec.Iter.{into_iter_items, into_iter_len}
-use Rattle.lane_runner.specs.inside.Parts.{HasEntered, shares_to_enter, turns_to_enter}
+use Rattle.lane_runner.proofs.Names.{◌≡◌, ◌≤◌, ◌++◌, length, vec_len, vec_capacity, into_iter_items, into_iter_len, HasEntered, shares_to_enter, turns_to_enter}
 use Rattle.lane_runner.proofs.running.enter_all.Given as goal
 
 abbrev pub invariant-loop-outlet : goal.invariant-loop-outlet

@@ -1,6 +1,4 @@
-use Rattle.std.proofs.Common.{◌≡◌, [], ◌∷◌, ◌++◌, length, sym, ap, ◌∙◌, subst, append_assoc, length-append, arith, rules}
-use Rattle.std.specs.List.{AllByRecursion}
-use Rattle.std.specs.Vec.Iter.{into_iter_items}
+use Rattle.lane_runner.proofs.Names.{◌≡◌, [], ◌∷◌, ◌++◌, length, sym, ap, ◌∙◌, subst, append_assoc, length-append, arith, rules, AllByRecursion, into_iter_items}
 use Rattle.lane_runner.proofs.SeatSteps.{callers_push, left_more}
 use Rattle.lane_runner.proofs.running.leave_all.Goals as goal
 

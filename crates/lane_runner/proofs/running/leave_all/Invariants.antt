@@ -1,7 +1,4 @@
-use Rattle.std.proofs.Common.{◌≡◌, ◌++◌, length, map, vec_len, vec_capacity}
-use Rattle.std.specs.List.{AllByRecursion}
-use Rattle.std.specs.Vec.Iter.{into_iter_items, into_iter_len}
-use Rattle.lane_runner.specs.inside.Parts.{HasLeft}
+use Rattle.lane_runner.proofs.Names.{◌≡◌, ◌++◌, length, map, vec_len, vec_capacity, AllByRecursion, into_iter_items, into_iter_len, HasLeft}
 use Rattle.lane_runner.proofs.running.leave_all.Given as goal
 
 abbrev pub invariant-loop-seat : goal.invariant-loop-seat

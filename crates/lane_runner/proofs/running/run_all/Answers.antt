@@ -1,10 +1,9 @@
-use Rattle.std.proofs.Common.{◌≡◌, length, sym, ◌∙◌, subst, arith, rules}
+use Rattle.lane_runner.proofs.Names.{◌≡◌, length, sym, ◌∙◌, subst, arith, rules, HasRunIn, IsReadySeat}
 use denote.Param.SendFields.{declared_sync, as_row_sync}
 use denote.Param.Send.{sendable}
 use Rattle.std.proofs.Crossing.{crosses, sync}
 use Rattle.shared_office.proofs.Crossing.{crosses_office}
 use Rattle.snapshot_value.proofs.Crossing.{basis_crosses}
-use Rattle.lane_runner.specs.inside.Parts.{HasRunIn, IsReadySeat}
 use Rattle.lane_runner.proofs.Crossing.{bell_crosses, lane_crosses, outlet_crosses, seven_sync}
 use Rattle.lane_runner.proofs.SeatSteps.{got, have_run, zip_at, zip_length}
 use Rattle.lane_runner.proofs.running.run_all.Goals as goal

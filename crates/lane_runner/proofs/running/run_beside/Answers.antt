@@ -1,8 +1,4 @@
-use Rattle.std.proofs.Common.{◌≤◌, List, ap, sym, ◌∙◌, subst, arith, rules}
-use Rattle.std.specs.List.{AllZip}
-use Rattle.lane_runner.specs.declared.telling.Inlet.{Inlet}
-use Rattle.lane_runner.specs.inside.Merging.{IsMerged, all_to_come}
-use Rattle.lane_runner.specs.inside.Parts.{HaveRun, IsReadySeat}
+use Rattle.lane_runner.proofs.Names.{◌≤◌, List, ap, sym, ◌∙◌, subst, arith, rules, AllZip, Inlet, IsMerged, all_to_come, HaveRun, IsReadySeat}
 use Rattle.lane_runner.proofs.TakeSteps.{merged_none}
 use Rattle.lane_runner.proofs.SettleSteps.{are_spent, fed_none, fed_to_come, same_run, seats_whole, settled_moved}
 use Rattle.lane_runner.proofs.running.run_beside.Goals as goal

@@ -1,5 +1,4 @@
-use Rattle.std.proofs.Common.{length, ◌∙◌, arith}
-use Rattle.lane_runner.specs.inside.Parts.{IsRoomFor}
+use Rattle.lane_runner.proofs.Names.{length, ◌∙◌, arith, IsRoomFor}
 use Rattle.lane_runner.proofs.SeatSteps.{shares_for_all, turns_for_all, zip_length}
 use Rattle.lane_runner.proofs.RunSteps.{are_ready, has_run, lanes_are, news_many, seats_ours}
 use Rattle.lane_runner.proofs.SettleSteps.{ends_entered}

@@ -1,6 +1,5 @@
-use Rattle.std.proofs.Common.{inl, inr, lit≤, refl}
+use Rattle.life_app.proofs.Names.{inl, inr, lit≤, refl, opens_to_one}
 use Rattle.basis_shelf.proofs.OneBasis.{one_basis}
-use Rattle.office_state.proofs.JournalLaws.{opens_to_one}
 use Rattle.life_app.proofs.HeadlineLaws.{headline, once}
 use Rattle.life_app.proofs.TextLaws.{tells_apart}
 use Rattle.life_app.proofs.promise.headline.Goals as goal

@@ -1,9 +1,4 @@
-use Rattle.std.specs.Fmt.{digits}
-use Rattle.std.proofs.Common.{refl}
-use Rattle.life_dates.specs.Anniversary.{anniversary_of}
-use Rattle.life_dates.specs.Calendar.{day_number, date_of, date_at, year_of, month_of, days_before, days_before_year, days_of_months}
-use Rattle.life_dates.specs.DayText.{day_text}
-use Rattle.statements.specs.Statements.{account_line, count_text, entry_text, policy_text}
+use Rattle.life_app.proofs.Names.{digits, refl, anniversary_of, day_number, date_of, date_at, year_of, month_of, days_before, days_before_year, days_of_months, day_text, account_line, count_text, entry_text, policy_text}
 use Rattle.life_app.proofs.worked.claimed_books.Goals as goal
 
 pub returns : goal.returns

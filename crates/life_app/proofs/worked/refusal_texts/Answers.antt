@@ -1,7 +1,4 @@
-use Rattle.std.specs.Fmt.{digits}
-use Rattle.std.proofs.Common.{refl}
-use Rattle.life_dates.specs.Calendar.{date_of, year_of, month_of, days_before, days_before_year, days_of_months}
-use Rattle.life_dates.specs.DayText.{day_text}
+use Rattle.life_app.proofs.Names.{digits, refl, date_of, year_of, month_of, days_before, days_before_year, days_of_months, day_text}
 use Rattle.life_app.proofs.worked.refusal_texts.Goals as goal
 
 pub returns : goal.returns

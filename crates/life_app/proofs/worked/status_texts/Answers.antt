@@ -1,5 +1,4 @@
-use Rattle.std.specs.Fmt.{digits}
-use Rattle.std.proofs.Common.{refl}
+use Rattle.life_app.proofs.Names.{digits, refl}
 use Rattle.life_app.proofs.worked.status_texts.Goals as goal
 
 pub returns : goal.returns

@@ -1,5 +1,4 @@
-use Rattle.std.specs.Fmt.{digits}
-use Rattle.std.proofs.Common.{refl, lit<}
+use Rattle.life_app.proofs.Names.{digits, refl, lit<}
 use Rattle.life_app.proofs.worked.two_clerks.Goals as goal
 
 pub returns : goal.returns

@@ -1,5 +1,4 @@
-use Rattle.std.proofs.Common.{refl}
-use Rattle.record_codec.specs.Spelling.{spelling_of}
+use Rattle.life_app.proofs.Names.{refl, spelling_of}
 use Rattle.life_app.proofs.WorkedRun.First.{honest_calls}
 use Rattle.life_app.proofs.WorkedRun.Row.{found_by_hand}
 use Rattle.life_app.proofs.worked_run.calls_by_hand.Goals as goal

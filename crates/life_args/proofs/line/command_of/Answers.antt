@@ -1,8 +1,5 @@
-use Rattle.std.proofs.Common.{◌∙◌, ap, ap₂, sym}
+use Rattle.life_args.proofs.Names.{◌∙◌, ap, ap₂, sym, with_rule, line_app, options_of}
 use Rattle.std.proofs.lemmas.Result.{IfOk-weaker}
-use Rattle.clap.specs.Words.{with_rule}
-use Rattle.life_args.specs.inside.Lines.{line_app}
-use Rattle.life_args.specs.inside.Verbs.{options_of}
 use Rattle.life_args.proofs.line.command_of.Goals as goal
 
 -- each option, and each flag, adds its rule to those before

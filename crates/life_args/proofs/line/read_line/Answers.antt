@@ -1,7 +1,4 @@
-use Rattle.std.proofs.Common.{◌∙◌, ap, sym, subst, map, string_bytes}
-use Rattle.clap.specs.Words.{is_simple_and_free}
-use Rattle.clap.proofs.WalkLemmas.{list_any-map}
-use Rattle.life_args.specs.inside.Lines.{TakesWords, is_odd}
+use Rattle.life_args.proofs.Names.{◌∙◌, ap, sym, subst, map, string_bytes, is_simple_and_free, list_any-map, TakesWords, is_odd}
 use Rattle.life_args.proofs.Answering.{line_read, odd_refused}
 use Rattle.life_args.proofs.Asking.{simple}
 use Rattle.life_args.proofs.line.read_line.Goals as goal

@@ -1,6 +1,4 @@
-use Rattle.clap.specs.Words.{app_of, built, is_simple}
-use Rattle.clap.specs.Faults.{is_free_app}
-use Rattle.clap.proofs.WalkLemmas.{both}
+use Rattle.life_args.proofs.Names.{app_of, built, is_simple, is_free_app, both}
 use Rattle.life_args.proofs.line.take_words.Goals as goal
 
 pub returns-in-Ok : goal.returns-in-Ok

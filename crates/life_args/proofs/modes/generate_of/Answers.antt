@@ -1,7 +1,4 @@
-use Rattle.std.proofs.Common.{◌∙◌, ap, sym, unwrap_or, []}
-use Rattle.clap.specs.Words.{found_of}
-use Rattle.life_args.specs.declared.verb.Verb.TheVariants.{Generate}
-use Rattle.life_args.specs.inside.Verbs.{AreDrawn, AsksFor}
+use Rattle.life_args.proofs.Names.{◌∙◌, ap, sym, unwrap_or, [], found_of, Generate, AreDrawn, AsksFor}
 use Rattle.life_args.proofs.Answering.{refused}
 use Rattle.life_args.proofs.Saying.{drawn_are, said_in}
 use Rattle.life_args.proofs.modes.generate_of.Goals as goal

@@ -1,7 +1,4 @@
-use Rattle.std.proofs.Common.{◌∙◌, ap, decimal, sym, unwrap_or, ◌∷◌, []}
-use Rattle.clap.specs.Words.{found_of}
-use Rattle.life_args.specs.declared.verb.Verb.TheVariants.{Load}
-use Rattle.life_args.specs.inside.Verbs.{AreDrawn, AsksFor}
+use Rattle.life_args.proofs.Names.{◌∙◌, ap, decimal, sym, unwrap_or, ◌∷◌, [], found_of, Load, AreDrawn, AsksFor}
 use Rattle.life_args.proofs.Answering.{refused}
 use Rattle.life_args.proofs.Saying.{drawn_are, said_in}
 use Rattle.life_args.proofs.modes.load_of.Goals as goal

@@ -1,8 +1,4 @@
-use Rattle.std.proofs.Common.{ap, codes, unwrap_or, []}
-use Rattle.clap.specs.Words.{found_of}
-use Rattle.life_args.specs.declared.verb.Verb.TheVariants.{Project}
-use Rattle.life_args.specs.Values.{AreWorkersOr, IsBasisOr}
-use Rattle.life_args.specs.inside.Verbs.{texts_of}
+use Rattle.life_args.proofs.Names.{ap, codes, unwrap_or, [], found_of, Project, AreWorkersOr, IsBasisOr, texts_of}
 use Rattle.life_args.proofs.Saying.{option_refused}
 use Rattle.life_args.proofs.modes.project_of.Goals as goal
 

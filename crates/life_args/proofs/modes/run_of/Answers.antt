@@ -1,8 +1,4 @@
-use Rattle.std.proofs.Common.{ap, codes, unwrap_or, []}
-use Rattle.clap.specs.Words.{found_of}
-use Rattle.life_args.specs.declared.verb.Verb.TheVariants.{Run}
-use Rattle.life_args.specs.Values.{IsBasisOr}
-use Rattle.life_args.specs.inside.Verbs.{texts_of}
+use Rattle.life_args.proofs.Names.{ap, codes, unwrap_or, [], found_of, Run, IsBasisOr, texts_of}
 use Rattle.life_args.proofs.Saying.{option_refused}
 use Rattle.life_args.proofs.modes.run_of.Goals as goal
 

@@ -1,9 +1,4 @@
-use Rattle.std.proofs.Common.{ap, unwrap_or, []}
-use Rattle.clap.specs.Words.{found_of}
-use Rattle.life_args.specs.declared.verb.Verb.TheVariants.{State}
-use Rattle.life_args.specs.Values.{IsPolicyOr}
-use Rattle.life_args.specs.inside.Lines.{alone_id}
-use Rattle.life_args.specs.inside.Verbs.{texts_of}
+use Rattle.life_args.proofs.Names.{ap, unwrap_or, [], found_of, State, IsPolicyOr, alone_id, texts_of}
 use Rattle.life_args.proofs.Saying.{option_refused}
 use Rattle.life_args.proofs.modes.state_of.Goals as goal
 

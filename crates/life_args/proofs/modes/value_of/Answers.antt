@@ -1,9 +1,4 @@
-use Rattle.std.proofs.Common.{ap, codes, subst, sym, unwrap_or, []}
-use Rattle.clap.specs.Words.{found_of}
-use Rattle.life_args.specs.declared.verb.Verb.TheVariants.{Value}
-use Rattle.life_args.specs.Values.{IsPositionOr, AreWorkersOr, IsBasisOr, IsMeasureBy}
-use Rattle.life_args.specs.inside.Lines.{values_named}
-use Rattle.life_args.specs.inside.Verbs.{AsksFor, texts_of}
+use Rattle.life_args.proofs.Names.{ap, codes, subst, sym, unwrap_or, [], found_of, Value, IsPositionOr, AreWorkersOr, IsBasisOr, IsMeasureBy, values_named, AsksFor, texts_of}
 use Rattle.life_args.proofs.Answering.{refused}
 use Rattle.life_args.proofs.Saying.{option_refused, said_in}
 use Rattle.life_args.proofs.modes.value_of.Goals as goal

@@ -1,5 +1,4 @@
-use Rattle.life_args.specs.Values.{IsMeasureBy}
-use Rattle.life_args.specs.inside.Verbs.{IsLone, texts_of}
+use Rattle.life_args.proofs.Names.{IsMeasureBy, IsLone, texts_of}
 use Rattle.life_args.proofs.Answering.{a_measure, refused}
 use Rattle.life_args.proofs.values.measure_of.Goals as goal
 

@@ -1,6 +1,4 @@
-use Rattle.std.proofs.Common.{◌≡◌, ℕ, ◌∙◌, sym, arith}
-use Rattle.std.proofs.lemmas.Fmt.{decimal_injective}
-use Rattle.life_args.specs.inside.Verbs.{IsNumberValue}
+use Rattle.life_args.proofs.Names.{◌≡◌, ℕ, ◌∙◌, sym, arith, decimal_injective, IsNumberValue}
 use Rattle.life_args.proofs.values.number_of.Goals as goal
 
 pub returns-in_default : goal.returns-in_default

@@ -1,5 +1,4 @@
-use Rattle.std.proofs.Common.{◌≡◌, ℕ, ◌≤◌, ◌∙◌, ap, sym, arith, decimal}
-use Rattle.std.proofs.lemmas.Fmt.{decimal_injective}
+use Rattle.life_args.proofs.Names.{◌≡◌, ℕ, ◌≤◌, ◌∙◌, ap, sym, arith, decimal, decimal_injective}
 use Rattle.life_args.proofs.values.parse_count.Goals as goal
 
 pub returns-in-0-clause-none : goal.returns-in-0-clause-none

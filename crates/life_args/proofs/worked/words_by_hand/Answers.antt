@@ -1,13 +1,8 @@
-use Rattle.std.proofs.Common.{◌≡◌, ℕ, List, [], ◌∷◌, refl, inl, inr, codes, decimal, lit≤, arith, pos, None, Some}
+use Rattle.life_args.proofs.Names.{◌≡◌, ℕ, List, [], ◌∷◌, refl, inl, inr, codes, decimal, lit≤, arith, pos, None, Some, defaults_fault, walk_fault, InvalidValue, TooManyValues, UnknownArgument, Now, Position, Run, Value, Project, State, Checkpoint, Generate, bare, apart, joined, flag}
 use Rattle.std.specs.Fmt.{digits}
-use Rattle.clap.specs.Faults.{defaults_fault, walk_fault}
 use Rattle.clap.specs.Walk.{walked}
-use Rattle.clap.specs.declared.error.kind.ErrorKind.TheVariants.{InvalidValue, TooManyValues, UnknownArgument}
-use Rattle.policy_types.specs.declared.entry.At.TheVariants.{Now, Position}
 use Rattle.policy_value.specs.declared.worth.Measure.TheVariants.{Terminal, Mean, Deficiency}
 use Rattle.life_args.specs.declared.mode.Mode.TheVariants as mode
-use Rattle.life_args.specs.declared.verb.Verb.TheVariants.{Run, Value, Project, State, Checkpoint, Generate}
-use Rattle.life_args.specs.Pieces.{bare, apart, joined, flag}
 use Rattle.life_args.proofs.WorkedWords.{asks_nothing, b2_name, new_year, no_help, other_years, refused, told, unnamed, untold}
 use Rattle.life_args.proofs.worked.words_by_hand.Goals as goal
 

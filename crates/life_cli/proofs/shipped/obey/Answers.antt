@@ -1,11 +1,9 @@
-use Rattle.std.proofs.Common.{ℕ, inl, inr, refl, ap, ◌∙◌}
+use Rattle.life_cli.proofs.Names.{ℕ, inl, inr, refl, ap, ◌∙◌, NoMemory, shipped_auditors, count_auditor}
 use denote.Param.Object.{read_made}
 use Rattle.watcher_set.specs.Noted.{Auditor}
 use Rattle.program_endings.specs.Status.{status_of}
 use Rattle.program_endings.specs.declared.ending.Ending.{Ending}
-use Rattle.program_endings.specs.declared.ending.Ending.TheVariants.{NoMemory}
 use Rattle.watcher_set.specs.declared.counting.CountWatcher.{CountWatcher}
-use Rattle.life_cli.specs.Shipped.{shipped_auditors, count_auditor}
 use Rattle.life_cli.proofs.FromStart.{obeys_with, seen_of_two, ends_with_9}
 use Rattle.life_cli.proofs.shipped.obey.OwnLists.{own-1}
 use Rattle.life_cli.proofs.shipped.obey.Goals as goal

@@ -1,10 +1,8 @@
-use Rattle.std.proofs.Common.{◌≡◌, List, [], length, Some, ap, refl}
+use Rattle.life_cli.proofs.Names.{◌≡◌, List, [], length, Some, ap, refl, Files, Agrees, input_from_start, output_from_start, shelf_from_start}
 use Rattle.outside_io.specs.FileCalls.{FileCall, file_reads, AreAllowed}
-use Rattle.outside_io.specs.Shelves.{Files, Agrees}
 use Rattle.outside_io.specs.Streams.{StreamPiece, passed_bytes, pieces_by, HasEnd}
 use Rattle.outside_io.specs.FileLaws.{left_only_now}
 use Rattle.life_cli.proofs.FromStart.{ends_from_start, agrees_with_all, obeys_still, obeys_from_start}
-use Rattle.life_cli.specs.Shipped.{input_from_start, output_from_start, shelf_from_start}
 use Rattle.life_cli.proofs.Promised.{shipped}
 use Rattle.life_cli.proofs.shipped.run_shipped.Goals as goal
 

@@ -1,8 +1,6 @@
-use Rattle.std.proofs.Common.{◌≡◌, ◌+ℤ◌, pos, ◌∙◌, arith, FitsSigned, w32, w64}
+use Rattle.life_dates.proofs.Names.{◌≡◌, ◌+ℤ◌, pos, ◌∙◌, arith, FitsSigned, w32, w64, epoch_day, date_of}
 use Rattle.std.proofs.lemmas.Int.{to_z-of_z}
 use Rattle.jiff.proofs.SpanFacts.{signed_arith, date_add-days, can_add-days}
-use Rattle.jiff_core.specs.Date.{epoch_day}
-use Rattle.life_dates.specs.Calendar.{date_of}
 use Rattle.life_dates.proofs.CalendarLemmas.{plain_is, epoch_is}
 use Rattle.life_dates.proofs.calendar.civil_date.Goals as goal
 

@@ -1,7 +1,4 @@
-use Rattle.std.proofs.Common.{◌≡◌, arith, pos, ap, ◌∙◌, w32, to_z, of_z, to_z-of_z}
-use Rattle.std.proofs.lemmas.Int.{ints}
-use Rattle.jiff_core.proofs.CalendarLemmas.{days_in_month_bounds}
-use Rattle.life_dates.specs.Calendar.{date_of}
+use Rattle.life_dates.proofs.Names.{◌≡◌, arith, pos, ap, ◌∙◌, w32, to_z, of_z, to_z-of_z, ints, days_in_month_bounds, date_of}
 use Rattle.life_dates.proofs.CalendarLemmas.{date_of_is, IsTermDay-year}
 use Rattle.life_dates.proofs.calendar.year_month_day.Goals as goal
 

@@ -1,7 +1,4 @@
-use Rattle.std.proofs.Common.{◌≡◌, pos, arith}
-use Rattle.std.proofs.lemmas.Int.{ints}
-use Rattle.jiff_core.specs.Date.{epoch_day}
-use Rattle.life_dates.specs.Calendar.{date_of}
+use Rattle.life_dates.proofs.Names.{◌≡◌, pos, arith, ints, epoch_day, date_of}
 use Rattle.life_dates.proofs.CalendarLemmas.{plain_is}
 use Rattle.life_dates.proofs.plain.plain_date.Goals as goal
 

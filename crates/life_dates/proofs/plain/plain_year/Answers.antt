@@ -1,6 +1,4 @@
-use Rattle.std.proofs.Common.{◌≡◌, arith, pos, ap, ◌∙◌, w32, to_z, of_z, to_z-of_z}
-use Rattle.std.proofs.lemmas.Int.{ints}
-use Rattle.life_dates.specs.Calendar.{date_of}
+use Rattle.life_dates.proofs.Names.{◌≡◌, arith, pos, ap, ◌∙◌, w32, to_z, of_z, to_z-of_z, ints, date_of}
 use Rattle.life_dates.proofs.CalendarLemmas.{date_of_is, IsTermDay-year}
 use Rattle.life_dates.proofs.plain.plain_year.Goals as goal
 

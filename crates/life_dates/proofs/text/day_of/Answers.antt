@@ -1,6 +1,4 @@
-use Rattle.std.proofs.Common.{◌≡◌, pos, negsuc, ◌≤ℤ◌, arith}
-use Rattle.std.proofs.lemmas.Int.{ints}
-use Rattle.jiff_core.specs.Date.{epoch_day}
+use Rattle.life_dates.proofs.Names.{◌≡◌, pos, negsuc, ◌≤ℤ◌, arith, ints, epoch_day}
 use Rattle.life_dates.proofs.TextLemmas.{from_plain, number_is}
 use Rattle.life_dates.proofs.text.day_of.Goals as goal
 use Rattle.life_dates.proofs.text.day_of.Goals.{then-number-lt-FIRST_DAY-via-then-number-lt-FIRST_DAY, then-number-lt-FIRST_DAY-via-else-number-lt-FIRST_DAY+then-number-gt-LAST_DAY}

@@ -1,5 +1,4 @@
-use Rattle.std.proofs.Common.{◌+◌, ◌*◌, arith}
-use Rattle.life_dates.specs.Calendar.{ymd}
+use Rattle.life_dates.proofs.Names.{◌+◌, ◌*◌, arith, ymd}
 use Rattle.life_dates.proofs.TextLemmas.{read_text, read_some, read_exact}
 use Rattle.life_dates.proofs.text.parse_day.Goals as goal
 

@@ -1,5 +1,4 @@
-use Rattle.std.proofs.Common.{◌≡◌, ap, ◌∙◌, to_z-of_z}
-use Rattle.life_dates.specs.Calendar.{ymd, date_of}
+use Rattle.life_dates.proofs.Names.{◌≡◌, ap, ◌∙◌, to_z-of_z, ymd, date_of}
 use Rattle.life_dates.specs.DayText.{date_text, day_text}
 use Rattle.life_dates.proofs.text.print_day.Goals as goal
 

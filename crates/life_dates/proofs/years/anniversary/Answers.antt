@@ -1,8 +1,4 @@
-use Rattle.std.proofs.Common.{◌≡◌, ◌+◌, pos, ◌∙◌, arith, w32, to_z, of_z, to_z-of_z}
-use Rattle.std.proofs.lemmas.Int.{ints}
-use Rattle.jiff_core.specs.Date.{epoch_day}
-use Rattle.life_dates.specs.Calendar.{date_of}
-use Rattle.life_dates.specs.Anniversary.{anniversary_of}
+use Rattle.life_dates.proofs.Names.{◌≡◌, ◌+◌, pos, ◌∙◌, arith, w32, to_z, of_z, to_z-of_z, ints, epoch_day, date_of, anniversary_of}
 use Rattle.life_dates.proofs.AnniversaryLemmas.{epoch_day-anniversary, anniversary_in, IsDay-date}
 use Rattle.life_dates.proofs.years.anniversary.Goals as goal
 

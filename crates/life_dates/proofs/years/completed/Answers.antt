@@ -1,7 +1,4 @@
-use Rattle.std.proofs.Common.{◌≡◌, ◌-◌, ◌≤◌, ◌≤ℤ◌, ◌<ℤ◌, pos, ap, ◌∙◌, arith, w32, to_z, of_z, to_z-of_z}
-use Rattle.std.specs.Int.{int_min}
-use Rattle.std.proofs.lemmas.Int.{ints}
-use Rattle.life_dates.specs.Anniversary.{anniversary_of, IsCompleted}
+use Rattle.life_dates.proofs.Names.{◌≡◌, ◌-◌, ◌≤◌, ◌≤ℤ◌, ◌<ℤ◌, pos, ap, ◌∙◌, arith, w32, to_z, of_z, to_z-of_z, int_min, ints, anniversary_of, IsCompleted}
 use Rattle.life_dates.proofs.AnniversaryLemmas.{completed_years}
 use Rattle.life_dates.proofs.years.completed.Goals as goal
 

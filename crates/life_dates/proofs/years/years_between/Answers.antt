@@ -1,5 +1,4 @@
-use Rattle.std.proofs.Common.{◌≡◌, ap, ◌∙◌, arith, to_z-of_z}
-use Rattle.life_dates.specs.Calendar.{date_of}
+use Rattle.life_dates.proofs.Names.{◌≡◌, ap, ◌∙◌, arith, to_z-of_z, date_of}
 use Rattle.life_dates.proofs.AnniversaryLemmas.{later_year}
 use Rattle.life_dates.proofs.years.years_between.Goals as goal
 

@@ -1,5 +1,4 @@
-use Rattle.std.proofs.Common.{arith, sym, subst}
-use Rattle.load_maker.specs.GeneratedLanes.{AreDealt}
+use Rattle.load_maker.proofs.Names.{arith, sym, subst, AreDealt}
 use Rattle.load_maker.proofs.Facts.{lanes_dealt, all_lanes}
 use Rattle.load_maker.proofs.lanes.make_lanes.Goals as goal
 

@@ -1,6 +1,4 @@
-use Rattle.std.proofs.Common.{◌≡◌}
-use Rattle.load_maker.specs.GeneratedRows.{generated_rows}
-use Rattle.load_maker.specs.GeneratedLanes.{dealt_lanes}
+use Rattle.load_maker.proofs.Names.{◌≡◌, generated_rows, dealt_lanes}
 use Rattle.load_maker.proofs.lanes.make_lanes.Given as goal
 
 abbrev pub invariant-loop-before : goal.invariant-loop-before

@@ -1,6 +1,4 @@
-use Rattle.std.proofs.Common.{ap, ◌∙◌, Vec, Global}
-use Rattle.policy_types.specs.declared.script.Line.{Line}
-use Rattle.load_maker.specs.Generator.{policy_drawn}
+use Rattle.load_maker.proofs.Names.{ap, ◌∙◌, Vec, Global, Line, policy_drawn}
 use Rattle.load_maker.proofs.Dealing.{none_dealt, dealt_here, dealt_elsewhere, drawn_next, from_seed}
 use Rattle.load_maker.proofs.lanes.make_lines.Goals as goal
 use Rattle.load_maker.proofs.lanes.make_lines.Goals.{then-dealt_to-lane+in_ok-add_lines, else-dealt_to-lane}

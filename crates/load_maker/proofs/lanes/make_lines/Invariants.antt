@@ -1,7 +1,4 @@
-use Rattle.std.proofs.Common.{◌≡◌}
-use Rattle.load_maker.specs.Generator.{state_after}
-use Rattle.load_maker.specs.GeneratedRows.{generated_rows}
-use Rattle.load_maker.specs.GeneratedLanes.{dealt_lines}
+use Rattle.load_maker.proofs.Names.{◌≡◌, state_after, generated_rows, dealt_lines}
 use Rattle.load_maker.proofs.lanes.make_lines.Given as goal
 
 abbrev pub invariant-loop-before : goal.invariant-loop-before

@@ -1,5 +1,4 @@
-use Rattle.std.proofs.Common.{◌≡◌}
-use Rattle.load_maker.specs.Generator.{state_after}
+use Rattle.load_maker.proofs.Names.{◌≡◌, state_after}
 use Rattle.load_maker.specs.GeneratedScript.{generated_text}
 use Rattle.load_maker.proofs.script.make_script.Given as goal
 

@@ -1,11 +1,8 @@
-use Rattle.std.proofs.Common.{refl}
+use Rattle.load_maker.proofs.Names.{refl, policy_drawn, state_after, renewed_by_policy, generated_rows, generated_lanes}
 use Rattle.std.specs.Fmt.{digits}
 use Rattle.life_dates.specs.Calendar.{date_of, date_at, year_of, month_of, days_before_year, days_of_months}
 use Rattle.life_dates.specs.DayText.{day_text}
-use Rattle.load_maker.specs.Generator.{policy_drawn, state_after, renewed_by_policy}
-use Rattle.load_maker.specs.GeneratedRows.{generated_rows}
 use Rattle.load_maker.specs.GeneratedScript.{script_row_text, generated_text}
-use Rattle.load_maker.specs.GeneratedLanes.{generated_lanes}
 use Rattle.load_maker.proofs.worked.seed_of_1.Goals as goal
 
 pub returns-clause-rows : goal.returns-clause-rows

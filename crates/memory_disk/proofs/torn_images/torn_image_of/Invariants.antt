@@ -1,6 +1,5 @@
 -- What the calls that are left make of the bytes and the image so far is what all make of those at first.
-use Rattle.std.proofs.Common.{◌≡◌, drop}
-use Rattle.memory_disk.specs.History.{torn_after}
+use Rattle.memory_disk.proofs.Names.{◌≡◌, drop, torn_after}
 use Rattle.memory_disk.proofs.torn_images.torn_image_of.Given as goal
 
 abbrev pub invariant-loop-call : goal.invariant-loop-call

@@ -1,5 +1,4 @@
-use Rattle.std.proofs.Common.{◌≡◌, ◌+◌, ◌-◌, ◌/◌, arith, rules, to_z-of_z}
-use Rattle.std.proofs.lemmas.Fmt.{length-decimal-le}
+use Rattle.money_core.proofs.Names.{◌≡◌, ◌+◌, ◌-◌, ◌/◌, arith, rules, to_z-of_z, length-decimal-le}
 use Rattle.std.proofs.lemmas.List.{drop-set}
 use Rattle.money_core.proofs.CentsTextLemmas.{minus_first}
 use Rattle.money_core.proofs.print.write_at_end.Goals as goal

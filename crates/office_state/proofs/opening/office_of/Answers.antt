@@ -1,7 +1,5 @@
 -- The books' commands are those of all records, or of those before the one that stops the replay.
-use Rattle.std.proofs.Common.{refl, rules, ◌∙◌}
-use Rattle.posting_journal.specs.States.{disk_of}
-use Rattle.office_state.specs.inside.Replays.{HasNoOffice, as_replay_cause}
+use Rattle.office_state.proofs.Names.{refl, rules, ◌∙◌, disk_of, HasNoOffice, as_replay_cause}
 use Rattle.office_state.proofs.ReplaySteps.{bodies_replayed, books_stopped}
 use Rattle.office_state.proofs.opening.office_of.Goals as goal
 

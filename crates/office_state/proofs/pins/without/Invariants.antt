@@ -1,6 +1,5 @@
 -- Those of the pins so far that have another number are kept.
-use Rattle.std.proofs.Common.{◌≡◌, ◌≤◌, ◌==◌, not, length, take, filter}
-use Rattle.office_state.specs.declared.held.Held.{Held}
+use Rattle.office_state.proofs.Names.{◌≡◌, ◌≤◌, ◌==◌, not, length, take, filter, Held}
 use Rattle.office_state.proofs.pins.without.Given as goal
 
 abbrev pub invariant-loop-held : goal.invariant-loop-held

@@ -1,7 +1,5 @@
 -- The least of the count and the positions so far.
-use Rattle.std.proofs.Common.{◌≡◌, map, min, take}
-use Rattle.std.specs.List.{fold}
-use Rattle.office_state.specs.declared.held.Held.{Held}
+use Rattle.office_state.proofs.Names.{◌≡◌, map, min, take, fold, Held}
 use Rattle.office_state.proofs.trimming.least_position.Given as goal
 
 abbrev pub invariant-loop-held : goal.invariant-loop-held

@@ -1,7 +1,4 @@
-use Rattle.std.proofs.Common.{[], ◌∷◌, refl}
-use Rattle.policy_types.specs.declared.entry.Reply.TheVariants.{Refused}
-use Rattle.policy_types.specs.declared.refusal.Refusal.TheVariants.{NothingDue}
-use Rattle.office_state.specs.Worked.{hand_premium, premium_turn}
+use Rattle.office_state.proofs.Names.{[], ◌∷◌, refl, Refused, NothingDue, hand_premium, premium_turn}
 use Rattle.office_state.proofs.WorkedOffices.{not_pending}
 use Rattle.office_state.proofs.worked.faults_by_hand.Goals as goal
 

@@ -1,5 +1,4 @@
-use Rattle.std.proofs.Common.{[], ◌∷◌, ◌++◌, take, refl, inl, inr}
-use Rattle.office_state.specs.Worked.{hand_premium, premium_body}
+use Rattle.office_state.proofs.Names.{[], ◌∷◌, ◌++◌, take, refl, inl, inr, hand_premium, premium_body}
 use Rattle.office_state.proofs.WorkedOffices.{just_the_issue, both, no_turns}
 use Rattle.office_state.proofs.worked.offices_by_hand.Goals as goal
 

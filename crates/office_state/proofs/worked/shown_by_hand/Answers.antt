@@ -1,10 +1,6 @@
-use Rattle.std.proofs.Common.{◌≡◌, ◌≤◌, ◌++◌, ℕ, zero, suc, [], ◌∷◌, List, ap, refl, inl, inr, lit<, lit≤, arith}
-use Rattle.std.specs.Prelude.{slice_index}
-use Rattle.record_codec.specs.Spelling.{spelling_of}
-use Rattle.posting_journal.specs.Files.{HasRecords}
+use Rattle.office_state.proofs.Names.{◌≡◌, ◌≤◌, ◌++◌, ℕ, zero, suc, [], ◌∷◌, List, ap, refl, inl, inr, lit<, lit≤, arith, slice_index, spelling_of, HasRecords, hand_issue, issue_body, issue_record}
 use Rattle.posting_journal.specs.Layout.{gate_place}
 use Rattle.posting_journal.proofs.WorkedFiles.{not_unfinished}
-use Rattle.office_state.specs.Worked.{hand_issue, issue_body, issue_record}
 use Rattle.office_state.proofs.WorkedOffices.{valid_issue, not_again}
 use Rattle.office_state.proofs.worked.shown_by_hand.Goals as goal
 

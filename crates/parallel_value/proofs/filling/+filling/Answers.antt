@@ -1,5 +1,4 @@
-use Rattle.std.proofs.Common.{◌≡◌, ◌++◌, sym, ap₂, ◌∙◌}
-use Rattle.std.proofs.lemmas.List.{take-append-drop}
+use Rattle.parallel_value.proofs.Names.{◌≡◌, ◌++◌, sym, ap₂, ◌∙◌, take-append-drop}
 use Rattle.parallel_value.proofs.PieceSteps.{as_before_whole, list_whole}
 use Rattle.parallel_value.proofs.filling.+filling.Goals as goal
 

@@ -1,6 +1,4 @@
-use Rattle.std.proofs.Common.{◌≡◌, length, take}
-use Rattle.std.specs.List.{AllZip}
-use Rattle.parallel_value.specs.Pieces.{IsAsBefore}
+use Rattle.parallel_value.proofs.Names.{◌≡◌, length, take, AllZip, IsAsBefore}
 use Rattle.parallel_value.proofs.filling.fill_alone.Given as goal
 
 abbrev pub invariant-loop-k : goal.invariant-loop-k

@@ -1,6 +1,4 @@
-use Rattle.std.proofs.Common.{◌≡◌, ◌≤◌, length, take, vec_len, vec_capacity}
-use Rattle.std.specs.List.{AllZip}
-use Rattle.parallel_value.specs.Pieces.{IsAsBefore}
+use Rattle.parallel_value.proofs.Names.{◌≡◌, ◌≤◌, length, take, vec_len, vec_capacity, AllZip, IsAsBefore}
 use Rattle.parallel_value.proofs.mapping.map_alone.Given as goal
 
 abbrev pub invariant-loop-item : goal.invariant-loop-item

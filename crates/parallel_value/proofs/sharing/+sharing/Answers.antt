@@ -1,5 +1,4 @@
-use Rattle.std.proofs.Common.{IfOk, List, rules, subst, sym}
-use Rattle.parallel_value.specs.inside.Parts.{AreMadeParts}
+use Rattle.parallel_value.proofs.Names.{IfOk, List, rules, subst, sym, AreMadeParts}
 use Rattle.parallel_value.proofs.PartSteps.{made_of_both}
 use Rattle.parallel_value.proofs.sharing.+sharing.Goals as goal
 

@@ -1,6 +1,4 @@
-use Rattle.std.proofs.Common.{take}
-use Rattle.std.specs.List.{AllZip}
-use Rattle.parallel_value.specs.Pieces.{AddsBehind, IsAsBefore}
+use Rattle.parallel_value.proofs.Names.{take, AllZip, AddsBehind, IsAsBefore}
 use Rattle.parallel_value.proofs.sharing.add_alone.Given as goal
 
 abbrev pub invariant-loop-item : goal.invariant-loop-item

@@ -1,7 +1,4 @@
-use Rattle.std.proofs.Common.{◌≡◌, ◌∙◌, ◌<◌, ◌^◌, ap, subst, length, length-drop, min, drop, take, arith, rules}
-use Rattle.std.proofs.lemmas.List.{length-take, take_all}
-use Rattle.parallel_value.specs.Pieces.{AddsBehind, AreValues}
-use Rattle.parallel_value.specs.inside.Parts.{IsOneOf}
+use Rattle.parallel_value.proofs.Names.{◌≡◌, ◌∙◌, ◌<◌, ◌^◌, ap, subst, length, length-drop, min, drop, take, arith, rules, length-take, take_all, AddsBehind, AreValues, IsOneOf}
 use Rattle.parallel_value.proofs.PartSteps.{adds_part, all_part, found_part, stand_more}
 use Rattle.parallel_value.proofs.PieceSteps.{all_more, still_as_before}
 use Rattle.parallel_value.proofs.sharing.add_parts.Goals as goal

@@ -1,6 +1,4 @@
-use Rattle.std.proofs.Common.{◌≤◌, ◌-◌, List, length, take}
-use Rattle.parallel_value.specs.Pieces.{AddsBehind, AreValues, IsAsBefore, StandBehind}
-use Rattle.parallel_value.specs.inside.Parts.{AreMadeParts, IsOneOf}
+use Rattle.parallel_value.proofs.Names.{◌≤◌, ◌-◌, List, length, take, AddsBehind, AreValues, IsAsBefore, StandBehind, AreMadeParts, IsOneOf}
 use Rattle.parallel_value.proofs.sharing.add_parts.Given as goal
 
 abbrev pub invariant-loop-first : goal.invariant-loop-first

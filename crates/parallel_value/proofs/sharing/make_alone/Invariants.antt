@@ -1,6 +1,4 @@
-use Rattle.std.specs.List.{AllByRecursion}
-use Rattle.parallel_value.specs.Pieces.{IsAsBefore}
-use Rattle.parallel_value.specs.inside.Parts.{IsMadePart}
+use Rattle.parallel_value.proofs.Names.{AllByRecursion, IsAsBefore, IsMadePart}
 use Rattle.parallel_value.proofs.sharing.make_alone.Given as goal
 
 abbrev pub invariant-loop : goal.invariant-loop

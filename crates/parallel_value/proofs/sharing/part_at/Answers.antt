@@ -1,5 +1,4 @@
-use Rattle.std.proofs.Common.{◌≡◌, ◌∙◌, ◌-◌, ap, sym, take, drop, length, length-drop, min, arith}
-use Rattle.std.proofs.lemmas.List.{take_min}
+use Rattle.parallel_value.proofs.Names.{◌≡◌, ◌∙◌, ◌-◌, ap, sym, take, drop, length, length-drop, min, arith, take_min}
 use Rattle.std.proofs.Math.Seq.{take-length}
 use Rattle.parallel_value.proofs.sharing.part_at.Goals as goal
 

@@ -1,5 +1,4 @@
-use Rattle.std.proofs.Common.{◌≡◌, ◌≤◌, [], ◌∷◌, sym, ◌∙◌, arith}
-use Rattle.policy_machine.specs.Book.{upgrade_of}
+use Rattle.policy_machine.proofs.Names.{◌≡◌, ◌≤◌, [], ◌∷◌, sym, ◌∙◌, arith, upgrade_of}
 use Rattle.policy_machine.proofs.JudgeLemmas.{upgrade_from-first, upgrade_from-more, upgrade_from-other}
 use Rattle.policy_machine.proofs.judging.upgrade_place.Goals as goal
 

@@ -1,6 +1,5 @@
-use Rattle.std.proofs.Common.{◌≡◌, true, false, ◌==◌, int_lt, rules, pos, ◌-ℤ◌, w32, to_z, of_z}
+use Rattle.policy_machine.proofs.Names.{◌≡◌, true, false, ◌==◌, int_lt, rules, pos, ◌-ℤ◌, w32, to_z, of_z, due_of}
 use Rattle.std.proofs.lemmas.Bool.{ne_eqb}
-use Rattle.policy_machine.specs.Rules.{due_of}
 use Rattle.policy_machine.proofs.premiums.pay.Goals as goal
 
 pub returns-then-amount-policy : goal.returns-then-amount-policy

@@ -1,5 +1,4 @@
-use Rattle.std.proofs.Common.{◌≡◌, ◌≤◌, arith, rules, w32, to_z, of_z, to_z-of_z}
-use Rattle.policy_machine.specs.Rules.{payments_of}
+use Rattle.policy_machine.proofs.Names.{◌≡◌, ◌≤◌, arith, rules, w32, to_z, of_z, to_z-of_z, payments_of}
 use Rattle.policy_machine.proofs.MissedLemmas.{premiums_missed-by}
 use Rattle.policy_machine.proofs.terms.missed.Goals as goal
 

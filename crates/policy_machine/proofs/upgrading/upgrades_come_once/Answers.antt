@@ -1,5 +1,4 @@
-use Rattle.std.proofs.Common.{refl, arith}
-use Rattle.policy_types.specs.declared.command.Command.TheVariants.{Upgrade}
+use Rattle.policy_machine.proofs.Names.{refl, arith, Upgrade}
 use Rattle.policy_machine.proofs.JudgeLemmas.{accepted_paid_up, accepted_upgrade, second_refused, upgrade_from-first}
 use Rattle.policy_machine.proofs.upgrading.upgrades_come_once.Goals as goal
 

@@ -1,6 +1,4 @@
-use Rattle.std.proofs.Common.{◌≡◌, ◌+◌, ◌-◌, ◌≤◌, vec_capacity}
-use Rattle.present_value.specs.Ends.{IsColumn, IsOf}
-use Rattle.policy_value.specs.inside.Kept.{HasPut}
+use Rattle.policy_value.proofs.Names.{◌≡◌, ◌+◌, ◌-◌, ◌≤◌, vec_capacity, IsColumn, IsOf, HasPut}
 use Rattle.policy_value.proofs.columns.put_values.Given as goal
 
 abbrev pub invariant-loop-age : goal.invariant-loop-age

@@ -1,21 +1,16 @@
-use Rattle.std.proofs.Common.{rules, ◌≡◌, ◌≤◌, ◌+◌, ◌<◌, ℕ, sym, ap, ◌∙◌, subst, arith}
+use Rattle.policy_value.proofs.Names.{rules, ◌≡◌, ◌≤◌, ◌+◌, ◌<◌, ℕ, sym, ap, ◌∙◌, subst, arith, InForce, Encloses, Premium, both_bounds, exact_minimum, exact_reserve, cap_by, cover_by}
 use Rattle.policy_types.specs.declared.policy.Status.{Status}
-use Rattle.policy_types.specs.declared.policy.Status.TheVariants.{InForce}
 use Rattle.present_value.specs.Fractions.{Between}
 use Rattle.present_value.specs.Premium.{beta}
-use Rattle.present_value.specs.Reserve.{Encloses}
 use Rattle.present_value.specs.Rounding.{UNIT}
 use Rattle.present_value.proofs.Steps.{ordered}
 use Rattle.crvm_reserve.specs.Rounded.{beta_lo, beta_hi}
-use Rattle.crvm_reserve.specs.declared.premium.Premium.{Premium}
 use Rattle.crvm_reserve.proofs.Enclosed.{beta-between, beta-narrow}
 use Rattle.deficiency_reserve.specs.Premiums.{adequacy_by}
 use Rattle.deficiency_reserve.specs.RoundedMinimum.{rounded_minimum}
 use Rattle.deficiency_reserve.specs.declared.answer.Adequacy.{Adequacy}
 use Rattle.deficiency_reserve.proofs.Bounds.{has_ordinary}
-use Rattle.policy_value.specs.Measures.{both_bounds, exact_minimum, exact_reserve}
 use Rattle.policy_value.proofs.Statuses.{least-other}
-use Rattle.policy_value.specs.inside.Covered.{cap_by, cover_by}
 use Rattle.policy_value.proofs.measures.both.Goals as goal
 use Rattle.policy_value.proofs.measures.both.Goals.{then-ne-via-then-ne, then-ne-via-else-ne+then-t-covered}
 

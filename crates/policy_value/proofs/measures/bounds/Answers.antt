@@ -1,7 +1,4 @@
-use Rattle.std.proofs.Common.{rules, ◌≡◌}
-use Rattle.present_value.specs.Reserve.{reserve}
-use Rattle.policy_value.specs.Measures.{exact_reserve}
-use Rattle.policy_value.specs.inside.Covered.{cap_by, cover_by}
+use Rattle.policy_value.proofs.Names.{rules, ◌≡◌, reserve, exact_reserve, cap_by, cover_by}
 use Rattle.policy_value.proofs.measures.bounds.Goals as goal
 
 pub bounds_by_unit-requires-clause-made : goal.bounds_by_unit-requires-clause-made

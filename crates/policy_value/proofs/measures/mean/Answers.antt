@@ -1,11 +1,7 @@
-use Rattle.std.proofs.Common.{rules, ◌≡◌, ◌<◌, refl, ◌∙◌, sym, subst, arith}
-use Rattle.policy_types.specs.declared.policy.Status.TheVariants.{PaidUp}
-use Rattle.policy_value.specs.Caches.{HasAsked}
+use Rattle.policy_value.proofs.Names.{rules, ◌≡◌, ◌<◌, refl, ◌∙◌, sym, subst, arith, PaidUp, HasAsked, CacheKey, cap_by, cover_by}
 use Rattle.policy_value.specs.Used.{key_of}
-use Rattle.policy_value.specs.declared.key.CacheKey.{CacheKey}
 use Rattle.policy_value.proofs.Asking.{asked_then_kept}
 use Rattle.policy_value.proofs.Statuses.{exact-end, mean-other, rounded-end}
-use Rattle.policy_value.specs.inside.Covered.{cap_by, cover_by}
 use Rattle.policy_value.proofs.measures.mean.Goals as goal
 
 pub returns-then-t-covered-clause-rounded : goal.returns-then-t-covered-clause-rounded

@@ -1,6 +1,4 @@
-use Rattle.std.proofs.Common.{◌≡◌, ◌-◌, ◌≤◌, List, All, length, vec_capacity}
-use Rattle.basis_book.specs.Dated.{Dated}
-use Rattle.policy_value.specs.Caches.{IsRightPlace}
+use Rattle.policy_value.proofs.Names.{◌≡◌, ◌-◌, ◌≤◌, List, All, length, vec_capacity, Dated, IsRightPlace}
 use Rattle.policy_value.proofs.units.add_places.Given as goal
 
 abbrev pub invariant-loop-made : goal.invariant-loop-made

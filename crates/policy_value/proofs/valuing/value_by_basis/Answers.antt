@@ -1,6 +1,5 @@
-use Rattle.std.proofs.Common.{◌≡◌, ◌<ℤ◌, ℤ, All, sym, ap, ◌∙◌, refl, subst, arith, w32, to_z, of_z}
+use Rattle.policy_value.proofs.Names.{◌≡◌, ◌<ℤ◌, ℤ, All, sym, ap, ◌∙◌, refl, subst, arith, w32, to_z, of_z, Dated, IsPicked}
 use Rattle.std.proofs.lemmas.Int.{ints, to_z-of_z}
-use Rattle.basis_book.specs.Dated.{Dated, IsPicked}
 use Rattle.basis_book.proofs.CallerLemmas.{none_picked, one_picked}
 use Rattle.policy_value.proofs.valuing.value_by_basis.Goals as goal
 

@@ -1,7 +1,4 @@
-use Rattle.std.proofs.Common.{◌≡◌, sym, ◌∙◌}
-use Rattle.present_value.specs.Sums.{Cover}
-use Rattle.policy_value.specs.Measures.{IsExactFor}
-use Rattle.policy_value.specs.declared.covered.Covered.{Covered}
+use Rattle.policy_value.proofs.Names.{◌≡◌, sym, ◌∙◌, Cover, IsExactFor, Covered}
 use Rattle.policy_value.proofs.Covering.{by_duration, worth_along}
 use Rattle.policy_value.proofs.valuing.value_by_table.Goals as goal
 

@@ -1,10 +1,6 @@
 -- Where the file was made, its records are counted.
-use Rattle.std.proofs.Common.{◌≤◌, length, subst}
-use Rattle.posting_journal.specs.Creation.{IsUnfinished}
-use Rattle.posting_journal.specs.Files.{IsMade}
+use Rattle.posting_journal.proofs.Names.{◌≤◌, length, subst, IsUnfinished, IsMade, OpenedTo, EndsAt, IsBadFrom, ShowsWhy}
 use Rattle.posting_journal.specs.inside.Kinds.{IsOfKind}
-use Rattle.posting_journal.specs.inside.Steps.{OpenedTo}
-use Rattle.posting_journal.specs.inside.Unopened.{EndsAt, IsBadFrom, ShowsWhy}
 use Rattle.posting_journal.proofs.Moments.{looked, looks_on}
 use Rattle.posting_journal.proofs.Opened.{ok_from, err_from, bad_shown, made_opened}
 use Rattle.posting_journal.proofs.opening.open_safe.Goals as goal

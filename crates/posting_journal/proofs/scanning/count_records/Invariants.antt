@@ -1,9 +1,6 @@
 -- The records up to this one stand, and nothing was written.
-use Rattle.std.proofs.Common.{◌≡◌, ◌-◌, ◌<◌, ◌≤◌, length}
-use Rattle.posting_journal.specs.Layout.{gate_place}
+use Rattle.posting_journal.proofs.Names.{◌≡◌, ◌-◌, ◌<◌, ◌≤◌, length, gate_place, LooksOn, AreOpen}
 use Rattle.posting_journal.specs.Pieces.{IsPartOf}
-use Rattle.posting_journal.specs.Runs.{LooksOn}
-use Rattle.posting_journal.specs.inside.Unopened.{AreOpen}
 use Rattle.posting_journal.proofs.scanning.count_records.Given as goal
 
 abbrev pub invariant-loop-n : goal.invariant-loop-n

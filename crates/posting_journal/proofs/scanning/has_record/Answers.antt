@@ -1,7 +1,5 @@
 -- A record whose gate is closed isn't one.
-use Rattle.std.proofs.Common.{ap, ◌∙◌, slice_index}
-use Rattle.std.proofs.lemmas.Bool.{false≢true}
-use Rattle.posting_journal.specs.Layout.{gate_place}
+use Rattle.posting_journal.proofs.Names.{ap, ◌∙◌, slice_index, false≢true, gate_place}
 use Rattle.posting_journal.proofs.scanning.has_record.Goals as goal
 
 pub returns-then-gate-ne-OPEN-clause-stands : goal.returns-then-gate-ne-OPEN-clause-stands

@@ -1,5 +1,4 @@
-use Rattle.std.proofs.Common.{◌≡◌, ℕ, zero, suc, List, [], ◌∷◌, ap, refl, inl, lit<, lit≤, arith, slice_index}
-use Rattle.posting_journal.specs.Files.{HasRecords}
+use Rattle.posting_journal.proofs.Names.{◌≡◌, ℕ, zero, suc, List, [], ◌∷◌, ap, refl, inl, lit<, lit≤, arith, slice_index, HasRecords}
 use Rattle.posting_journal.specs.Worked.{two_records, of_sevens, of_zeros_and_nine}
 use Rattle.posting_journal.proofs.worked.journals_by_hand.Goals as goal
 

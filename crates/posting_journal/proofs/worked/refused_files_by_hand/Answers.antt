@@ -1,7 +1,5 @@
-use Rattle.std.proofs.Common.{◌≡◌, ◌≤◌, ◌<◌, ◌++◌, ◌∷◌, ℕ, zero, suc, List, ap, refl, inl, inr, lit<, lit≤, arith, slice_index}
+use Rattle.posting_journal.proofs.Names.{◌≡◌, ◌≤◌, ◌<◌, ◌++◌, ◌∷◌, ℕ, zero, suc, List, ap, refl, inl, inr, lit<, lit≤, arith, slice_index, CannotStand, gate_place}
 use Rattle.std.specs.Prelude.{replicate}
-use Rattle.posting_journal.specs.Creation.{CannotStand}
-use Rattle.posting_journal.specs.Layout.{gate_place}
 use Rattle.posting_journal.specs.Worked.{header_by_hand, of_sevens}
 use Rattle.posting_journal.proofs.WorkedFiles.{not_unfinished}
 use Rattle.posting_journal.proofs.worked.refused_files_by_hand.Goals as goal

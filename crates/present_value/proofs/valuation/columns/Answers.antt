@@ -1,7 +1,4 @@
-use Rattle.std.proofs.Common.{◌+◌, ◌≤◌, arith, sym, ap, ◌∙◌, inl, inr, refl}
-use Rattle.std.proofs.lemmas.Bool.Decides.{leb_tells}
-use Rattle.present_value.specs.Sums.{cover_of}
-use Rattle.present_value.specs.Ends.{value_to}
+use Rattle.present_value.proofs.Names.{◌+◌, ◌≤◌, arith, sym, ap, ◌∙◌, inl, inr, refl, leb_tells, cover_of, value_to}
 use Rattle.present_value.proofs.Ends.{benefits_in, premiums_in}
 use Rattle.present_value.proofs.Steps.{ben-pair, ann-pair, ann-after}
 use Rattle.present_value.proofs.valuation.columns.Goals as goal

@@ -1,7 +1,4 @@
-use Rattle.std.proofs.Common.{◌≡◌, ◌+◌, ap, refl, ◌∙◌, arith}
-use Rattle.std.proofs.lemmas.List.{length-set, get_or-set_other}
-use Rattle.present_value.specs.Values.{pair_of}
-use Rattle.present_value.specs.Ends.{value_to}
+use Rattle.present_value.proofs.Names.{◌≡◌, ◌+◌, ap, refl, ◌∙◌, arith, length-set, get_or-set_other, pair_of, value_to}
 use Rattle.present_value.proofs.Places.{empty_at, put}
 use Rattle.present_value.proofs.valuation.values_from.Goals as goal
 

@@ -1,6 +1,4 @@
-use Rattle.std.proofs.Common.{◌≡◌, ◌+◌, ◌-◌, ◌<◌, ◌≤◌, ℕ, length}
-use Rattle.present_value.specs.Values.{pair_at, pair_of}
-use Rattle.present_value.specs.Ends.{IsColumn, IsOf, value_to}
+use Rattle.present_value.proofs.Names.{◌≡◌, ◌+◌, ◌-◌, ◌<◌, ◌≤◌, ℕ, length, pair_at, pair_of, IsColumn, IsOf, value_to}
 use Rattle.present_value.proofs.valuation.values_from.Given as goal
 
 -- the places before t have their values

@@ -1,9 +1,6 @@
-use Rattle.std.proofs.Common.{lit<, lit≤}
-use Rattle.present_value.specs.Fractions.{whole, plus, less, times, over, lesser}
-use Rattle.present_value.specs.Sums.{survivors, sum_below, ben, ann}
+use Rattle.present_value.proofs.Names.{lit<, lit≤, whole, plus, less, times, over, lesser, survivors, sum_below, ben, ann, half, net_premium, mean_reserve}
 use Rattle.present_value.specs.Premium.{term_premium, renewal_premium, level_premium, excess, beta}
 use Rattle.present_value.specs.Reserve.{reserve}
-use Rattle.present_value.specs.Mean.{half, net_premium, mean_reserve}
 use Rattle.present_value.proofs.worked.mean_reserves_by_hand.Goals as goal
 
 pub returns : goal.returns

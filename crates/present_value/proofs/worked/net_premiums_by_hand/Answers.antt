@@ -1,8 +1,5 @@
-use Rattle.std.proofs.Common.{lit<, lit≤}
-use Rattle.present_value.specs.Fractions.{whole, plus, less, over, lesser}
-use Rattle.present_value.specs.Sums.{survivors, sum_below, ben, ann}
+use Rattle.present_value.proofs.Names.{lit<, lit≤, whole, plus, less, over, lesser, survivors, sum_below, ben, ann, net_premium}
 use Rattle.present_value.specs.Premium.{term_premium, renewal_premium, level_premium, excess, beta}
-use Rattle.present_value.specs.Mean.{net_premium}
 use Rattle.present_value.proofs.worked.net_premiums_by_hand.Goals as goal
 
 pub returns : goal.returns

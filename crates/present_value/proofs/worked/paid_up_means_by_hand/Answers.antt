@@ -1,7 +1,4 @@
-use Rattle.std.proofs.Common.{lit<, lit≤}
-use Rattle.present_value.specs.Fractions.{plus}
-use Rattle.present_value.specs.Sums.{survivors, sum_below, ben}
-use Rattle.present_value.specs.Mean.{half, paid_up_mean}
+use Rattle.present_value.proofs.Names.{lit<, lit≤, plus, survivors, sum_below, ben, half, paid_up_mean}
 use Rattle.present_value.proofs.worked.paid_up_means_by_hand.Goals as goal
 
 pub returns : goal.returns

@@ -1,7 +1,5 @@
-use Rattle.std.proofs.Common.{◌≡◌, ◌∙◌, ℕ, List, ap, take, flat_map, subst, arith}
+use Rattle.program_endings.proofs.Names.{◌≡◌, ◌∙◌, ℕ, List, ap, take, flat_map, subst, arith, Appends, AppendsPart}
 use Rattle.std.proofs.lemmas.List.{take_all}
-use Rattle.std.specs.Io.KnownBytes.{Appends}
-use Rattle.outside_io.specs.Streams.{AppendsPart}
 use Rattle.program_endings.proofs.PartSteps.{appends_none, on_err, part_failed, part_written}
 use Rattle.program_endings.proofs.saying.write_parts.Goals as goal
 

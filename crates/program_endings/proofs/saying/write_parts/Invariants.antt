@@ -1,5 +1,4 @@
-use Rattle.std.proofs.Common.{ℕ, List, ◌≤◌, take, flat_map}
-use Rattle.std.specs.Io.KnownBytes.{Appends}
+use Rattle.program_endings.proofs.Names.{ℕ, List, ◌≤◌, take, flat_map, Appends}
 use Rattle.program_endings.proofs.saying.write_parts.Given as goal
 
 abbrev pub invariant-loop-part : goal.invariant-loop-part

@@ -1,9 +1,7 @@
-use Rattle.std.proofs.Common.{◌≡◌, ◌∙◌, ℕ, List, Option, None, ap, refl, inl, inr, lit≤, arith, codes}
-use Rattle.std.specs.Prelude.{slice_index}
+use Rattle.program_endings.proofs.Names.{◌≡◌, ◌∙◌, ℕ, List, Option, None, ap, refl, inl, inr, lit≤, arith, codes, slice_index, bad_basis_text}
 use Rattle.std.specs.Fmt.{digits}
 use Rattle.basis_shelf.specs.declared.fault.BadBasis.{BadBasis}
 use Rattle.basis_shelf.specs.declared.fault.BasisWord.TheVariants.{Absent}
-use Rattle.basis_shelf.specs.Lines.{bad_basis_text}
 use Rattle.basis_shelf.proofs.OneBasis.{one_first_bad}
 use Rattle.program_endings.proofs.WorkedEndings.{no_fault}
 use Rattle.program_endings.proofs.worked.ends_without_a_basis.Goals as goal

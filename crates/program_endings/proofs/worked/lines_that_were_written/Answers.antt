@@ -1,7 +1,5 @@
-use Rattle.std.proofs.Common.{◌≡◌, ℕ, List, length, ap, refl, inl, inr, lit<, lit≤, arith}
-use Rattle.std.specs.Prelude.{slice_index}
+use Rattle.program_endings.proofs.Names.{◌≡◌, ℕ, List, length, ap, refl, inl, inr, lit<, lit≤, arith, slice_index, bad_basis_text}
 use Rattle.std.specs.Fmt.{digits}
-use Rattle.basis_shelf.specs.Lines.{bad_basis_text}
 use Rattle.program_endings.proofs.WorkedEndings.{no_fault, no_front, no_part}
 use Rattle.program_endings.proofs.worked.lines_that_were_written.Goals as goal
 

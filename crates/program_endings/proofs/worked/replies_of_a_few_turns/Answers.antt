@@ -1,7 +1,5 @@
-use Rattle.std.proofs.Common.{◌≡◌, ◌<◌, [], ◌∷◌, sym, subst, refl, inl, inr, pos, lit<, arith}
+use Rattle.program_endings.proofs.Names.{◌≡◌, ◌<◌, [], ◌∷◌, sym, subst, refl, inl, inr, pos, lit<, arith, Accepted, Blank, Entry}
 use Rattle.policy_types.specs.declared.command.Command.TheVariants.{Lapse}
-use Rattle.policy_types.specs.declared.entry.Reply.TheVariants.{Accepted, Blank}
-use Rattle.policy_types.specs.declared.entry.Entry.{Entry}
 use Rattle.program_endings.specs.Replies.{IsPinned}
 use Rattle.program_endings.specs.Worked.{pinned_turn, lapse_turn}
 use Rattle.program_endings.proofs.WorkedEndings.{same_some, no_blank, no_faulted}

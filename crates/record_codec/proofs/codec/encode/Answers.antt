@@ -1,5 +1,4 @@
-use Rattle.std.proofs.Common.{ap, ◌∙◌}
-use Rattle.record_codec.specs.Spelling.{body_of, spelling_of}
+use Rattle.record_codec.proofs.Names.{ap, ◌∙◌, body_of, spelling_of}
 use Rattle.record_codec.proofs.codec.encode.Goals as goal
 
 pub returns : goal.returns

@@ -1,5 +1,4 @@
-use Rattle.std.proofs.Common.{refl}
-use Rattle.record_codec.specs.Spelling.{spelling_of}
+use Rattle.record_codec.proofs.Names.{refl, spelling_of}
 use Rattle.record_codec.proofs.worked.payments.Goals as goal
 
 pub returns-clause-premium : goal.returns-clause-premium

@@ -1,6 +1,4 @@
-use Rattle.std.proofs.Common.{◌≡◌, ◌++◌, length, take}
-use Rattle.std.specs.List.{flat_map}
-use Rattle.report_text.specs.Block.{heading_text, row_text}
+use Rattle.report_text.proofs.Names.{◌≡◌, ◌++◌, length, take, flat_map, heading_text, row_text}
 use Rattle.report_text.proofs.block.print_block.Given as goal
 
 abbrev pub invariant-loop-row : goal.invariant-loop-row

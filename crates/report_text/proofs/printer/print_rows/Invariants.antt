@@ -1,6 +1,4 @@
-use Rattle.std.proofs.Common.{◌≡◌, take}
-use Rattle.std.specs.List.{flat_map}
-use Rattle.report_text.specs.Block.{row_text}
+use Rattle.report_text.proofs.Names.{◌≡◌, take, flat_map, row_text}
 use Rattle.report_text.proofs.printer.print_rows.Given as goal
 
 abbrev pub invariant-loop-row : goal.invariant-loop-row

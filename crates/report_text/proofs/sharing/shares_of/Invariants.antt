@@ -1,5 +1,4 @@
-use Rattle.std.proofs.Common.{◌≡◌, ◌≤◌, ◌++◌, length, vec_capacity}
-use Rattle.report_text.specs.Parts.{rows_of_parts}
+use Rattle.report_text.proofs.Names.{◌≡◌, ◌≤◌, ◌++◌, length, vec_capacity, rows_of_parts}
 use Rattle.report_text.proofs.sharing.shares_of.Given as goal
 
 abbrev pub invariant-loop : goal.invariant-loop

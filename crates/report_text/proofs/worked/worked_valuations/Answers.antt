@@ -1,8 +1,7 @@
-use Rattle.std.proofs.Common.{refl}
+use Rattle.report_text.proofs.Names.{refl, row_text, total_text, heading_text}
 use Rattle.std.specs.Fmt.{digits}
 use Rattle.life_dates.specs.Calendar.{date_of, date_at, year_of, month_of, days_before_year, days_of_months}
 use Rattle.life_dates.specs.DayText.{day_text}
-use Rattle.report_text.specs.Block.{row_text, total_text, heading_text}
 use Rattle.report_text.proofs.worked.worked_valuations.Goals as goal
 
 pub returns-clause-rows : goal.returns-clause-rows

@@ -1,7 +1,6 @@
-use Rattle.std.proofs.Common.{◌++◌, ap, sym, ◌∙◌, take, drop, filter_map}
+use Rattle.schedule_laws.proofs.Names.{◌++◌, ap, sym, ◌∙◌, take, drop, filter_map, issue_id}
 use Rattle.std.proofs.lemmas.List.{take-append-drop}
 use Rattle.std.proofs.lemmas.List.Elements.{filter_map-append}
-use Rattle.policy_machine.specs.Book.{issue_id}
 use Rattle.policy_machine.proofs.BookGrowth.{book-ids}
 use Rattle.schedule_laws.proofs.growth.growing_book_law.Goals as goal
 

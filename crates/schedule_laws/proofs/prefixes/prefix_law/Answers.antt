@@ -1,7 +1,5 @@
-use Rattle.std.proofs.Common.{[], ap, ◌∙◌, subst}
+use Rattle.schedule_laws.proofs.Names.{[], ap, ◌∙◌, subst, IsLegalAfter, accepted_by, accepted_of, IsLegalAfter-front}
 use Rattle.std.proofs.lemmas.List.Elements.{filter_map-append}
-use Rattle.policy_machine.specs.History.{IsLegalAfter, accepted_by, accepted_of}
-use Rattle.policy_machine.proofs.HistoryGrowth.{IsLegalAfter-front}
 use Rattle.schedule_laws.proofs.prefixes.prefix_law.Goals as goal
 
 pub returns : goal.returns

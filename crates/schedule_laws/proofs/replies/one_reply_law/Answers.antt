@@ -1,5 +1,4 @@
-use Rattle.std.proofs.Common.{sym, ◌∙◌}
-use Rattle.policy_machine.specs.History.{commands_after, refusal_due}
+use Rattle.schedule_laws.proofs.Names.{sym, ◌∙◌, commands_after, refusal_due}
 use Rattle.schedule_laws.proofs.OneReply.{one_reply, one_refusal, no_refusal}
 use Rattle.schedule_laws.proofs.replies.one_reply_law.Goals as goal
 

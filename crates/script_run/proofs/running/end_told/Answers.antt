@@ -1,7 +1,5 @@
-use Rattle.std.proofs.Common.{◌≡◌, Err, subst, rules}
-use Rattle.lane_runner.specs.Written.{HasEnded}
+use Rattle.script_run.proofs.Names.{◌≡◌, Err, subst, rules, HasEnded, told_text}
 use Rattle.lane_runner.specs.declared.wording.Unwritten.TheVariants.{NoMemory}
-use Rattle.transcript_text.specs.Told.{told_text}
 use Rattle.script_run.proofs.WrittenSteps.{told_short}
 use Rattle.script_run.proofs.running.end_told.Goals as goal
 

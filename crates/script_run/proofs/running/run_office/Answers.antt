@@ -1,6 +1,4 @@
-use Rattle.std.proofs.Common.{◌++◌, List, ℕ, ap, refl, sym, ◌∙◌}
-use Rattle.rtrb.specs.Ring.{known_items, received}
-use Rattle.program_endings.specs.Writing.{between}
+use Rattle.script_run.proofs.Names.{◌++◌, List, ℕ, ap, refl, sym, ◌∙◌, known_items, received, between}
 use Rattle.script_run.proofs.RunSteps.{ends_ran, same_outlet}
 use Rattle.script_run.proofs.ShownSteps.{paired_on}
 use Rattle.script_run.proofs.WrittenSteps.{stays, written_of}

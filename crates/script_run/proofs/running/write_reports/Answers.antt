@@ -1,7 +1,4 @@
-use Rattle.std.proofs.Common.{◌∙◌, subst, arith}
-use Rattle.std.specs.Io.KnownBytes.{Appends}
-use Rattle.outside_io.specs.Streams.{AppendsPart}
-use Rattle.script_run.specs.inside.Ran.{output_until}
+use Rattle.script_run.proofs.Names.{◌∙◌, subst, arith, Appends, AppendsPart, output_until}
 use Rattle.script_run.proofs.RunSteps.{ends_as_told}
 use Rattle.script_run.proofs.WrittenSteps.{reports_failed, reports_short, reports_whole}
 use Rattle.script_run.proofs.running.write_reports.Goals as goal

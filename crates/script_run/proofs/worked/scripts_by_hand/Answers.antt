@@ -1,7 +1,5 @@
-use Rattle.std.proofs.Common.{◌≡◌, ◌≤◌, ℕ, zero, suc, List, [], ◌∷◌, length, take, Some, ap, refl, inl, inr, codes, lit≤, arith}
+use Rattle.script_run.proofs.Names.{◌≡◌, ◌≤◌, ℕ, zero, suc, List, [], ◌∷◌, length, take, Some, ap, refl, inl, inr, codes, lit≤, arith, Appends, texts_joined}
 use Rattle.std.specs.Fmt.{digits}
-use Rattle.std.specs.Io.KnownBytes.{Appends}
-use Rattle.script_run.specs.Texts.{texts_joined}
 use Rattle.script_run.specs.Worked.{two_texts}
 use Rattle.script_run.proofs.worked.scripts_by_hand.Goals as goal
 

@@ -1,5 +1,4 @@
-use Rattle.std.proofs.Common.{◌≡◌, length}
-use Rattle.select_rates.specs.inside.Joined.{AreJoinedTables}
+use Rattle.select_rates.proofs.Names.{◌≡◌, length, AreJoinedTables}
 use Rattle.select_rates.proofs.joining.prepare.Given as goal
 
 abbrev pub invariant-loop-index : goal.invariant-loop-index

@@ -1,5 +1,4 @@
-use Rattle.std.proofs.Common.{◌≤◌, rules, arith}
-use Rattle.snapshot_value.specs.inside.Reads.{reads_needed}
+use Rattle.snapshot_value.proofs.Names.{◌≤◌, rules, arith, reads_needed}
 use Rattle.snapshot_value.proofs.PinSteps.{known}
 use Rattle.snapshot_value.proofs.ReadSteps.{first_all, first_few, first_left, first_more, first_none, has_all, lacking, made_of_reads, part_few, part_sound, some_more, some_none}
 use Rattle.snapshot_value.proofs.reading.read_parts.Goals as goal

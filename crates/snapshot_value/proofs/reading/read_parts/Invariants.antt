@@ -1,7 +1,4 @@
-use Rattle.turn_lock.specs.Passes.{PassFacts}
-use Rattle.shared_office.specs.Offices.{IsOfficeHistory}
-use Rattle.shared_office.specs.Pins.{KeepsPins}
-use Rattle.snapshot_value.specs.inside.Reads.{HasReadFirst}
+use Rattle.snapshot_value.proofs.Names.{PassFacts, IsOfficeHistory, KeepsPins, HasReadFirst}
 use Rattle.snapshot_value.proofs.reading.read_parts.Given as goal
 
 abbrev pub invariant-loop-k : goal.invariant-loop-k

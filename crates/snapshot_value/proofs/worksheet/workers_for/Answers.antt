@@ -1,6 +1,4 @@
-use Rattle.std.proofs.Common.{◌≡◌, ◌+◌, ◌∙◌, sym, subst, length-append, ap, length, arith, rules}
-use Rattle.std.specs.List.{AllByRecursion}
-use Rattle.snapshot_value.specs.inside.Workers.{IsReadyWorker, ValuesBy}
+use Rattle.snapshot_value.proofs.Names.{◌≡◌, ◌+◌, ◌∙◌, sym, subst, length-append, ap, length, arith, rules, AllByRecursion, IsReadyWorker, ValuesBy}
 use Rattle.snapshot_value.proofs.RowSteps.{all_append}
 use Rattle.snapshot_value.proofs.worksheet.workers_for.Goals as goal
 

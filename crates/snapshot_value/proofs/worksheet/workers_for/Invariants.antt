@@ -1,6 +1,4 @@
-use Rattle.std.proofs.Common.{◌≡◌, ◌≤◌, length, vec_capacity}
-use Rattle.std.specs.List.{AllByRecursion}
-use Rattle.snapshot_value.specs.inside.Workers.{IsReadyWorker, ValuesBy}
+use Rattle.snapshot_value.proofs.Names.{◌≡◌, ◌≤◌, length, vec_capacity, AllByRecursion, IsReadyWorker, ValuesBy}
 use Rattle.snapshot_value.proofs.worksheet.workers_for.Given as goal
 
 abbrev pub invariant-loop : goal.invariant-loop

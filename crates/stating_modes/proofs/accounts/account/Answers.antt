@@ -1,9 +1,6 @@
-use Rattle.std.proofs.Common.{[]}
+use Rattle.stating_modes.proofs.Names.{[], policy_account, IsStated, ends_refused}
 use Rattle.office_state.specs.States.{begun_of, opening_of}
-use Rattle.stating_modes.specs.Books.{policy_account}
-use Rattle.stating_modes.specs.Stating.{IsStated}
 use Rattle.stating_modes.proofs.StateSteps.{ends_reading, opened_left}
-use Rattle.program_endings.proofs.ReadOnlySteps.{ends_refused}
 use Rattle.stating_modes.proofs.accounts.account.Goals as goal
 
 pub returns-in-Ok : goal.returns-in-Ok

@@ -1,7 +1,4 @@
-use Rattle.std.proofs.Common.{subst}
-use Rattle.checkpoint_store.specs.declared.snapshot.Snapshot.{Snapshot}
-use Rattle.program_endings.specs.Writing.{between}
-use Rattle.stating_modes.specs.inside.Saving.{EndsSaving}
+use Rattle.stating_modes.proofs.Names.{subst, Snapshot, between, EndsSaving}
 use Rattle.stating_modes.proofs.checkpointing.save_books.Goals as goal
 
 pub returns-in-Ok : goal.returns-in-Ok

@@ -1,6 +1,4 @@
-use Rattle.std.proofs.Common.{subst, Ok}
-use Rattle.program_endings.specs.Texts.{EndsText}
-use Rattle.program_endings.specs.Writing.{between}
+use Rattle.stating_modes.proofs.Names.{subst, Ok, EndsText, between}
 use Rattle.stating_modes.proofs.EndingSteps.{saving_written}
 use Rattle.stating_modes.proofs.checkpointing.save_with_line.Goals as goal
 

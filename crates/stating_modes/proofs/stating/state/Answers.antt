@@ -1,8 +1,4 @@
-use Rattle.std.proofs.Common.{◌≡◌, List, ℕ, subst}
-use Rattle.std.specs.Prelude.{IfOk}
-use Rattle.program_endings.proofs.ReadOnlySteps.{ends_refused}
-use Rattle.stating_modes.specs.Books.{books_text}
-use Rattle.stating_modes.specs.Stating.{IsStated}
+use Rattle.stating_modes.proofs.Names.{◌≡◌, List, ℕ, subst, IfOk, ends_refused, books_text, IsStated}
 use Rattle.stating_modes.proofs.EmptyFiles.{text_same}
 use Rattle.stating_modes.proofs.StateSteps.{ends_text}
 use Rattle.stating_modes.proofs.stating.state.Goals as goal

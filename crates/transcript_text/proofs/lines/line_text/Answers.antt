@@ -1,6 +1,5 @@
-use Rattle.std.proofs.Common.{◌≡◌, arith, w32, to_z, of_z}
+use Rattle.transcript_text.proofs.Names.{◌≡◌, arith, w32, to_z, of_z, IsDay}
 use Rattle.std.proofs.lemmas.Int.{ints}
-use Rattle.life_dates.specs.Calendar.{IsDay}
 use Rattle.transcript_text.proofs.TextSteps.{value_day}
 use Rattle.transcript_text.proofs.lines.line_text.Goals as goal
 

@@ -1,6 +1,5 @@
-use Rattle.std.proofs.Common.{◌≡◌, arith, w32, to_z, of_z}
+use Rattle.transcript_text.proofs.Names.{◌≡◌, arith, w32, to_z, of_z, IsTermDay}
 use Rattle.std.proofs.lemmas.Int.{ints}
-use Rattle.life_dates.specs.Calendar.{IsTermDay}
 use Rattle.transcript_text.proofs.lines.write_refusal.Goals as goal
 
 pub returns-in-BeforeLast : goal.returns-in-BeforeLast

@@ -1,5 +1,4 @@
-use Rattle.std.proofs.Common.{◌≡◌, ◌+◌, ◌++◌, drop}
-use Rattle.transcript_text.specs.Transcript.{reports_text, watcher_texts}
+use Rattle.transcript_text.proofs.Names.{◌≡◌, ◌+◌, ◌++◌, drop, reports_text, watcher_texts}
 use Rattle.transcript_text.proofs.reporting.report_lines.Given as goal
 
 -- the lines so far and those of the reports that are left are all

@@ -1,13 +1,8 @@
-use Rattle.std.proofs.Common.{List, ℕ, codes, inl, subst, sym, ◌∙◌}
+use Rattle.trial_load.proofs.Names.{List, ℕ, codes, inl, subst, sym, ◌∙◌, Lane, generated_lanes, Shelving, Stream, between, shelf_between, EndsLoading, AreLoadLanes}
 use Rattle.outside_io.specs.Shelves.{Files}
-use Rattle.policy_types.specs.declared.script.Lane.{Lane}
-use Rattle.load_maker.specs.GeneratedLanes.{generated_lanes}
 use Rattle.basis_shelf.specs.Bases.{IsBasis}
 use Rattle.lone_office.specs.Beginning.{EndsOverBasis, IsUnopened}
 use Rattle.lone_office.proofs.BeginningSteps.{ends_not_begun}
-use Rattle.program_endings.specs.Writing.{Shelving, Stream, between, shelf_between}
-use Rattle.trial_load.specs.Loading.{EndsLoading}
-use Rattle.trial_load.specs.inside.Loaded.{AreLoadLanes}
 use Rattle.trial_load.proofs.LoadLanes.{load_lanes}
 use Rattle.trial_load.proofs.LoadSteps.{ends_unbegun}
 use Rattle.trial_load.proofs.loading.load.Goals as goal

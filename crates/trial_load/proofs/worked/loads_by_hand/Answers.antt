@@ -1,5 +1,4 @@
-use Rattle.std.proofs.Common.{◌≡◌, ℕ, List, [], ◌∷◌, length, ap, refl, arith}
-use Rattle.std.specs.Prelude.{slice_index}
+use Rattle.trial_load.proofs.Names.{◌≡◌, ℕ, List, [], ◌∷◌, length, ap, refl, arith, slice_index}
 use Rattle.std.specs.Fmt.{digits}
 use Rattle.life_dates.specs.Calendar.{date_of, date_at, year_of, month_of, days_before_year, days_of_months}
 use Rattle.life_dates.specs.DayText.{day_text}

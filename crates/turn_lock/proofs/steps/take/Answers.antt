@@ -1,5 +1,4 @@
-use Rattle.std.proofs.Common.{rules, ◌∷◌, Some, sym, ap, ◌∙◌}
-use Rattle.atomic_table.specs.Table.{rest}
+use Rattle.turn_lock.proofs.Names.{rules, ◌∷◌, Some, sym, ap, ◌∙◌, rest}
 use Rattle.turn_lock.proofs.Stepping.{tries}
 use Rattle.turn_lock.proofs.steps.take.Goals as goal
 

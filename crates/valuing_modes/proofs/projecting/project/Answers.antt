@@ -1,8 +1,5 @@
-use Rattle.std.proofs.Common.{◌≡◌, inl, w32, to_z, of_z}
-use Rattle.std.proofs.lemmas.Int.{to_z-of_z}
+use Rattle.valuing_modes.proofs.Names.{◌≡◌, inl, w32, to_z, of_z, to_z-of_z, ends_refused, EndsProjecting, IsProjected}
 use Rattle.lone_office.proofs.BeginningSteps.{ends_not_begun}
-use Rattle.program_endings.proofs.ReadOnlySteps.{ends_refused}
-use Rattle.valuing_modes.specs.Projecting.{EndsProjecting, IsProjected}
 use Rattle.valuing_modes.proofs.ProjectingSteps.{ends_alone, projected_printable}
 use Rattle.valuing_modes.proofs.projecting.project.Goals as goal
 

@@ -1,8 +1,5 @@
-use Rattle.std.proofs.Common.{◌≡◌, inl, w32, to_z, of_z}
-use Rattle.std.proofs.lemmas.Int.{to_z-of_z}
+use Rattle.valuing_modes.proofs.Names.{◌≡◌, inl, w32, to_z, of_z, to_z-of_z, ends_refused, EndsValuing, IsValued}
 use Rattle.lone_office.proofs.BeginningSteps.{ends_not_begun}
-use Rattle.program_endings.proofs.ReadOnlySteps.{ends_refused}
-use Rattle.valuing_modes.specs.Valuing.{EndsValuing, IsValued}
 use Rattle.valuing_modes.proofs.LoneSteps.{ends_lone}
 use Rattle.valuing_modes.proofs.ValueSteps.{valued_writable}
 use Rattle.valuing_modes.proofs.valuing.value.Goals as goal

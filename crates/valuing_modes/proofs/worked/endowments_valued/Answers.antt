@@ -1,12 +1,8 @@
-use Rattle.std.proofs.Common.{[], ◌∷◌, refl, lit≤}
-use Rattle.std.specs.Fmt.{digits}
+use Rattle.valuing_modes.proofs.Names.{[], ◌∷◌, refl, lit≤, digits, day_number, date_of, date_at, year_of, month_of, days_before, days_before_year, days_of_months, day_text, row_text, total_text, heading_text}
 use Rattle.life_dates.specs.Anniversary.{anniversary_of}
-use Rattle.life_dates.specs.Calendar.{day_number, date_of, date_at, year_of, month_of, days_before, days_before_year, days_of_months}
-use Rattle.life_dates.specs.DayText.{day_text}
 use Rattle.policy_types.specs.declared.policy.Status.TheVariants.{InForce, PaidUp}
 use Rattle.plan_benefits.specs.declared.fault.NotValued.TheVariants.{BelowTable, NoBasis}
 use Rattle.policy_value.specs.declared.worth.Worth.TheVariants.{Bounds, Word}
-use Rattle.report_text.specs.Block.{row_text, total_text, heading_text}
 use Rattle.valuing_modes.proofs.WorkedValuation.{first_row, second_row, third_row, fourth_row, fifth_row}
 use Rattle.valuing_modes.proofs.worked.endowments_valued.Goals as goal
 

@@ -1,9 +1,5 @@
-use Rattle.std.proofs.Common.{◌≡◌, ◌<◌, ℕ, List, [], ap, refl, inl, inr, lit<, lit≤, arith}
+use Rattle.valuing_modes.proofs.Names.{◌≡◌, ◌<◌, ℕ, List, [], ap, refl, inl, inr, lit<, lit≤, arith, digits, date_of, date_at, year_of, month_of, days_before_year, days_of_months, day_text, total_text, heading_text}
 use Rattle.std.specs.Prelude.{slice_index}
-use Rattle.std.specs.Fmt.{digits}
-use Rattle.life_dates.specs.Calendar.{date_of, date_at, year_of, month_of, days_before_year, days_of_months}
-use Rattle.life_dates.specs.DayText.{day_text}
-use Rattle.report_text.specs.Block.{total_text, heading_text}
 use Rattle.program_endings.proofs.WorkedEndings.{no_fault}
 use Rattle.valuing_modes.proofs.worked.valuations_by_hand.Goals as goal
 

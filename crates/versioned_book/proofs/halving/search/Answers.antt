@@ -1,6 +1,4 @@
-use Rattle.std.proofs.Common.{◌+◌, ◌-◌, ◌*◌, ◌/◌, length, refl, sym, ap, arith}
-use Rattle.std.proofs.lemmas.List.{take_all}
-use Rattle.versioned_book.specs.Versions.{value_at}
+use Rattle.versioned_book.proofs.Names.{◌+◌, ◌-◌, ◌*◌, ◌/◌, length, refl, sym, ap, arith, take_all, value_at}
 use Rattle.versioned_book.proofs.VersionSteps.{doubled, halved, value_at-more, value_at-take}
 use Rattle.versioned_book.proofs.halving.search.Goals as goal
 

@@ -1,5 +1,4 @@
-use Rattle.std.proofs.Common.{◌≡◌, ℕ, ◌+◌, ◌-◌, ◌*◌, ◌^◌, ◌≤◌, length, take}
-use Rattle.versioned_book.specs.Versions.{value_at}
+use Rattle.versioned_book.proofs.Names.{◌≡◌, ℕ, ◌+◌, ◌-◌, ◌*◌, ◌^◌, ◌≤◌, length, take, value_at}
 use Rattle.versioned_book.proofs.halving.search.Given as goal
 
 abbrev pub invariant-loop-low : goal.invariant-loop-low

@@ -1,6 +1,4 @@
-use Rattle.std.proofs.Common.{subst, sym, add-one, slice_set, arith}
-use Rattle.watcher_set.specs.Told.{HasSpareRoom}
-use Rattle.watcher_set.specs.inside.Calls.{MayBeTold, Hears}
+use Rattle.watcher_set.proofs.Names.{subst, sym, add-one, slice_set, arith, HasSpareRoom, MayBeTold, Hears}
 use Rattle.watcher_set.proofs.Halfway.{Halfway, Halfway-step, Halfway-later, AllZip-from_end}
 use Rattle.watcher_set.proofs.Telling.{AreTold-next, AreTold-more}
 use Rattle.watcher_set.proofs.rounds.note_all.Goals as goal

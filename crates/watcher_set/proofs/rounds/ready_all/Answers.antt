@@ -1,6 +1,4 @@
-use Rattle.std.proofs.Common.{suc, subst, sym, add-one, slice_set, arith}
-use Rattle.watcher_set.specs.Told.{HasSpareRoom}
-use Rattle.watcher_set.specs.inside.Calls.{Stays}
+use Rattle.watcher_set.proofs.Names.{suc, subst, sym, add-one, slice_set, arith, HasSpareRoom, Stays}
 use Rattle.watcher_set.proofs.Halfway.{Halfway, Halfway-step, Halfway-weaker, AllZip-from_end, AllZip-from_halfway, AllByRecursion-from_zip}
 use Rattle.watcher_set.proofs.Telling.{AreTold-still, Readied, stays_same}
 use Rattle.watcher_set.proofs.rounds.ready_all.Goals as goal

@@ -1,5 +1,4 @@
-use Rattle.std.proofs.Common.{◌∙◌, ap, map, arith, take_all}
-use Rattle.watcher_set.specs.inside.Calls.{report_at}
+use Rattle.watcher_set.proofs.Names.{◌∙◌, ap, map, arith, take_all, report_at}
 use Rattle.watcher_set.proofs.Telling.{AreTold-reports}
 use Rattle.watcher_set.proofs.rounds.reports_of_all.Goals as goal
 

@@ -1,5 +1,4 @@
-use Rattle.std.proofs.Common.{◌≡◌, map, take}
-use Rattle.watcher_set.specs.inside.Calls.{report_at}
+use Rattle.watcher_set.proofs.Names.{◌≡◌, map, take, report_at}
 use Rattle.watcher_set.proofs.rounds.reports_of_all.Given as goal
 
 abbrev pub invariant-loop-place : goal.invariant-loop-place

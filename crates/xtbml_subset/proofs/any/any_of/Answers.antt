@@ -1,10 +1,4 @@
-use Rattle.std.proofs.Common.{Err, ap, codes}
-use Rattle.std.proofs.lemmas.Result.{err_from_is_err_and}
-use Rattle.xtbml_subset.specs.SelectChecks.{select_parts, IsSelectTable}
-use Rattle.xtbml_subset.specs.AnyChecks.{any_parts_of, IsAnyTable}
-use Rattle.xtbml_subset.specs.inside.Elements.{siblings_at}
-use Rattle.xtbml_subset.specs.inside.Rows.{found_asks}
-use Rattle.xtbml_subset.specs.inside.Views.{found_of, sought_of, path_of}
+use Rattle.xtbml_subset.proofs.Names.{Err, ap, codes, err_from_is_err_and, select_parts, IsSelectTable, any_parts_of, IsAnyTable, siblings_at, found_asks, found_of, sought_of, path_of}
 use Rattle.xtbml_subset.proofs.Final.{unless_goes}
 use Rattle.xtbml_subset.proofs.AnyParts.{any_selected, axes_of_axis, tables_of_root}
 use Rattle.xtbml_subset.proofs.any.any_of.Goals as goal

@@ -1,5 +1,4 @@
-use Rattle.std.proofs.Common.{sym, ap, ◌∙◌}
-use Rattle.xtbml_subset.specs.Pieces.{Attribute}
+use Rattle.xtbml_subset.proofs.Names.{sym, ap, ◌∙◌, Attribute}
 use Rattle.xtbml_subset.proofs.Behind.{behind_shorter}
 use Rattle.xtbml_subset.proofs.AttributeRuns.{attribute_behind, attributes_step, attributes_stop}
 use Rattle.xtbml_subset.proofs.attribute.after_attributes.Goals as goal

@@ -1,5 +1,4 @@
-use Rattle.std.proofs.Common.{◌≡◌, length}
-use Rattle.xtbml_subset.specs.inside.Reading.{attributes_at}
+use Rattle.xtbml_subset.proofs.Names.{◌≡◌, length, attributes_at}
 use Rattle.xtbml_subset.proofs.attribute.after_attributes.Given as goal
 
 abbrev pub invariant-loop-next : goal.invariant-loop-next

@@ -1,9 +1,4 @@
-use Rattle.std.proofs.Common.{◌≡◌, Some, true, false, sym, ◌∙◌}
-use Rattle.std.proofs.lemmas.Bool.{cond-true, cond-false}
-use Rattle.std.specs.Str.{bytes_eq}
-use Rattle.xtbml_subset.specs.Pieces.{Attribute}
-use Rattle.xtbml_subset.specs.inside.Reading.{attributes_at}
-use Rattle.xtbml_subset.specs.Texts.{value_of}
+use Rattle.xtbml_subset.proofs.Names.{◌≡◌, Some, true, false, sym, ◌∙◌, cond-true, cond-false, bytes_eq, Attribute, attributes_at, value_of}
 use Rattle.xtbml_subset.proofs.Behind.{behind_shorter}
 use Rattle.xtbml_subset.proofs.AttributeRuns.{attribute_behind, value_step, value_stop}
 use Rattle.xtbml_subset.proofs.attribute.attribute_value.Goals as goal

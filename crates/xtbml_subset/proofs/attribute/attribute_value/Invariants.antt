@@ -1,6 +1,4 @@
-use Rattle.std.proofs.Common.{◌≡◌, length}
-use Rattle.xtbml_subset.specs.inside.Reading.{attributes_at}
-use Rattle.xtbml_subset.specs.Texts.{value_of}
+use Rattle.xtbml_subset.proofs.Names.{◌≡◌, length, attributes_at, value_of}
 use Rattle.xtbml_subset.proofs.attribute.attribute_value.Given as goal
 
 abbrev pub invariant-loop-attribute : goal.invariant-loop-attribute

@@ -1,7 +1,5 @@
-use Rattle.std.proofs.Common.{◌≡◌, ◌+◌, ◌^◌, ◌<◌, ◌≤◌, length, sym, ap, ◌∙◌, arith, rules}
-use Rattle.std.specs.Option.{option_copied}
+use Rattle.xtbml_subset.proofs.Names.{◌≡◌, ◌+◌, ◌^◌, ◌<◌, ◌≤◌, length, sym, ap, ◌∙◌, arith, rules, option_copied, Step, on, found, closed, elements_at}
 use Rattle.xtbml_subset.specs.inside.Tokens.{piece_of, tag_of}
-use Rattle.xtbml_subset.specs.inside.Elements.{Step, on, found, closed, elements_at}
 use Rattle.xtbml_subset.proofs.Behind.{behind_shorter}
 use Rattle.xtbml_subset.proofs.PieceReading.{piece_behind}
 use Rattle.xtbml_subset.proofs.Searching.{elements_by, elements_end, step_low}

@@ -1,6 +1,4 @@
-use Rattle.std.proofs.Common.{◌≡◌, ◌≤◌, ◌+◌, length}
-use Rattle.std.specs.Option.{option_copied}
-use Rattle.xtbml_subset.specs.inside.Elements.{elements_at}
+use Rattle.xtbml_subset.proofs.Names.{◌≡◌, ◌≤◌, ◌+◌, length, option_copied, elements_at}
 use Rattle.xtbml_subset.proofs.finder.next_element.Given as goal
 
 abbrev pub invariant-loop-token : goal.invariant-loop-token

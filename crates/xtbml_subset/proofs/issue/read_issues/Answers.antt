@@ -1,10 +1,4 @@
-use Rattle.std.proofs.Common.{◌+◌, ◌++◌, ◌∷◌, [], List, ℕ, map, None, Some, Ok, Err, sym, ap, subst, ◌∙◌, codes}
-use Rattle.std.proofs.lemmas.Result.{err_from_is_err_and}
-use Rattle.xtbml_subset.specs.SelectChecks.{Issue, issue_age_of, ReadsAll, ReadsIssue}
-use Rattle.xtbml_subset.specs.inside.Elements.{siblings_at}
-use Rattle.xtbml_subset.specs.inside.Rows.{found_asks}
-use Rattle.xtbml_subset.specs.inside.Issues.{issues_from}
-use Rattle.xtbml_subset.specs.inside.Views.{found_of}
+use Rattle.xtbml_subset.proofs.Names.{◌+◌, ◌++◌, ◌∷◌, [], List, ℕ, map, None, Some, Ok, Err, sym, ap, subst, ◌∙◌, codes, err_from_is_err_and, Issue, issue_age_of, ReadsAll, ReadsIssue, siblings_at, found_asks, issues_from, found_of}
 use Rattle.xtbml_subset.proofs.Filled.{left_issues, place_told, rows_told, issues_left}
 use Rattle.xtbml_subset.proofs.Final.{unless_goes}
 use Rattle.xtbml_subset.proofs.ReadingRuns.{AllSoFar, all_more, all_fault, all_done}

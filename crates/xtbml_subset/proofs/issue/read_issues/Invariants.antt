@@ -1,7 +1,4 @@
-use Rattle.std.proofs.Common.{◌≡◌, ◌++◌, None, map}
-use Rattle.xtbml_subset.specs.SelectChecks.{ReadsIssue}
-use Rattle.xtbml_subset.specs.inside.Issues.{issues_from}
-use Rattle.xtbml_subset.specs.inside.Views.{found_of, bytes_left}
+use Rattle.xtbml_subset.proofs.Names.{◌≡◌, ◌++◌, None, map, ReadsIssue, issues_from, found_of, bytes_left}
 use Rattle.xtbml_subset.proofs.ReadingRuns.{AllSoFar}
 use Rattle.xtbml_subset.proofs.Filled.{issues_left}
 use Rattle.xtbml_subset.proofs.issue.read_issues.Given as goal

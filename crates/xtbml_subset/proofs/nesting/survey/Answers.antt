@@ -1,11 +1,5 @@
-use Rattle.std.proofs.Common.{◌+◌, ◌<◌, ◌≤◌, length, None, sym, ap, subst, ◌∙◌, arith, codes}
-use Rattle.xtbml_subset.specs.declared.state.Phase.TheVariants.{Opening}
-use Rattle.xtbml_subset.specs.inside.Machine.{State, outside}
-use Rattle.xtbml_subset.specs.inside.Elements.{elements_at}
-use Rattle.xtbml_subset.specs.inside.Searches.{Passing, ElementPath, no_path, IsPath}
+use Rattle.xtbml_subset.proofs.Names.{◌+◌, ◌<◌, ◌≤◌, length, None, sym, ap, subst, ◌∙◌, arith, codes, Opening, State, outside, elements_at, Passing, ElementPath, no_path, IsPath, path_of, state_of, walk_at, fault_place, fault_at}
 use Rattle.xtbml_subset.specs.inside.Tokens.{piece_of}
-use Rattle.xtbml_subset.specs.inside.Views.{path_of}
-use Rattle.xtbml_subset.specs.inside.Walk.{state_of, walk_at, fault_place, fault_at}
 use Rattle.xtbml_subset.proofs.Behind.{behind_shorter}
 use Rattle.xtbml_subset.proofs.PieceReading.{piece_behind}
 use Rattle.xtbml_subset.proofs.Walking.{walk_step, walk_stuck, walk_end, place_stuck}

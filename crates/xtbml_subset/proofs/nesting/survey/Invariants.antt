@@ -1,9 +1,4 @@
-use Rattle.std.proofs.Common.{◌≡◌, ◌+◌, ◌≤◌, length}
-use Rattle.xtbml_subset.specs.declared.state.Phase.TheVariants.{Opening}
-use Rattle.xtbml_subset.specs.inside.Machine.{outside}
-use Rattle.xtbml_subset.specs.inside.Searches.{IsPath}
-use Rattle.xtbml_subset.specs.inside.Views.{path_of}
-use Rattle.xtbml_subset.specs.inside.Walk.{state_of, walk_at, after_mark}
+use Rattle.xtbml_subset.proofs.Names.{◌≡◌, ◌+◌, ◌≤◌, length, Opening, outside, IsPath, path_of, state_of, walk_at, after_mark}
 use Rattle.xtbml_subset.proofs.nesting.survey.Given as goal
 
 abbrev pub invariant-loop-token : goal.invariant-loop-token

@@ -1,8 +1,4 @@
-use Rattle.std.proofs.Common.{map, sym, ap, ◌∙◌, codes}
-use Rattle.xtbml_subset.specs.SelectChecks.{has_filled}
-use Rattle.xtbml_subset.specs.inside.Elements.{siblings_at}
-use Rattle.xtbml_subset.specs.inside.Rows.{row_of}
-use Rattle.xtbml_subset.specs.inside.Views.{found_of}
+use Rattle.xtbml_subset.proofs.Names.{map, sym, ap, ◌∙◌, codes, has_filled, siblings_at, row_of, found_of}
 use Rattle.xtbml_subset.proofs.Filled.{passed_blank, met_filled}
 use Rattle.xtbml_subset.proofs.RowRuns.{left_siblings}
 use Rattle.xtbml_subset.proofs.period.has_filled.Goals as goal

@@ -1,7 +1,4 @@
-use Rattle.std.proofs.Common.{◌≡◌, ℕ}
-use Rattle.xtbml_subset.specs.SelectChecks.{has_filled}
-use Rattle.xtbml_subset.specs.inside.Rows.{rows_from}
-use Rattle.xtbml_subset.specs.inside.Views.{found_of, bytes_left}
+use Rattle.xtbml_subset.proofs.Names.{◌≡◌, ℕ, has_filled, rows_from, found_of, bytes_left}
 use Rattle.xtbml_subset.proofs.RowRuns.{rows_left}
 use Rattle.xtbml_subset.proofs.period.has_filled.Given as goal
 

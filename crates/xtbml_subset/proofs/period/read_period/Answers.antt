@@ -1,11 +1,4 @@
-use Rattle.std.proofs.Common.{List, map, None, Err, sym, subst, codes}
-use Rattle.std.proofs.lemmas.Result.{err_from_is_err_and}
-use Rattle.xtbml_subset.specs.declared.period.Attained.{Attained}
-use Rattle.xtbml_subset.specs.Checks.{RateElement}
-use Rattle.xtbml_subset.specs.SelectChecks.{filled, ReadsAll, ReadsDuration}
-use Rattle.xtbml_subset.specs.inside.Elements.{siblings_at}
-use Rattle.xtbml_subset.specs.inside.Rows.{row_of, rows_from}
-use Rattle.xtbml_subset.specs.inside.Views.{found_of}
+use Rattle.xtbml_subset.proofs.Names.{List, map, None, Err, sym, subst, codes, err_from_is_err_and, Attained, RateElement, filled, ReadsAll, ReadsDuration, siblings_at, row_of, rows_from, found_of}
 use Rattle.xtbml_subset.proofs.Filled.{filled_on, filled_none}
 use Rattle.xtbml_subset.proofs.ReadingRuns.{AllSoFar, all_more, all_fault, all_done}
 use Rattle.xtbml_subset.proofs.RowRuns.{left_siblings, unless_from}

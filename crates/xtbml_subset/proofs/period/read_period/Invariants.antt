@@ -1,7 +1,4 @@
-use Rattle.std.proofs.Common.{None}
-use Rattle.xtbml_subset.specs.SelectChecks.{filled, ReadsDuration}
-use Rattle.xtbml_subset.specs.inside.Rows.{rows_from}
-use Rattle.xtbml_subset.specs.inside.Views.{found_of, bytes_left}
+use Rattle.xtbml_subset.proofs.Names.{None, filled, ReadsDuration, rows_from, found_of, bytes_left}
 use Rattle.xtbml_subset.proofs.ReadingRuns.{AllSoFar}
 use Rattle.xtbml_subset.proofs.RowRuns.{rows_left}
 use Rattle.xtbml_subset.proofs.period.read_period.Given as goal

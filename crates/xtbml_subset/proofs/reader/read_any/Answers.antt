@@ -1,10 +1,4 @@
-use Rattle.std.proofs.Common.{length, Result, Ok, Err, inl}
-use Rattle.std.proofs.lemmas.Result.{err_from_is_err_and}
-use Rattle.select_rates.specs.declared.any.AnyTable.{AnyTable}
-use Rattle.xtbml_subset.specs.AnyChecks.{any_parts_of, aggregated, GivesAny, IsAnyTable, IsAnyAnswer, SpellsAny}
-use Rattle.xtbml_subset.specs.declared.fault.TableFault.{TableFault}
-use Rattle.xtbml_subset.specs.inside.Rows.{found_asks}
-use Rattle.xtbml_subset.specs.inside.Views.{found_of}
+use Rattle.xtbml_subset.proofs.Names.{length, Result, Ok, Err, inl, err_from_is_err_and, AnyTable, any_parts_of, aggregated, GivesAny, IsAnyTable, IsAnyAnswer, SpellsAny, TableFault, found_asks, found_of}
 use Rattle.xtbml_subset.proofs.AnyFinal.{any_fault_told, any_gives_fault, any_judged_by, any_due_by, aggregate_answer, or_gives, any_if_ok, any_if_fault, any_gives}
 use Rattle.xtbml_subset.proofs.reader.read_any.Goals as goal
 

@@ -1,11 +1,4 @@
-use Rattle.std.proofs.Common.{length, Result, Ok, Err, inl}
-use Rattle.std.proofs.lemmas.Result.{err_from_is_err_and}
-use Rattle.rate_table.specs.Rates.{Rates}
-use Rattle.xtbml_subset.specs.Answers.{Gives, SpellsTable, IsTableAnswer}
-use Rattle.xtbml_subset.specs.Checks.{parts_of, IsTable}
-use Rattle.xtbml_subset.specs.declared.fault.TableFault.{TableFault}
-use Rattle.xtbml_subset.specs.inside.Rows.{found_asks}
-use Rattle.xtbml_subset.specs.inside.Views.{found_of}
+use Rattle.xtbml_subset.proofs.Names.{length, Result, Ok, Err, inl, err_from_is_err_and, Rates, Gives, SpellsTable, IsTableAnswer, parts_of, IsTable, TableFault, found_asks, found_of}
 use Rattle.xtbml_subset.proofs.Final.{fault_told, gives_fault, judged_by, due_by, if_ok, if_fault, gives}
 use Rattle.xtbml_subset.proofs.reader.read_table.Goals as goal
 

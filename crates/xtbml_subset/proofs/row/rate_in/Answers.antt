@@ -1,5 +1,4 @@
-use Rattle.std.proofs.Common.{sym, subst}
-use Rattle.decimal_text.specs.Rate.{IsRate}
+use Rattle.xtbml_subset.proofs.Names.{sym, subst, IsRate}
 use Rattle.xtbml_subset.proofs.row.rate_in.Goals as goal
 
 pub returns-in-Err : goal.returns-in-Err

@@ -1,9 +1,4 @@
-use Rattle.std.proofs.Common.{◌≡◌, suc, ◌+◌, List, length, map, None, Some, Err, sym, ap, subst, codes, arith}
-use Rattle.std.proofs.lemmas.Result.{err_from_is_err_and}
-use Rattle.xtbml_subset.specs.inside.Elements.{siblings_at}
-use Rattle.xtbml_subset.specs.Checks.{RateElement, ReadsRows}
-use Rattle.xtbml_subset.specs.inside.Rows.{row_of, rows_from}
-use Rattle.xtbml_subset.specs.inside.Views.{found_of}
+use Rattle.xtbml_subset.proofs.Names.{◌≡◌, suc, ◌+◌, List, length, map, None, Some, Err, sym, ap, subst, codes, arith, err_from_is_err_and, siblings_at, RateElement, ReadsRows, row_of, rows_from, found_of}
 use Rattle.xtbml_subset.proofs.RowRuns.{ReadSoFar, so_far_more, so_far_fault, so_far_all, left_siblings, rows_left, unless_from}
 use Rattle.xtbml_subset.proofs.row.read_rows.Goals as goal
 

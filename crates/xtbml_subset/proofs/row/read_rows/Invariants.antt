@@ -1,6 +1,4 @@
-use Rattle.std.proofs.Common.{◌≡◌, length}
-use Rattle.xtbml_subset.specs.inside.Rows.{rows_from}
-use Rattle.xtbml_subset.specs.inside.Views.{found_of, bytes_left}
+use Rattle.xtbml_subset.proofs.Names.{◌≡◌, length, rows_from, found_of, bytes_left}
 use Rattle.xtbml_subset.proofs.RowRuns.{ReadSoFar, rows_left}
 use Rattle.xtbml_subset.proofs.row.read_rows.Given as goal
 

@@ -1,11 +1,4 @@
-use Rattle.std.proofs.Common.{◌≡◌, ℕ, List, map, None, Ok, Err, sym, ap, subst, ◌∙◌, codes}
-use Rattle.std.proofs.lemmas.Result.{err_from_is_err_and}
-use Rattle.select_rates.specs.Select.{Selected}
-use Rattle.xtbml_subset.specs.SelectChecks.{Issue, ultimate_of, select_parts, first_issue_age, issue_age_of, ReadsAll, ReadsIssue, ReadsUltimate, IsSelectTable}
-use Rattle.xtbml_subset.specs.inside.Elements.{siblings_at}
-use Rattle.xtbml_subset.specs.inside.Rows.{row_of, found_asks}
-use Rattle.xtbml_subset.specs.inside.Issues.{issues_from}
-use Rattle.xtbml_subset.specs.inside.Views.{found_of}
+use Rattle.xtbml_subset.proofs.Names.{◌≡◌, ℕ, List, map, None, Ok, Err, sym, ap, subst, ◌∙◌, codes, err_from_is_err_and, Selected, Issue, ultimate_of, select_parts, first_issue_age, issue_age_of, ReadsAll, ReadsIssue, ReadsUltimate, IsSelectTable, siblings_at, row_of, found_asks, issues_from, found_of}
 use Rattle.xtbml_subset.proofs.Final.{unless_goes}
 use Rattle.xtbml_subset.proofs.SelectRates.{as_many, first_ages, ready}
 use Rattle.xtbml_subset.proofs.SelectReading.{issues_refused, ultimate_refused, gap_refused, joins, issues_by}

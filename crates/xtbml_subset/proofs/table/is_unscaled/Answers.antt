@@ -1,10 +1,4 @@
-use Rattle.std.proofs.Common.{◌≡◌, ℕ, false, eqb, List, [], length, Some, sym, ap, subst, ◌∙◌, inl}
-use Rattle.std.specs.Prelude.{MatchBool}
-use Rattle.std.proofs.lemmas.Bool.{eqb-true, true≢false}
-use Rattle.std.proofs.lemmas.List.{nil_from_length}
-use Rattle.xtbml_subset.specs.declared.class.Class.TheVariants.{White}
-use Rattle.xtbml_subset.specs.Classes.{InClass, after}
-use Rattle.xtbml_subset.specs.Checks.{IsUnscaled}
+use Rattle.xtbml_subset.proofs.Names.{◌≡◌, ℕ, false, eqb, List, [], length, Some, sym, ap, subst, ◌∙◌, inl, MatchBool, eqb-true, true≢false, nil_from_length, White, InClass, after, IsUnscaled}
 use Rattle.xtbml_subset.proofs.Scales.{all_white, white_is_nothing, unscaled_by, scaled_by_none}
 use Rattle.xtbml_subset.proofs.table.is_unscaled.Goals as goal
 

@@ -1,7 +1,4 @@
-use Rattle.std.proofs.Common.{◌≤◌, ℕ, length, Ok, sym, subst, arith}
-use Rattle.rate_table.specs.Rates.{AreRates}
-use Rattle.xtbml_subset.specs.inside.Rows.{rows_from}
-use Rattle.xtbml_subset.specs.inside.Views.{found_of}
+use Rattle.xtbml_subset.proofs.Names.{◌≤◌, ℕ, length, Ok, sym, subst, arith, AreRates, rows_from, found_of}
 use Rattle.xtbml_subset.proofs.TableRates.{rows_make_rates, no_fault}
 use Rattle.xtbml_subset.proofs.table.rates_table.Goals as goal
 

@@ -1,5 +1,4 @@
-use Rattle.std.proofs.Common.{length, sym, ◌∙◌, arith}
-use Rattle.std.proofs.lemmas.List.{drop_all}
+use Rattle.xtbml_subset.proofs.Names.{length, sym, ◌∙◌, arith, drop_all}
 use Rattle.xtbml_subset.proofs.Runs.{found_is, none_is}
 use Rattle.xtbml_subset.proofs.text.from_byte.Goals as goal
 

@@ -1,5 +1,4 @@
-use Rattle.std.proofs.Common.{length, ◌-◌, ◌≡◌, ◌≤◌, ◌++◌, take, drop}
-use Rattle.xtbml_subset.specs.Classes.{front, after}
+use Rattle.xtbml_subset.proofs.Names.{length, ◌-◌, ◌≡◌, ◌≤◌, ◌++◌, take, drop, front, after}
 use Rattle.xtbml_subset.proofs.text.split.Given as goal
 
 abbrev pub invariant-loop-count : goal.invariant-loop-count

@@ -1,5 +1,4 @@
-use Rattle.std.proofs.Common.{◌≡◌, ◌≤◌, length}
-use Rattle.xtbml_subset.specs.Texts.{without_end}
+use Rattle.xtbml_subset.proofs.Names.{◌≡◌, ◌≤◌, length, without_end}
 use Rattle.xtbml_subset.proofs.text.without_end.Given as goal
 
 abbrev pub invariant-loop-rest : goal.invariant-loop-rest

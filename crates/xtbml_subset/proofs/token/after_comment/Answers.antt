@@ -1,5 +1,4 @@
-use Rattle.std.proofs.Common.{◌-◌, length, take, drop, ap, ◌∙◌}
-use Rattle.xtbml_subset.specs.inside.Reading.{comment_end_at}
+use Rattle.xtbml_subset.proofs.Names.{◌-◌, length, take, drop, ap, ◌∙◌, comment_end_at}
 use Rattle.xtbml_subset.proofs.Runs.{end_from_dash, end_behind}
 use Rattle.xtbml_subset.proofs.token.after_comment.Goals as goal
 

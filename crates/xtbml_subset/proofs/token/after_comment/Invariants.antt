@@ -1,5 +1,4 @@
-use Rattle.std.proofs.Common.{◌≡◌, length}
-use Rattle.xtbml_subset.specs.inside.Reading.{comment_end_at}
+use Rattle.xtbml_subset.proofs.Names.{◌≡◌, length, comment_end_at}
 use Rattle.xtbml_subset.proofs.token.after_comment.Given as goal
 
 abbrev pub invariant-loop-rest : goal.invariant-loop-rest

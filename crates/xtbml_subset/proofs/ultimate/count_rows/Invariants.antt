@@ -1,6 +1,4 @@
-use Rattle.std.proofs.Common.{◌≡◌, ◌+◌, ◌≤◌, length, codes}
-use Rattle.xtbml_subset.specs.inside.Elements.{siblings_at}
-use Rattle.xtbml_subset.specs.inside.Views.{found_of, bytes_left}
+use Rattle.xtbml_subset.proofs.Names.{◌≡◌, ◌+◌, ◌≤◌, length, codes, siblings_at, found_of, bytes_left}
 use Rattle.xtbml_subset.proofs.RowRuns.{rows_left}
 use Rattle.xtbml_subset.proofs.ultimate.count_rows.Given as goal
 

@@ -1,5 +1,4 @@
-use Rattle.std.proofs.Common.{◌≡◌, ◌+◌, ◌<◌, true, [], List, ℕ, length, get_or, sym, subst, arith}
-use Rattle.xtbml_subset.specs.SelectChecks.{leaves_gap}
+use Rattle.xtbml_subset.proofs.Names.{◌≡◌, ◌+◌, ◌<◌, true, [], List, ℕ, length, get_or, sym, subst, arith, leaves_gap}
 use Rattle.xtbml_subset.proofs.SelectRates.{gap_at, no_gaps}
 use Rattle.xtbml_subset.proofs.ultimate.first_gap.Goals as goal
 

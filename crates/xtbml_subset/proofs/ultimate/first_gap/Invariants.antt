@@ -1,5 +1,4 @@
-use Rattle.std.proofs.Common.{◌≡◌, ℕ, ◌+◌, ◌<◌, false, [], length, get_or}
-use Rattle.xtbml_subset.specs.SelectChecks.{leaves_gap}
+use Rattle.xtbml_subset.proofs.Names.{◌≡◌, ℕ, ◌+◌, ◌<◌, false, [], length, get_or, leaves_gap}
 use Rattle.xtbml_subset.proofs.ultimate.first_gap.Given as goal
 
 abbrev pub invariant-loop-index : goal.invariant-loop-index

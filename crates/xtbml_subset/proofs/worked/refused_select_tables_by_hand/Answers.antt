@@ -1,6 +1,4 @@
-use Rattle.std.proofs.Common.{refl, Some, Ok, Err, inl, [], ◌∷◌}
-use Rattle.xtbml_subset.specs.declared.fault.TableKind.TheVariants.{BadDuration, NoUltimate, UltimateGap}
-use Rattle.xtbml_subset.specs.declared.fault.TableFault.TheVariants.{Bad}
+use Rattle.xtbml_subset.proofs.Names.{refl, Some, Ok, Err, inl, [], ◌∷◌, BadDuration, NoUltimate, UltimateGap, Bad}
 use Rattle.xtbml_subset.proofs.WorkedTables.{a_half, one}
 use Rattle.xtbml_subset.proofs.WorkedSelectTables.{select_on_literals, any_judged}
 use Rattle.xtbml_subset.proofs.worked.refused_select_tables_by_hand.Goals as goal

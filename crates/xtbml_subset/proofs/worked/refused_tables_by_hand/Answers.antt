@@ -1,6 +1,4 @@
-use Rattle.std.proofs.Common.{refl, None, Some, Ok, Err, inl}
-use Rattle.xtbml_subset.specs.declared.fault.TableKind.TheVariants.{Scaled, BadAge, AgeGap, BadRate}
-use Rattle.xtbml_subset.specs.declared.fault.TableFault.TheVariants.{Bad}
+use Rattle.xtbml_subset.proofs.Names.{refl, None, Some, Ok, Err, inl, Scaled, BadAge, AgeGap, BadRate, Bad}
 use Rattle.xtbml_subset.proofs.Final.{fault_due}
 use Rattle.xtbml_subset.proofs.WorkedTables.{tables_on_literals, judged, a_tenth}
 use Rattle.xtbml_subset.proofs.worked.refused_tables_by_hand.Goals as goal

@@ -1,9 +1,4 @@
-use Rattle.std.proofs.Common.{◌≡◌, ◌+◌, false, ap, length, sym, subst, IsSome, is_some, List, slice_get, take, arith}
-use Rattle.indexmap.specs.IndexMap.{get_by_text, values}
-use Rattle.std.proofs.lemmas.List.{length-take-le}
-use Rattle.std.proofs.lemmas.List.Elements.{All-more}
-use Rattle.basis_book.specs.declared.row.BasisRow.{BasisRow}
-use Rattle.basis_book.specs.Dated.{IsFirstMissing}
+use Rattle.basis_book.proofs.Names.{◌≡◌, ◌+◌, false, ap, length, sym, subst, IsSome, is_some, List, slice_get, take, arith, get_by_text, values, length-take-le, All-more, BasisRow, IsFirstMissing}
 use Rattle.basis_book.proofs.Picking.{missing_at, places_long, places_more}
 use Rattle.basis_book.proofs.basis.Basis.of.Goals as goal
 

@@ -1,6 +1,4 @@
-use Rattle.std.proofs.Common.{All, IsSome, take, slice_get}
-use Rattle.indexmap.specs.IndexMap.{get_by_text, values}
-use Rattle.basis_book.specs.declared.row.BasisRow.{BasisRow}
+use Rattle.basis_book.proofs.Names.{All, IsSome, take, slice_get, get_by_text, values, BasisRow}
 use Rattle.basis_book.specs.inside.Placed.{ArePlaces}
 use Rattle.basis_book.proofs.basis.Basis.of.Given as goal
 

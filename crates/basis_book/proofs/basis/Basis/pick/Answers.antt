@@ -1,9 +1,5 @@
-use Rattle.std.proofs.Common.{◌≡◌, ◌+◌, ◌-◌, ◌<◌, ◌≤◌, ◌<ℤ◌, ◌≤ℤ◌, sym, ap, ◌∙◌, subst, refl, All, IsSome, slice_get, ℕ, List, length, map, drop, get_or, ℤ, w32, to_z, of_z, arith}
-use Rattle.indexmap.specs.IndexMap.{get_by_text, values}
-use Rattle.std.proofs.lemmas.Int.{ints, to_z-of_z}
+use Rattle.basis_book.proofs.Names.{◌≡◌, ◌+◌, ◌-◌, ◌<◌, ◌≤◌, ◌<ℤ◌, ◌≤ℤ◌, sym, ap, ◌∙◌, subst, refl, All, IsSome, slice_get, ℕ, List, length, map, drop, get_or, ℤ, w32, to_z, of_z, arith, get_by_text, values, ints, to_z-of_z, BasisRow, Dated, dated, IsPicked}
 use Rattle.std.proofs.lemmas.Map.Entries.{length-values_of}
-use Rattle.basis_book.specs.declared.row.BasisRow.{BasisRow}
-use Rattle.basis_book.specs.Dated.{Dated, dated, IsPicked}
 use Rattle.basis_book.proofs.Picking.{picked_at, none_begun, has_place, places_long, table_at, table_is}
 use Rattle.basis_book.proofs.basis.Basis.pick.Goals as goal
 

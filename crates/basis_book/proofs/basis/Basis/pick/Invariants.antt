@@ -1,5 +1,4 @@
-use Rattle.std.proofs.Common.{◌≤◌, ◌<ℤ◌, length, drop, All}
-use Rattle.basis_book.specs.declared.row.BasisRow.{BasisRow}
+use Rattle.basis_book.proofs.Names.{◌≤◌, ◌<ℤ◌, length, drop, All, BasisRow}
 use Rattle.basis_book.proofs.basis.Basis.pick.Given as goal
 
 abbrev pub invariant-loop-index : goal.invariant-loop-index

@@ -1,6 +1,4 @@
-use Rattle.std.proofs.Common.{◌≡◌, ◌++◌, ◌∷◌, [], true, false, is_some, sym, subst, ◌∙◌, arith, refl}
-use Rattle.std.proofs.lemmas.List.{length_push}
-use Rattle.basis_book.specs.Rows.{IsRowsFault}
+use Rattle.basis_book.proofs.Names.{◌≡◌, ◌++◌, ◌∷◌, [], true, false, is_some, sym, subst, ◌∙◌, arith, refl, length_push, IsRowsFault}
 use Rattle.basis_book.proofs.Additions.{IsFault-more, none_of}
 use Rattle.basis_book.proofs.reading.Reading.add.Goals as goal
 

@@ -1,6 +1,5 @@
-use Rattle.std.proofs.Common.{ap}
+use Rattle.cash_projection.proofs.Names.{ap, Sums}
 use Rattle.cash_projection.proofs.Columns.{empty_sum}
-use Rattle.cash_projection.specs.declared.column.Sums.{Sums}
 use Rattle.cash_projection.proofs.column.YearSums.new.Goals as goal
 
 pub returns-clause-none : goal.returns-clause-none

@@ -1,7 +1,5 @@
-use Rattle.std.proofs.Common.{◌+◌, ◌≡◌, ap, ◌∙◌, arith, drop}
-use Rattle.std.proofs.lemmas.List.{get_or-take}
+use Rattle.cash_projection.proofs.Names.{◌+◌, ◌≡◌, ap, ◌∙◌, arith, drop, get_or-take, pair_at, pair_of}
 use Rattle.std.proofs.lemmas.Grind.{get_or_after_one}
-use Rattle.present_value.specs.Values.{pair_at, pair_of}
 use Rattle.cash_projection.proofs.path.SurvivalPath.alive_at_end.Goals as goal
 
 pub returns-clause-each : goal.returns-clause-each

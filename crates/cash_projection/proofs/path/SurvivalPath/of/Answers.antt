@@ -1,7 +1,4 @@
-use Rattle.std.proofs.Common.{refl, arith, le_refl}
-use Rattle.std.proofs.lemmas.List.{length-replicate}
-use Rattle.present_value.specs.Values.{pair_of}
-use Rattle.cash_projection.specs.inside.Paths.{rates_after}
+use Rattle.cash_projection.proofs.Names.{refl, arith, le_refl, length-replicate, pair_of, rates_after}
 use Rattle.cash_projection.proofs.Survivors.{alive_lo_most, alive_hi_most}
 use Rattle.cash_projection.proofs.PathSteps.{none_known, one_more_known}
 use Rattle.cash_projection.proofs.path.SurvivalPath.of.Goals as goal

@@ -1,8 +1,5 @@
-use Rattle.std.proofs.Common.{arith, ap, sym, ◌∙◌, ◌<◌, length, true≢false}
-use Rattle.std.proofs.lemmas.List.{length-set, get_or_read}
+use Rattle.cash_projection.proofs.Names.{arith, ap, sym, ◌∙◌, ◌<◌, length, true≢false, length-set, get_or_read, IsRightPath, SurvivalPath}
 use Rattle.std.proofs.lemmas.List.Elements.{All-set}
-use Rattle.cash_projection.specs.inside.Paths.{IsRightPath}
-use Rattle.cash_projection.specs.declared.path.SurvivalPath.{SurvivalPath}
 use Rattle.cash_projection.proofs.PathSteps.{kept_here, put_here, right_by_key}
 use Rattle.cash_projection.proofs.paths.Paths.place_of.Goals as goal
 

@@ -1,7 +1,5 @@
-use Rattle.std.proofs.Common.{refl, rules}
+use Rattle.cash_projection.proofs.Names.{refl, rules, AreAsBefore, GivesTally, TakesPortion}
 use Rattle.std.specs.Vec.{with_items}
-use Rattle.parallel_value.specs.Pieces.{AreAsBefore}
-use Rattle.cash_projection.specs.inside.Portions.{GivesTally, TakesPortion}
 use Rattle.cash_projection.proofs.RoomSteps.{can_join_room, room_tallied, still_with}
 use Rattle.cash_projection.proofs.tallier.Tallier.tally_room.Goals as goal
 

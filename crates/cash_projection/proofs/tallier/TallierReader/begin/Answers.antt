@@ -1,5 +1,4 @@
-use Rattle.std.proofs.Common.{◌≡◌, ◌≤◌, FitsSigned, w32, to_z, of_z, arith, rules}
-use Rattle.std.proofs.lemmas.Int.{to_z-of_z}
+use Rattle.cash_projection.proofs.Names.{◌≡◌, ◌≤◌, FitsSigned, w32, to_z, of_z, arith, rules, to_z-of_z}
 use Rattle.cash_projection.proofs.RoomSteps.{none_read}
 use Rattle.cash_projection.proofs.tallier.TallierReader.begin.Goals as goal
 

@@ -1,5 +1,4 @@
-use Rattle.std.proofs.Common.{FitsSigned, refl, rules, ◌∙◌, w32, to_z, of_z}
-use Rattle.std.proofs.lemmas.Int.{to_z-of_z}
+use Rattle.cash_projection.proofs.Names.{FitsSigned, refl, rules, ◌∙◌, w32, to_z, of_z, to_z-of_z}
 use Rattle.cash_projection.proofs.RoomSteps.{projection_at, whole_sized}
 use Rattle.cash_projection.proofs.tallier.TallierReader.made.Goals as goal
 

@@ -1,9 +1,5 @@
-use Rattle.std.proofs.Common.{◌≡◌, ◌<ℤ◌, ℤ, All, refl, sym, ◌∙◌, subst, arith, w32, to_z, of_z}
-use Rattle.std.proofs.lemmas.Int.{ints, to_z-of_z}
-use Rattle.std.proofs.lemmas.Bool.{false≢true}
-use Rattle.basis_book.specs.Dated.{Dated, IsPicked}
+use Rattle.cash_projection.proofs.Names.{◌≡◌, ◌<ℤ◌, ℤ, All, refl, sym, ◌∙◌, subst, arith, w32, to_z, of_z, ints, to_z-of_z, false≢true, Dated, IsPicked, nothing_ahead}
 use Rattle.policy_value.specs.Rows.{IsInsured}
-use Rattle.cash_projection.specs.Policies.{nothing_ahead}
 use Rattle.cash_projection.proofs.Adding.{nothing_idle}
 use Rattle.cash_projection.proofs.Taking.{uninsured_taken, unnamed_taken, named_taken, picked_row}
 use Rattle.cash_projection.proofs.tally.Tally.add.Goals as goal

@@ -1,9 +1,5 @@
-use Rattle.std.proofs.Common.{refl, arith, subst, sym, ◌+◌}
-use Rattle.rate_table.specs.Rates.{AreRates}
-use Rattle.select_rates.specs.Along.{table_along}
+use Rattle.cash_projection.proofs.Names.{refl, arith, subst, sym, ◌+◌, AreRates, table_along, prospect_of, IsSurvivalPath}
 use Rattle.cash_projection.proofs.Adding.{ended_idle, prospect_small}
-use Rattle.cash_projection.specs.Policies.{prospect_of}
-use Rattle.cash_projection.specs.inside.Paths.{IsSurvivalPath}
 use Rattle.cash_projection.proofs.tally.Tally.add_ahead.Goals as goal
 
 pub returns-then-t-shape-clause-added : goal.returns-then-t-shape-clause-added

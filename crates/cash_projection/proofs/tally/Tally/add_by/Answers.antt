@@ -1,5 +1,4 @@
-use Rattle.std.proofs.Common.{refl, sym}
-use Rattle.cash_projection.specs.Policies.{nothing_ahead}
+use Rattle.cash_projection.proofs.Names.{refl, sym, nothing_ahead}
 use Rattle.cash_projection.proofs.Adding.{nothing_idle}
 use Rattle.cash_projection.proofs.Taking.{worded_by}
 use Rattle.cash_projection.proofs.tally.Tally.add_by.Goals as goal

@@ -1,5 +1,4 @@
-use Rattle.std.proofs.Common.{◌≡◌, ◌≤◌, ◌<◌, ℕ, length, get_or, vec_capacity}
-use Rattle.cash_projection.specs.Cash.{no_year}
+use Rattle.cash_projection.proofs.Names.{◌≡◌, ◌≤◌, ◌<◌, ℕ, length, get_or, vec_capacity, no_year}
 use Rattle.cash_projection.proofs.Tallying.{year_in}
 use Rattle.cash_projection.proofs.tally.Tally.cash.Given as goal
 

@@ -1,8 +1,6 @@
 -- What the rules make of the command is set.
-use Rattle.std.proofs.Common.{rules, ◌≡◌, ◌+◌, ◌<◌, ◌∷◌, ◌++◌, [], ◌∙◌, sym, ap, Ok, arith}
-use Rattle.policy_machine.specs.Book.{refusal_in}
+use Rattle.checkpoint_store.proofs.Names.{rules, ◌≡◌, ◌+◌, ◌<◌, ◌∷◌, ◌++◌, [], ◌∙◌, sym, ap, Ok, arith, refusal_in, AreBooksOf, AreSoundBooks, HasSetPolicy}
 use Rattle.policy_types.specs.Limits.{most_commands}
-use Rattle.checkpoint_store.specs.inside.Numbered.{AreBooksOf, AreSoundBooks, HasSetPolicy}
 use Rattle.checkpoint_store.proofs.Taking.{books_more, books_upgraded, judged_same, kept_or, left_number, on_map, refused, sound_more, sound_upgraded}
 use Rattle.checkpoint_store.proofs.keeping.NumberedBooksKeeper.add.Goals as goal
 

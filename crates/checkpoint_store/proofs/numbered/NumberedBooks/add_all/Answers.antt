@@ -1,6 +1,5 @@
 -- One policy after the other.
-use Rattle.std.proofs.Common.{rules, ◌≡◌, ◌+◌, true, false, subst, arith}
-use Rattle.checkpoint_store.specs.inside.Storing.{AreBegun, AreUpTo, BegunNext, UpToNext}
+use Rattle.checkpoint_store.proofs.Names.{rules, ◌≡◌, ◌+◌, true, false, subst, arith, AreBegun, AreUpTo, BegunNext, UpToNext}
 use Rattle.checkpoint_store.proofs.numbered.NumberedBooks.add_all.Goals as goal
 
 pub returns-then-not-branch-clause-next : goal.returns-then-not-branch-clause-next

@@ -1,7 +1,5 @@
 -- The policies so far were added.
-use Rattle.std.proofs.Common.{ℕ, ◌+◌, ◌≤◌, List}
-use Rattle.checkpoint_store.specs.declared.front.Front.{Front}
-use Rattle.checkpoint_store.specs.inside.Storing.{AreBegun, AreBytesOf, AreUpTo}
+use Rattle.checkpoint_store.proofs.Names.{ℕ, ◌+◌, ◌≤◌, List, Front, AreBegun, AreBytesOf, AreUpTo}
 use Rattle.checkpoint_store.proofs.numbered.NumberedBooks.add_all.Given as goal
 
 abbrev pub invariant-loop-index : goal.invariant-loop-index

@@ -1,6 +1,5 @@
 -- The policy that the command names is among the books.
-use Rattle.std.proofs.Common.{rules}
-use Rattle.policy_types.specs.Valid.{id_of}
+use Rattle.checkpoint_store.proofs.Names.{rules, id_of}
 use Rattle.checkpoint_store.proofs.Taking.{look_own, look_sound}
 use Rattle.checkpoint_store.proofs.numbered.NumberedBooks.judgement.Goals as goal
 

@@ -1,9 +1,7 @@
 -- No balance comes near its bound, and the policy is set where it stands.
-use Rattle.std.proofs.Common.{refl, sym, subst, ◌∙◌, nat_eq}
-use Rattle.std.specs.List.{IsDistinct}
+use Rattle.checkpoint_store.proofs.Names.{refl, sym, subst, ◌∙◌, nat_eq, IsDistinct, id_of}
 use Rattle.indexmap.proofs.CallerLemmas.{keys-with_value_at}
 use Rattle.indexmap.proofs.MapLemmas.{Found-position}
-use Rattle.policy_types.specs.Valid.{id_of}
 use Rattle.checkpoint_store.proofs.BookEntries.{set_there}
 use Rattle.checkpoint_store.proofs.Taking.{has_room}
 use Rattle.checkpoint_store.proofs.numbered.NumberedBooks.set.Goals as goal

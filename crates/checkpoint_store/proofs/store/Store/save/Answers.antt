@@ -1,6 +1,5 @@
 -- What was written was told.
-use Rattle.checkpoint_store.specs.Checkpoints.{CheckpointBytes}
-use Rattle.std.proofs.Common.{ℕ, List}
+use Rattle.checkpoint_store.proofs.Names.{CheckpointBytes, ℕ, List}
 use Rattle.checkpoint_store.proofs.Stages.{told_on}
 use Rattle.checkpoint_store.proofs.store.Store.save.Goals as goal
 

@@ -1,10 +1,5 @@
 -- All that is written stands behind the gate, which stays closed.
-use Rattle.std.proofs.Common.{◌≡◌, List, [], ◌++◌, length, refl, sym, ap, subst, ◌∙◌, arith}
-use Rattle.std.specs.List.{flat_map}
-use Rattle.policy_types.specs.declared.policy.Policy.{Policy}
-use Rattle.checkpoint_store.specs.Spelling.{front_bytes, policy_bytes, snapshot_bytes, StandBehindGate}
-use Rattle.checkpoint_store.specs.inside.Parsing.{front_of}
-use Rattle.posting_journal.specs.Runs.{IsSafe}
+use Rattle.checkpoint_store.proofs.Names.{◌≡◌, List, [], ◌++◌, length, refl, sym, ap, subst, ◌∙◌, arith, flat_map, Policy, front_bytes, policy_bytes, snapshot_bytes, StandBehindGate, front_of, IsSafe}
 use Rattle.checkpoint_store.proofs.Behind.{behind_more}
 use Rattle.checkpoint_store.proofs.GateSteps.{shut_on}
 use Rattle.checkpoint_store.proofs.Stages.{knows_shut, ok_both}

@@ -1,5 +1,4 @@
-use Rattle.std.proofs.Common.{arith}
-use Rattle.command_csv.specs.Reads.{IsClerk}
+use Rattle.command_csv.proofs.Names.{arith, IsClerk}
 use Rattle.command_csv.proofs.FieldTexts.{number_missed}
 use Rattle.command_csv.proofs.fields.LineFields.clerk.Goals as goal
 

@@ -1,5 +1,4 @@
-use Rattle.std.proofs.Common.{arith}
-use Rattle.policy_types.specs.Valid.{IsId}
+use Rattle.command_csv.proofs.Names.{arith, IsId}
 use Rattle.command_csv.proofs.FieldTexts.{number_missed}
 use Rattle.command_csv.proofs.fields.LineFields.id.Goals as goal
 

@@ -1,5 +1,4 @@
-use Rattle.std.proofs.Common.{◌<◌, length, arith}
-use Rattle.std.proofs.lemmas.List.{length_push}
+use Rattle.decimal_text.proofs.Names.{◌<◌, length, arith, length_push}
 use Rattle.decimal_text.proofs.Pushes.{take-push_under, drop-push_under, take-push_past, drop-push_past}
 use Rattle.decimal_text.proofs.units.Units.push.Goals as goal
 

@@ -1,5 +1,4 @@
-use Rattle.std.proofs.Common.{◌++◌, take, arith, append_assoc}
-use Rattle.std.proofs.lemmas.List.{take_more}
+use Rattle.decimal_text.proofs.Names.{◌++◌, take, arith, append_assoc, take_more}
 use Rattle.decimal_text.proofs.Numbers.{digit_at}
 use Rattle.decimal_text.proofs.units.Units.push_all.Goals as goal
 

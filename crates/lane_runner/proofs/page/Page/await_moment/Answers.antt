@@ -1,5 +1,4 @@
-use Rattle.std.proofs.Common.{arith}
-use Rattle.rtrb.specs.Ring.{received}
+use Rattle.lane_runner.proofs.Names.{arith, received}
 use Rattle.lane_runner.proofs.ShowSteps.{showing_moment}
 use Rattle.lane_runner.proofs.page.Page.await_moment.Goals as goal
 

@@ -1,5 +1,4 @@
-use Rattle.std.proofs.Common.{Some, refl, rules}
-use Rattle.lane_runner.specs.declared.wording.Unwritten.TheVariants.{WriteFault}
+use Rattle.lane_runner.proofs.Names.{Some, refl, rules, WriteFault}
 use Rattle.lane_runner.proofs.GatherSteps.{put_failed, put_out}
 use Rattle.lane_runner.proofs.ShowSteps.{showing_failed, showing_out}
 use Rattle.lane_runner.proofs.page.Page.flush.Goals as goal

@@ -1,5 +1,4 @@
-use Rattle.std.proofs.Common.{ℕ, [], ◌∷◌, ◌++◌, sym, subst, rules}
-use Rattle.lane_runner.specs.inside.Showing.{IsShowing}
+use Rattle.lane_runner.proofs.Names.{ℕ, [], ◌∷◌, ◌++◌, sym, subst, rules, IsShowing}
 use Rattle.lane_runner.proofs.GatherSteps.{put_same}
 use Rattle.lane_runner.proofs.ShowSteps.{showing_kept, showing_same}
 use Rattle.lane_runner.proofs.page.Page.gather.Goals as goal

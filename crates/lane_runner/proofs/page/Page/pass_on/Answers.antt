@@ -1,5 +1,4 @@
-use Rattle.std.proofs.Common.{Some, refl, sym, ◌∙◌, rules}
-use Rattle.lane_runner.specs.declared.wording.Unwritten.TheVariants.{WriteFault}
+use Rattle.lane_runner.proofs.Names.{Some, refl, sym, ◌∙◌, rules, WriteFault}
 use Rattle.lane_runner.proofs.GatherSteps.{put_lost, put_through}
 use Rattle.lane_runner.proofs.ShowSteps.{showing_lost, showing_past, showing_through}
 use Rattle.lane_runner.proofs.page.Page.pass_on.Goals as goal

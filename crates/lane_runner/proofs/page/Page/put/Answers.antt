@@ -1,9 +1,4 @@
-use Rattle.std.proofs.Common.{◌≡◌, [], ◌∷◌, ◌++◌, List, ℕ, ap, sym, ◌∙◌, subst, arith}
-use Rattle.rtrb.specs.Ring.{received}
-use Rattle.lane_runner.specs.declared.transcript.TranscriptLine.{TranscriptLine}
-use Rattle.lane_runner.specs.Tallies.{accepted_lines}
-use Rattle.lane_runner.specs.inside.Gathering.{HasPutOut}
-use Rattle.lane_runner.specs.inside.Showing.{IsShowing}
+use Rattle.lane_runner.proofs.Names.{◌≡◌, [], ◌∷◌, ◌++◌, List, ℕ, ap, sym, ◌∙◌, subst, arith, received, TranscriptLine, accepted_lines, HasPutOut, IsShowing}
 use Rattle.lane_runner.proofs.GatherSteps.{put_same}
 use Rattle.lane_runner.proofs.ShowSteps.{counted_more}
 use Rattle.lane_runner.proofs.page.Page.put.Goals as goal

@@ -1,6 +1,5 @@
-use Rattle.std.proofs.Common.{Some, refl, ap}
+use Rattle.lane_runner.proofs.Names.{Some, refl, ap, NoMemory}
 use Rattle.std.specs.Option.{is_some}
-use Rattle.lane_runner.specs.declared.wording.Unwritten.TheVariants.{NoMemory}
 use Rattle.lane_runner.proofs.GatherSteps.{put_held, put_short}
 use Rattle.lane_runner.proofs.ShowSteps.{showing_lacking, showing_past}
 use Rattle.lane_runner.proofs.page.Page.stop_short.Goals as goal

@@ -1,5 +1,4 @@
-use Rattle.std.proofs.Common.{[], ◌∷◌, ◌++◌, ap, ◌∙◌}
-use Rattle.lane_runner.specs.inside.Added.{all_added}
+use Rattle.lane_runner.proofs.Names.{[], ◌∷◌, ◌++◌, ap, ◌∙◌, all_added}
 use Rattle.lane_runner.proofs.TallySteps.{tallied_more}
 use Rattle.lane_runner.proofs.transcript_lines.TranscriptLines.add.Goals as goal
 

@@ -1,5 +1,4 @@
-use Rattle.std.proofs.Common.{false, refl, ap, sym, subst}
-use Rattle.lane_runner.specs.inside.Added.{AreTallied, all_added}
+use Rattle.lane_runner.proofs.Names.{false, refl, ap, sym, subst, AreTallied, all_added}
 use Rattle.lane_runner.proofs.transcript_lines.TranscriptLines.new.Goals as goal
 
 pub invariant_of-result : goal.invariant_of-result

@@ -1,6 +1,5 @@
 -- The call was kept or not, and wrote nothing.
-use Rattle.std.proofs.Common.{is_ok}
-use Rattle.memory_disk.specs.First.{first_bytes}
+use Rattle.memory_disk.proofs.Names.{is_ok, first_bytes}
 use Rattle.memory_disk.proofs.Kept.{noted, noted_looks, noted_time}
 use Rattle.memory_disk.proofs.history.History.note.Goals as goal
 

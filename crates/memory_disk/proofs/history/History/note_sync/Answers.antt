@@ -1,6 +1,5 @@
 -- After a sync that succeeded what is read is the one image.
-use Rattle.std.proofs.Common.{ap}
-use Rattle.memory_disk.specs.First.{first_bytes}
+use Rattle.memory_disk.proofs.Names.{ap, first_bytes}
 use Rattle.memory_disk.proofs.Kept.{synced_at}
 use Rattle.memory_disk.proofs.history.History.note_sync.Goals as goal
 

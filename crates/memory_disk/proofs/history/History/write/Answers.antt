@@ -1,8 +1,6 @@
 -- The history after a write is that before it and the write.
-use Rattle.std.proofs.Common.{◌∙◌}
-use Rattle.memory_disk.specs.First.{first_bytes}
+use Rattle.memory_disk.proofs.Names.{◌∙◌, first_bytes, Write}
 use Rattle.memory_disk.proofs.Kept.{written_at, first_stays, write_images, write_time, write_torn}
-use Rattle.memory_disk.specs.declared.disk_call.DiskCall.TheVariants.{Write}
 use Rattle.memory_disk.proofs.history.History.write.Goals as goal
 
 pub invariant_of-self : goal.invariant_of-self

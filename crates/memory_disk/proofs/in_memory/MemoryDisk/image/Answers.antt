@@ -1,8 +1,7 @@
 -- The writes that are done whole make an image.
-use Rattle.std.proofs.Common.{◌≡◌, arith, take}
+use Rattle.memory_disk.proofs.Names.{◌≡◌, arith, take, image_of_writes}
 use Rattle.std.proofs.lemmas.Grind.{common_steps}
 use Rattle.memory_disk.specs.Disk.{disk_first, disk_calls}
-use Rattle.memory_disk.specs.History.{image_of_writes}
 use Rattle.memory_disk.proofs.KeptImage.{possible}
 use Rattle.memory_disk.proofs.in_memory.MemoryDisk.image.Goals as goal
 

@@ -1,8 +1,7 @@
 -- What reached the disk of each write makes an image.
-use Rattle.std.proofs.Common.{◌≡◌, arith, take}
+use Rattle.memory_disk.proofs.Names.{◌≡◌, arith, take, torn_after}
 use Rattle.std.proofs.lemmas.Grind.{common_steps}
 use Rattle.memory_disk.specs.Disk.{disk_first, disk_calls}
-use Rattle.memory_disk.specs.History.{torn_after}
 use Rattle.memory_disk.proofs.TornImage.{torn_possible}
 use Rattle.memory_disk.proofs.in_memory.MemoryDisk.torn_image.Goals as goal
 

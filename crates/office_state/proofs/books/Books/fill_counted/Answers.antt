@@ -1,8 +1,5 @@
 -- One policy more is copied, until all are.
-use Rattle.std.proofs.Common.{◌≡◌, List, ◌+◌, ◌-◌, ◌∷◌, [], ◌++◌, length, take, drop, min, ap, ◌∙◌, arith}
-use Rattle.policy_types.specs.declared.policy.Policy.{Policy}
-use Rattle.policy_machine.specs.Book.{book}
-use Rattle.office_state.specs.inside.Books.{commands_in}
+use Rattle.office_state.proofs.Names.{◌≡◌, List, ◌+◌, ◌-◌, ◌∷◌, [], ◌++◌, length, take, drop, min, ap, ◌∙◌, arith, Policy, book, commands_in}
 use Rattle.office_state.proofs.FillingSteps.{copied_all, copy_more}
 use Rattle.office_state.proofs.books.Books.fill_counted.Goals as goal
 

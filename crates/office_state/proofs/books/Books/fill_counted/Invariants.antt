@@ -1,7 +1,5 @@
 -- The policies so far are copied, each in few looks.
-use Rattle.std.proofs.Common.{◌≡◌, ◌+◌, ◌*◌, ◌-◌, ◌≤◌, take, drop, vec_capacity}
-use Rattle.policy_machine.specs.Book.{book}
-use Rattle.office_state.specs.inside.Books.{commands_in, looks_at_most}
+use Rattle.office_state.proofs.Names.{◌≡◌, ◌+◌, ◌*◌, ◌-◌, ◌≤◌, take, drop, vec_capacity, book, commands_in, looks_at_most}
 use Rattle.office_state.proofs.books.Books.fill_counted.Given as goal
 
 abbrev pub invariant-loop-index : goal.invariant-loop-index

@@ -1,10 +1,5 @@
 -- The newest version of the number is its policy, and the place of the upgrade is kept.
-use Rattle.policy_types.specs.Valid.{id_of}
-use Rattle.std.proofs.Common.{◌≡◌, ap, subst, sym, ◌∙◌, IfSome}
-use Rattle.policy_machine.specs.Book.{judged, policy_of}
-use Rattle.policy_machine.specs.Rules.{IsSound}
-use Rattle.policy_machine.proofs.BookLemmas.{policy_of-own, policy_of-sound}
-use Rattle.office_state.specs.versions.Commands.{sets_of}
+use Rattle.office_state.proofs.Names.{id_of, ◌≡◌, ap, subst, sym, ◌∙◌, IfSome, judged, policy_of, IsSound, policy_of-own, policy_of-sound, sets_of}
 use Rattle.office_state.proofs.PolicyValues.{newest_of-sets_of}
 use Rattle.office_state.proofs.books.Books.judgement.Goals as goal
 

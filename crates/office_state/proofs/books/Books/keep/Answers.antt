@@ -1,10 +1,5 @@
 -- What was accepted made a policy, or is an upgrade.
-use Rattle.std.proofs.Common.{Ok, Option, ap, ◌∙◌}
-use Rattle.policy_types.specs.declared.policy.Policy.{Policy}
-use Rattle.policy_types.specs.Valid.{id_of}
-use Rattle.policy_machine.specs.Book.{policy_of, refusal_in, upgrade_of}
-use Rattle.policy_machine.proofs.JudgeLemmas.{judged_none, judged_some, next-no_upgrade}
-use Rattle.office_state.specs.inside.Books.{commands_in}
+use Rattle.office_state.proofs.Names.{Ok, Option, ap, ◌∙◌, Policy, id_of, policy_of, refusal_in, upgrade_of, judged_none, judged_some, next-no_upgrade, commands_in}
 use Rattle.office_state.proofs.books.Books.keep.Goals as goal
 
 pub keep_policy-requires-clause-accepted : goal.keep_policy-requires-clause-accepted

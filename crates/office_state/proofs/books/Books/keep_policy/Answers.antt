@@ -1,9 +1,5 @@
 -- The command makes its policy's newest version, at its own number.
-use Rattle.std.proofs.Common.{IfOk, subst}
-use Rattle.policy_types.specs.Valid.{id_of}
-use Rattle.policy_machine.specs.Book.{policy_of}
-use Rattle.policy_machine.specs.Rules.{IsSound}
-use Rattle.policy_machine.proofs.BookLemmas.{policy_of-sound}
+use Rattle.office_state.proofs.Names.{IfOk, subst, id_of, policy_of, IsSound, policy_of-sound}
 use Rattle.policy_machine.proofs.SoundLemmas.{next-sound}
 use Rattle.office_state.proofs.KeepingSteps.{has_room, keeps_more, some_book}
 use Rattle.office_state.proofs.books.Books.keep_policy.Goals as goal

@@ -1,6 +1,5 @@
 -- The keys that were set by a position are the policies issued by then.
-use Rattle.std.proofs.Common.{◌∙◌}
-use Rattle.office_state.specs.versions.Commands.{sets_of}
+use Rattle.office_state.proofs.Names.{◌∙◌, sets_of}
 use Rattle.office_state.proofs.BookValues.{key_count}
 use Rattle.office_state.proofs.books.Books.policies.Goals as goal
 

@@ -1,8 +1,5 @@
 -- The value at a position is the policy there, found in few looks.
-use Rattle.std.proofs.Common.{◌≡◌, length, take, ◌∙◌, arith}
-use Rattle.policy_machine.specs.Book.{book}
-use Rattle.office_state.specs.versions.Commands.{sets_of}
-use Rattle.versioned_book.specs.Settings.{keys_of, until}
+use Rattle.office_state.proofs.Names.{◌≡◌, length, take, ◌∙◌, arith, book, sets_of, keys_of, until}
 use Rattle.office_state.proofs.BookValues.{index_placed, key_count}
 use Rattle.office_state.proofs.FillingSteps.{looks_few}
 use Rattle.office_state.proofs.books.Books.policy_counted.Goals as goal

@@ -1,11 +1,5 @@
-use Rattle.std.proofs.Common.{List, sym, subst}
+use Rattle.office_state.proofs.Names.{List, sym, subst, Entry, accepted_of, sent, AreSafeSince, IsLeftBy, StandsFor, begun_of, opening_of}
 use Rattle.std.specs.Prelude.{IfSome}
-use Rattle.policy_types.specs.declared.entry.Entry.{Entry}
-use Rattle.policy_machine.specs.History.{accepted_of}
-use Rattle.rtrb.specs.Ring.{sent}
-use Rattle.office_state.specs.Images.{AreSafeSince, IsLeftBy}
-use Rattle.office_state.specs.Standing.{StandsFor}
-use Rattle.office_state.specs.States.{begun_of, opening_of}
 use Rattle.office_state.proofs.LeavingSteps.{left_by}
 use Rattle.office_state.proofs.state.OfficeState.close.Goals as goal
 

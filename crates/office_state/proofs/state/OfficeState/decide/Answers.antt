@@ -1,7 +1,4 @@
-use Rattle.std.proofs.Common.{ℕ, List, refl, ◌∙◌}
-use Rattle.policy_types.specs.declared.entry.Entry.{Entry}
-use Rattle.policy_types.specs.declared.entry.Reply.TheVariants.{Blank}
-use Rattle.office_state.specs.Standing.{StandsFor}
+use Rattle.office_state.proofs.Names.{ℕ, List, refl, ◌∙◌, Entry, Blank, StandsFor}
 use Rattle.office_state.proofs.HistorySteps.{posting}
 use Rattle.office_state.proofs.PostedPins.{posted_floor, posted_pins}
 use Rattle.office_state.proofs.TurnSteps.{stands_still, stands_with}

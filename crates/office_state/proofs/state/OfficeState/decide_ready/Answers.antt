@@ -1,13 +1,4 @@
-use Rattle.std.proofs.Common.{◌≡◌, ℕ, List, refl, ap, sym, ◌∙◌, subst, Err, Ok, length, rules}
-use Rattle.policy_types.specs.declared.entry.Entry.{Entry}
-use Rattle.policy_types.specs.declared.entry.Reply.TheVariants.{Refused}
-use Rattle.policy_types.specs.declared.refusal.Refusal.TheVariants.{Full}
-use Rattle.policy_machine.specs.Book.{judged_after}
-use Rattle.policy_machine.specs.History.{commands_after}
-use Rattle.posting_journal.specs.States.{disk_of}
-use Rattle.moment_ring.specs.Ends.{TellsOne}
-use Rattle.office_state.specs.Standing.{StandsFor}
-use Rattle.office_state.specs.States.{commands_of, opening_of}
+use Rattle.office_state.proofs.Names.{◌≡◌, ℕ, List, refl, ap, sym, ◌∙◌, subst, Err, Ok, length, rules, Entry, Refused, Full, judged_after, commands_after, disk_of, TellsOne, StandsFor, commands_of, opening_of}
 use Rattle.office_state.proofs.HistorySteps.{is_full, is_refused, posting}
 use Rattle.office_state.proofs.PostedPins.{posted_floor, posted_pins}
 use Rattle.office_state.proofs.SafeSteps.{outlet_itself}

@@ -1,7 +1,6 @@
 -- What start tells of the disk, and what the replay tells of the journal.
-use Rattle.std.proofs.Common.{ap, subst}
+use Rattle.office_state.proofs.Names.{ap, subst, IsOfficeOf}
 use Rattle.std.proofs.lemmas.Result.{MatchResult-weaker}
-use Rattle.office_state.specs.inside.Replays.{IsOfficeOf}
 use Rattle.office_state.proofs.OpeningSteps.{IsStarted, not_started}
 use Rattle.office_state.proofs.OpenedSteps.{no_office, made_office}
 use Rattle.office_state.proofs.state.OfficeState.open.Goals as goal

@@ -1,6 +1,4 @@
-use Rattle.std.proofs.Common.{List}
-use Rattle.policy_types.specs.declared.entry.Entry.{Entry}
-use Rattle.office_state.specs.Standing.{StandsFor}
+use Rattle.office_state.proofs.Names.{List, Entry, StandsFor}
 use Rattle.office_state.proofs.PinTurns.{stands_pin}
 use Rattle.office_state.proofs.state.OfficeState.pin.Goals as goal
 

@@ -1,6 +1,4 @@
-use Rattle.std.proofs.Common.{List, arith}
-use Rattle.policy_types.specs.declared.entry.Entry.{Entry}
-use Rattle.office_state.specs.Standing.{StandsFor}
+use Rattle.office_state.proofs.Names.{List, arith, Entry, StandsFor}
 use Rattle.office_state.proofs.PinTurns.{stands_ahead, stands_pin_at, stands_trimmed}
 use Rattle.office_state.proofs.state.OfficeState.pin_at.Goals as goal
 

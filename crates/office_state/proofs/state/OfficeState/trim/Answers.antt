@@ -1,9 +1,5 @@
 -- The floor rises to the least position of a live pin or to the count, and so does that of the books.
-use Rattle.std.proofs.Common.{◌≡◌, List, ◌∙◌, ap, min, map, arith}
-use Rattle.std.specs.List.{fold}
-use Rattle.policy_types.specs.declared.entry.Entry.{Entry}
-use Rattle.office_state.specs.declared.held.Held.{Held}
-use Rattle.office_state.specs.Standing.{StandsFor}
+use Rattle.office_state.proofs.Names.{◌≡◌, List, ◌∙◌, ap, min, map, arith, fold, Entry, Held, StandsFor}
 use Rattle.office_state.proofs.PinTurns.{least, least_above, least_reached, stands_floor}
 use Rattle.office_state.proofs.state.OfficeState.trim.Goals as goal
 

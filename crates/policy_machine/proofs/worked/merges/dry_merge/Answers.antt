@@ -1,10 +1,4 @@
-use Rattle.std.proofs.Common.{refl, arith, pos, [], ◌∷◌}
-use Rattle.std.specs.List.{IsDistinct}
-use Rattle.life_dates.specs.Anniversary.{anniversary_of}
-use Rattle.life_dates.specs.Calendar.{day_number, date_of, date_at, year_of, month_of, days_before, days_before_year, days_of_months}
-use Rattle.policy_types.specs.declared.entry.Call.TheVariants.{Post, Pin, Unpin, Trim}
-use Rattle.policy_types.specs.declared.entry.Reply.TheVariants.{Accepted, Pinned, Unpinned, Floor}
-use Rattle.policy_machine.specs.Worked.Cases.{policy_issue, premium_on, turn}
+use Rattle.policy_machine.proofs.Names.{refl, arith, pos, [], ◌∷◌, IsDistinct, anniversary_of, day_number, date_of, date_at, year_of, month_of, days_before, days_before_year, days_of_months, Post, Pin, Unpin, Trim, Accepted, Pinned, Unpinned, Floor, policy_issue, premium_on, turn}
 use Rattle.policy_machine.proofs.Turns.{◌then◌}
 use Rattle.policy_machine.proofs.worked.merges.dry_merge.Goals as goal
 

@@ -1,6 +1,4 @@
-use Rattle.std.proofs.Common.{refl}
-use Rattle.std.specs.List.{IsDistinct}
-use Rattle.std.proofs.lemmas.Bool.{eqb-false}
+use Rattle.policy_machine.proofs.Names.{refl, IsDistinct, eqb-false}
 use Rattle.policy_machine.proofs.worked.merges.own_lines.Goals as goal
 
 pub returns-clause-shared : goal.returns-clause-shared

@@ -1,9 +1,5 @@
-use Rattle.std.proofs.Common.{refl, arith, [], ◌∷◌}
-use Rattle.std.specs.List.{IsDistinct}
-use Rattle.policy_types.specs.declared.entry.Call.TheVariants.{PinAt}
-use Rattle.policy_types.specs.declared.entry.Reply.TheVariants.{PinRefused}
+use Rattle.policy_machine.proofs.Names.{refl, arith, [], ◌∷◌, IsDistinct, PinAt, PinRefused, turn}
 use Rattle.policy_types.specs.declared.entry.PinRefusal.TheVariants.{Ahead}
-use Rattle.policy_machine.specs.Worked.Cases.{turn}
 use Rattle.policy_machine.proofs.worked.merges.refused_valuation.Goals as goal
 
 pub returns-clause-merge : goal.returns-clause-merge

@@ -1,11 +1,5 @@
-use Rattle.std.proofs.Common.{refl, arith, pos, [], ◌∷◌}
-use Rattle.std.specs.List.{IsDistinct}
-use Rattle.life_dates.specs.Anniversary.{anniversary_of}
-use Rattle.life_dates.specs.Calendar.{day_number, date_of, date_at, year_of, month_of, days_before, days_before_year, days_of_months}
+use Rattle.policy_machine.proofs.Names.{refl, arith, pos, [], ◌∷◌, IsDistinct, anniversary_of, day_number, date_of, date_at, year_of, month_of, days_before, days_before_year, days_of_months, Post, Pin, Read, Unpin, Trim, Accepted, Pinned, Policies, Unpinned, Floor, policy_issue, policy_with, premium_on, turn}
 use Rattle.policy_types.specs.declared.policy.Status.TheVariants.{InForce}
-use Rattle.policy_types.specs.declared.entry.Call.TheVariants.{Post, Pin, Read, Unpin, Trim}
-use Rattle.policy_types.specs.declared.entry.Reply.TheVariants.{Accepted, Pinned, Slice as Policies, Unpinned, Floor}
-use Rattle.policy_machine.specs.Worked.Cases.{policy_issue, policy_with, premium_on, turn}
 use Rattle.policy_machine.proofs.Turns.{◌then◌}
 use Rattle.policy_machine.proofs.worked.merges.whole_merge.Goals as goal
 

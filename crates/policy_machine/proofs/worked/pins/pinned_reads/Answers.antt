@@ -1,9 +1,4 @@
-use Rattle.std.proofs.Common.{refl, arith}
-use Rattle.life_dates.specs.Anniversary.{anniversary_of}
-use Rattle.life_dates.specs.Calendar.{day_number, date_of, date_at, year_of, month_of, days_before, days_before_year, days_of_months}
-use Rattle.policy_types.specs.declared.entry.Call.TheVariants.{Pin}
-use Rattle.policy_types.specs.declared.entry.Reply.TheVariants.{Pinned}
-use Rattle.policy_machine.specs.Worked.Cases.{turn}
+use Rattle.policy_machine.proofs.Names.{refl, arith, anniversary_of, day_number, date_of, date_at, year_of, month_of, days_before, days_before_year, days_of_months, Pin, Pinned, turn}
 use Rattle.policy_machine.proofs.Turns.{◌then◌}
 use Rattle.policy_machine.proofs.worked.pins.pinned_reads.Goals as goal
 

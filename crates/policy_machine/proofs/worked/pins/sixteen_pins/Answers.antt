@@ -1,7 +1,4 @@
-use Rattle.std.proofs.Common.{refl, arith}
-use Rattle.policy_types.specs.declared.entry.Call.TheVariants.{Pin}
-use Rattle.policy_types.specs.declared.entry.Reply.TheVariants.{Pinned}
-use Rattle.policy_machine.specs.Worked.Cases.{turn}
+use Rattle.policy_machine.proofs.Names.{refl, arith, Pin, Pinned, turn}
 use Rattle.policy_machine.proofs.Turns.{◌then◌}
 use Rattle.policy_machine.proofs.worked.pins.sixteen_pins.Goals as goal
 

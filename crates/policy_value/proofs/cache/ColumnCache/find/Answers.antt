@@ -1,8 +1,6 @@
-use Rattle.std.proofs.Common.{refl, ◌∙◌}
-use Rattle.std.specs.Map.{lookup}
+use Rattle.policy_value.proofs.Names.{refl, ◌∙◌, lookup, IsRightPremium}
 use Rattle.policy_value.specs.contracts.key.CacheKeyPartialEq.TheImpl.{eq-value}
 use Rattle.policy_value.proofs.Asking.{asked_hit, missed, some_value}
-use Rattle.policy_value.specs.Caches.{IsRightPremium}
 use Rattle.policy_value.proofs.Keeping.{All-promoted, found_right, same_key}
 use Rattle.policy_value.proofs.cache.ColumnCache.find.Goals as goal
 

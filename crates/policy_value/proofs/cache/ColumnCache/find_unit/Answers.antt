@@ -1,10 +1,4 @@
-use Rattle.std.proofs.Common.{refl, sym, ap, ◌∙◌}
-use Rattle.std.specs.Map.{lookup}
-use Rattle.lru.specs.LruCache.{LruCache}
-use Rattle.crvm_reserve.specs.declared.premium.Premium.{Premium}
-use Rattle.policy_value.specs.Caches.{IsRightPremium}
-use Rattle.policy_value.specs.declared.cache.ColumnCache.{ColumnCache}
-use Rattle.policy_value.specs.declared.key.CacheKey.{CacheKey}
+use Rattle.policy_value.proofs.Names.{refl, sym, ap, ◌∙◌, lookup, LruCache, Premium, IsRightPremium, ColumnCache, CacheKey}
 use Rattle.policy_value.specs.contracts.key.CacheKeyPartialEq.TheImpl.{eq-value}
 use Rattle.policy_value.proofs.Asking.{asked_hit, missing, not_promoted, some_value, none_value}
 use Rattle.policy_value.proofs.Keeping.{All-promoted}

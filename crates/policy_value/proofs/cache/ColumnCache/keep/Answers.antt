@@ -1,6 +1,5 @@
-use Rattle.std.proofs.Common.{refl}
+use Rattle.policy_value.proofs.Names.{refl, IsRightPremium}
 use Rattle.policy_value.specs.contracts.key.CacheKeyPartialEq.TheImpl.{eq-value}
-use Rattle.policy_value.specs.Caches.{IsRightPremium}
 use Rattle.policy_value.proofs.Asking.{asked_kept, asked_unkept}
 use Rattle.policy_value.proofs.Keeping.{All-after_put, same_key}
 use Rattle.policy_value.proofs.cache.ColumnCache.keep.Goals as goal

@@ -1,5 +1,4 @@
-use Rattle.std.proofs.Common.{ap, sym, ◌∙◌, min}
-use Rattle.std.proofs.lemmas.List.{length-map}
+use Rattle.policy_value.proofs.Names.{ap, sym, ◌∙◌, min, length-map}
 use Rattle.policy_value.proofs.cache.ColumnCache.len.Goals as goal
 
 pub returns : goal.returns

@@ -1,8 +1,6 @@
-use Rattle.std.proofs.Common.{refl, ap}
-use Rattle.policy_value.specs.declared.cache.ColumnCache.{ColumnCache}
+use Rattle.policy_value.proofs.Names.{refl, ap, ColumnCache, cap_by, cover_by}
 use Rattle.policy_value.proofs.Asking.{asked_from, asked_then_kept}
 use Rattle.policy_value.proofs.PerUnit.{unit_by_row, unit_of_row}
-use Rattle.policy_value.specs.inside.Covered.{cap_by, cover_by}
 use Rattle.policy_value.proofs.cache.ColumnCache.unit.Goals as goal
 
 pub returns-in-Some-clause-unit : goal.returns-in-Some-clause-unit

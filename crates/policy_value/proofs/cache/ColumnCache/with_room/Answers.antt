@@ -1,6 +1,4 @@
-use Rattle.std.proofs.Common.{refl}
-use Rattle.std.proofs.lemmas.List.Elements.{All-nil}
-use Rattle.policy_value.specs.Caches.{IsRightPremium}
+use Rattle.policy_value.proofs.Names.{refl, All-nil, IsRightPremium}
 use Rattle.policy_value.proofs.cache.ColumnCache.with_room.Goals as goal
 
 pub returns-in-Ok-clause-right : goal.returns-in-Ok-clause-right

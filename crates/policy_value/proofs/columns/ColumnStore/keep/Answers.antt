@@ -1,5 +1,4 @@
-use Rattle.std.proofs.Common.{arith, subst, ◌+◌}
-use Rattle.policy_value.specs.inside.Kept.{HasPut}
+use Rattle.policy_value.proofs.Names.{arith, subst, ◌+◌, HasPut}
 use Rattle.policy_value.proofs.Putting.{all_put}
 use Rattle.policy_value.proofs.columns.ColumnStore.keep.Goals as goal
 

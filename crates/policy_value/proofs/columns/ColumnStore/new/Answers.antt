@@ -1,6 +1,4 @@
-use Rattle.std.proofs.Common.{rules}
-use Rattle.std.proofs.lemmas.List.Elements.{All-nil}
-use Rattle.policy_value.specs.Caches.{IsRightColumn}
+use Rattle.policy_value.proofs.Names.{rules, All-nil, IsRightColumn}
 use Rattle.policy_value.proofs.columns.ColumnStore.new.Goals as goal
 
 pub returns-clause-right : goal.returns-clause-right

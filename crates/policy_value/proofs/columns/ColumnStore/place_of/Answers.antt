@@ -1,7 +1,5 @@
-use Rattle.std.proofs.Common.{◌≡◌, ◌<◌, Some, length, set, slice_get, subst, sym, true≢false, ◌∙◌}
-use Rattle.std.proofs.lemmas.List.{get_or-set_same, length-set}
+use Rattle.policy_value.proofs.Names.{◌≡◌, ◌<◌, Some, length, set, slice_get, subst, sym, true≢false, ◌∙◌, get_or-set_same, length-set, HasAgeAt}
 use Rattle.std.proofs.lemmas.Option.{get_or_from_slice_get, slice_get_read}
-use Rattle.policy_value.specs.inside.Kept.{HasAgeAt}
 use Rattle.policy_value.proofs.Putting.{later_age}
 use Rattle.policy_value.proofs.columns.ColumnStore.place_of.Goals as goal
 

@@ -1,5 +1,4 @@
-use Rattle.std.proofs.Common.{◌+◌, ◌-◌, ap, get_or, ◌∙◌}
-use Rattle.policy_value.specs.Caches.{IsRowOf}
+use Rattle.policy_value.proofs.Names.{◌+◌, ◌-◌, ap, get_or, ◌∙◌, IsRowOf}
 use Rattle.policy_value.proofs.Putting.{kept_value}
 use Rattle.policy_value.proofs.columns.ColumnStore.value.Goals as goal
 

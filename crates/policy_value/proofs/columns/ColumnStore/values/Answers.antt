@@ -1,6 +1,4 @@
-use Rattle.std.proofs.Common.{arith, ◌+◌, ◌≤◌, sym, ap, ◌∙◌}
-use Rattle.present_value.specs.Sums.{cover_of}
-use Rattle.present_value.specs.Ends.{value_to}
+use Rattle.policy_value.proofs.Names.{arith, ◌+◌, ◌≤◌, sym, ap, ◌∙◌, cover_of, value_to}
 use Rattle.present_value.proofs.Ends.{benefits_in, premiums_in}
 use Rattle.present_value.proofs.Steps.{ann-after}
 use Rattle.policy_value.proofs.columns.ColumnStore.values.Goals as goal

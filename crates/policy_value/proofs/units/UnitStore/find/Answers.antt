@@ -1,5 +1,4 @@
-use Rattle.std.proofs.Common.{◌≡◌, ◌<◌, length, ap, arith, ◌∙◌}
-use Rattle.policy_value.specs.inside.Kept.{unit_place}
+use Rattle.policy_value.proofs.Names.{◌≡◌, ◌<◌, length, ap, arith, ◌∙◌, unit_place}
 use Rattle.policy_value.proofs.PerUnit.{found_held, holds_found, right_found}
 use Rattle.policy_value.proofs.units.UnitStore.find.Goals as goal
 

@@ -1,9 +1,5 @@
-use Rattle.std.proofs.Common.{◌≡◌, ◌<◌, Option, Some, length, ap, arith, ◌∙◌}
-use Rattle.std.proofs.lemmas.List.Elements.{All-set}
-use Rattle.std.proofs.lemmas.List.{length-set}
-use Rattle.policy_value.specs.Caches.{IsRightPlace}
+use Rattle.policy_value.proofs.Names.{◌≡◌, ◌<◌, Option, Some, length, ap, arith, ◌∙◌, All-set, length-set, IsRightPlace, kept_unit, unit_place}
 use Rattle.policy_value.specs.declared.units.KeptUnit.{KeptUnit}
-use Rattle.policy_value.specs.inside.Kept.{kept_unit, unit_place}
 use Rattle.policy_value.proofs.PerUnit.{holds_set}
 use Rattle.policy_value.proofs.units.UnitStore.keep.Goals as goal
 

@@ -1,6 +1,4 @@
-use Rattle.std.proofs.Common.{rules}
-use Rattle.std.proofs.lemmas.List.Elements.{All-nil}
-use Rattle.policy_value.specs.Caches.{IsRightPlace}
+use Rattle.policy_value.proofs.Names.{rules, All-nil, IsRightPlace}
 use Rattle.policy_value.proofs.units.UnitStore.new.Goals as goal
 
 pub returns : goal.returns

@@ -1,8 +1,5 @@
 -- The gate was opened, or may be open.
-use Rattle.std.proofs.Common.{[], ◌∷◌, ◌++◌, length, refl, ◌∙◌, ap, arith}
-use Rattle.std.proofs.lemmas.List.{length_push}
-use Rattle.posting_journal.specs.Layout.{gate_place}
-use Rattle.posting_journal.specs.Files.{IsJournal, IsStaged, IsBeforeOrAfter}
+use Rattle.posting_journal.proofs.Names.{[], ◌∷◌, ◌++◌, length, refl, ◌∙◌, ap, arith, length_push, gate_place, IsJournal, IsStaged, IsBeforeOrAfter}
 use Rattle.posting_journal.proofs.Moments.{leaves_more}
 use Rattle.posting_journal.proofs.Staging.{gating, puts_at, each_safe}
 use Rattle.posting_journal.proofs.Written.{written_opened, staged_either}

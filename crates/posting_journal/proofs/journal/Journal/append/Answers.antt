@@ -1,7 +1,5 @@
 -- The record is staged and then acknowledged.
-use Rattle.std.proofs.Common.{inl, Ok, refl, ◌∙◌}
-use Rattle.posting_journal.specs.Files.{IsJournal, IsStaged, IsBeforeOrAfter}
-use Rattle.posting_journal.specs.Runs.{IsSafe}
+use Rattle.posting_journal.proofs.Names.{inl, Ok, refl, ◌∙◌, IsJournal, IsStaged, IsBeforeOrAfter, IsSafe}
 use Rattle.posting_journal.specs.States.{StandsFor}
 use Rattle.posting_journal.proofs.Moments.{leaves_on}
 use Rattle.posting_journal.proofs.Staging.{told_ok, told_err}

@@ -1,7 +1,5 @@
 -- The gate was closed, or the record of the fault may still be there.
-use Rattle.std.proofs.Common.{[], ◌∷◌, length, refl, ◌∙◌, ap}
-use Rattle.posting_journal.specs.Layout.{gate_place}
-use Rattle.posting_journal.specs.Files.{IsJournal, IsStaged, IsBeforeOrAfter}
+use Rattle.posting_journal.proofs.Names.{[], ◌∷◌, length, refl, ◌∙◌, ap, gate_place, IsJournal, IsStaged, IsBeforeOrAfter}
 use Rattle.posting_journal.proofs.Moments.{leaves_more}
 use Rattle.posting_journal.proofs.Staging.{gating, puts_at, each_safe, kept_unclean, unclean_kept}
 use Rattle.posting_journal.proofs.Written.{within, written_byte, written_closed, staged_either}

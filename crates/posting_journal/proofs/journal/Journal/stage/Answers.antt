@@ -1,6 +1,5 @@
 -- The journal stays, and the body is staged behind it.
-use Rattle.std.proofs.Common.{◌≡◌, ◌<◌, [], ◌∷◌, ◌++◌, length, ◌∙◌, ap, arith}
-use Rattle.posting_journal.specs.Layout.{body_place}
+use Rattle.posting_journal.proofs.Names.{◌≡◌, ◌<◌, [], ◌∷◌, ◌++◌, length, ◌∙◌, ap, arith, body_place}
 use Rattle.posting_journal.proofs.Staging.{staging, puts_at, kept_clean, clean_kept}
 use Rattle.posting_journal.proofs.journal.Journal.stage.Goals as goal
 

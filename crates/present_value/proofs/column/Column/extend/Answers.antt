@@ -1,7 +1,4 @@
-use Rattle.std.proofs.Common.{◌-◌, ◌*◌, arith, ap, ◌∙◌}
-use Rattle.rate_table.specs.Rates.{rate_at}
-use Rattle.present_value.specs.Ends.{CanEnd}
-use Rattle.present_value.specs.Values.{pair_at}
+use Rattle.present_value.proofs.Names.{◌-◌, ◌*◌, arith, ap, ◌∙◌, rate_at, CanEnd, pair_at}
 use Rattle.present_value.specs.inside.Earlier.{earlier}
 use Rattle.present_value.proofs.Ageing.{gone_down, last_most, rate_below}
 use Rattle.present_value.proofs.Places.{year_is}

@@ -1,5 +1,4 @@
-use Rattle.std.proofs.Common.{◌-◌, ◌≤◌}
-use Rattle.present_value.specs.Ends.{IsColumn, IsOf}
+use Rattle.present_value.proofs.Names.{◌-◌, ◌≤◌, IsColumn, IsOf}
 use Rattle.present_value.proofs.column.Column.extend.Given as goal
 
 -- the values are known from the column's lowest age on

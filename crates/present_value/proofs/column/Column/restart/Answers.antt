@@ -1,6 +1,4 @@
-use Rattle.std.proofs.Common.{rules, refl, ap, ◌∙◌}
-use Rattle.std.proofs.lemmas.List.{get_or-set_same, length-set}
-use Rattle.present_value.specs.Values.{pair_of}
+use Rattle.present_value.proofs.Names.{rules, refl, ap, ◌∙◌, get_or-set_same, length-set, pair_of}
 use Rattle.present_value.proofs.Ageing.{started}
 use Rattle.present_value.proofs.column.Column.restart.Goals as goal
 

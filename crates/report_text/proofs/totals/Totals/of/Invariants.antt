@@ -1,5 +1,4 @@
-use Rattle.std.proofs.Common.{◌≡◌, ◌*◌, ◌≤◌, take}
-use Rattle.report_text.specs.Block.{lower_sum, upper_sum, lower_minimum_sum, upper_minimum_sum, unvalued_count}
+use Rattle.report_text.proofs.Names.{◌≡◌, ◌*◌, ◌≤◌, take, lower_sum, upper_sum, lower_minimum_sum, upper_minimum_sum, unvalued_count}
 use Rattle.report_text.proofs.totals.Totals.of.Given as goal
 
 abbrev pub invariant-loop-row : goal.invariant-loop-row

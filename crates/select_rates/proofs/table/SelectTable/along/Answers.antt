@@ -1,5 +1,4 @@
-use Rattle.std.proofs.Common.{◌≡◌, ◌<◌, ◌-◌, ◌∙◌, ap, sym, length, arith}
-use Rattle.select_rates.specs.Select.{Selected}
+use Rattle.select_rates.proofs.Names.{◌≡◌, ◌<◌, ◌-◌, ◌∙◌, ap, sym, length, arith, Selected}
 use Rattle.select_rates.specs.Table.{select_table}
 use Rattle.select_rates.proofs.Values.{prepared_is}
 use Rattle.select_rates.proofs.table.SelectTable.along.Goals as goal

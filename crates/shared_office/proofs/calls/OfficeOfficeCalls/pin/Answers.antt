@@ -1,5 +1,4 @@
-use Rattle.std.proofs.Common.{refl}
-use Rattle.policy_types.specs.declared.entry.Call.TheVariants.{Pin}
+use Rattle.shared_office.proofs.Names.{refl, Pin}
 use Rattle.shared_office.proofs.Holding.{given, keeps_pins}
 use Rattle.shared_office.proofs.calls.OfficeOfficeCalls.pin.Goals as goal
 

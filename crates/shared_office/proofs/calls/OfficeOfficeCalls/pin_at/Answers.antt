@@ -1,5 +1,4 @@
-use Rattle.std.proofs.Common.{refl}
-use Rattle.policy_types.specs.declared.entry.Call.TheVariants.{PinAt}
+use Rattle.shared_office.proofs.Names.{refl, PinAt}
 use Rattle.shared_office.proofs.Holding.{given, keeps_pins}
 use Rattle.shared_office.proofs.calls.OfficeOfficeCalls.pin_at.Goals as goal
 

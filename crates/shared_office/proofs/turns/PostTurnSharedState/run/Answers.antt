@@ -1,5 +1,4 @@
-use Rattle.std.proofs.Common.{ap, ◌∙◌}
-use Rattle.office_state.specs.States.{Opened}
+use Rattle.shared_office.proofs.Names.{ap, ◌∙◌, Opened}
 use Rattle.shared_office.proofs.Turned.{outlet_on, turned}
 use Rattle.shared_office.proofs.turns.PostTurnSharedState.run.Goals as goal
 

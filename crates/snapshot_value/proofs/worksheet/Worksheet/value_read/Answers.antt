@@ -1,7 +1,5 @@
-use Rattle.std.proofs.Common.{rules}
+use Rattle.snapshot_value.proofs.Names.{rules, AreAsBefore, GivesRow, TakesPolicy}
 use Rattle.std.specs.Vec.{with_items}
-use Rattle.parallel_value.specs.Pieces.{AreAsBefore}
-use Rattle.snapshot_value.specs.inside.Workers.{GivesRow, TakesPolicy}
 use Rattle.snapshot_value.proofs.SheetSteps.{can_valued, made_valued, still_with}
 use Rattle.snapshot_value.proofs.worksheet.Worksheet.value_read.Goals as goal
 

@@ -1,13 +1,7 @@
-use Rattle.std.proofs.Common.{◌≡◌, ℕ, ◌==◌, true, false, List, [], ◌∷◌, ◌++◌, length, refl, ap, sym, ◌∙◌, subst, Option, Some, Ok, arith}
-use Rattle.std.specs.Prelude.{IfSome}
+use Rattle.stating_modes.proofs.Names.{◌≡◌, ℕ, ◌==◌, true, false, List, [], ◌∷◌, ◌++◌, length, refl, ap, sym, ◌∙◌, subst, Option, Some, Ok, arith, IfSome, Command, Policy, id_of, IsSound, next, IsAccount}
 use Rattle.std.proofs.lemmas.Bool.{eq-eqb, ne_eqb}
 use Rattle.std.proofs.lemmas.List.{length_push}
-use Rattle.policy_types.specs.declared.command.Command.{Command}
-use Rattle.policy_types.specs.declared.policy.Policy.{Policy}
-use Rattle.policy_types.specs.Valid.{id_of}
-use Rattle.policy_machine.specs.Rules.{IsSound, next}
 use Rattle.policy_machine.proofs.JudgeLemmas.{named-no_upgrade}
-use Rattle.stating_modes.specs.inside.Rereading.{IsAccount}
 use Rattle.stating_modes.proofs.ReadingSteps.{account_other, account_own, account_own_policy, account_sound}
 use Rattle.stating_modes.proofs.rereading.AccountKeeper.add.Goals as goal
 

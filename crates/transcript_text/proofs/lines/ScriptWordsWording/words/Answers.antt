@@ -1,5 +1,4 @@
-use Rattle.std.proofs.Common.{◌<◌, length}
-use Rattle.transcript_text.specs.Told.{told_text}
+use Rattle.transcript_text.proofs.Names.{◌<◌, length, told_text}
 use Rattle.transcript_text.proofs.WritableSteps.{at_error, some_told, tellable_writable}
 use Rattle.transcript_text.proofs.lines.ScriptWordsWording.words.Goals as goal
 

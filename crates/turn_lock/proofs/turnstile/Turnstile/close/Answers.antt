@@ -1,6 +1,5 @@
-use Rattle.std.proofs.Common.{sym, refl, subst}
+use Rattle.turn_lock.proofs.Names.{sym, refl, subst, PassFacts}
 use Rattle.std.specs.Option.{IsSome}
-use Rattle.turn_lock.specs.Passes.{PassFacts}
 use Rattle.turn_lock.proofs.Passing.{facts_of}
 use Rattle.turn_lock.proofs.Ending.{Ended, ends, is_value}
 use Rattle.turn_lock.proofs.turnstile.Turnstile.close.Goals.{After-take}

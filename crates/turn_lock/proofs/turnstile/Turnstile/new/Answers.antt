@@ -1,9 +1,4 @@
-use Rattle.std.proofs.Common.{rules, ◌≡◌, ◌∷◌, [], sym, ap, ◌∙◌, subst, Some}
-use Rattle.atomic_table.specs.Table.{opening}
-use Rattle.turn_lock.specs.Passes.{all_turns, all_shares}
-use Rattle.turn_lock.specs.inside.Seats.{first_view}
-use Rattle.turn_lock.specs.inside.Rule.{LockRule}
-use Rattle.turn_lock.specs.inside.Places.{IsPass}
+use Rattle.turn_lock.proofs.Names.{rules, ◌≡◌, ◌∷◌, [], sym, ap, ◌∙◌, subst, Some, opening, all_turns, all_shares, first_view, LockRule, IsPass}
 use Rattle.turn_lock.proofs.Dividing.{starts}
 use Rattle.turn_lock.proofs.Passing.{first_pass, facts_of}
 use Rattle.turn_lock.proofs.turnstile.Turnstile.new.Goals.{In-Ok}

@@ -1,11 +1,4 @@
-use Rattle.std.proofs.Common.{◌≡◌, Some, sym, ap, ◌∙◌, subst, length, IsSome, IfSome, nat_eq, arith}
-use Rattle.std.proofs.lemmas.List.{length_push}
-use Rattle.std.specs.Option.{option_map}
-use Rattle.std.specs.Map.Iter.{deref_pair}
-use Rattle.indexmap.specs.IndexMap.{get}
-use Rattle.versioned_book.specs.Pasts.{newest, older_of, olders_in}
-use Rattle.versioned_book.specs.Settings.{own}
-use Rattle.versioned_book.specs.Versions.{IsRising, versions_from, value_at}
+use Rattle.versioned_book.proofs.Names.{◌≡◌, Some, sym, ap, ◌∙◌, subst, length, IsSome, IfSome, nat_eq, arith, length_push, option_map, deref_pair, get, newest, older_of, olders_in, own, IsRising, versions_from, value_at}
 use Rattle.versioned_book.proofs.Looking.{chain_at, has_value, within_keys}
 use Rattle.versioned_book.proofs.VersionSteps.{some_same, value_at-within}
 use Rattle.versioned_book.proofs.book.VersionedBook.at.Goals as goal

@@ -1,5 +1,4 @@
-use Rattle.std.proofs.Common.{sym, subst, ◌≤◌, ◌+◌, length}
-use Rattle.versioned_book.specs.Settings.{settings_after, keys_of}
+use Rattle.versioned_book.proofs.Names.{sym, subst, ◌≤◌, ◌+◌, length, settings_after, keys_of}
 use Rattle.versioned_book.proofs.KeptFew.{kept_few}
 use Rattle.versioned_book.proofs.book.VersionedBook.kept.Goals as goal
 

@@ -1,9 +1,4 @@
-use Rattle.std.proofs.Common.{sym, ap, ◌∙◌}
-use Rattle.std.specs.Option.{option_map}
-use Rattle.std.specs.Map.Iter.{deref_pair}
-use Rattle.versioned_book.specs.Versions.{newest_of}
-use Rattle.versioned_book.specs.Pasts.{newest, older_of, olders_in}
-use Rattle.versioned_book.specs.Settings.{own}
+use Rattle.versioned_book.proofs.Names.{sym, ap, ◌∙◌, option_map, deref_pair, newest_of, newest, older_of, olders_in, own}
 use Rattle.versioned_book.proofs.Places.{found_at, none_at, within_at}
 use Rattle.versioned_book.proofs.VersionSteps.{newest_of-push, newest_of-trimmed}
 use Rattle.versioned_book.proofs.book.VersionedBook.newest_at.Goals as goal

@@ -1,5 +1,4 @@
-use Rattle.std.proofs.Common.{◌≤◌, arith}
-use Rattle.versioned_book.specs.Settings.{positions}
+use Rattle.versioned_book.proofs.Names.{◌≤◌, arith, positions}
 use Rattle.versioned_book.proofs.SettingSteps.{rising-longer}
 use Rattle.versioned_book.proofs.book.VersionedBook.pass.Goals as goal
 

@@ -1,8 +1,4 @@
-use Rattle.std.proofs.Common.{◌≡◌, None, Some, nat_eq, ap, sym, ◌∙◌, subst, vec_len, vec_capacity, ◌<◌, arith, rules}
-use Rattle.std.specs.Map.{lookup}
-use Rattle.std.specs.Option.{option_map}
-use Rattle.std.specs.Map.Iter.{deref_pair}
-use Rattle.versioned_book.specs.Pasts.{HasPastRoom}
+use Rattle.versioned_book.proofs.Names.{◌≡◌, None, Some, nat_eq, ap, sym, ◌∙◌, subst, vec_len, vec_capacity, ◌<◌, arith, rules, lookup, option_map, deref_pair, HasPastRoom}
 use Rattle.versioned_book.proofs.Places.{found_at, none_at, on_ok}
 use Rattle.versioned_book.proofs.VersionSteps.{some_same}
 use Rattle.versioned_book.proofs.book.VersionedBook.reserve_at.Goals as goal

@@ -1,10 +1,5 @@
-use Rattle.std.proofs.Common.{refl, sym, ap, ◌∙◌, length, arith}
-use Rattle.std.proofs.lemmas.Option.{slice_get_within}
+use Rattle.versioned_book.proofs.Names.{refl, sym, ap, ◌∙◌, length, arith, slice_get_within, nat_eq, keys, places_in, Chain}
 use Rattle.indexmap.proofs.CallerLemmas.{insert_entry-new}
-use Rattle.std.proofs.Common.{nat_eq}
-use Rattle.indexmap.specs.IndexMap.{keys}
-use Rattle.versioned_book.specs.Pasts.{places_in}
-use Rattle.versioned_book.specs.declared.chain.Chain.{Chain}
 use Rattle.versioned_book.proofs.Apart.{key_there}
 use Rattle.versioned_book.proofs.Looking.{ok_of}
 use Rattle.versioned_book.proofs.BookSteps.{as_many, set_more}

@@ -1,7 +1,4 @@
-use Rattle.std.proofs.Common.{◌≡◌, ◌≤◌, [], ◌∷◌, ◌++◌, ap, refl, sym, ◌∙◌, subst, length, arith}
-use Rattle.versioned_book.specs.Pasts.{AreWhereTold, newest, older_of, olders_in, older_total}
-use Rattle.versioned_book.specs.Settings.{own}
-use Rattle.versioned_book.specs.Versions.{versions_from}
+use Rattle.versioned_book.proofs.Names.{◌≡◌, ◌≤◌, [], ◌∷◌, ◌++◌, ap, refl, sym, ◌∙◌, subst, length, arith, AreWhereTold, newest, older_of, olders_in, older_total, own, versions_from}
 use Rattle.versioned_book.proofs.BookSteps.{carried}
 use Rattle.versioned_book.proofs.PastSteps.{none_left, none_told}
 use Rattle.versioned_book.proofs.VersionSteps.{trim_again}

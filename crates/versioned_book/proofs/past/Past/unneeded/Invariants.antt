@@ -1,5 +1,4 @@
-use Rattle.std.proofs.Common.{◌≡◌, ◌-◌, ◌≤◌, [], ◌∷◌, ◌++◌, length, drop}
-use Rattle.versioned_book.specs.Versions.{versions_from}
+use Rattle.versioned_book.proofs.Names.{◌≡◌, ◌-◌, ◌≤◌, [], ◌∷◌, ◌++◌, length, drop, versions_from}
 use Rattle.versioned_book.proofs.past.Past.unneeded.Given as goal
 
 abbrev pub invariant-loop-count : goal.invariant-loop-count

@@ -1,11 +1,4 @@
-use Rattle.std.proofs.Common.{◌≡◌, Some, IfSome, [], ◌∷◌, ◌++◌, sym, ap, ◌∙◌, subst, nat_eq, arith}
-use Rattle.std.proofs.lemmas.List.{length-map}
-use Rattle.std.proofs.lemmas.Option.{slice_get_within}
-use Rattle.std.specs.Option.{option_map}
-use Rattle.std.specs.Map.Iter.{deref_pair}
-use Rattle.indexmap.specs.IndexMap.{get}
-use Rattle.versioned_book.specs.Pasts.{newest, olders_in}
-use Rattle.versioned_book.specs.Versions.{versions_from}
+use Rattle.versioned_book.proofs.Names.{◌≡◌, Some, IfSome, [], ◌∷◌, ◌++◌, sym, ap, ◌∙◌, subst, nat_eq, arith, length-map, slice_get_within, option_map, deref_pair, get, newest, olders_in, versions_from}
 use Rattle.versioned_book.proofs.PastSteps.{older_in, places-set}
 use Rattle.versioned_book.proofs.Trimming.{all_cut, cut_next, cutting, total-cut}
 use Rattle.versioned_book.proofs.VersionSteps.{some_same}

@@ -1,5 +1,4 @@
-use Rattle.std.proofs.Common.{◌≡◌, ◌+◌}
-use Rattle.versioned_book.specs.Pasts.{olders_in, places_in, older_total}
+use Rattle.versioned_book.proofs.Names.{◌≡◌, ◌+◌, olders_in, places_in, older_total}
 use Rattle.versioned_book.proofs.Trimming.{AreCut}
 use Rattle.versioned_book.proofs.past.Pasts.cut.Given as goal
 

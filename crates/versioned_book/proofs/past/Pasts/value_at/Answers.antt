@@ -1,5 +1,4 @@
-use Rattle.std.proofs.Common.{sym, ap, ◌∙◌}
-use Rattle.versioned_book.specs.Versions.{value_at}
+use Rattle.versioned_book.proofs.Names.{sym, ap, ◌∙◌, value_at}
 use Rattle.versioned_book.proofs.PastSteps.{none_own}
 use Rattle.versioned_book.proofs.past.Pasts.value_at.Goals as goal
 

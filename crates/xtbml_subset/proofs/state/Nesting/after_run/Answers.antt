@@ -1,6 +1,4 @@
-use Rattle.std.proofs.Common.{ap, ◌∙◌}
-use Rattle.xtbml_subset.specs.inside.Elements.{elements_at}
-use Rattle.xtbml_subset.specs.inside.Walk.{state_of, walk_at}
+use Rattle.xtbml_subset.proofs.Names.{ap, ◌∙◌, elements_at, state_of, walk_at}
 use Rattle.xtbml_subset.proofs.Stack.{texts}
 use Rattle.xtbml_subset.proofs.PassedOver.{run_outside, run_inside, elements_text, elements_white}
 use Rattle.xtbml_subset.proofs.state.Nesting.after_run.Goals as goal

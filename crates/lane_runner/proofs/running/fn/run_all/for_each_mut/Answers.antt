@@ -1,7 +1,6 @@
-use Rattle.std.proofs.Common.{◌≡◌, Some, sym, ap, ◌∙◌, subst}
+use Rattle.lane_runner.proofs.Names.{◌≡◌, Some, sym, ap, ◌∙◌, subst, HasRunIn}
 use Rattle.std.specs.Prelude.{slice_get}
 use Rattle.std.proofs.lemmas.Option.{slice_get-get_or}
-use Rattle.lane_runner.specs.inside.Parts.{HasRunIn}
 use Rattle.lane_runner.proofs.SeatSteps.{one_some}
 use Rattle.lane_runner.proofs.running.fn.run_all.for_each_mut.Goals as goal
 

@@ -1,0 +1,16 @@
+-- The names from elsewhere that several rooms cite, passed on from one place. Declares nothing.
+unfoldable pub use Rattle.std.specs.List.{IsDistinct}
+pub use Rattle.std.specs.List.{AllByRecursion, flat_map}
+pub use Rattle.std.specs.Map.{lookup, keys_of}
+pub use Rattle.money_ledgers.specs.Balances.{balances}
+pub use Rattle.outside_io.specs.Faults.{Rose}
+pub use Rattle.outside_io.specs.declared.disks.Disk.{Ghosts}
+pub use Rattle.policy_machine.specs.Book.{judge, IsAccepted, judged, book, upgrade_of}
+pub use Rattle.policy_machine.specs.Rules.{IsSound, awaits_settlement, payments_of, issued}
+pub use Rattle.policy_types.specs.Accounts.{AreWithin, IsWithin, added, booking_of}
+pub use Rattle.policy_types.specs.Limits.{most_commands}
+pub use Rattle.policy_types.specs.Valid.{IsValid, id_of, is_upgrade, IsCommandDay, IsIssue}
+pub use Rattle.policy_types.specs.declared.command.Command.{Command}
+pub use Rattle.policy_types.specs.declared.policy.Policy.{Policy, Policy as APolicy}
+pub use Rattle.policy_types.specs.declared.policy.Status.TheVariants.{Claimed, InForce, Lapsed, Matured, Expired, Settled, PaidUp}
+pub use Rattle.posting_journal.specs.Runs.{IsSafe, LooksOn, Leaves, Passes}

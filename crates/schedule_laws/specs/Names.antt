@@ -1,0 +1,6 @@
+-- The names from elsewhere that several rooms cite, passed on from one place. Declares nothing.
+pub use Rattle.std.specs.List.{sum_by, filter_map, AllByRecursion, flat_map}
+pub use Rattle.policy_machine.specs.Book.{book, IsAccepted, issue_id}
+pub use Rattle.policy_machine.specs.History.{Opening, IsLegal, live_pin, commands_after, floor_of, policies_per_read, accepted_of, IsDue, IsOwnPin}
+pub use Rattle.policy_types.specs.declared.command.Command.{Command}
+pub use Rattle.policy_types.specs.declared.entry.Entry.{Entry}

@@ -1,0 +1,6 @@
+-- The names from elsewhere that several rooms cite, passed on from one place. Declares nothing.
+pub use Rattle.std.specs.List.{AllByRecursion, sum_by, AllZip}
+pub use Rattle.policy_types.specs.Limits.{most_commands}
+pub use Rattle.policy_types.specs.Valid.{IsValid}
+pub use Rattle.policy_types.specs.declared.command.Command.{Command, Command as ACommand}
+pub use Rattle.policy_types.specs.declared.watcher.Report.{Report}
