@@ -11,11 +11,13 @@ what it rests on alone, would add: a name that the reader takes as given.
 
 import argparse
 import collections
+import functools
 import pathlib
 import re
 import sys
 
 TOP = pathlib.Path(__file__).resolve().parent.parent
+LIST = "Names.antt"
 NAME = r"[^\s:{}()\[\],.;⦃⦄]+"
 USE = re.compile(r"use\s+Rattle\.([\w.]+)\.\{([^}]*)\}")
 BEGINS = re.compile(r"(?:(?:abbrev|unfoldable)\s+pub|pub\s+(?:record|data)|record|data|abbrev|unfoldable|pub)\s+"
@@ -36,15 +38,23 @@ class Definition:
 
 
 def imports_of(text: str) -> dict[str, str]:
-    """What each imported name means: crate.specs.Path.name."""
+    """What each imported name means: crate.specs.Path.name, also where a list passes it on."""
     found = {}
     for place, names in USE.findall(text):
         for entry in names.split(","):
             words = entry.split()
             if not words:
                 continue
-            found[words[-1] if len(words) == 3 and words[1] == "as" else words[0]] = f"{place}.{words[0]}"
+            local = words[-1] if len(words) == 3 and words[1] == "as" else words[0]
+            found[local] = passed_on(place).get(words[0], f"{place}.{words[0]}")
     return found
+
+
+@functools.cache
+def passed_on(place: str) -> dict[str, str]:
+    """What each name of a list of imports means; none where the place is no such list."""
+    file = TOP / "crates" / (place.replace(".", "/") + ".antt")
+    return imports_of(file.read_text(encoding="utf-8")) if file.name == LIST and file.exists() else {}
 
 
 def place_of(file: pathlib.Path) -> str:
@@ -57,7 +67,7 @@ def read_specs() -> tuple[dict[str, Definition], dict[str, dict[str, str]]]:
     definitions: dict[str, Definition] = {}
     imports: dict[str, dict[str, str]] = {}
     for file in sorted(TOP.glob("crates/*/specs/**/*.antt")):
-        if file.name in ("Lib.antt", "inside.antt"):
+        if file.name in ("Lib.antt", "inside.antt", LIST):
             continue
         text = file.read_text(encoding="utf-8")
         place = place_of(file)

@@ -39,7 +39,7 @@ def definitions(top: pathlib.Path) -> dict[str, set[str]]:
     """The crates that define each name."""
     crates = collections.defaultdict(set)
     for file in top.glob("crates/*/specs/**/*.antt"):
-        if file.name == "Lib.antt":
+        if file.name in ("Lib.antt", "Names.antt"):
             continue
         crate = file.relative_to(top).parts[1]
         for line in file.read_text(encoding="utf-8").splitlines():

@@ -7,10 +7,13 @@ or a text isn't in the kit's layout, all of the file's code counts.
 """
 from __future__ import annotations
 
+import functools
+import pathlib
 import re
 from collections.abc import Iterator, Sequence
 from dataclasses import dataclass
 
+TOP = pathlib.Path(__file__).resolve().parent.parent / "crates"
 FUNCTION = re.compile(r"(\s*)(?:pub(?:\(crate\))? )?(?:const |unsafe )*fn (\w+)")
 NAMED = re.compile(r"(\s*)(?:pub(?:\(crate\))? )?(?:const|static|struct|enum|type|mod) (\w+)")
 IMPORT = re.compile(r"\s*((?:pub(?:\(crate\))? )?(?:ghost )?use )")
@@ -107,6 +110,25 @@ def paths_in(text: str, before: str = "") -> Iterator[str]:
             piece += sign
 
 
+@functools.cache
+def passed_on(place: str) -> dict[str, str]:
+    """What each name of a list of imports stands for, as an import of it alone says; none where the place is no list."""
+    file = TOP / (place.removeprefix("Rattle.").replace(".", "/") + ".antt")
+    if file.name != "Names.antt" or not file.exists():
+        return {}
+    found = {}
+    for line in file.read_text(encoding="utf-8").splitlines():
+        for path in paths_in(line.rpartition("pub use ")[2]) if "pub use " in line else []:
+            found[re.split(r" as |\.(?=\S)", path)[-1]] = path
+    return found
+
+
+def resolved(path: str) -> str:
+    """The path of an import, also where it is of a list that passes the name on."""
+    place, _, name = path.rpartition(".")
+    return passed_on(place).get(name, path)
+
+
 def imported(item: Item, kept: str, words: set[str]) -> Iterator[str]:
     """The paths of an import whose name, or a sign of it, the kept text has."""
     text = " ".join(line.strip() for line in item.lines)
@@ -116,7 +138,7 @@ def imported(item: Item, kept: str, words: set[str]) -> Iterator[str]:
         name = re.split(r" as |::|\.(?=\S)", path)[-1]
         pieces = [it for it in name.split("◌") if it]
         if any(it in words if re.fullmatch(r"\w+", it) else it in kept for it in pieces):
-            yield opening[1] + path
+            yield opening[1] + resolved(path)
 
 
 def kept_of(items: list[Item], struck: list[Item]) -> list[str]:
