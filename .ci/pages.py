@@ -28,7 +28,7 @@ LIMITS = {
     "docs/FORMATS.md": 6150,
     "docs/ARCHITECTURE.md": 5190,
     "docs/PROOF.md": 8220,
-    "docs/DECISIONS.md": 4500,
+    "docs/DECISIONS.md": 4530,
     "docs/FIGURES.md": 1860,
 }
 MOST_IN_A_SENTENCE = 35
