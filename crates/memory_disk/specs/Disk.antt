@@ -47,5 +47,5 @@ abbrev pub GoesOn : MemoryDisk → MemoryDisk → Type 0
 GoesOn old new = Passes (disk_first old) (disk_calls old) (disk_first new) (disk_calls new)
 
 -- a fault is told where one was noted, and nowhere else
-abbrev pub HasCause : {T E : Type 0} → MemoryDisk → MemoryDisk → Result T E → Type 0
-HasCause old new result = HasDiskCause (plan_faults old.plan) (plan_faults new.plan) result
+abbrev pub CountsFaults : {T E : Type 0} → MemoryDisk → MemoryDisk → Result T E → Type 0
+CountsFaults old new result = HasDiskCause (plan_faults old.plan) (plan_faults new.plan) result

@@ -2,7 +2,7 @@
 ghost use Rattle.std.specs.Prelude.{◌≡◌, ℕ, List, [], ◌∷◌, ◌++◌, ◌+◌, ◌≤◌, false, true, ◌-◌, ◌^◌, length, min, take, drop, IfOk, OnOk, OnErr, ⊤, ◌⊎◌};
 ghost use Rattle.outside_io.specs.Disks.{Writes, Syncs};
 ghost use Rattle.outside_io.specs.Plans.{plan_faults, plan_failing, plan_calls};
-ghost use Rattle.memory_disk.specs.Disk.{GoesOn, HasCause, LooksAt, images_of, disk_first, disk_bytes, disk_calls, disk_plan, FollowsPlan, KeepsOrAdds};
+ghost use Rattle.memory_disk.specs.Disk.{GoesOn, CountsFaults, LooksAt, images_of, disk_first, disk_bytes, disk_calls, disk_plan, FollowsPlan, KeepsOrAdds};
 ghost use Rattle.memory_disk.specs.History.{IsImage, WasImage, IsWriteOf, image_of_writes, torn_after};
 ghost use Rattle.memory_disk.specs.HistoryLaws.{replayed_image, now_counts, left_sooner, only_now_left};
 ghost use Rattle.memory_disk.specs.declared.disk_call.DiskCall.TheVariants.{Len, Read, Sync};
@@ -130,7 +130,7 @@ impl Disk for MemoryDisk {
     }
 
     fn len(&mut self) -> Result<u64, Failed>
-        ensures cause { HasCause self.old self.new result }
+        ensures cause { CountsFaults self.old self.new result }
         ensures length { IfOk result (λ n. n ≡ length (disk_bytes self.old)) }
         ensures facts { LooksAt self.old self.new }
         ensures time { GoesOn self.old self.new }
@@ -148,7 +148,7 @@ impl Disk for MemoryDisk {
 
     fn read(&mut self, at: u64, buf: &mut [u8]) -> Result<(), Failed>
         requires { at + length buf.old ≤ length (disk_bytes self.old) }
-        ensures cause { HasCause self.old self.new result }
+        ensures cause { CountsFaults self.old self.new result }
         ensures bytes { OnOk result (buf.new ≡ take (length buf.old) (drop at (disk_bytes self.old))) }
         ensures facts { LooksAt self.old self.new }
         ensures time { GoesOn self.old self.new }
@@ -169,7 +169,7 @@ impl Disk for MemoryDisk {
 
     fn write_at(&mut self, at: u64, bytes: &[u8]) -> Result<(), Failed>
         requires { at ≤ length (disk_bytes self.old) }
-        ensures cause { HasCause self.old self.new result }
+        ensures cause { CountsFaults self.old self.new result }
         ensures facts { Writes at bytes.now result (disk_bytes self.old) (disk_bytes self.new)
             (images_of self.old) (images_of self.new) }
         ensures time { GoesOn self.old self.new }
@@ -191,7 +191,7 @@ impl Disk for MemoryDisk {
     }
 
     fn sync(&mut self) -> Result<(), Failed>
-        ensures cause { HasCause self.old self.new result }
+        ensures cause { CountsFaults self.old self.new result }
         ensures facts { Syncs result (disk_bytes self.old) (disk_bytes self.new)
             (images_of self.old) (images_of self.new) }
         ensures time { GoesOn self.old self.new }
