@@ -4,7 +4,7 @@ use Rattle.outside_io.specs.Disks.{HasDiskCause, Looks}
 use Rattle.outside_io.specs.declared.fault_plan.FaultPlan.{FaultPlan}
 use Rattle.outside_io.specs.Plans.{plan_calls, plan_failing, plan_faults, number_after, FailsNext}
 use Rattle.memory_disk.specs.First.{first_bytes}
-use Rattle.memory_disk.specs.History.{IsImage, Passes}
+use Rattle.memory_disk.specs.History.{IsImage, GoesOnFrom}
 use Rattle.memory_disk.specs.declared.disk_call.DiskCall.{DiskCall}
 use Rattle.memory_disk.specs.declared.in_memory.MemoryDisk.{MemoryDisk}
 
@@ -44,7 +44,7 @@ LooksAt old new = Looks (disk_bytes old) (disk_bytes new) (images_of old) (image
 
 -- time went on between them
 abbrev pub GoesOn : MemoryDisk → MemoryDisk → Type 0
-GoesOn old new = Passes (disk_first old) (disk_calls old) (disk_first new) (disk_calls new)
+GoesOn old new = GoesOnFrom (disk_first old) (disk_calls old) (disk_first new) (disk_calls new)
 
 -- a fault is told where one was noted, and nowhere else
 abbrev pub CountsFaults : {T E : Type 0} → MemoryDisk → MemoryDisk → Result T E → Type 0

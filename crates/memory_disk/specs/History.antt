@@ -38,8 +38,8 @@ WasImage first calls moment image =
     (k : ℕ) × (moment ≤ k) × (k ≤ length calls) × IsImage first (take k calls) image
 
 -- time goes on between two moments, of each what was there at first and the calls
-abbrev pub Passes : List ℕ → List DiskCall → List ℕ → List DiskCall → Type 0
-Passes first calls later more =
+abbrev pub GoesOnFrom : List ℕ → List DiskCall → List ℕ → List DiskCall → Type 0
+GoesOnFrom first calls later more =
     Elapses (length calls) (length more) (WasImage first calls) (WasImage later more) (IsImage later more)
 
 -- each write begins within the bytes that were there or at their end

@@ -1,7 +1,7 @@
 // What a disk had at first, and every call since.
 ghost use Rattle.std.specs.Prelude.{◌≡◌, ◌+◌, ◌<◌, ◌≤◌, ◌++◌, ◌∷◌, [], true, false, if◌then◌else◌, length, IfOk, IsSome, IsTrue, OnOk, vec_len, vec_capacity};
 ghost use Rattle.outside_io.specs.Disks.{Looks, Follows, Torn, Only, put};
-ghost use Rattle.memory_disk.specs.History.{bytes_after, all_within, reaching, WritesNothing, IsWriteOf, IsImage, Passes};
+ghost use Rattle.memory_disk.specs.History.{bytes_after, all_within, reaching, WritesNothing, IsWriteOf, IsImage, GoesOnFrom};
 ghost use Rattle.memory_disk.specs.First.{first_bytes};
 ghost use Rattle.memory_disk.specs.declared.disk_call.DiskCall.TheVariants.{Sync};
 
@@ -39,7 +39,7 @@ impl History {
         ensures looks { Looks self.old.bytes.items self.new.bytes.items
             (IsImage (first_bytes self.old.first self.old.bytes) self.old.calls.items)
             (IsImage (first_bytes self.new.first self.new.bytes) self.new.calls.items) }
-        ensures time { Passes (first_bytes self.old.first self.old.bytes) self.old.calls.items
+        ensures time { GoesOnFrom (first_bytes self.old.first self.old.bytes) self.old.calls.items
             (first_bytes self.new.first self.new.bytes) self.new.calls.items }
         ensures kept { self.new.calls.items ≡ (if result then self.old.calls.items ++ call ∷ [] else self.old.calls.items) }
     {
@@ -52,7 +52,7 @@ impl History {
         ensures looks { Looks self.old.bytes.items self.new.bytes.items
             (IsImage (first_bytes self.old.first self.old.bytes) self.old.calls.items)
             (IsImage (first_bytes self.new.first self.new.bytes) self.new.calls.items) }
-        ensures time { Passes (first_bytes self.old.first self.old.bytes) self.old.calls.items
+        ensures time { GoesOnFrom (first_bytes self.old.first self.old.bytes) self.old.calls.items
             (first_bytes self.new.first self.new.bytes) self.new.calls.items }
         ensures durable { IsTrue result → failed ≡ false → Only self.new.bytes.items
             (IsImage (first_bytes self.new.first self.new.bytes) self.new.calls.items) }
@@ -71,7 +71,7 @@ impl History {
         ensures images { Follows (Torn at (length bytes.now))
             (IsImage (first_bytes self.old.first self.old.bytes) self.old.calls.items)
             (IsImage (first_bytes self.new.first self.new.bytes) self.new.calls.items) }
-        ensures time { Passes (first_bytes self.old.first self.old.bytes) self.old.calls.items
+        ensures time { GoesOnFrom (first_bytes self.old.first self.old.bytes) self.old.calls.items
             (first_bytes self.new.first self.new.bytes) self.new.calls.items }
         ensures kept { IsTrue result → IsWriteOf at bytes.now failed self.old.calls.items self.new.calls.items }
         ensures missed { result ≡ false → self.new.calls.items ≡ self.old.calls.items }
