@@ -1,8 +1,10 @@
 -- What a disk in memory shows.
 use Rattle.std.specs.Prelude.{◌≡◌, ◌⊎◌, ℕ, List, [], ◌∷◌, ◌++◌, Result, IsErr}
+use Rattle.outside_io.specs.Disks.{HasDiskCause, Looks}
 use Rattle.outside_io.specs.declared.fault_plan.FaultPlan.{FaultPlan}
-use Rattle.outside_io.specs.Plans.{plan_calls, plan_failing, number_after, FailsNext}
+use Rattle.outside_io.specs.Plans.{plan_calls, plan_failing, plan_faults, number_after, FailsNext}
 use Rattle.memory_disk.specs.First.{first_bytes}
+use Rattle.memory_disk.specs.History.{IsImage, GoesOnFrom}
 use Rattle.memory_disk.specs.declared.disk_call.DiskCall.{DiskCall}
 use Rattle.memory_disk.specs.declared.in_memory.MemoryDisk.{MemoryDisk}
 
@@ -31,3 +33,19 @@ pub record FollowsPlan {T E : Type 0} (before now : FaultPlan) (result : Result 
   pub fails : FailsNext before → IsErr result
   pub counted : plan_calls now ≡ number_after (plan_calls before)
   pub stays : plan_failing now ≡ plan_failing before
+
+-- the images that a crash may leave
+abbrev pub images_of : MemoryDisk → List ℕ → Type 0
+images_of disk = IsImage (disk_first disk) (disk_calls disk)
+
+-- nothing was written between two moments
+abbrev pub LooksAt : MemoryDisk → MemoryDisk → Type 0
+LooksAt old new = Looks (disk_bytes old) (disk_bytes new) (images_of old) (images_of new)
+
+-- time went on between them
+abbrev pub GoesOn : MemoryDisk → MemoryDisk → Type 0
+GoesOn old new = GoesOnFrom (disk_first old) (disk_calls old) (disk_first new) (disk_calls new)
+
+-- a fault is told where one was noted, and nowhere else
+abbrev pub CountsFaults : {T E : Type 0} → MemoryDisk → MemoryDisk → Result T E → Type 0
+CountsFaults old new result = HasDiskCause (plan_faults old.plan) (plan_faults new.plan) result

@@ -2,7 +2,7 @@
 -- read, and the images that a crash may leave.
 use Rattle.std.specs.declared.alloc.Global.{Global}
 use Rattle.std.specs.Prelude.{⊤, Vec, ◌≡◌, ℕ, ◌+◌, ◌-◌, ◌/◌, ◌≤◌, Bool, true, false, List, [], ◌∷◌, ◌++◌, length, take, nat_le, if◌then◌else◌, ◌&&◌}
-use Rattle.outside_io.specs.Disks.{put, torn_images}
+use Rattle.outside_io.specs.Disks.{put, torn_images, Elapses}
 use Rattle.memory_disk.specs.declared.disk_call.DiskCall.{DiskCall}
 use Rattle.memory_disk.specs.declared.disk_call.DiskCall.TheVariants.{Write, Sync}
 
@@ -36,6 +36,11 @@ IsImage first calls image = images_after first (λ earlier. earlier ≡ first) c
 abbrev pub WasImage : List ℕ → List DiskCall → ℕ → List ℕ → Type 0
 WasImage first calls moment image =
     (k : ℕ) × (moment ≤ k) × (k ≤ length calls) × IsImage first (take k calls) image
+
+-- time goes on between two moments, of each what was there at first and the calls
+abbrev pub GoesOnFrom : List ℕ → List DiskCall → List ℕ → List DiskCall → Type 0
+GoesOnFrom first calls later more =
+    Elapses (length calls) (length more) (WasImage first calls) (WasImage later more) (IsImage later more)
 
 -- each write begins within the bytes that were there or at their end
 abbrev pub all_within : List ℕ → List DiskCall → Bool

@@ -1,7 +1,7 @@
 // What a disk had at first, and every call since.
 ghost use Rattle.std.specs.Prelude.{◌≡◌, ◌+◌, ◌<◌, ◌≤◌, ◌++◌, ◌∷◌, [], true, false, if◌then◌else◌, length, IfOk, IsSome, IsTrue, OnOk, vec_len, vec_capacity};
-ghost use Rattle.outside_io.specs.Disks.{Looks, Elapses, Follows, Torn, Only, put};
-ghost use Rattle.memory_disk.specs.History.{bytes_after, all_within, reaching, WritesNothing, IsWriteOf, IsImage, WasImage};
+ghost use Rattle.outside_io.specs.Disks.{Looks, Follows, Torn, Only, put};
+ghost use Rattle.memory_disk.specs.History.{bytes_after, all_within, reaching, WritesNothing, IsWriteOf, IsImage, GoesOnFrom};
 ghost use Rattle.memory_disk.specs.First.{first_bytes};
 ghost use Rattle.memory_disk.specs.declared.disk_call.DiskCall.TheVariants.{Sync};
 
@@ -35,17 +35,13 @@ impl History {
     pub(crate) fn note(&mut self, call: DiskCall) -> bool
         requires { WritesNothing call }
         ensures bytes { self.new.bytes ≡ self.old.bytes }
-        ensures first { first_bytes self.new.first self.new.bytes ≡ first_bytes self.old.first
-            self.old.bytes }
+        ensures first { first_bytes self.new.first self.new.bytes ≡ first_bytes self.old.first self.old.bytes }
         ensures looks { Looks self.old.bytes.items self.new.bytes.items
             (IsImage (first_bytes self.old.first self.old.bytes) self.old.calls.items)
             (IsImage (first_bytes self.new.first self.new.bytes) self.new.calls.items) }
-        ensures time { Elapses (length self.old.calls.items) (length self.new.calls.items)
-            (WasImage (first_bytes self.old.first self.old.bytes) self.old.calls.items)
-            (WasImage (first_bytes self.new.first self.new.bytes) self.new.calls.items)
-            (IsImage (first_bytes self.new.first self.new.bytes) self.new.calls.items) }
-        ensures kept { self.new.calls.items ≡
-            (if result then self.old.calls.items ++ call ∷ [] else self.old.calls.items) }
+        ensures time { GoesOnFrom (first_bytes self.old.first self.old.bytes) self.old.calls.items
+            (first_bytes self.new.first self.new.bytes) self.new.calls.items }
+        ensures kept { self.new.calls.items ≡ (if result then self.old.calls.items ++ call ∷ [] else self.old.calls.items) }
     {
         self.calls.push(call).is_ok()
     }
@@ -56,10 +52,8 @@ impl History {
         ensures looks { Looks self.old.bytes.items self.new.bytes.items
             (IsImage (first_bytes self.old.first self.old.bytes) self.old.calls.items)
             (IsImage (first_bytes self.new.first self.new.bytes) self.new.calls.items) }
-        ensures time { Elapses (length self.old.calls.items) (length self.new.calls.items)
-            (WasImage (first_bytes self.old.first self.old.bytes) self.old.calls.items)
-            (WasImage (first_bytes self.new.first self.new.bytes) self.new.calls.items)
-            (IsImage (first_bytes self.new.first self.new.bytes) self.new.calls.items) }
+        ensures time { GoesOnFrom (first_bytes self.old.first self.old.bytes) self.old.calls.items
+            (first_bytes self.new.first self.new.bytes) self.new.calls.items }
         ensures durable { IsTrue result → failed ≡ false → Only self.new.bytes.items
             (IsImage (first_bytes self.new.first self.new.bytes) self.new.calls.items) }
         ensures kept { self.new.calls.items ≡
@@ -72,18 +66,14 @@ impl History {
     // the first half is read from then on.
     pub(crate) fn write(&mut self, alloc: Global, at: u64, bytes: &[u8], failed: bool) -> bool
         requires { at ≤ length self.old.bytes.items }
-        ensures written { IsTrue result
-            → self.new.bytes.items ≡ put self.old.bytes.items at (reaching failed bytes.now) }
+        ensures written { IsTrue result → self.new.bytes.items ≡ put self.old.bytes.items at (reaching failed bytes.now) }
         ensures torn { Torn at (length bytes.now) self.old.bytes.items self.new.bytes.items }
         ensures images { Follows (Torn at (length bytes.now))
             (IsImage (first_bytes self.old.first self.old.bytes) self.old.calls.items)
             (IsImage (first_bytes self.new.first self.new.bytes) self.new.calls.items) }
-        ensures time { Elapses (length self.old.calls.items) (length self.new.calls.items)
-            (WasImage (first_bytes self.old.first self.old.bytes) self.old.calls.items)
-            (WasImage (first_bytes self.new.first self.new.bytes) self.new.calls.items)
-            (IsImage (first_bytes self.new.first self.new.bytes) self.new.calls.items) }
-        ensures kept { IsTrue result
-            → IsWriteOf at bytes.now failed self.old.calls.items self.new.calls.items }
+        ensures time { GoesOnFrom (first_bytes self.old.first self.old.bytes) self.old.calls.items
+            (first_bytes self.new.first self.new.bytes) self.new.calls.items }
+        ensures kept { IsTrue result → IsWriteOf at bytes.now failed self.old.calls.items self.new.calls.items }
         ensures missed { result ≡ false → self.new.calls.items ≡ self.old.calls.items }
     {
         let Ok(written) = self.prepare(alloc, bytes) else {
@@ -101,12 +91,10 @@ impl History {
     // Takes all the memory that a write of these bytes needs, and copies them.
     fn prepare(&mut self, alloc: Global, bytes: &[u8]) -> Result<Vec<u8>, AllocError>
         ensures copied { IfOk result (λ copy. copy.items ≡ bytes.now) }
-        ensures room { OnOk result
-            (vec_len self.new.bytes + length bytes.now ≤ vec_capacity self.new.bytes) }
+        ensures room { OnOk result (vec_len self.new.bytes + length bytes.now ≤ vec_capacity self.new.bytes) }
         ensures place { OnOk result (vec_len self.new.calls < vec_capacity self.new.calls) }
         ensures kept { OnOk result (IsSome self.new.first) }
-        ensures first { first_bytes self.new.first self.new.bytes ≡ first_bytes self.old.first
-            self.old.bytes }
+        ensures first { first_bytes self.new.first self.new.bytes ≡ first_bytes self.old.first self.old.bytes }
         ensures bytes { self.new.bytes.items ≡ self.old.bytes.items }
         ensures calls { self.new.calls.items ≡ self.old.calls.items }
     {
@@ -130,8 +118,7 @@ impl History {
     // Keeps what was there at first, before anything is written over it.
     fn keep_first(&mut self, alloc: Global) -> Result<(), AllocError>
         ensures kept { OnOk result (IsSome self.new.first) }
-        ensures first { first_bytes self.new.first self.new.bytes ≡ first_bytes self.old.first
-            self.old.bytes }
+        ensures first { first_bytes self.new.first self.new.bytes ≡ first_bytes self.old.first self.old.bytes }
         ensures bytes { self.new.bytes ≡ self.old.bytes }
         ensures calls { self.new.calls ≡ self.old.calls }
     {

@@ -1,8 +1,8 @@
 // The disk: a history, and the calls that are to fail.
 ghost use Rattle.std.specs.Prelude.{◌≡◌, ℕ, List, [], ◌∷◌, ◌++◌, ◌+◌, ◌≤◌, false, true, ◌-◌, ◌^◌, length, min, take, drop, IfOk, OnOk, OnErr, ⊤, ◌⊎◌};
-ghost use Rattle.outside_io.specs.Disks.{HasDiskCause, Looks, Writes, Syncs, Elapses};
+ghost use Rattle.outside_io.specs.Disks.{Writes, Syncs};
 ghost use Rattle.outside_io.specs.Plans.{plan_faults, plan_failing, plan_calls};
-ghost use Rattle.memory_disk.specs.Disk.{disk_first, disk_bytes, disk_calls, disk_plan, FollowsPlan, KeepsOrAdds};
+ghost use Rattle.memory_disk.specs.Disk.{GoesOn, CountsFaults, LooksAt, images_of, disk_first, disk_bytes, disk_calls, disk_plan, FollowsPlan, KeepsOrAdds};
 ghost use Rattle.memory_disk.specs.History.{IsImage, WasImage, IsWriteOf, image_of_writes, torn_after};
 ghost use Rattle.memory_disk.specs.HistoryLaws.{replayed_image, now_counts, left_sooner, only_now_left};
 ghost use Rattle.memory_disk.specs.declared.disk_call.DiskCall.TheVariants.{Len, Read, Sync};
@@ -64,8 +64,7 @@ impl MemoryDisk {
         requires { moment ≤ length (disk_calls self.now) }
         ensures kept { IfOk result (λ image. image.items
             ≡ image_of_writes (disk_first self.now) keep (take moment (disk_calls self.now))) }
-        ensures possible { IfOk result (λ image. IsImage (disk_first self.now)
-            (take moment (disk_calls self.now)) image.items) }
+        ensures possible { IfOk result (λ image. IsImage (disk_first self.now) (take moment (disk_calls self.now)) image.items) }
     {
         let calls = &self.history.calls[..moment as usize];
         match image_of(alloc, self.history.first(), calls, keep) {
@@ -85,8 +84,7 @@ impl MemoryDisk {
         requires { moment ≤ length (disk_calls self.now) }
         ensures torn { IfOk result (λ image. image.items ≡ torn_after (disk_first self.now)
             (disk_first self.now) reached (take moment (disk_calls self.now))) }
-        ensures possible { IfOk result (λ image. IsImage (disk_first self.now)
-            (take moment (disk_calls self.now)) image.items) }
+        ensures possible { IfOk result (λ image. IsImage (disk_first self.now) (take moment (disk_calls self.now)) image.items) }
     {
         let calls = &self.history.calls[..moment as usize];
         match torn_image_of(alloc, self.history.first(), calls, reached) {
@@ -132,16 +130,10 @@ impl Disk for MemoryDisk {
     }
 
     fn len(&mut self) -> Result<u64, Failed>
-        ensures cause { HasDiskCause (plan_faults (disk_plan self.old))
-            (plan_faults (disk_plan self.new)) result }
+        ensures cause { CountsFaults self.old self.new result }
         ensures length { IfOk result (λ n. n ≡ length (disk_bytes self.old)) }
-        ensures facts { Looks (disk_bytes self.old) (disk_bytes self.new)
-            (IsImage (disk_first self.old) (disk_calls self.old))
-            (IsImage (disk_first self.new) (disk_calls self.new)) }
-        ensures time { Elapses (length (disk_calls self.old)) (length (disk_calls self.new))
-            (WasImage (disk_first self.old) (disk_calls self.old))
-            (WasImage (disk_first self.new) (disk_calls self.new))
-            (IsImage (disk_first self.new) (disk_calls self.new)) }
+        ensures facts { LooksAt self.old self.new }
+        ensures time { GoesOn self.old self.new }
         ensures planned { FollowsPlan (disk_plan self.old) (disk_plan self.new) result }
         ensures kept { OnOk result (disk_calls self.new ≡ disk_calls self.old ++ Len false ∷ []) }
         ensures missed { OnErr result (KeepsOrAdds (disk_calls self.old) (disk_calls self.new) (Len true)) }
@@ -156,21 +148,13 @@ impl Disk for MemoryDisk {
 
     fn read(&mut self, at: u64, buf: &mut [u8]) -> Result<(), Failed>
         requires { at + length buf.old ≤ length (disk_bytes self.old) }
-        ensures cause { HasDiskCause (plan_faults (disk_plan self.old))
-            (plan_faults (disk_plan self.new)) result }
+        ensures cause { CountsFaults self.old self.new result }
         ensures bytes { OnOk result (buf.new ≡ take (length buf.old) (drop at (disk_bytes self.old))) }
-        ensures facts { Looks (disk_bytes self.old) (disk_bytes self.new)
-            (IsImage (disk_first self.old) (disk_calls self.old))
-            (IsImage (disk_first self.new) (disk_calls self.new)) }
-        ensures time { Elapses (length (disk_calls self.old)) (length (disk_calls self.new))
-            (WasImage (disk_first self.old) (disk_calls self.old))
-            (WasImage (disk_first self.new) (disk_calls self.new))
-            (IsImage (disk_first self.new) (disk_calls self.new)) }
+        ensures facts { LooksAt self.old self.new }
+        ensures time { GoesOn self.old self.new }
         ensures planned { FollowsPlan (disk_plan self.old) (disk_plan self.new) result }
-        ensures kept { OnOk result
-            (disk_calls self.new ≡ disk_calls self.old ++ Read at (length buf.old) false ∷ []) }
-        ensures missed { OnErr result
-            (KeepsOrAdds (disk_calls self.old) (disk_calls self.new) (Read at (length buf.old) true)) }
+        ensures kept { OnOk result (disk_calls self.new ≡ disk_calls self.old ++ Read at (length buf.old) false ∷ []) }
+        ensures missed { OnErr result (KeepsOrAdds (disk_calls self.old) (disk_calls self.new) (Read at (length buf.old) true)) }
     {
         let failed = self.plan.fails_next();
         let many = buf.len();
@@ -185,18 +169,12 @@ impl Disk for MemoryDisk {
 
     fn write_at(&mut self, at: u64, bytes: &[u8]) -> Result<(), Failed>
         requires { at ≤ length (disk_bytes self.old) }
-        ensures cause { HasDiskCause (plan_faults (disk_plan self.old))
-            (plan_faults (disk_plan self.new)) result }
+        ensures cause { CountsFaults self.old self.new result }
         ensures facts { Writes at bytes.now result (disk_bytes self.old) (disk_bytes self.new)
-            (IsImage (disk_first self.old) (disk_calls self.old))
-            (IsImage (disk_first self.new) (disk_calls self.new)) }
-        ensures time { Elapses (length (disk_calls self.old)) (length (disk_calls self.new))
-            (WasImage (disk_first self.old) (disk_calls self.old))
-            (WasImage (disk_first self.new) (disk_calls self.new))
-            (IsImage (disk_first self.new) (disk_calls self.new)) }
+            (images_of self.old) (images_of self.new) }
+        ensures time { GoesOn self.old self.new }
         ensures planned { FollowsPlan (disk_plan self.old) (disk_plan self.new) result }
-        ensures kept { OnOk result
-            (IsWriteOf at bytes.now false (disk_calls self.old) (disk_calls self.new)) }
+        ensures kept { OnOk result (IsWriteOf at bytes.now false (disk_calls self.old) (disk_calls self.new)) }
         ensures missed { OnErr result ((disk_calls self.new ≡ disk_calls self.old)
             ⊎ IsWriteOf at bytes.now true (disk_calls self.old) (disk_calls self.new)) }
     {
@@ -213,15 +191,10 @@ impl Disk for MemoryDisk {
     }
 
     fn sync(&mut self) -> Result<(), Failed>
-        ensures cause { HasDiskCause (plan_faults (disk_plan self.old))
-            (plan_faults (disk_plan self.new)) result }
+        ensures cause { CountsFaults self.old self.new result }
         ensures facts { Syncs result (disk_bytes self.old) (disk_bytes self.new)
-            (IsImage (disk_first self.old) (disk_calls self.old))
-            (IsImage (disk_first self.new) (disk_calls self.new)) }
-        ensures time { Elapses (length (disk_calls self.old)) (length (disk_calls self.new))
-            (WasImage (disk_first self.old) (disk_calls self.old))
-            (WasImage (disk_first self.new) (disk_calls self.new))
-            (IsImage (disk_first self.new) (disk_calls self.new)) }
+            (images_of self.old) (images_of self.new) }
+        ensures time { GoesOn self.old self.new }
         ensures planned { FollowsPlan (disk_plan self.old) (disk_plan self.new) result }
         ensures kept { OnOk result (disk_calls self.new ≡ disk_calls self.old ++ Sync false ∷ []) }
         ensures missed { OnErr result (KeepsOrAdds (disk_calls self.old) (disk_calls self.new) (Sync true)) }
