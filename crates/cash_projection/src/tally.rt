@@ -133,7 +133,6 @@ impl Tally {
         let Some(rates) = table.along(shape.age) else {
             unreachable!()
         };
-        let _ = rates.last_age();
         if t == shape.n {
             self.add_nothing(0);
             return;
@@ -163,7 +162,6 @@ impl Tally {
         requires path { IsSurvivalPath rates.now (shape.now.age + t) path.now }
         ensures { HasAdded self.old.years (prospect_of policy.now rates.now shape.now t) self.old self.new }
     {
-        let _ = rates.last_age();
         let years = self.years;
         let from = policy.paid.saturating_sub(t);
         let to = shape.h.saturating_sub(t);

@@ -12,16 +12,10 @@ use rate_table::{RateTable, Shape};
 pub fn basis_premium(table: &RateTable, shape: &Shape, bp: u16, columns: &Columns) -> Premium
     requires can { CanReserve table.now shape.now bp }
     requires columns { AreColumns (cover_of table.now shape.now bp) columns.now }
-    ensures rounded { let cover = cover_of table.now shape.now bp in
-        let cap = cap_of table.now shape.now.age bp in
-        result ≡ premium_of cover cap }
-    ensures exact { let cover = cover_of table.now shape.now bp in
-        let cap = cap_of table.now shape.now.age bp in
-        Between result.lo result.hi UNIT (beta cover cap) }
+    ensures rounded { result ≡ premium_of (cover_of table.now shape.now bp) (cap_of table.now shape.now.age bp) }
+    ensures exact { Between result.lo result.hi UNIT (beta (cover_of table.now shape.now bp) (cap_of table.now shape.now.age bp)) }
     ensures narrow { result.hi ≤ result.lo + 100000 }
-    ensures made { let cover = cover_of table.now shape.now bp in
-        let cap = cap_of table.now shape.now.age bp in
-        AreMadeFor cover cap columns.now result }
+    ensures made { AreMadeFor (cover_of table.now shape.now bp) (cap_of table.now shape.now.age bp) columns.now result }
 {
     premium_with_cap(table, table, shape, bp, columns)
 }
@@ -38,19 +32,11 @@ pub fn premium_with_cap(
     requires can { CanReserve table.now shape.now bp }
     requires cap { HoldsAge cap_table.now (shape.now.age + 1) }
     requires columns { AreColumns (cover_of table.now shape.now bp) columns.now }
-    ensures rounded { let cover = cover_of table.now shape.now bp in
-        let cap = cap_of cap_table.now shape.now.age bp in
-        result ≡ premium_of cover cap }
-    ensures exact { let cover = cover_of table.now shape.now bp in
-        let cap = cap_of cap_table.now shape.now.age bp in
-        Between result.lo result.hi UNIT (beta cover cap) }
+    ensures rounded { result ≡ premium_of (cover_of table.now shape.now bp) (cap_of cap_table.now shape.now.age bp) }
+    ensures exact { Between result.lo result.hi UNIT (beta (cover_of table.now shape.now bp) (cap_of cap_table.now shape.now.age bp)) }
     ensures narrow { result.hi ≤ result.lo + 100000 }
-    ensures made { let cover = cover_of table.now shape.now bp in
-        let cap = cap_of cap_table.now shape.now.age bp in
-        AreMadeFor cover cap columns.now result }
+    ensures made { AreMadeFor (cover_of table.now shape.now bp) (cap_of cap_table.now shape.now.age bp) columns.now result }
 {
-    // That the table's rates are at most 1.
-    let _ = table.last_age();
     premium_by(PremiumParts {
         rate: table.rate(shape.age).unwrap(),
         bp,

@@ -198,6 +198,7 @@ module _ {D W : Type 0} where
       right = right.0;
       ours = fresh.0.turnstile ∙ ours;
       left = omega (arith, few.0, fresh.0.left);
+      facts = fresh.0.facts;
       room = room.0;
     },
     ready office first lanes seats room.1 fresh.1 ours right.1 few.1,

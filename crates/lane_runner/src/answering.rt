@@ -35,13 +35,12 @@ pub fn answer_lane<D: Disk, W: Watching, G: Gate, R: Threads + Wait + Sync>(
     requires right { IsRightLane lane.now }
     requires ours { pass.old.turnstile ≡ office.now }
     requires left { turns_needed lane.now.lines ≤ pass.old.left }
+    requires facts { PassFacts IsOfficeHistory pass.old }
     requires room { IsRoomFor lane.now outlet.old }
     ensures answered { HasAnswered basis.now lane.now.number lane.now.lines pass.old pass.new (sent outlet.new.ring) }
     ensures facts { PassFacts IsOfficeHistory pass.new }
     ensures ring { SameProducer outlet.old.ring outlet.new.ring }
 {
-    // What is known of every pass (`PassFacts`) is told of this one here.
-    pass.caller();
     let asked = lane.lines.as_slice();
     for line in asked {
         gate.at(rt, lane.number, 0);

@@ -1,5 +1,5 @@
 use Rattle.std.specs.Prelude.{ℕ, ◌+◌, ◌-◌, ◌||◌, ◌&&◌, Bool, true, false, Result, Ok, Err, min, nat_lt, nat_le, ◌<◌, ◌≤◌, length, if◌then◌else◌}
-use Rattle.rate_table.specs.Rates.{Rates, HoldsAge, rate_at, last_age_of}
+use Rattle.rate_table.specs.Rates.{Rates, AreRates, HoldsAge, rate_at, last_age_of}
 use Rattle.select_rates.specs.Along.{IsBelow, IsRateOf, table_along}
 use Rattle.select_rates.specs.declared.any.AnyTable.{AnyTable}
 use Rattle.select_rates.specs.declared.any.AnyTable.TheVariants.{Aggregate, Select}
@@ -62,6 +62,7 @@ pub record FitsTable (plan : Plan) (years : ℕ) (table : Rates) (shape : Shape)
   pub paid : shape.h ≤ shape.n
   pub renewed : AreYears plan shape.age years → 2 ≤ shape.h
   pub half : rate_at table shape.age ≤ 500000000
+  pub within : AreRates table
 
 -- no table holds for the age at issue
 abbrev pub lies_below : AnyTable → ℕ → Bool

@@ -38,6 +38,7 @@ covered_by basis entry plan years place table bp covered at is points fits are l
       one = bps.1 ∙ sym bps.0;
       own_row = (entry, ap (λ (k : ℕ). slice_get basis k) rows.0 ∙ at, own.1 ∙ same covered.own.issue, bps.0 ∙ points);
       next_row = (entry, ap (λ (k : ℕ). slice_get basis k) rows.1 ∙ at, next.1 ∙ same covered.next.issue, bps.1 ∙ points);
+      ages = rw own.0 fits.fits.within;
       can = rw (own.0, bps.0) (can_reserve plan years bp (table_along table covered.shape.age) covered.shape fits.fits are low);
       capped = rw next.0 fits.next.holds;
     }

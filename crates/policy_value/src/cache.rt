@@ -1,5 +1,5 @@
 ghost use Rattle.std.specs.Prelude.{◌≡◌, ◌≤◌, ◌*◌, [], List, All, Contains, IfSome, IfNone, IsSome, IfOk, Ok, Some, length, min};
-ghost use Rattle.policy_value.specs.Names.{cap_shape, IsMadeFor, IsPaidUpFor, IsUnitFor, premium_of, APair, Dated};
+ghost use Rattle.policy_value.specs.Names.{AreRates, cap_shape, IsMadeFor, IsPaidUpFor, IsUnitFor, premium_of, APair, Dated};
 ghost use Rattle.policy_value.specs.Caches.{HasAsked, IsMissing, IsRightFor, IsRightPremium, IsRightPlace, IsRightStore, IsRightUnit, IsUnitStore, KeepsKeys, kept_keys, most_keys};
 ghost use Rattle.policy_value.specs.inside.Covered.{IsCovered, IsCoverOf, cap_by, cover_by};
 ghost use Rattle.policy_value.specs.inside.Kept.{HoldsUnit, kept_unit};
@@ -144,7 +144,7 @@ impl ColumnCache {
         requires right { IsRightFor basis.now self.old }
         requires cover { IsCoverOf basis.now key.plan key.age key.years covered.now }
         requires row { key.basis_row ≡ covered.now.own.basis_row }
-        requires cap { cap.now ≡ cap_shape covered.now.next.table.now covered.now.shape.age }
+        requires cap { (cap.now ≡ cap_shape covered.now.next.table.now covered.now.shape.age) × AreRates covered.now.next.table.now }
         ensures premium { result ≡ premium_of (cover_by covered.now) (cap_by covered.now) }
         ensures right { IsRightFor basis.now self.new }
         ensures keys { HasAsked key self.old self.new }

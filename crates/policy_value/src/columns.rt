@@ -115,7 +115,7 @@ impl ColumnStore {
     pub fn premium(&mut self, basis: &Basis, covered: &Covered<'_>, cap: &Shape) -> Premium
         requires right { IsRightStore basis.now self.old }
         requires cover { (entry : Dated) × IsCovered basis.now entry covered.now }
-        requires cap { cap.now ≡ cap_shape covered.now.next.table.now covered.now.shape.age }
+        requires cap { (cap.now ≡ cap_shape covered.now.next.table.now covered.now.shape.age) × AreRates covered.now.next.table.now }
         ensures premium { result ≡ premium_of (cover_by covered.now) (cap_by covered.now) }
         ensures right { IsRightStore basis.now self.new }
     {
@@ -134,14 +134,11 @@ impl ColumnStore {
     pub fn values(&mut self, basis: &Basis, rates: &IssueRates<'_>, shape: &Shape, t: u8) -> Values
         requires right { IsRightStore basis.now self.old }
         requires row { IsByRow basis.now rates.now }
-        requires can { CanValue rates.now.table.now shape.now rates.now.bp }
+        requires can { CanValue rates.now.table.now shape.now rates.now.bp × AreRates rates.now.table.now }
         requires year { t ≤ shape.now.n }
         ensures values { AreValuesAt (cover_of rates.now.table.now shape.now rates.now.bp) t result }
-        ensures ages { AreRates rates.now.table.now }
         ensures right { IsRightStore basis.now self.new }
     {
-        // That no age is above 130.
-        let _ = rates.table.last_age();
         let benefits = ColumnKey {
             basis_row: rates.basis_row,
             issue: rates.issue,

@@ -44,7 +44,7 @@ benefits_to-end : (table : Rates) (bp : ℕ) (matures : Bool) (end : ℕ)
 unfolding ben_lo ben_hi rounded_ben
 benefits_to-end table bp matures end = let none : end - end - 0 ≡ 0 = omega arith in rw none refl
 
-value_to-end : (table : Rates) (bp : ℕ) (stream : Stream) (end : ℕ) → value_to table bp stream end end ≡ pair_of (end_payment stream) (end_payment stream)
+pub value_to-end : (table : Rates) (bp : ℕ) (stream : Stream) (end : ℕ) → value_to table bp stream end end ≡ pair_of (end_payment stream) (end_payment stream)
 value_to-end table bp Insurance end = benefits_to-end table bp false end
 value_to-end table bp Endowment end = benefits_to-end table bp true end
 value_to-end table bp Annuity end = ann-after (cover_to table bp true end end) 0 (omega arith) (omega arith)
@@ -92,6 +92,14 @@ pub value_to-most : (table : Rates) (bp : ℕ) (stream : Stream) (end age : ℕ)
 value_to-most table bp Insurance end age few rates = benefits_to-most table bp false end age rates
 value_to-most table bp Endowment end age few rates = benefits_to-most table bp true end age rates
 value_to-most table bp Annuity end age few rates = premiums_to-most table bp end age few
+
+-- the same of the value of a later age, which is at hand
+pub next_most : (table : Rates) (bp : ℕ) (stream : Stream) (end age t : ℕ) (pair : Pair) (rates : List ℕ) → pair ≡ value_to table bp stream end (age + t)
+    → CanEnd table bp end age → AreRatesFrom table age rates → EachIndex rates (λ k. get_or rates k 0 ≤ ONE) → age + length rates ≤ 131
+    → (pair.lo ≤ most stream) × (pair.hi ≤ most stream)
+next_most table bp stream end age t pair rates is can from bound few =
+    let last : end ≤ age + length rates = omega (arith, from.count, can.last) in
+    rw is (value_to-most table bp stream end (age + t) (omega (arith, few)) (rates_to_most table age end (age + t) rates from bound (omega arith) last))
 
 -- a column goes down by a year
 pub gone_down : (table : Rates) (bp : ℕ) (column : Column) (pair : Pair) → IsColumn table bp column → 0 < column.from

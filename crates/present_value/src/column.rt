@@ -114,7 +114,7 @@ impl Column {
 }
 
 /// The value a year earlier.
-fn value_before(stream: Stream, rate: u32, year: &Reciprocal, later: Pair) -> Pair
+pub(crate) fn value_before(stream: Stream, rate: u32, year: &Reciprocal, later: Pair) -> Pair
     requires rate { rate ≤ ONE }
     requires lo { later.lo ≤ most stream }
     requires hi { later.hi ≤ most stream }
@@ -127,7 +127,7 @@ fn value_before(stream: Stream, rate: u32, year: &Reciprocal, later: Pair) -> Pa
 }
 
 /// What is paid at the end.
-fn paid_at_end(stream: Stream) -> u64
+pub(crate) fn paid_at_end(stream: Stream) -> u64
     ensures { result ≡ end_payment stream }
 {
     match stream {

@@ -3,8 +3,9 @@ ghost use Rattle.present_value.specs.Sums.{cover_of};
 ghost use Rattle.present_value.specs.Values.{CanValue, AreColumns, Enclose, pair_at, pair_of};
 ghost use Rattle.present_value.specs.Ends.{CanEnd, value_to};
 
-use crate::column::{Column, Stream};
+use crate::column::{Stream, paid_at_end, value_before};
 use crate::pair::{Columns, Pair};
+use crate::year::year_reciprocal;
 use rate_table::{RateTable, Shape};
 
 /// The present values of a shape by a table, at an interest in basis points.
@@ -13,8 +14,6 @@ pub fn columns(table: &RateTable, shape: &Shape, bp: u16) -> Columns
     ensures rounded { AreColumns (cover_of table.now shape.now bp) result }
     ensures exact { Enclose (cover_of table.now shape.now bp) result }
 {
-    // That no age is above 130.
-    let _ = table.last_age();
     let benefits = Stream::of_benefits(shape.matures);
     Columns {
         n: shape.n,
@@ -26,17 +25,21 @@ pub fn columns(table: &RateTable, shape: &Shape, bp: u16) -> Columns
 
 /// The values of a stream of so many years from an age on: at the start of each of them, and at their end.
 fn values_from(table: &RateTable, bp: u16, stream: Stream, age: u8, years: u8) -> [Pair; 132]
-    requires can { CanEnd table.now bp (age + years) age }
-    requires ages { age + years ≤ 131 }
+    requires { CanEnd table.now bp (age + years) age × (1 ≤ years) }
+    ensures ages { age + years ≤ 131 }
     ensures within { (t : ℕ) → t ≤ years → pair_at result t ≡ value_to table.now bp stream (age + years) (age + t) }
     ensures rest { (t : ℕ) → years < t → pair_at result t ≡ pair_of 0 0 }
 {
-    let mut column = Column::new(stream, age + years);
+    let rates = table.rates_from(age);
+    let year = year_reciprocal(bp);
+    let paid = paid_at_end(stream);
     let mut pairs = [Pair { lo: 0, hi: 0 }; 132];
-    let mut t = 0;
-    while t <= years {
-        pairs[t as usize] = column.at(table, bp, age + t);
-        t += 1;
+    let mut t = years as usize;
+    pairs[t] = Pair { lo: paid, hi: paid };
+    while t > 0 {
+        let later = pairs[t];
+        t -= 1;
+        pairs[t] = value_before(stream, rates[t], &year, later);
     }
     pairs
 }

@@ -44,6 +44,7 @@ impl RateTable {
     pub fn rate(&self, age: u8) -> Option<u32>
         ensures held { SomeIff result (HoldsAge self.now age) (rate_at self.now age) }
         ensures bound { IfSome result (λ rate. rate ≤ ONE) }
+        ensures within { AreRates self.now }
     {
         if age < self.first_age {
             return None;

@@ -1,6 +1,7 @@
 -- The sums of what policies pay and are paid.
 use Rattle.std.specs.Prelude.{◌≡◌, ℕ, ◌+◌, ◌*◌, ◌<◌, ◌≤◌, List, length, slice_index_or, ℤ, Result}
 use Rattle.cash_projection.specs.Names.{AllByRecursion, AllZip, most_commands, Policy, Rates, AnyTable, down, up, pair_at, Pair, Dated}
+use Rattle.rate_table.specs.Rates.{AreRates}
 use Rattle.rate_table.specs.declared.shape.Shape.{Shape}
 use Rattle.plan_benefits.specs.declared.fault.NotValued.{NotValued}
 use Rattle.cash_projection.specs.Prospects.{Prospect, IsSmall, due, premium_due, death_due, maturity_due}
@@ -94,6 +95,7 @@ pub record Fits (table : Rates) (shape : Shape) : Type 0 where
   pub first : table.first_age ≤ shape.age
   pub last : shape.age + shape.n ≤ table.first_age + length table.rates
   pub paid : shape.h ≤ shape.n
+  pub within : AreRates table
 
 -- a policy was added
 pub record HasCounted (basis : List Dated) (on : ℤ) (policy : Policy) (old new : Tally) : Type 0 where

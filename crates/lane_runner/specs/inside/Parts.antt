@@ -138,6 +138,7 @@ module _ {D W : Type 0} where
     pub right : IsRightLane lane
     pub ours : seat.0.turnstile ≡ office
     pub left : turns_needed lane.lines ≤ seat.0.left
+    pub facts : PassFacts IsOfficeHistory seat.0
     pub room : IsRoomFor lane seat.1
 
   -- the lane was run in this seat
@@ -188,3 +189,4 @@ module _ {D W : Type 0} where
     pub begins : StartsWith new.seen old.seen
     pub each : AllByRecursion (λ (seat : Seat D W). StartsWith new.seen seat.0.seen) seats
     pub ended : new.ended ≡ old.ended ++ flat_map (λ (seat : Seat D W). pages seat.0) seats
+    pub facts : PassFacts IsOfficeHistory new

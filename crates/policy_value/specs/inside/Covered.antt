@@ -1,6 +1,6 @@
 -- What a policy is covered by, as the program has it at hand.
 use Rattle.std.specs.Prelude.{◌≡◌, ℕ, ◌+◌, List, Some, Ok, slice_get}
-use Rattle.policy_value.specs.Names.{HoldsAge, table_along, shape_of, Cover, cover_of, cap_of, CanReserve, Dated}
+use Rattle.policy_value.specs.Names.{AreRates, HoldsAge, table_along, shape_of, Cover, cover_of, cap_of, CanReserve, Dated}
 use Rattle.policy_types.specs.declared.command.Plan.{Plan}
 use Rattle.policy_value.specs.Caches.{IsRowOf}
 use Rattle.policy_value.specs.declared.covered.Covered.{Covered}
@@ -27,6 +27,7 @@ pub record IsCovered (basis : List Dated) (entry : Dated) (covered : Covered) : 
   pub one : covered.next.bp ≡ covered.own.bp
   pub own_row : IsByRow basis covered.own
   pub next_row : IsByRow basis covered.next
+  pub ages : AreRates covered.own.table.now
   pub can : CanReserve covered.own.table.now covered.shape covered.own.bp
   pub capped : HoldsAge covered.next.table.now (covered.shape.age + 1)
 

@@ -8,8 +8,8 @@ loop-line-init g c = record {
   ring = ((refl, refl, refl, refl), refl);
   room = omega arith;
   answered = subst (HasAnswered c.args.basis.now c.args.lane.now.number [] c.args.pass.now c.args.pass.now) (sym c.requires.room.none)
-      (answered_none c.args.basis.now c.args.lane.now.number c.args.pass.now c.caller.ensures.facts);
-  facts = c.caller.ensures.facts;
+      (answered_none c.args.basis.now c.args.lane.now.number c.args.pass.now c.requires.facts);
+  facts = c.requires.facts;
 }
 
 pub answer_line-told-requires-clause-right : goal.answer_line-told-requires-clause-right

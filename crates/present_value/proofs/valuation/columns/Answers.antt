@@ -30,7 +30,7 @@ pub returns-clause-exact : goal.returns-clause-exact
 returns-clause-exact c =
     let cover = cover_of c.args.table.now c.args.shape.now c.args.bp in
     let are = returns-clause-rounded c in
-    let years : c.args.shape.now.n ≤ 131 = omega (arith, c.last_age.ensures.within.ages, c.requires.first, c.requires.last) in
+    let years : c.args.shape.now.n ≤ 131 = omega (arith, c.values_from.ensures.ages) in
     record {
       benefits = λ t within. rw (are.benefits.within t within) (ben-pair cover t within years);
       premiums = λ t within. rw (are.premiums.within t within) (ann-pair cover t c.requires.covered within years);

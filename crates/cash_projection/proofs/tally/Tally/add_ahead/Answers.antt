@@ -1,4 +1,4 @@
-use Rattle.cash_projection.proofs.Names.{refl, arith, subst, sym, ◌+◌, AreRates, table_along, prospect_of, IsSurvivalPath}
+use Rattle.cash_projection.proofs.Names.{refl, arith, subst, sym, ◌+◌, table_along, prospect_of, IsSurvivalPath}
 use Rattle.cash_projection.proofs.Adding.{ended_idle, prospect_small}
 use Rattle.cash_projection.proofs.tally.Tally.add_ahead.Goals as goal
 
@@ -11,14 +11,12 @@ returns-then-t-shape-clause-added c =
 pub returns-then-t-shape-clause-small : goal.returns-then-t-shape-clause-small
 returns-then-t-shape-clause-small c =
     let rates = table_along c.args.table.now c.args.shape.now.age in
-    prospect_small c.args.policy.now rates c.args.shape.now c.args.t c.requires.sound c.requires.fits
-    (subst AreRates c.in-Some.ensures.value c.last_age.ensures.within)
+    prospect_small c.args.policy.now rates c.args.shape.now c.args.t c.requires.sound c.requires.fits c.requires.fits.within
 
 pub returns-clause-small : goal.returns-clause-small
 returns-clause-small c =
     let rates = table_along c.args.table.now c.args.shape.now.age in
-    prospect_small c.args.policy.now rates c.args.shape.now c.args.t c.requires.sound c.requires.fits
-    (subst AreRates c.in-Some.ensures.value c.last_age.ensures.within)
+    prospect_small c.args.policy.now rates c.args.shape.now c.args.t c.requires.sound c.requires.fits c.requires.fits.within
 
 pub add_path-requires-clause-path : goal.add_path-requires-clause-path
 add_path-requires-clause-path c =

@@ -10,12 +10,12 @@ add-requires-clause-pairs c =
 pub add-requires-2-clause-pairs : goal.add-requires-2-clause-pairs
 add-requires-2-clause-pairs c =
     dying_small c.args.policy.now c.args.rates.now c.args.shape.now c.args.t c.args.self.now.years c.args.path.now c.requires.fits c.requires.year c.requires.path
-    c.last_age.ensures.within c.within-deaths.result.1 (omega (arith, c.within-deaths.ensures.last.1))
+    c.requires.fits.within c.within-deaths.result.1 (omega (arith, c.within-deaths.ensures.last.1))
 
 pub add-requires-3-clause-pairs : goal.add-requires-3-clause-pairs
 add-requires-3-clause-pairs c =
     after_small c.args.policy.now c.args.rates.now c.args.shape.now c.args.t c.args.self.now.years c.args.path.now c.requires.fits c.requires.year c.requires.path
-    c.last_age.ensures.within c.alive_at_end.result.now c.alive_at_end.ensures.each c.within-maturities.result.1 (omega (arith, c.within-maturities.ensures.last.1))
+    c.requires.fits.within c.alive_at_end.result.now c.alive_at_end.ensures.each c.within-maturities.result.1 (omega (arith, c.within-maturities.ensures.last.1))
 
 pub returns : goal.returns
 returns c =
@@ -35,7 +35,7 @@ returns c =
       death = death_gained policy table shape t years path c.requires.fits c.requires.year c.requires.path _ _
           c.within-deaths.result.0 c.within-deaths.result.1 c.add-2.ensures c.within-deaths.ensures.same;
       maturity = maturity_gained policy table shape t years path c.requires.fits c.requires.year c.requires.path
-          c.last_age.ensures.within c.alive_at_end.result.now c.alive_at_end.ensures.each _ _
+          c.requires.fits.within c.alive_at_end.result.now c.alive_at_end.ensures.each _ _
           c.maturity_from-first.result c.within-maturities.result.0 c.within-maturities.result.1 c.maturity_from-first.ensures c.add-3.ensures
           c.within-maturities.ensures.same;
     }

@@ -6,7 +6,7 @@ returns-clause-made c =
     let covered = c.args.covered.now in
     let is = c.requires.cover.is in
     record {
-      reserved = reserved covered.own.table.now covered.next.table.now covered.shape covered.own.bp c.values-values.ensures.ages c.shape_of_cap-cap.ensures.ages is.can is.capped;
+      reserved = reserved covered.own.table.now covered.next.table.now covered.shape covered.own.bp is.ages c.shape_of_cap-cap.ensures.ages is.can is.capped;
       within = c.requires.year;
       values_are = c.values-values.ensures.values;
       premium_is = c.premium-premium.ensures.premium;

@@ -23,5 +23,5 @@ returns-clause-values c =
     let due : c.args.t ≤ shape.h = omega (arith, c.if-t-shape.false) in
     record {
       benefits = c.value-ben.ensures.value ∙ ap (λ s. value_to table bp s (shape.age + shape.n) (shape.age + c.args.t)) stream ∙ benefits_in table shape bp c.args.t c.requires.year;
-      premiums = c.value-ann.ensures.value ∙ premiums_in table shape bp c.args.t c.requires.can.covered due;
+      premiums = c.value-ann.ensures.value ∙ premiums_in table shape bp c.args.t c.requires.can.0.covered due;
     }

@@ -28,6 +28,12 @@ answer_lane-requires-clause-room g c κs within =
     slice_get-get_or c.captures.lanes.now c.args.index c.index-lanes-index.result c.requires.ready.0 ∙ ap Some (sym c.index-lanes-index.is) in
     (c.requires.ready.1 c.index-lanes-index.result at).room
 
+pub answer_lane-requires-clause-facts : goal.answer_lane-requires-clause-facts
+answer_lane-requires-clause-facts g c κs within =
+    let at : slice_get c.captures.lanes.now c.args.index ≡ Some c.index-lanes-index.result =
+    slice_get-get_or c.captures.lanes.now c.args.index c.index-lanes-index.result c.requires.ready.0 ∙ ap Some (sym c.index-lanes-index.is) in
+    (c.requires.ready.1 c.index-lanes-index.result at).facts
+
 pub returns : goal.returns
 returns g c = λ lane is.
     let at : slice_get c.captures.lanes.now c.args.index ≡ Some c.index-lanes-index.result =
