@@ -10,10 +10,11 @@ pub use Rattle.checkpoint_store.specs.Checkpoints.{CheckpointBytes, IsSoundSnaps
 pub use Rattle.checkpoint_store.specs.Reopening.{IsSnapshotOfAll, IsSnapshotOfFront, IsStartOf, IsFirstBadBody, IsTrueCheckpoint, AreDecided, IsReopened, IsSnapshotRead, IsFaultOfTwo}
 unfoldable pub use Rattle.checkpoint_store.specs.Spelling.{policy_bytes, balance_bytes, position_bytes}
 pub use Rattle.checkpoint_store.specs.Spelling.{StandBehindGate, snapshot_bytes, checkpoint_header, status_byte, front_bytes}
-pub use Rattle.checkpoint_store.specs.Stores.{IsShut, AreShut, DifferInGate, IsNoneOrEarlier, IsNoneOrEarlierOrNew, KnowsGate, MightBeLeft, store_disk}
+pub use Rattle.checkpoint_store.specs.Stores.{IsShut, AreShut, DifferInGate, IsKeptBy, IsKeptOrSavedBy, Knows, KnowsGate, MightBeLeft, StoreLeaves, store_disk}
 pub use Rattle.checkpoint_store.specs.declared.front.Front.{Front}
 pub use Rattle.checkpoint_store.specs.declared.numbered.NumberedBooks.{NumberedBooks}
 pub use Rattle.checkpoint_store.specs.declared.snapshot.Snapshot.{Snapshot}
+pub use Rattle.checkpoint_store.specs.declared.store.Store.{Store}
 pub use Rattle.checkpoint_store.specs.inside.Books.{AreKeyed, Entries, numbered_policies}
 pub use Rattle.checkpoint_store.specs.inside.Numbered.{AreSoundBooks, AreBooksOf, as_snapshot, HasSetPolicy}
 pub use Rattle.checkpoint_store.specs.inside.Parsing.{front_of, IsFrontInRange, policy_of_bytes, eight_bytes_at, four_bytes_at, front_in, plan_of_byte, status_of_byte}

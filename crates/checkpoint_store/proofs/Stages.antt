@@ -1,5 +1,5 @@
 -- The stages of a store: what its disk may leave after each.
-use Rattle.checkpoint_store.proofs.Names.{◌≡◌, ◌⊎◌, ◌↔◌, inl, inr, ⊎_elim, ℕ, Bool, true, false, IsTrue, List, ◌∷◌, length, drop, get_or, refl, sym, ◌∙◌, ap, subst, arith, Result, Ok, Err, IfOk, OnOk, MatchResult, cases_eq, cases_lt, Syncs, Ghosts, IsSafe, Leaves, LooksOn, Passes, leaves, leaves_more, leaves_on, wider, Snapshot, CheckpointBytes, IsNoCheckpoint, IsSoundSnapshot, snapshot_bytes, StandBehindGate, AreShut, DifferInGate, IsNoneOrEarlier, IsNoneOrEarlierOrNew, IsShut, KnowsGate, MightBeLeft, GatesOn, HasOtherGate, LooksAtGate, OpensGateOn, StaysShut}
+use Rattle.checkpoint_store.proofs.Names.{◌≡◌, ◌⊎◌, ◌↔◌, inl, inr, ⊎_elim, ℕ, Bool, true, false, IsTrue, List, ◌∷◌, length, drop, get_or, refl, sym, ◌∙◌, ap, subst, arith, Result, Ok, Err, IfOk, OnOk, cases_eq, cases_lt, Syncs, Ghosts, IsSafe, Leaves, LooksOn, Passes, leaves, leaves_more, leaves_on, wider, Snapshot, CheckpointBytes, IsNoCheckpoint, IsSoundSnapshot, snapshot_bytes, StandBehindGate, AreShut, DifferInGate, IsKeptBy, IsKeptOrSavedBy, IsShut, Knows, KnowsGate, MightBeLeft, Store, StoreLeaves, GatesOn, HasOtherGate, LooksAtGate, OpensGateOn, StaysShut}
 use Rattle.checkpoint_store.proofs.Behind.{alone_none, gate_first, gate_or, opened, shut_none}
 
 -- what an answer has, it has more of
@@ -10,11 +10,6 @@ ok_map (Err e) P Q more has = tt
 pub ok_both : {T E : Type 0} (r : Result T E) (P Q : Type 0) → P → OnOk r Q → OnOk r (P × Q)
 ok_both (Ok x) P Q p q = (p, q)
 ok_both (Err e) P Q p q = tt
-
--- what was done was told
-pub told_on : {T E F : Type 0} (done : Result T E) (result : Result T F) (fault : F) (P : Type 0) → MatchResult done (λ u. result ≡ Ok u) (λ f. result ≡ Err fault) → OnOk done P → OnOk result P
-told_on (Ok u) result fault P told holds = subst (λ r. OnOk r P) (sym told) holds
-told_on (Err e) result fault P told holds = subst (λ r. OnOk r P) (sym told) tt
 
 module _ {D : Type 0} (g : Ghosts D) where
   pub knows_shut : (closed : Bool) (disk : D) → IsTrue closed → KnowsGate g closed disk → AreShut g disk
@@ -45,39 +40,42 @@ module _ {D : Type 0} (g : Ghosts D) where
   pub other_gate : (old : D) (image : List ℕ) → DifferInGate g old → HasOtherGate g old image → IsNoCheckpoint image ⊎ (image ≡ 1 ∷ drop 1 (g.reads old))
   other_gate old image differ from = gate_or image (g.reads old) (from.2 ∙ differ from.0 from.1)
 
-  -- an image from before, or a snapshot from before with its gate apart
-  regated : (old : D) (closed : Bool) (image : List ℕ) → closed ≡ false → DifferInGate g old → HasOtherGate g old image → IsNoneOrEarlier g closed old image
-  regated old closed image unknown differ from = ⊎_elim (λ none. inl none) (λ is. inr (inr (unknown, is))) (other_gate old image differ from)
+  -- since a moment there is no other
+  abbrev OnlyNow : D → Type 0
+  OnlyNow disk = (image : List ℕ) → g.left_since disk (g.clock disk) image → g.may_leave disk image
 
-  -- a gate that wasn't known is written
-  module _ (old new : D) (closed : Bool) (unknown : closed ≡ false) (knows : KnowsGate g closed old) (gates : GatesOn g old new) where
-    differ : DifferInGate g old
-    differ = knows_differ closed old unknown knows
+  pub regate_knows : (old new : D) (closed : Bool) → closed ≡ false → KnowsGate g closed old → GatesOn g old new → KnowsGate g closed new
+  regate_knows old new closed unknown knows gates = differ_knows closed new unknown (differ_still old new (knows_differ closed old unknown knows) gates)
 
-    pub regate_knows : KnowsGate g closed new
-    regate_knows = differ_knows closed new unknown (differ_still old new differ gates)
-
-    pub regate_moments : ((image : List ℕ) → g.left_since old (g.clock old) image → g.may_leave old image) → Leaves g old new (IsNoneOrEarlier g closed old)
-    regate_moments only_now = leaves g old new (IsNoneOrEarlier g closed old) (λ image left. inr (inl (only_now image left)))
-        (wider g old new (HasOtherGate g old) (IsNoneOrEarlier g closed old) gates.time (λ image from. regated old closed image unknown differ from))
-
-    pub regate_kept : (later : Bool) (image : List ℕ) → MightBeLeft g later new image → IsNoneOrEarlier g closed old image
-    regate_kept later image might = elim might [
-      | inl left ↦ regated old closed image unknown differ (gates.images image left)
+  -- a gate that wasn't known is written: an image from before, or a snapshot from before with its gate apart
+  pub regate_left : (old new : Store D g) → old.closed ≡ false → Knows old → GatesOn g old.disk new.disk → Knows new → OnlyNow old.disk → StoreLeaves old new (IsKeptBy old)
+  regate_left old new unknown knows gates later only_now = record {
+    knows = later;
+    moments = leaves g old.disk new.disk (IsKeptBy old) (λ image left. inr (inl (only_now image left)))
+        (wider g old.disk new.disk (HasOtherGate g old.disk) (IsKeptBy old) gates.time each);
+    kept = λ image might. elim might [
+      | inl left ↦ each image (gates.images image left)
       | inr apart ↦ inr (inr (unknown, apart.1 ∙ ap (λ (l : List ℕ). 1 ∷ l) gates.rest))
-    ]
+    ];
+  }
+    where
+      each : (image : List ℕ) → HasOtherGate g old.disk image → IsKeptBy old image
+      each image from = ⊎_elim (λ none. inl none) (λ is. inr (inr (unknown, is))) (other_gate old.disk image (knows_differ old.closed old.disk unknown knows) from)
+
+  shut_moments : (old : Store D g) (new : D) → StaysShut g old.disk new → OnlyNow old.disk → Leaves g old.disk new (IsKeptBy old)
+  shut_moments old new shut only_now = leaves g old.disk new (IsKeptBy old) (λ image left. inr (inl (only_now image left)))
+      (wider g old.disk new IsShut (IsKeptBy old) shut.time (λ image is. inl (shut_none image is)))
 
   -- what is written behind a closed gate
-  module _ (old new : D) (closed : Bool) (shut : StaysShut g old new) where
-    pub shut_moments : ((image : List ℕ) → g.left_since old (g.clock old) image → g.may_leave old image) → Leaves g old new (IsNoneOrEarlier g closed old)
-    shut_moments only_now = leaves g old new (IsNoneOrEarlier g closed old) (λ image left. inr (inl (only_now image left)))
-        (wider g old new IsShut (IsNoneOrEarlier g closed old) shut.time (λ image is. inl (shut_none image is)))
-
-    pub shut_kept : (later : Bool) (image : List ℕ) → IsTrue later → MightBeLeft g later new image → IsNoneOrEarlier g closed old image
-    shut_kept later image is might = elim might [
+  pub shut_left : (old new : Store D g) → StaysShut g old.disk new.disk → IsTrue new.closed → OnlyNow old.disk → StoreLeaves old new (IsKeptBy old)
+  shut_left old new shut closed only_now = record {
+    knows = shut_knows new.closed new.disk closed shut.shut;
+    moments = shut_moments old new.disk shut only_now;
+    kept = λ image might. elim might [
       | inl left ↦ inl (shut_none image (shut.shut image left))
-      | inr apart ↦ absurd (let no : later ≡ false = apart.0 in cc)
-    ]
+      | inr apart ↦ absurd (let no : new.closed ≡ false = apart.0 in cc)
+    ];
+  }
 
   -- The gate before a snapshot is opened.
   saved_on : {T E : Type 0} (old new : D) (s : Snapshot) (r : Result T E) → StandBehindGate (snapshot_bytes s) (g.reads old) → IsSoundSnapshot s
@@ -100,42 +98,41 @@ module _ {D : Type 0} (g : Ghosts D) where
       }
 
   -- no checkpoint or the new one is no checkpoint, one from before or the new one
-  pub or_new : (old : D) (closed : Bool) (s : Snapshot) (image : List ℕ) → IsNoCheckpoint image ⊎ CheckpointBytes image s → IsNoneOrEarlierOrNew g closed old s image
-  or_new old closed s image is = ⊎_elim (λ none. inl (inl none)) (λ new. inr new) is
+  or_new : (old : Store D g) (s : Snapshot) (image : List ℕ) → IsNoCheckpoint image ⊎ CheckpointBytes image s → IsKeptOrSavedBy old s image
+  or_new old s image is = ⊎_elim (λ none. inl (inl none)) (λ new. inr new) is
 
-  pub then_opened : {T E : Type 0} (old mid new : D) (closed : Bool) (s : Snapshot) (r : Result T E) → StaysShut g old mid → OpensGateOn g mid new s r
-      → ((image : List ℕ) → g.left_since old (g.clock old) image → g.may_leave old image)
-      → ((image : List ℕ) → g.left_since mid (g.clock mid) image → g.may_leave mid image)
-      → Leaves g old new (IsNoneOrEarlierOrNew g closed old s)
-  then_opened old mid new closed s r shut opens only_now only_mid = leaves_on g old mid new (IsNoneOrEarlier g closed old) (IsNoneOrEarlierOrNew g closed old s)
-      (shut_moments old mid closed shut only_now)
-      (leaves g mid new (IsNoneOrEarlierOrNew g closed old s) (λ image left. inl (inl (shut_none image (shut.shut image (only_mid image left)))))
-      (wider g mid new (λ image. IsNoCheckpoint image ⊎ CheckpointBytes image s) (IsNoneOrEarlierOrNew g closed old s) opens.moments (λ image is. or_new old closed s image is)))
-      (λ image is. inl is)
-
-  pub kept_or_new : {T E : Type 0} (old mid new : D) (closed later : Bool) (s : Snapshot) (r : Result T E) → later ≡ false → OpensGateOn g mid new s r
-      → (image : List ℕ) → MightBeLeft g later new image → IsNoneOrEarlierOrNew g closed old s image
-  kept_or_new old mid new closed later s r unknown opens image might = or_new old closed s image (opens.kept image (subst (λ b. MightBeLeft g b new image) unknown might))
+  pub then_opened : {T E : Type 0} (old mid new : Store D g) (s : Snapshot) (r : Result T E) → StaysShut g old.disk mid.disk → OpensGateOn g mid.disk new.disk s r
+      → new.closed ≡ false → OnlyNow old.disk → OnlyNow mid.disk → StoreLeaves old new (IsKeptOrSavedBy old s)
+  then_opened old mid new s r shut opens unknown only_now only_mid = record {
+    knows = differ_knows new.closed new.disk unknown opens.knows;
+    moments = leaves_on g old.disk mid.disk new.disk (IsKeptBy old) (IsKeptOrSavedBy old s) (shut_moments old mid.disk shut only_now)
+        (leaves g mid.disk new.disk (IsKeptOrSavedBy old s) (λ image left. inl (inl (shut_none image (shut.shut image (only_mid image left)))))
+        (wider g mid.disk new.disk (λ image. IsNoCheckpoint image ⊎ CheckpointBytes image s) (IsKeptOrSavedBy old s) opens.moments (or_new old s)))
+        (λ image is. inl is);
+    kept = λ image might. or_new old s image (opens.kept image (subst (λ b. MightBeLeft g b new.disk image) unknown might));
+  }
 
   -- what was left before the second stage was left before the first
-  pub earlier_still : (old mid : D) (closed later : Bool) (s : Snapshot) → ((image : List ℕ) → MightBeLeft g later mid image → IsNoneOrEarlier g closed old image)
-      → (image : List ℕ) → IsNoneOrEarlierOrNew g later mid s image → IsNoneOrEarlierOrNew g closed old s image
-  earlier_still old mid closed later s kept image is = elim is [
-    | inr new ↦ inr new
-    | inl earlier ↦ elim earlier [
-      | inl none ↦ inl (inl none)
-      | inr might ↦ inl (kept image might)
-    ]
-  ]
+  pub then_saved : (old mid new : Store D g) (s : Snapshot) → StoreLeaves old mid (IsKeptBy old) → StoreLeaves mid new (IsKeptOrSavedBy mid s)
+      → StoreLeaves old new (IsKeptOrSavedBy old s)
+  then_saved old mid new s first second = record {
+    knows = second.knows;
+    moments = leaves_on g old.disk mid.disk new.disk (IsKeptBy old) (IsKeptOrSavedBy old s) first.moments
+        (leaves_more g mid.disk new.disk (IsKeptOrSavedBy mid s) (IsKeptOrSavedBy old s) second.moments earlier) (λ image is. inl is);
+    kept = λ image might. earlier image (second.kept image might);
+  }
+    where
+      earlier : (image : List ℕ) → IsKeptOrSavedBy mid s image → IsKeptOrSavedBy old s image
+      earlier image (inr new) = inr new
+      earlier image (inl (inl none)) = inl (inl none)
+      earlier image (inl (inr might)) = inl (first.kept image might)
 
-  pub then_saved : (old mid new : D) (closed later : Bool) (s : Snapshot) → Leaves g old mid (IsNoneOrEarlier g closed old)
-      → ((image : List ℕ) → MightBeLeft g later mid image → IsNoneOrEarlier g closed old image) → Leaves g mid new (IsNoneOrEarlierOrNew g later mid s)
-      → Leaves g old new (IsNoneOrEarlierOrNew g closed old s)
-  then_saved old mid new closed later s first kept second = leaves_on g old mid new (IsNoneOrEarlier g closed old) (IsNoneOrEarlierOrNew g closed old s) first
-      (leaves_more g mid new (IsNoneOrEarlierOrNew g later mid s) (IsNoneOrEarlierOrNew g closed old s) second (earlier_still old mid closed later s kept)) (λ image is. inl is)
-
-  pub not_new : (old new : D) (closed : Bool) (s : Snapshot) → Leaves g old new (IsNoneOrEarlier g closed old) → Leaves g old new (IsNoneOrEarlierOrNew g closed old s)
-  not_new old new closed s left = leaves_more g old new (IsNoneOrEarlier g closed old) (IsNoneOrEarlierOrNew g closed old s) left (λ image is. inl is)
+  pub not_new : (old new : Store D g) (s : Snapshot) → StoreLeaves old new (IsKeptBy old) → StoreLeaves old new (IsKeptOrSavedBy old s)
+  not_new old new s left = record {
+    knows = left.knows;
+    moments = leaves_more g old.disk new.disk (IsKeptBy old) (IsKeptOrSavedBy old s) left.moments (λ image is. inl is);
+    kept = λ image might. inl (left.kept image might);
+  }
 
   -- a sync that is looked back on
   pub synced_looks : {T E : Type 0} (old new : D) (r : Result T E) → Syncs r (g.reads old) (g.reads new) (g.may_leave old) (g.may_leave new) → Passes g old new (g.may_leave new) → LooksOn g old new

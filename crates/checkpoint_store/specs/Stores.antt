@@ -1,6 +1,6 @@
 -- What is known of a store's disk, and what a crash may leave of it
-use Rattle.std.specs.Prelude.{◌≡◌, ◌≢◌, ◌⊎◌, ◌<◌, ℕ, Bool, true, false, List, ◌∷◌, length, drop, slice_index}
-use Rattle.outside_io.specs.declared.disks.Disk.{Ghosts}
+use Rattle.std.specs.Prelude.{◌≡◌, ◌≢◌, ◌⊎◌, ◌<◌, ℕ, Bool, true, false, List, ◌∷◌, length, drop, slice_index, Result, OnOk}
+use Rattle.checkpoint_store.specs.Names.{Ghosts, Leaves}
 use Rattle.checkpoint_store.specs.declared.snapshot.Snapshot.{Snapshot}
 use Rattle.checkpoint_store.specs.declared.store.Store.{Store}
 use Rattle.checkpoint_store.specs.Checkpoints.{CheckpointBytes, IsNoCheckpoint}
@@ -39,18 +39,21 @@ MightBeLeft g closed disk image =
 abbrev pub MightLeave : {D : Type 0} {g : Ghosts D} → Store D g → List ℕ → Type 0
 MightLeave {g = g} store = MightBeLeft g store.closed store.disk
 
--- no checkpoint, or one that a crash might have left before
-abbrev pub IsNoneOrEarlier : {D : Type 0} → Ghosts D → Bool → D → List ℕ → Type 0
-IsNoneOrEarlier g closed disk image = IsNoCheckpoint image ⊎ MightBeLeft g closed disk image
-
--- or the new one
-abbrev pub IsNoneOrEarlierOrNew : {D : Type 0} → Ghosts D → Bool → D → Snapshot → List ℕ → Type 0
-IsNoneOrEarlierOrNew g closed disk snapshot image = IsNoneOrEarlier g closed disk image ⊎ CheckpointBytes image snapshot
-
 -- no checkpoint, or one that a crash might have left of the store before a call
 abbrev pub IsKeptBy : {D : Type 0} {g : Ghosts D} → Store D g → List ℕ → Type 0
-IsKeptBy {g = g} store = IsNoneOrEarlier g store.closed store.disk
+IsKeptBy store image = IsNoCheckpoint image ⊎ MightLeave store image
 
 -- or the one that the call saves
 abbrev pub IsKeptOrSavedBy : {D : Type 0} {g : Ghosts D} → Store D g → Snapshot → List ℕ → Type 0
-IsKeptOrSavedBy {g = g} store = IsNoneOrEarlierOrNew g store.closed store.disk
+IsKeptOrSavedBy store snapshot image = IsKeptBy store image ⊎ CheckpointBytes image snapshot
+
+-- A store still knows its gate, and a crash at any moment since an old one, or later, leaves an image that has P.
+pub record StoreLeaves {D : Type 0} {g : Ghosts D} (old new : Store D g) (P : List ℕ → Type 0) : Type 0 where
+  pub knows : Knows new
+  pub moments : Leaves g (store_disk old) (store_disk new) P
+  pub kept : (image : List ℕ) → MightLeave new image → P image
+
+-- Once a snapshot is saved each crash leaves its checkpoint; before then and without that, one from before or none, or this one.
+pub record Saves {D T E : Type 0} {g : Ghosts D} (old new : Store D g) (snapshot : Snapshot) (result : Result T E) : Type 0 where
+  pub saved : OnOk result ((image : List ℕ) → g.may_leave (store_disk new) image → CheckpointBytes image snapshot)
+  pub left : StoreLeaves old new (IsKeptOrSavedBy old snapshot)

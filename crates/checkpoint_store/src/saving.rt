@@ -1,15 +1,14 @@
 // A snapshot is saved.
-ghost use Rattle.std.specs.Prelude.{◌≡◌, ◌⊎◌, ℕ, ◌+◌, ◌*◌, ◌≤◌, ◌<◌, ◌++◌, false, List, length, IsTrue, IfOk, OnOk, MatchResult, Ok, Err};
+ghost use Rattle.std.specs.Prelude.{◌≡◌, ℕ, ◌+◌, ◌*◌, ◌≤◌, ◌++◌, false, List, length, IsTrue, OnOk};
 ghost use Rattle.checkpoint_store.specs.Names.{flat_map, IsSafe, Leaves, most_commands};
-ghost use Rattle.outside_io.specs.Disks.{HasDiskCause};
 ghost use Rattle.posting_journal.specs.Faults.{TellsFaults};
-ghost use Rattle.checkpoint_store.specs.Checkpoints.{CheckpointBytes, IsNoCheckpoint, IsSoundSnapshot};
+ghost use Rattle.checkpoint_store.specs.Checkpoints.{CheckpointBytes, IsSoundSnapshot};
 ghost use Rattle.checkpoint_store.specs.Spelling.{policy_bytes, snapshot_bytes, StandBehindGate};
-ghost use Rattle.checkpoint_store.specs.Stores.{AreShut, IsKeptBy, IsKeptOrSavedBy, Knows, MightLeave, store_disk};
-ghost use Rattle.checkpoint_store.specs.inside.Steps.{OpensGateOn, StaysShut};
+ghost use Rattle.checkpoint_store.specs.Stores.{AreShut, IsKeptBy, IsKeptOrSavedBy, Knows, MightLeave, Saves, StoreLeaves, store_disk};
+ghost use Rattle.checkpoint_store.specs.inside.Steps.{OpensGateOn, StaysShut, TellsFailure};
 
 use crate::front::{Front, front_with};
-use crate::gates::{make_safe, put_gate, write_behind};
+use crate::gates::{put_gate, write_behind};
 use crate::pieces::{POLICIES, fill};
 use crate::spelling::{CLOSED, OPEN};
 use crate::{Snapshot, Store};
@@ -31,21 +30,18 @@ impl<E: Disk> Store<E> {
         ensures kept { (image : List ℕ) → E.honest (store_disk self.new) → Knows self.old
             → MightLeave self.new image → IsKeptOrSavedBy self.old snapshot.now image }
     {
-        let saved = self.write(snapshot);
-        self.told(saved)
+        match self.write(snapshot) {
+            Ok(()) => Ok(()),
+            Err(Failed) => Err(DiskFault {
+                count: self.disk.faults(),
+            }),
+        }
     }
 
     fn write(&mut self, snapshot: &Snapshot) -> Result<(), Failed>
         requires { IsSoundSnapshot snapshot.now }
-        ensures cause { HasDiskCause (E.faults (store_disk self.old)) (E.faults (store_disk self.new)) result }
-        ensures honesty { E.honest (store_disk self.new) → E.honest (store_disk self.old) }
-        ensures knows { E.honest (store_disk self.new) → Knows self.old → Knows self.new }
-        ensures saved { E.honest (store_disk self.new) → Knows self.old → OnOk result ((image : List ℕ)
-            → E.may_leave (store_disk self.new) image → CheckpointBytes image snapshot.now) }
-        ensures moments { E.honest (store_disk self.new) → Knows self.old
-            → Leaves E.Disk (store_disk self.old) (store_disk self.new) (IsKeptOrSavedBy self.old snapshot.now) }
-        ensures kept { (image : List ℕ) → E.honest (store_disk self.new) → Knows self.old
-            → MightLeave self.new image → IsKeptOrSavedBy self.old snapshot.now image }
+        ensures disk { TellsFailure E.Disk (store_disk self.old) (store_disk self.new) result }
+        ensures saves { E.honest (store_disk self.new) → Knows self.old → Saves self.old self.new snapshot.now result }
     {
         if self.closed {
             return self.replace(snapshot);
@@ -58,15 +54,8 @@ impl<E: Disk> Store<E> {
     fn replace(&mut self, snapshot: &Snapshot) -> Result<(), Failed>
         requires sound { IsSoundSnapshot snapshot.now }
         requires closed { IsTrue self.old.closed }
-        ensures cause { HasDiskCause (E.faults (store_disk self.old)) (E.faults (store_disk self.new)) result }
-        ensures honesty { E.honest (store_disk self.new) → E.honest (store_disk self.old) }
-        ensures knows { E.honest (store_disk self.new) → Knows self.old → Knows self.new }
-        ensures saved { E.honest (store_disk self.new) → Knows self.old → OnOk result ((image : List ℕ)
-            → E.may_leave (store_disk self.new) image → CheckpointBytes image snapshot.now) }
-        ensures moments { E.honest (store_disk self.new) → Knows self.old
-            → Leaves E.Disk (store_disk self.old) (store_disk self.new) (IsKeptOrSavedBy self.old snapshot.now) }
-        ensures kept { (image : List ℕ) → E.honest (store_disk self.new) → Knows self.old
-            → MightLeave self.new image → IsKeptOrSavedBy self.old snapshot.now image }
+        ensures disk { TellsFailure E.Disk (store_disk self.old) (store_disk self.new) result }
+        ensures saves { E.honest (store_disk self.new) → Knows self.old → Saves self.old self.new snapshot.now result }
     {
         self.write_rest(snapshot)?;
         self.open(snapshot)
@@ -75,14 +64,9 @@ impl<E: Disk> Store<E> {
     // Closes a gate that is open or isn't known.
     fn close(&mut self) -> Result<(), Failed>
         requires { self.old.closed ≡ false }
-        ensures cause { HasDiskCause (E.faults (store_disk self.old)) (E.faults (store_disk self.new)) result }
-        ensures honesty { E.honest (store_disk self.new) → E.honest (store_disk self.old) }
+        ensures disk { TellsFailure E.Disk (store_disk self.old) (store_disk self.new) result }
         ensures closed { OnOk result (IsTrue self.new.closed) }
-        ensures knows { E.honest (store_disk self.new) → Knows self.old → Knows self.new }
-        ensures moments { E.honest (store_disk self.new) → Knows self.old
-            → Leaves E.Disk (store_disk self.old) (store_disk self.new) (IsKeptBy self.old) }
-        ensures kept { (image : List ℕ) → E.honest (store_disk self.new) → Knows self.old
-            → MightLeave self.new image → IsKeptBy self.old image }
+        ensures left { E.honest (store_disk self.new) → Knows self.old → StoreLeaves self.old self.new (IsKeptBy self.old) }
     {
         put_gate(&mut self.disk, CLOSED)?;
         self.closed = true;
@@ -93,8 +77,7 @@ impl<E: Disk> Store<E> {
     fn write_rest(&mut self, snapshot: &Snapshot) -> Result<(), Failed>
         requires sound { IsSoundSnapshot snapshot.now }
         requires closed { IsTrue self.old.closed }
-        ensures cause { HasDiskCause (E.faults (store_disk self.old)) (E.faults (store_disk self.new)) result }
-        ensures honesty { E.honest (store_disk self.new) → E.honest (store_disk self.old) }
+        ensures disk { TellsFailure E.Disk (store_disk self.old) (store_disk self.new) result }
         ensures closed { IsTrue self.new.closed }
         ensures written { E.honest (store_disk self.new) → Knows self.old
             → OnOk result (StandBehindGate (snapshot_bytes snapshot.now) (E.reads (store_disk self.new))
@@ -110,14 +93,13 @@ impl<E: Disk> Store<E> {
         };
         write_behind(&mut self.disk, 1, &front_with(front))?;
         write_policies(&mut self.disk, snapshot.book.as_slice())?;
-        make_safe(&mut self.disk)
+        self.disk.sync()
     }
 
     // Opens the gate before a snapshot that was written.
     fn open(&mut self, snapshot: &Snapshot) -> Result<(), Failed>
         requires sound { IsSoundSnapshot snapshot.now }
-        ensures cause { HasDiskCause (E.faults (store_disk self.old)) (E.faults (store_disk self.new)) result }
-        ensures honesty { E.honest (store_disk self.new) → E.honest (store_disk self.old) }
+        ensures disk { TellsFailure E.Disk (store_disk self.old) (store_disk self.new) result }
         ensures opened { self.new.closed ≡ false }
         ensures gates { E.honest (store_disk self.new)
             → StandBehindGate (snapshot_bytes snapshot.now) (E.reads (store_disk self.old))
@@ -127,27 +109,13 @@ impl<E: Disk> Store<E> {
         self.closed = false;
         put_gate(&mut self.disk, OPEN)
     }
-
-    // A fault of the disk, with the count of its faults.
-    fn told(&self, done: Result<(), Failed>) -> Result<(), DiskFault>
-        ensures { MatchResult done (λ u. result ≡ Ok u)
-            (λ f. result ≡ Err (record { count = E.faults (store_disk self.now) })) }
-    {
-        match done {
-            Ok(()) => Ok(()),
-            Err(Failed) => Err(DiskFault {
-                count: self.disk.faults(),
-            }),
-        }
-    }
 }
 
 // Writes the policies from byte 64 on, piece by piece.
 fn write_policies<E: Disk>(disk: &mut E, policies: &[Policy]) -> Result<(), Failed>
     requires few { length policies.now ≤ most_commands }
     requires begun { E.honest disk.old → 64 ≤ length (E.reads disk.old) }
-    ensures cause { HasDiskCause (E.faults disk.old) (E.faults disk.new) result }
-    ensures honesty { E.honest disk.new → E.honest disk.old }
+    ensures disk { TellsFailure E.Disk disk.old disk.new result }
     ensures written { (front : List ℕ) → E.honest disk.new → length front ≡ 63
         → StandBehindGate front (E.reads disk.old)
         → OnOk result (StandBehindGate (front ++ flat_map policy_bytes policies.now) (E.reads disk.new)) }

@@ -1,8 +1,7 @@
 // The books of a checkpoint are read from its disk.
 ghost use Rattle.std.specs.Prelude.{◌≡◌, ◌+◌, ◌*◌, ◌≤◌, ◌↔◌, length, take, drop, IsTrue, IfOk, IfSome, OnOk};
-ghost use Rattle.posting_journal.specs.Runs.{LooksOn};
 ghost use Rattle.checkpoint_store.specs.inside.Numbered.{AreSoundBooks};
-ghost use Rattle.checkpoint_store.specs.inside.Reading.{HasReadCause};
+ghost use Rattle.checkpoint_store.specs.inside.Reading.{OnlyReads};
 ghost use Rattle.checkpoint_store.specs.inside.Storing.{AreBegun, AreBooksBehind, AreBytesOf, AreUpTo, BegunNext, DoFit, IsFrontOn, IsStored, UpToNext};
 
 use crate::ReopenFault;
@@ -23,9 +22,7 @@ pub(crate) fn stored<E: Disk>(
     disk: &mut E,
     count: u32,
 ) -> Result<Option<NumberedBooks>, ReopenFault>
-    ensures cause { HasReadCause (E.faults disk.old) (E.faults disk.new) result }
-    ensures honesty { E.honest disk.new → E.honest disk.old }
-    ensures unwritten { E.honest disk.new → LooksOn E.Disk disk.old disk.new }
+    ensures disk { OnlyReads E.Disk disk.old disk.new result }
     ensures sound { IfOk result (λ found. IfSome found (λ books. AreSoundBooks books × (books.position ≤ count))) }
     ensures stored { E.honest disk.new → IfOk result (λ found. IsStored (E.reads disk.old) count found) }
 {
@@ -54,9 +51,7 @@ fn fits(front: Front) -> bool
 // The figures behind an open gate, where there is room for their policies.
 #[tactic(auto, using(crate::proofs::InStore::no_front, crate::proofs::InStore::no_room, crate::proofs::InStore::front_there, crate::proofs::InStore::short_file))]
 fn front_on<E: Disk>(disk: &mut E) -> Result<Option<Front>, ReopenFault>
-    ensures cause { HasReadCause (E.faults disk.old) (E.faults disk.new) result }
-    ensures honesty { E.honest disk.new → E.honest disk.old }
-    ensures unwritten { E.honest disk.new → LooksOn E.Disk disk.old disk.new }
+    ensures disk { OnlyReads E.Disk disk.old disk.new result }
     ensures front { E.honest disk.new → IfOk result (λ found. IsFrontOn (E.reads disk.old) found) }
 {
     let size = size_of(disk)?;
@@ -83,9 +78,7 @@ fn books_behind<E: Disk>(
 ) -> Result<Option<NumberedBooks>, ReopenFault>
     requires fit { DoFit front }
     requires long { E.honest disk.old → 64 + 48 * front.policies ≤ length (E.reads disk.old) }
-    ensures cause { HasReadCause (E.faults disk.old) (E.faults disk.new) result }
-    ensures honesty { E.honest disk.new → E.honest disk.old }
-    ensures unwritten { E.honest disk.new → LooksOn E.Disk disk.old disk.new }
+    ensures disk { OnlyReads E.Disk disk.old disk.new result }
     ensures sound { IfOk result (λ found. IfSome found (λ books. AreSoundBooks books × (books.position ≡ front.position))) }
     ensures behind { E.honest disk.new → IfOk result (λ found. AreBooksBehind (E.reads disk.old) front found) }
 {
@@ -122,9 +115,7 @@ fn add_piece<E: Disk>(
     requires within { first + many ≤ front.policies }
     requires long { E.honest disk.old → 64 + 48 * front.policies ≤ length (E.reads disk.old) }
     requires begun { AreBegun front first books.old }
-    ensures cause { HasReadCause (E.faults disk.old) (E.faults disk.new) result }
-    ensures honesty { E.honest disk.new → E.honest disk.old }
-    ensures unwritten { E.honest disk.new → LooksOn E.Disk disk.old disk.new }
+    ensures disk { OnlyReads E.Disk disk.old disk.new result }
     ensures begun { IfOk result (λ added. BegunNext front (first + many) books.new added) }
     ensures next { E.honest disk.new → AreUpTo (E.reads disk.old) front first books.old
         → IfOk result (λ added. UpToNext (E.reads disk.old) front (first + many) books.new added) }
@@ -143,9 +134,7 @@ fn read_piece<E: Disk>(
 ) -> Result<(), ReopenFault>
     requires few { many ≤ 2048 }
     requires long { E.honest disk.old → 64 + 48 * (first + many) ≤ length (E.reads disk.old) }
-    ensures cause { HasReadCause (E.faults disk.old) (E.faults disk.new) result }
-    ensures honesty { E.honest disk.new → E.honest disk.old }
-    ensures unwritten { E.honest disk.new → LooksOn E.Disk disk.old disk.new }
+    ensures disk { OnlyReads E.Disk disk.old disk.new result }
     ensures bytes { E.honest disk.new → OnOk result (AreBytesOf (E.reads disk.old) first many piece.new) }
 {
     let at = 64 + 48 * u64::from(first);
@@ -153,9 +142,7 @@ fn read_piece<E: Disk>(
 }
 
 fn size_of<E: Disk>(disk: &mut E) -> Result<u64, ReopenFault>
-    ensures cause { HasReadCause (E.faults disk.old) (E.faults disk.new) result }
-    ensures honesty { E.honest disk.new → E.honest disk.old }
-    ensures unwritten { E.honest disk.new → LooksOn E.Disk disk.old disk.new }
+    ensures disk { OnlyReads E.Disk disk.old disk.new result }
     ensures length { E.honest disk.new → IfOk result (λ n. n ≡ length (E.reads disk.old)) }
 {
     match disk.len() {
@@ -166,9 +153,7 @@ fn size_of<E: Disk>(disk: &mut E) -> Result<u64, ReopenFault>
 
 fn read<E: Disk>(disk: &mut E, at: u64, buf: &mut [u8]) -> Result<(), ReopenFault>
     requires { E.honest disk.old → at + length buf.old ≤ length (E.reads disk.old) }
-    ensures cause { HasReadCause (E.faults disk.old) (E.faults disk.new) result }
-    ensures honesty { E.honest disk.new → E.honest disk.old }
-    ensures unwritten { E.honest disk.new → LooksOn E.Disk disk.old disk.new }
+    ensures disk { OnlyReads E.Disk disk.old disk.new result }
     ensures bytes { E.honest disk.new → OnOk result (buf.new ≡ take (length buf.old) (drop at (E.reads disk.old))) }
 {
     match disk.read(at, buf) {

@@ -1,6 +1,6 @@
 -- What reading the two disks tells of a fault
 use Rattle.std.specs.Prelude.{◌≡◌, ℕ, MatchResult, Result}
-use Rattle.outside_io.specs.Faults.{Rose}
+use Rattle.checkpoint_store.specs.Names.{Ghosts, LooksOn, Rose}
 use Rattle.journal_replay.specs.declared.replaying.ReplayFault.{ReplayFault}
 use Rattle.journal_replay.specs.declared.replaying.ReplayFault.TheVariants as replay
 use Rattle.checkpoint_store.specs.declared.faults.ReopenFault.{ReopenFault}
@@ -20,3 +20,9 @@ HasStoreCause before now NoMemory = now ≡ before
 
 abbrev pub HasReadCause : {T : Type 0} → ℕ → ℕ → Result T ReopenFault → Type 0
 HasReadCause before now result = MatchResult result (λ done. now ≡ before) (λ fault. HasStoreCause before now fault)
+
+-- A disk was only read: each fault has its cause, and where the disk is honest after it, it was so before and nothing was written.
+pub record OnlyReads {D T : Type 0} (g : Ghosts D) (old new : D) (result : Result T ReopenFault) : Type 0 where
+  pub cause : HasReadCause (g.faults old) (g.faults new) result
+  pub honesty : g.honest new → g.honest old
+  pub looks : g.honest new → LooksOn g old new

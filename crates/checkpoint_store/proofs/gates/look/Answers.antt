@@ -16,7 +16,7 @@ returns-in_err-size-clause-unwritten g c = λ honest.
 
 pub returns-clause-unwritten : goal.returns-clause-unwritten
 returns-clause-unwritten g c = λ honest.
-    let honest_len = c.is_shut.ensures.honesty honest in
+    let honest_len = c.is_shut.ensures.disk.honesty honest in
     let honest_mid = c.len.ensures.honesty honest_len in
     looks_on g.E.Disk c.args.disk.now c.len.new.self c.is_shut.new.disk
     (looks_on g.E.Disk c.args.disk.now c.sync.new.self c.len.new.self
@@ -27,7 +27,7 @@ returns-clause-unwritten g c = λ honest.
 pub returns-clause-gate : goal.returns-clause-gate
 returns-clause-gate g c = λ honest.
     let new = c.is_shut.new.disk in
-    let honest_len = c.is_shut.ensures.honesty honest in
+    let honest_len = c.is_shut.ensures.disk.honesty honest in
     let honest_mid = c.len.ensures.honesty honest_len in
     let asked = looked g.E.Disk c.sync.new.self c.len.new.self (c.len.ensures.facts honest_len) (c.len.ensures.time honest_len) in
     let looks = c.is_shut.ensures.unwritten honest in

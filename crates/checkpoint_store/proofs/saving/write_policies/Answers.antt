@@ -22,18 +22,18 @@ loop-done-preserved g c =
     let room : 48 * many ≤ length c.fill.new.piece = omega (arith, c.min-many.ensures, c.fill.array_long) in
     record {
       within = within;
-      count = c.in_ok-write_behind.ensures.cause.succeeded ∙ was.count;
-      honesty = λ honest. was.honesty (c.write_behind.ensures.honesty honest);
+      count = c.in_ok-write_behind.ensures.disk.cause.succeeded ∙ was.count;
+      honesty = λ honest. was.honesty (c.write_behind.ensures.disk.honesty honest);
       long = λ honest.
-          let before = was.long (c.write_behind.ensures.honesty honest) in
+          let before = was.long (c.write_behind.ensures.disk.honesty honest) in
           let after = behind_long (g.E.Disk.reads c.loop-done.disk) bytes (g.E.Disk.reads c.write_behind.new.disk) (64 + 48 * done) before (c.in_ok-write_behind.ensures.written honest) in
           omega (arith, after, length-take-le (48 * many) c.fill.new.piece room);
-      longer = λ honest. omega (arith, was.longer (c.write_behind.ensures.honesty honest), c.write_behind.ensures.longer honest);
+      longer = λ honest. omega (arith, was.longer (c.write_behind.ensures.disk.honesty honest), c.write_behind.ensures.longer honest);
       written = λ front honest size stands.
-          let honest_old = c.write_behind.ensures.honesty honest in
+          let honest_old = c.write_behind.ensures.disk.honesty honest in
           policies_more front bytes (g.E.Disk.reads c.loop-done.disk) (g.E.Disk.reads c.write_behind.new.disk) policies done many (64 + 48 * done) refl was.within size spelled
           (was.long honest_old) (was.written front honest_old size stands) (c.in_ok-write_behind.ensures.written honest);
       shut = λ honest shut.
-          let first = was.shut (c.write_behind.ensures.honesty honest) shut in
+          let first = was.shut (c.write_behind.ensures.disk.honesty honest) shut in
           shut_on g.E.Disk c.args.disk.now c.loop-done.disk c.write_behind.new.disk first (c.write_behind.ensures.shut honest first.shut);
     }

@@ -21,5 +21,5 @@ returns-then-front-count-clause-stored g c = λ honest.
 pub returns-clause-stored : goal.returns-clause-stored
 returns-clause-stored g c = λ honest.
     let file = g.E.Disk.reads c.args.disk.now in
-    let on = subst (λ o. IsFrontOn file o) c.in-Some.is (c.in_ok-front.ensures.front (c.books_behind.ensures.honesty honest)) in
-    stored_all file c.args.count c.in-Some.front c.books_behind.result on.0 on.1 (search (rules, c.books_behind.ensures.behind honest, c.in_ok-front.ensures.unwritten)) c.books_behind.ensures.sound
+    let on = subst (λ o. IsFrontOn file o) c.in-Some.is (c.in_ok-front.ensures.front (c.books_behind.ensures.disk.honesty honest)) in
+    stored_all file c.args.count c.in-Some.front c.books_behind.result on.0 on.1 (search (rules, c.books_behind.ensures.behind honest, c.in_ok-front.ensures.disk.looks)) c.books_behind.ensures.sound
