@@ -1,5 +1,5 @@
 // The older versions of the keys that have several. Nothing outside this file reads one but by a look, which is counted.
-ghost use Rattle.std.specs.Prelude.{◌≡◌, ℕ, ◌+◌, ◌^◌, ◌<◌, ◌≤◌, [], ◌∷◌, ◌++◌, drop, length, nat_eq, slice_get, Some, OnOk, vec_len};
+ghost use Rattle.std.specs.Prelude.{◌≡◌, ℕ, ◌+◌, ◌^◌, ◌<◌, ◌≤◌, [], ◌∷◌, ◌++◌, drop, length, nat_eq, slice_get, Some, OnOk, vec_len, vec_capacity};
 ghost use Rattle.std.specs.List.{list_any};
 ghost use Rattle.std.specs.Map.{keys_of};
 ghost use Rattle.indexmap.specs.IndexMap.{get};
@@ -110,7 +110,7 @@ impl<V: Copy> Pasts<V> {
         ensures room { OnOk result (HasPastRoom self.new key place) }
     {
         if self.is_of(key, place) {
-            return self.list[place as usize].older.reserve(1);
+            return reserve_one(&mut self.list[place as usize].older);
         }
         self.list.reserve(1)?;
         self.ready.reserve_exact(1)
@@ -199,6 +199,17 @@ impl<V: Copy> Pasts<V> {
             None => false,
         }
     }
+}
+
+// Makes room for one version more: just that much for a few, and a quarter more of many.
+fn reserve_one<V: Copy>(older: &mut Vec<(u32, V)>) -> Result<(), AllocError>
+    ensures items { older.new.items ≡ older.old.items }
+    ensures room { OnOk result (vec_len older.new < vec_capacity older.new) }
+{
+    if older.len() < older.capacity() {
+        return Ok(());
+    }
+    older.reserve_exact(1 + older.len() / 4)
 }
 
 fn drop_front<V: Copy>(older: &mut Vec<(u32, V)>, count: usize)
