@@ -1,5 +1,5 @@
 -- Each file opens to bodies, or shows why it doesn't
-use Rattle.posting_journal.proofs.Names.{◌≡◌, ◌≢◌, ◌⊎◌, inl, inr, ⊎_elim, ℕ, zero, suc, ◌+◌, ◌<◌, ◌≤◌, Bool, true, false, List, [], length, refl, sym, ◌∙◌, subst, arith, bytes_eq, true≢false, cases_Bool, cases_lt, CannotStand, IsBadAt, IsForeign, IsUnfinished, OpensToBodies, IsMade, gate_place, header}
+use Rattle.posting_journal.proofs.Names.{◌≡◌, ◌≢◌, ◌⊎◌, inl, inr, ⊎_elim, ℕ, zero, suc, ◌+◌, ◌<◌, ◌≤◌, true, false, List, [], length, refl, sym, ◌∙◌, subst, arith, bytes_eq, true≢false, cases_Bool, cases_lt, CannotStand, IsBadAt, IsForeign, IsUnfinished, OpensToBodies, IsMade, gate_place, header}
 use Rattle.std.specs.Prelude.{take, drop, slice_index}
 use Rattle.std.proofs.lemmas.Bool.Decides.{eqb_tells}
 use Rattle.std.proofs.lemmas.Slice.Eq.{bytes_eq-Decides}
