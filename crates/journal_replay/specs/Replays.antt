@@ -4,8 +4,9 @@ use Rattle.outside_io.specs.Faults.{Rose}
 use Rattle.outside_io.specs.declared.disks.Disk.{Ghosts}
 use Rattle.policy_types.specs.declared.command.Command.{Command}
 use Rattle.policy_types.specs.Valid.{IsValid}
-use Rattle.posting_journal.specs.Runs.{LooksOn}
-use Rattle.posting_journal.specs.States.{StandsFor, count_of, disk_of, is_clean}
+pub use Rattle.posting_journal.specs.Runs.{IsLookedAt}
+pub use Rattle.posting_journal.specs.States.{StaysAs}
+use Rattle.posting_journal.specs.States.{StandsFor, disk_of}
 use Rattle.posting_journal.specs.declared.journal.Journal.{Journal}
 use Rattle.record_codec.specs.Spelling.{spelling_of}
 use Rattle.journal_replay.specs.declared.replaying.ReplayFault.{ReplayFault}
@@ -14,19 +15,6 @@ use Rattle.journal_replay.specs.declared.replaying.ReplayFault.TheVariants.{Disk
 -- the bodies of the commands' records
 abbrev pub bodies_of : List Command → List (List ℕ)
 bodies_of commands = map spelling_of commands
-
--- a disk was only looked at, where it comes back honest
-pub record IsLookedAt {D : Type 0} (g : Ghosts D) (old new : D) : Type 0 where
-  pub honesty : g.honest new → g.honest old
-  pub looks : g.honest new → LooksOn g old new
-
--- a journal whose disk was only looked at is what it was
-pub record StaysAs {D : Type 0} {g : Ghosts D} (old new : Journal D g) : Type 0 where
-  pub counted : count_of new ≡ count_of old
-  pub clean : is_clean new ≡ is_clean old
-  pub disk : IsLookedAt g (disk_of old) (disk_of new)
-  pub stands : (bodies : List (List ℕ)) (last : List ℕ) → g.honest (disk_of new)
-      → StandsFor old bodies last → StandsFor new bodies last
 
 -- the disk didn't fail
 abbrev pub IsQuiet : {D : Type 0} {g : Ghosts D} → Journal D g → D → Type 0

@@ -1,9 +1,9 @@
 -- Each file opens to bodies, or shows why it doesn't
-use Rattle.posting_journal.proofs.Names.{◌≡◌, ◌≢◌, ◌⊎◌, inl, inr, ⊎_elim, ℕ, zero, suc, ◌+◌, ◌*◌, ◌<◌, ◌≤◌, Bool, true, false, List, [], ◌∷◌, ◌++◌, length, get_or, refl, sym, ap, ◌∙◌, subst, add-one, arith, bytes_eq, true≢false, cases_Bool, cases_lt, CannotStand, IsBadAt, IsForeign, IsUnfinished, OpensToBodies, IsMade, body_place, gate_place, header, most_records}
-use Rattle.std.specs.Prelude.{take, drop, slice_index, slice_index_or}
+use Rattle.posting_journal.proofs.Names.{◌≡◌, ◌≢◌, ◌⊎◌, inl, inr, ⊎_elim, ℕ, zero, suc, ◌+◌, ◌<◌, ◌≤◌, true, false, List, [], length, refl, sym, ◌∙◌, subst, arith, bytes_eq, true≢false, cases_Bool, cases_lt, CannotStand, IsBadAt, IsForeign, IsUnfinished, OpensToBodies, IsMade, gate_place, header}
+use Rattle.std.specs.Prelude.{take, drop, slice_index}
 use Rattle.std.proofs.lemmas.Bool.Decides.{eqb_tells}
-use Rattle.std.proofs.lemmas.List.{get_or_append_left, get_or_push, length-append}
 use Rattle.std.proofs.lemmas.Slice.Eq.{bytes_eq-Decides}
+use Rattle.posting_journal.proofs.Opened.{counted}
 
 -- a byte is this one, or it isn't
 is_byte : (byte wanted : ℕ) → (byte ≡ wanted) ⊎ (byte ≢ wanted)
@@ -74,29 +74,6 @@ unfinished bytes = elim (cases_lt 1 (length bytes)) [
 
 -- ---- records
 
--- the bodies of the first so many records
-bodies_to : List ℕ → ℕ → List (List ℕ)
-bodies_to bytes zero = []
-bodies_to bytes (suc n) = bodies_to bytes n ++ take 64 (drop (body_place n) bytes) ∷ []
-
-length-bodies_to : (bytes : List ℕ) (n : ℕ) → length (bodies_to bytes n) ≡ n
-unfolding bodies_to
-length-bodies_to bytes zero = refl
-length-bodies_to bytes (suc n) =
-    length-append (bodies_to bytes n) (take 64 (drop (body_place n) bytes) ∷ []) ∙ (let so_far = length-bodies_to bytes n in omega (arith, so_far))
-
-body_at : (bytes : List ℕ) (n k : ℕ) → k < n → slice_index_or (bodies_to bytes n) k [] ≡ take 64 (drop (body_place k) bytes)
-unfolding bodies_to
-body_at bytes zero k low = absurd (omega (arith, low))
-body_at bytes (suc n) k low =
-    let long = length-bodies_to bytes n in
-    elim (cases_lt k n) [
-      | inl before ↦ get_or_append_left (bodies_to bytes n) (take 64 (drop (body_place n) bytes) ∷ []) [] k (omega (arith, before, long)) ∙ body_at bytes n k before
-      | inr last ↦
-          let same : n ≡ k = omega (arith, low, last) in
-          get_or_push (bodies_to bytes n) (take 64 (drop (body_place n) bytes)) [] k (long ∙ same) ∙ ap (λ (m : ℕ). take 64 (drop (body_place m) bytes)) same
-    ]
-
 -- what a file shows that isn't an unfinished creation
 abbrev Shows : List ℕ → Type 0
 Shows bytes = ((bodies : List (List ℕ)) × OpensToBodies bytes bodies) ⊎ IsForeign bytes ⊎ ((n : ℕ) × IsBadAt bytes n)
@@ -116,19 +93,8 @@ module _ (bytes : List ℕ) (finished : ¬ IsUnfinished bytes) (long : 18 ≤ le
       → (slice_index bytes (gate_place n) ≡ 1 → gate_place (n + 1) < length bytes → Shows bytes) → Shows bytes
   record_at n most there gates stand go_on = elim (is_byte (slice_index bytes (gate_place n)) 1) [
     | inr closed ↦
-        let count = length-bodies_to bytes n in
-        inl (
-          bodies_to bytes n,
-          inl (record {
-            made = made;
-            records = λ k low. record {
-              opened = gates k (omega (arith, low, count));
-              whole = sym (body_at bytes n k (omega (arith, low, count)));
-            };
-            end = rw count (record { there = there; closed = closed });
-            few = omega (arith, count, most);
-          }),
-        )
+        let c = counted bytes n made most (record { gates = gates; end = record { there = there; closed = closed } }) in
+        inl (c.bodies, inl c.journal)
     | inl opened ↦ elim (cases_lt (gate_place (n + 1)) (length bytes)) [
       | inr cut ↦ inr (inr (n, record { finished = finished; long = long; made = made; gates = upto n opened gates; before = stand; here = inl cut }))
       | inl more ↦ go_on opened more

@@ -88,6 +88,10 @@ pub told_ok : {T E F : Type 0} (done : Result T E) (result : Result T F) (value 
 told_ok (Ok u) result value fault P is told holds = holds
 told_ok (Err e) result value fault P is told holds = absurd (cc)
 
+pub told_done : {T E F : Type 0} (done : Result T E) (result : Result T F) (fault : F) (P : Type 0) → MatchResult done (λ u. result ≡ Ok u) (λ f. result ≡ Err fault) → OnOk done P → OnOk result P
+told_done (Ok u) result fault P told holds = subst (λ r. OnOk r P) (sym told) holds
+told_done (Err e) result fault P told holds = subst (λ r. OnOk r P) (sym told) tt
+
 pub told_err : {T E F : Type 0} (done : Result T E) (result : Result T F) (fault : F) (P : Type 0) → MatchResult done (λ u. result ≡ Ok u) (λ f. result ≡ Err fault) → OnErr done P → OnErr result P
 told_err (Ok u) result fault P told holds = subst (λ r. OnErr r P) (sym told) tt
 told_err (Err e) result fault P told holds = subst (λ r. OnErr r P) (sym told) holds

@@ -1,6 +1,6 @@
 -- What a file can be when it is opened: a creation that didn't end, a journal, or neither.
-use Rattle.std.specs.Prelude.{◌≡◌, ◌≢◌, ◌⊎◌, ℕ, ◌+◌, ◌<◌, ◌≤◌, List, [], length, take, drop, slice_index}
-use Rattle.posting_journal.specs.Layout.{header, gate_place, most_records}
+use Rattle.std.specs.Prelude.{◌≡◌, ◌≢◌, ◌⊎◌, ℕ, ◌+◌, ◌<◌, ◌≤◌, List, [], ◌∷◌, ◌++◌, length, take, drop, slice_index}
+use Rattle.posting_journal.specs.Layout.{empty_journal, header, gate_place, most_records}
 use Rattle.posting_journal.specs.Files.{IsMade, IsJournal}
 
 -- Byte 0 says that the creation goes on, and nothing stands behind the first gate.
@@ -46,6 +46,14 @@ pub record IsBadAt (bytes : List ℕ) (n : ℕ) : Type 0 where
   pub gates : (k : ℕ) → k ≤ n → slice_index bytes (gate_place k) ≡ 1
   pub before : (k : ℕ) → k < n → ¬ CannotStand bytes k
   pub here : CannotStand bytes n
+
+-- all but byte 0 is that of an empty journal, and byte 0 says that the creation goes on
+abbrev pub IsReadyAndBegun : List ℕ → Type 0
+IsReadyAndBegun bytes = IsReady bytes × (bytes ≡ 0 ∷ header ++ 0 ∷ [])
+
+-- it has no bodies, and nothing stands behind its first gate
+abbrev pub IsEmptyJournal : List ℕ → Type 0
+IsEmptyJournal bytes = IsJournal bytes [] × (bytes ≡ empty_journal)
 
 -- a creation of which byte 0 has yet to say that it goes on
 abbrev pub IsToBegin : List ℕ → Type 0

@@ -1,5 +1,6 @@
--- What a call on an open journal tells of its disk's faults.
+-- What calls tell of the disk's faults.
 use Rattle.std.specs.Prelude.{◌≡◌, ◌≤◌, Result, IfErr, OnOk}
+use Rattle.outside_io.specs.Disks.{HasDiskCause}
 use Rattle.outside_io.specs.Faults.{Rose}
 use Rattle.outside_io.specs.declared.disks.Disk.{Ghosts}
 use Rattle.posting_journal.specs.declared.faults.DiskFault.{DiskFault}
@@ -10,4 +11,10 @@ pub record TellsFaults {D T : Type 0} (g : Ghosts D) (old new : D) (result : Res
   pub later : g.faults old ≤ g.faults new
   pub quiet : OnOk result (g.faults new ≡ g.faults old)
   pub fault : IfErr result (λ fault. (fault.count ≡ g.faults new) × Rose (g.faults old) (g.faults new))
+  pub honesty : g.honest new → g.honest old
+
+-- A step of a call fails only where the count rose, and leaves the count where it succeeds. A disk stays honest, or
+-- stays one that isn't.
+pub record HasCause {D T E : Type 0} (g : Ghosts D) (old new : D) (result : Result T E) : Type 0 where
+  pub disk : HasDiskCause (g.faults old) (g.faults new) result
   pub honesty : g.honest new → g.honest old

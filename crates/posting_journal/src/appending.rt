@@ -1,12 +1,11 @@
 // What is done with an open journal.
-ghost use Rattle.std.specs.Prelude.{◌≡◌, ℕ, ◌+◌, ◌<◌, ◌≤◌, ◌++◌, [], ◌∷◌, List, false, if◌then◌else◌, is_ok, IsTrue, IfOk, OnOk, OnErr, MatchResult, Ok, Err, take, drop, length, slice_index, slice_index_or};
-ghost use Rattle.outside_io.specs.Disks.{HasDiskCause};
-ghost use Rattle.posting_journal.specs.Faults.{TellsFaults};
-ghost use Rattle.posting_journal.specs.Files.{IsStaged, IsBeforeOrAfter};
+ghost use Rattle.std.specs.Prelude.{◌≡◌, ℕ, ◌+◌, ◌<◌, ◌++◌, [], ◌∷◌, List, false, if◌then◌else◌, is_ok, IsTrue, OnOk, MatchResult, Ok, Err, length};
+ghost use Rattle.posting_journal.specs.Faults.{HasCause, TellsFaults};
+ghost use Rattle.posting_journal.specs.Files.{IsStaged};
 ghost use Rattle.posting_journal.specs.Layout.{gate_place, body_place, most_records};
-ghost use Rattle.posting_journal.specs.Runs.{IsSafe, Leaves, LooksOn};
-ghost use Rattle.posting_journal.specs.States.{StandsFor, count_of, disk_of, is_clean};
-ghost use Rattle.posting_journal.specs.inside.Steps.{AcknowledgesOn, StagesOn};
+ghost use Rattle.posting_journal.specs.Runs.{IsSafe};
+ghost use Rattle.posting_journal.specs.States.{AppendsOn, RepairsOn, StandsFor, count_of, disk_of, is_clean};
+ghost use Rattle.posting_journal.specs.inside.Steps.{StagesOn};
 
 use crate::layout::{CLOSED, OPEN};
 use crate::putting::put;
@@ -43,16 +42,8 @@ impl<D: Disk> Journal<D> {
         ensures count { count_of self.new ≡ (if is_ok result then (count_of self.old) + 1 else (count_of self.old)) }
         ensures clean { OnOk result (IsTrue (is_clean self.new)) }
         ensures disk { TellsFaults D.Disk (disk_of self.old) (disk_of self.new) result }
-        ensures acknowledged { (bodies : List (List ℕ)) (faulted : List ℕ) → D.honest (disk_of self.new)
-            → StandsFor self.old bodies faulted
-            → OnOk result (StandsFor self.new (bodies ++ body.now ∷ []) [] × IsSafe D.Disk (disk_of self.new)) }
-        ensures faulted { (bodies : List (List ℕ)) (faulted : List ℕ) → D.honest (disk_of self.new)
-            → StandsFor self.old bodies faulted
-            → OnErr result (StandsFor self.new bodies body.now) }
-        // A crash at any moment of the call leaves the bodies from before it, or those and the new one.
-        ensures moments { (bodies : List (List ℕ)) (faulted : List ℕ) → D.honest (disk_of self.new)
-            → StandsFor self.old bodies faulted
-            → Leaves D.Disk (disk_of self.old) (disk_of self.new) (IsBeforeOrAfter bodies body.now) }
+        ensures appends { (bodies : List (List ℕ)) (faulted : List ℕ) → D.honest (disk_of self.new)
+            → StandsFor self.old bodies faulted → AppendsOn self.old self.new bodies body.now result }
     {
         let staged = self.stage(body);
         self.told(staged)?;
@@ -67,40 +58,20 @@ impl<D: Disk> Journal<D> {
         ensures count { count_of self.new ≡ count_of self.old }
         ensures clean { is_clean self.new ≡ is_ok result }
         ensures disk { TellsFaults D.Disk (disk_of self.old) (disk_of self.new) result }
-        ensures repaired { (bodies : List (List ℕ)) (faulted : List ℕ) → D.honest (disk_of self.new)
-            → StandsFor self.old bodies faulted
-            → OnOk result (StandsFor self.new bodies [] × IsSafe D.Disk (disk_of self.new)) }
-        ensures closed { (bodies : List (List ℕ)) (faulted : List ℕ) → D.honest (disk_of self.new)
-            → StandsFor self.old bodies faulted
-            → OnOk result (slice_index (D.reads (disk_of self.new)) (gate_place (length bodies)) ≡ 0) }
-        ensures faulted { (bodies : List (List ℕ)) (faulted : List ℕ) → D.honest (disk_of self.new)
-            → StandsFor self.old bodies faulted
-            → OnErr result (StandsFor self.new bodies faulted) }
-        // A crash at any moment of the call leaves the bodies, or those and the one of the fault.
-        ensures moments { (bodies : List (List ℕ)) (faulted : List ℕ) → D.honest (disk_of self.new)
-            → StandsFor self.old bodies faulted
-            → Leaves D.Disk (disk_of self.old) (disk_of self.new) (IsBeforeOrAfter bodies faulted) }
+        ensures repairs { (bodies : List (List ℕ)) (faulted : List ℕ) → D.honest (disk_of self.new)
+            → StandsFor self.old bodies faulted → RepairsOn self.old self.new bodies faulted result }
     {
-        match put(&mut self.disk, gate_place(self.count), &[CLOSED]) {
-            Ok(()) => {
-                self.clean = true;
-                Ok(())
-            }
-            Err(Failed) => Err(DiskFault {
-                count: self.disk.faults(),
-            }),
-        }
+        let closed = put(&mut self.disk, gate_place(self.count), &[CLOSED]);
+        self.told(closed)?;
+        self.clean = true;
+        Ok(())
     }
 
     /// Gives the disk back.
     pub fn release(self) -> D
         ensures { result ≡ disk_of self }
     {
-        let Journal {
-            disk,
-            count: _,
-            clean: _,
-        } = self;
+        let Journal { disk, .. } = self;
         disk
     }
 
@@ -110,8 +81,7 @@ impl<D: Disk> Journal<D> {
         requires clean { IsTrue (is_clean self.old) }
         ensures count { count_of self.new ≡ count_of self.old }
         ensures clean { IsTrue (is_clean self.new) }
-        ensures cause { HasDiskCause (D.faults (disk_of self.old)) (D.faults (disk_of self.new)) result }
-        ensures honesty { D.honest (disk_of self.new) → D.honest (disk_of self.old) }
+        ensures cause { HasCause D.Disk (disk_of self.old) (disk_of self.new) result }
         ensures next { D.honest (disk_of self.new)
             → OnOk result (gate_place ((count_of self.new) + 1) < length (D.reads (disk_of self.new))) }
         ensures stages { (bodies : List (List ℕ)) (faulted : List ℕ) → D.honest (disk_of self.new)
@@ -129,22 +99,17 @@ impl<D: Disk> Journal<D> {
             → gate_place ((count_of self.old) + 1) < length (D.reads (disk_of self.old)) }
         ensures count { count_of self.new ≡ (if is_ok result then (count_of self.old) + 1 else (count_of self.old)) }
         ensures clean { is_clean self.new ≡ is_ok result }
-        ensures cause { HasDiskCause (D.faults (disk_of self.old)) (D.faults (disk_of self.new)) result }
-        ensures honesty { D.honest (disk_of self.new) → D.honest (disk_of self.old) }
+        ensures cause { HasCause D.Disk (disk_of self.old) (disk_of self.new) result }
         ensures acknowledges { (bodies : List (List ℕ)) (body : List ℕ) → D.honest (disk_of self.new)
             → (count_of self.old) ≡ length bodies
             → IsStaged (D.reads (disk_of self.old)) bodies body → IsSafe D.Disk (disk_of self.old)
-            → AcknowledgesOn self.old self.new bodies body result }
+            → AppendsOn self.old self.new bodies body result }
     {
         self.clean = false;
-        match put(&mut self.disk, gate_place(self.count), &[OPEN]) {
-            Ok(()) => {
-                self.clean = true;
-                self.count += 1;
-                Ok(())
-            }
-            Err(failed) => Err(failed),
-        }
+        put(&mut self.disk, gate_place(self.count), &[OPEN])?;
+        self.clean = true;
+        self.count += 1;
+        Ok(())
     }
 
     // A fault of the disk, with the count of its faults.

@@ -1,13 +1,11 @@
 // The opening of a file.
-ghost use Rattle.std.specs.Prelude.{◌≡◌, ◌≤◌, length, IfOk, IfErr};
-ghost use Rattle.outside_io.specs.Disks.{HasDiskCause};
+ghost use Rattle.std.specs.Prelude.{◌≡◌, length, IfOk};
 ghost use Rattle.posting_journal.specs.Creation.{IsUnfinished};
-ghost use Rattle.posting_journal.specs.Layout.{empty_journal, most_records};
+ghost use Rattle.posting_journal.specs.Faults.{HasCause};
 ghost use Rattle.posting_journal.specs.inside.Kinds.{IsOfKind, IsLongIfMade};
 ghost use Rattle.posting_journal.specs.Opening.{IsOpenedOn, OpensOn, HasSynced};
-ghost use Rattle.posting_journal.specs.inside.Steps.{OpenedTo};
+ghost use Rattle.posting_journal.specs.inside.Steps.{AnswersOpening};
 ghost use Rattle.posting_journal.specs.Runs.{IsSafe, LooksOn, Passes};
-ghost use Rattle.posting_journal.specs.inside.Unopened.{HasUnopenedCause, ShowsWhy};
 
 use crate::creation::create;
 use crate::faults::Unopened;
@@ -19,13 +17,7 @@ use outside_io::{Disk, Failed};
 // Opens the journal and answers how many records it has. What a crash left is made safe first, so that it is all
 // that a later crash leaves.
 pub(crate) fn open<D: Disk>(disk: &mut D) -> Result<u32, Unopened>
-    ensures cause { HasUnopenedCause (D.faults disk.old) (D.faults disk.new) result }
-    ensures honesty { D.honest disk.new → D.honest disk.old }
-    ensures few { IfOk result (λ n. n ≤ most_records) }
-    ensures opened { D.honest disk.new → IfOk result (λ n. OpenedTo D.Disk disk.old disk.new n) }
-    ensures made { D.honest disk.new → IsUnfinished (D.reads disk.old)
-        → IfOk result (λ n. D.reads disk.new ≡ empty_journal) }
-    ensures refused { D.honest disk.new → IfErr result (λ cause. ShowsWhy (D.reads disk.old) cause) }
+    ensures answers { AnswersOpening D.Disk disk.old disk.new result }
     ensures opens { D.honest disk.new → OpensOn D.Disk disk.old disk.new }
     ensures synced { D.honest disk.new → IfOk result (λ n. HasSynced D.Disk disk.old disk.new) }
 {
@@ -36,13 +28,7 @@ pub(crate) fn open<D: Disk>(disk: &mut D) -> Result<u32, Unopened>
 // Opens what is safe.
 fn open_safe<D: Disk>(disk: &mut D) -> Result<u32, Unopened>
     requires safe { D.honest disk.old → IsSafe D.Disk disk.old }
-    ensures cause { HasUnopenedCause (D.faults disk.old) (D.faults disk.new) result }
-    ensures honesty { D.honest disk.new → D.honest disk.old }
-    ensures few { IfOk result (λ n. n ≤ most_records) }
-    ensures opened { D.honest disk.new → IfOk result (λ n. OpenedTo D.Disk disk.old disk.new n) }
-    ensures made { D.honest disk.new → IsUnfinished (D.reads disk.old)
-        → IfOk result (λ n. D.reads disk.new ≡ empty_journal) }
-    ensures refused { D.honest disk.new → IfErr result (λ cause. ShowsWhy (D.reads disk.old) cause) }
+    ensures answers { AnswersOpening D.Disk disk.old disk.new result }
     ensures moments { D.honest disk.new → Passes D.Disk disk.old disk.new (IsOpenedOn (D.reads disk.old)) }
     ensures unwritten { D.honest disk.new → ¬ IsUnfinished (D.reads disk.old) → LooksOn D.Disk disk.old disk.new }
 {
@@ -60,8 +46,7 @@ fn open_safe<D: Disk>(disk: &mut D) -> Result<u32, Unopened>
 // Reads the first bytes.
 fn kind_of<D: Disk>(disk: &mut D, size: u64) -> Result<FileKind, Failed>
     requires { D.honest disk.old → size ≡ length (D.reads disk.old) }
-    ensures cause { HasDiskCause (D.faults disk.old) (D.faults disk.new) result }
-    ensures honesty { D.honest disk.new → D.honest disk.old }
+    ensures cause { HasCause D.Disk disk.old disk.new result }
     ensures long { IfOk result (λ kind. IsLongIfMade size kind) }
     ensures kind { D.honest disk.new → IfOk result (λ kind. IsOfKind (D.reads disk.old) kind) }
     ensures unwritten { D.honest disk.new → LooksOn D.Disk disk.old disk.new }

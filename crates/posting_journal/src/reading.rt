@@ -1,10 +1,9 @@
 // The bodies of an open journal are read, one by one or by pieces.
-ghost use Rattle.std.specs.Prelude.{◌≡◌, ℕ, ◌-◌, ◌*◌, ◌<◌, ◌≤◌, [], List, IfOk, OnOk, OnErr, min, take, drop, slice_index_or};
+ghost use Rattle.std.specs.Prelude.{◌-◌, ◌*◌, ◌<◌, ◌≤◌, OnOk, OnErr, min};
 ghost use Rattle.posting_journal.specs.Faults.{TellsFaults};
-ghost use Rattle.posting_journal.specs.Layout.{body_place, most_in_piece};
-ghost use Rattle.posting_journal.specs.Pieces.{HasBody, IsEmptyPiece, IsFilled, IsPartOf};
-ghost use Rattle.posting_journal.specs.Runs.{LooksOn};
-ghost use Rattle.posting_journal.specs.States.{StandsFor, count_of, disk_of, is_clean};
+ghost use Rattle.posting_journal.specs.Layout.{most_in_piece};
+ghost use Rattle.posting_journal.specs.Pieces.{IsEmptyPiece, IsFilled, IsPartOf};
+ghost use Rattle.posting_journal.specs.States.{ReadsBody, StaysAs, count_of, disk_of};
 
 use crate::appending::body_place;
 use crate::pieces::RECORDS;
@@ -15,18 +14,9 @@ impl<D: Disk> Journal<D> {
     /// The body of record `n`, as the disk reads it.
     pub fn body(&mut self, n: u32) -> Result<[u8; 64], DiskFault>
         requires { n < count_of self.old }
-        ensures count { count_of self.new ≡ count_of self.old }
-        ensures clean { is_clean self.new ≡ is_clean self.old }
+        ensures stays { StaysAs self.old self.new }
         ensures disk { TellsFaults D.Disk (disk_of self.old) (disk_of self.new) result }
-        ensures unwritten { D.honest (disk_of self.new) → LooksOn D.Disk (disk_of self.old) (disk_of self.new) }
-        ensures read { D.honest (disk_of self.new)
-            → IfOk result (λ body. body ≡ take 64 (drop (body_place n) (D.reads (disk_of self.old)))) }
-        ensures nth { (bodies : List (List ℕ)) (faulted : List ℕ) → D.honest (disk_of self.new)
-            → StandsFor self.old bodies faulted
-            → IfOk result (λ body. body ≡ slice_index_or bodies n []) }
-        ensures stands { (bodies : List (List ℕ)) (faulted : List ℕ) → D.honest (disk_of self.new)
-            → StandsFor self.old bodies faulted
-            → StandsFor self.new bodies faulted }
+        ensures reads { ReadsBody self.old self.new n result }
     {
         let mut body = [0; 64];
         let filled = self.disk.read(body_place(n), &mut body);
@@ -38,16 +28,11 @@ impl<D: Disk> Journal<D> {
     /// a fault it holds nothing. It is what the disk reads in that place, so its bodies are the journal's.
     pub fn bodies(&mut self, first: u32, piece: &mut Stretch) -> Result<(), DiskFault>
         requires { first ≤ count_of self.old }
-        ensures count { count_of self.new ≡ count_of self.old }
-        ensures clean { is_clean self.new ≡ is_clean self.old }
+        ensures stays { StaysAs self.old self.new }
         ensures disk { TellsFaults D.Disk (disk_of self.old) (disk_of self.new) result }
-        ensures unwritten { D.honest (disk_of self.new) → LooksOn D.Disk (disk_of self.old) (disk_of self.new) }
         ensures filled { OnOk result (IsFilled piece.new first (65 * min (count_of self.old - first) most_in_piece)) }
         ensures empty { OnErr result (IsEmptyPiece piece.new) }
         ensures part { D.honest (disk_of self.new) → IsPartOf piece.new (D.reads (disk_of self.new)) }
-        ensures stands { (bodies : List (List ℕ)) (faulted : List ℕ) → D.honest (disk_of self.new)
-            → StandsFor self.old bodies faulted
-            → StandsFor self.new bodies faulted }
     {
         let many = (self.count - first).min(RECORDS);
         let filled = piece.fill(&mut self.disk, first, 65 * many as usize);
@@ -59,41 +44,15 @@ impl<D: Disk> Journal<D> {
     pub fn body_from(&mut self, n: u32, piece: &mut Stretch) -> Result<[u8; 64], DiskFault>
         requires within { n < count_of self.old }
         requires part { D.honest (disk_of self.old) → IsPartOf piece.old (D.reads (disk_of self.old)) }
-        ensures count { count_of self.new ≡ count_of self.old }
-        ensures clean { is_clean self.new ≡ is_clean self.old }
+        ensures stays { StaysAs self.old self.new }
         ensures disk { TellsFaults D.Disk (disk_of self.old) (disk_of self.new) result }
-        ensures unwritten { D.honest (disk_of self.new) → LooksOn D.Disk (disk_of self.old) (disk_of self.new) }
-        ensures read { D.honest (disk_of self.new)
-            → IfOk result (λ body. body ≡ take 64 (drop (body_place n) (D.reads (disk_of self.old)))) }
-        ensures nth { (bodies : List (List ℕ)) (faulted : List ℕ) → D.honest (disk_of self.new)
-            → StandsFor self.old bodies faulted
-            → IfOk result (λ body. body ≡ slice_index_or bodies n []) }
-        ensures stands { (bodies : List (List ℕ)) (faulted : List ℕ) → D.honest (disk_of self.new)
-            → StandsFor self.old bodies faulted
-            → StandsFor self.new bodies faulted }
-        ensures part { D.honest (disk_of self.new) → IsPartOf piece.new (D.reads (disk_of self.new)) }
-    {
-        self.turn_to(n, piece)?;
-        Ok(piece.body(n))
-    }
-
-    // Fills the piece from record `n` on, where it hasn't that record's body.
-    fn turn_to(&mut self, n: u32, piece: &mut Stretch) -> Result<(), DiskFault>
-        requires within { n < count_of self.old }
-        requires part { D.honest (disk_of self.old) → IsPartOf piece.old (D.reads (disk_of self.old)) }
-        ensures count { count_of self.new ≡ count_of self.old }
-        ensures clean { is_clean self.new ≡ is_clean self.old }
-        ensures disk { TellsFaults D.Disk (disk_of self.old) (disk_of self.new) result }
-        ensures unwritten { D.honest (disk_of self.new) → LooksOn D.Disk (disk_of self.old) (disk_of self.new) }
-        ensures stands { (bodies : List (List ℕ)) (faulted : List ℕ) → D.honest (disk_of self.new)
-            → StandsFor self.old bodies faulted
-            → StandsFor self.new bodies faulted }
-        ensures has { OnOk result (HasBody piece.new n) }
+        ensures reads { ReadsBody self.old self.new n result }
         ensures part { D.honest (disk_of self.new) → IsPartOf piece.new (D.reads (disk_of self.new)) }
     {
         if piece.has_body(n) {
-            return Ok(());
+            return Ok(piece.body(n));
         }
-        self.bodies(n, piece)
+        self.bodies(n, piece)?;
+        Ok(piece.body(n))
     }
 }

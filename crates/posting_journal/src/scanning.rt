@@ -1,6 +1,6 @@
 // The records of a file that was made, gate by gate. The gates are read by pieces.
 ghost use Rattle.std.specs.Prelude.{◌≡◌, ◌↔◌, ◌+◌, ◌<◌, ◌≤◌, length, IsTrue, IfOk, IfErr, OnOk, slice_index};
-ghost use Rattle.outside_io.specs.Disks.{HasDiskCause};
+ghost use Rattle.posting_journal.specs.Faults.{HasCause};
 ghost use Rattle.posting_journal.specs.Layout.{gate_place, most_records};
 ghost use Rattle.posting_journal.specs.Pieces.{HasGate, IsPartOf};
 ghost use Rattle.posting_journal.specs.Runs.{LooksOn};
@@ -16,8 +16,7 @@ use outside_io::{Disk, Failed};
 pub(crate) fn count_records<D: Disk>(disk: &mut D, size: u64) -> Result<u32, Unopened>
     requires long { 18 ≤ size }
     requires told { D.honest disk.old → size ≡ length (D.reads disk.old) }
-    ensures cause { HasUnopenedCause (D.faults disk.old) (D.faults disk.new) result }
-    ensures honesty { D.honest disk.new → D.honest disk.old }
+    ensures cause { HasUnopenedCause D.Disk disk.old disk.new result }
     ensures few { IfOk result (λ n. n ≤ most_records) }
     ensures ends { D.honest disk.new → IfOk result (λ n. EndsAt (D.reads disk.old) n) }
     ensures bad { D.honest disk.new → IfErr result (λ cause. IsBadFrom (D.reads disk.old) cause) }
@@ -42,8 +41,7 @@ fn has_record<D: Disk>(
     requires within { gate_place n < size }
     requires told { D.honest disk.old → size ≡ length (D.reads disk.old) }
     requires part { D.honest disk.old → IsPartOf piece.old (D.reads disk.old) }
-    ensures cause { HasUnopenedCause (D.faults disk.old) (D.faults disk.new) result }
-    ensures honesty { D.honest disk.new → D.honest disk.old }
+    ensures cause { HasUnopenedCause D.Disk disk.old disk.new result }
     ensures stands { IfOk result (λ stands. IsTrue stands → (n < most_records) × (gate_place (n + 1) < size)) }
     ensures gate { D.honest disk.new
         → IfOk result (λ stands. IsTrue stands ↔ (slice_index (D.reads disk.old) (gate_place n) ≡ 1)) }
@@ -66,8 +64,7 @@ fn turn_to<D: Disk>(disk: &mut D, size: u64, n: u32, piece: &mut Stretch) -> Res
     requires within { gate_place n < size }
     requires told { D.honest disk.old → size ≡ length (D.reads disk.old) }
     requires part { D.honest disk.old → IsPartOf piece.old (D.reads disk.old) }
-    ensures cause { HasDiskCause (D.faults disk.old) (D.faults disk.new) result }
-    ensures honesty { D.honest disk.new → D.honest disk.old }
+    ensures cause { HasCause D.Disk disk.old disk.new result }
     ensures unwritten { D.honest disk.new → LooksOn D.Disk disk.old disk.new }
     ensures has { OnOk result (HasGate piece.new n) }
     ensures part { D.honest disk.new → IsPartOf piece.new (D.reads disk.new) }

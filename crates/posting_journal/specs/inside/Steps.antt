@@ -1,12 +1,16 @@
 -- What the steps of the calls do, for the contracts of the steps alone.
-use Rattle.std.specs.Prelude.{◌≡◌, ℕ, List, [], ◌∷◌, ◌++◌, length, Result, OnOk, OnErr}
+use Rattle.std.specs.Prelude.{◌≡◌, ℕ, ◌≤◌, List, length, Result, IfOk, IfErr, OnOk}
 use Rattle.outside_io.specs.Disks.{Only, Torn, Writes}
 use Rattle.outside_io.specs.declared.disks.Disk.{Ghosts}
-use Rattle.posting_journal.specs.Creation.{OpensToBodies}
-use Rattle.posting_journal.specs.Files.{IsBeforeOrAfter, IsJournal, IsStaged}
-use Rattle.posting_journal.specs.Runs.{IsSafe, Leaves, Passes}
+use Rattle.posting_journal.specs.Creation.{IsEmpty, IsUnfinished, OpensToBodies}
+use Rattle.posting_journal.specs.Faults.{HasCause}
+use Rattle.posting_journal.specs.Files.{IsJournal, IsStaged}
+use Rattle.posting_journal.specs.Layout.{empty_journal, most_records}
+use Rattle.posting_journal.specs.Runs.{IsSafe, IsSafeWith, Leaves, Passes}
 use Rattle.posting_journal.specs.States.{StandsFor}
+use Rattle.posting_journal.specs.declared.faults.Unopened.{Unopened}
 use Rattle.posting_journal.specs.declared.journal.Journal.{Journal}
+use Rattle.posting_journal.specs.inside.Unopened.{HasUnopenedCause, ShowsWhy}
 
 -- the images that a write of so many bytes from a place on may make of those before
 abbrev pub TornOf : {D : Type 0} → Ghosts D → D → ℕ → ℕ → List ℕ → Type 0
@@ -19,6 +23,12 @@ pub record PutsOn {D T E : Type 0} (g : Ghosts D) (old new : D) (at : ℕ) (byte
   pub durable : OnOk result (Only (g.reads new) (g.may_leave new))
   pub time : Passes g old new (TornOf g old at (length bytes))
 
+-- A step of a creation: at Ok what has P is safe, and at each moment the file is an unfinished creation, or the journal.
+pub record CreatesOn {D T E : Type 0} (g : Ghosts D) (old new : D) (P : List ℕ → Type 0) (result : Result T E) : Type 0 where
+  pub cause : HasCause g old new result
+  pub done : g.honest new → OnOk result (IsSafeWith g P new)
+  pub moments : g.honest new → Passes g old new IsEmpty
+
 -- The file is the journal of so many bodies, those to which it opened, and each image is what is read.
 pub record OpenedTo {D : Type 0} (g : Ghosts D) (old new : D) (count : ℕ) : Type 0 where
   pub bodies : List (List ℕ)
@@ -27,16 +37,17 @@ pub record OpenedTo {D : Type 0} (g : Ghosts D) (old new : D) (count : ℕ) : Ty
   pub counted : count ≡ length bodies
   pub safe : IsSafe g new
 
+-- What an opening answers: the journal's count, which is 0 after a creation, or what the file shows.
+pub record AnswersOpening {D : Type 0} (g : Ghosts D) (old new : D) (result : Result ℕ Unopened) : Type 0 where
+  pub cause : HasUnopenedCause g old new result
+  pub few : IfOk result (λ n. n ≤ most_records)
+  pub opened : g.honest new → IfOk result (λ n. OpenedTo g old new n)
+  pub made : g.honest new → IsUnfinished (g.reads old) → IfOk result (λ n. g.reads new ≡ empty_journal)
+  pub refused : g.honest new → IfErr result (λ cause. ShowsWhy (g.reads old) cause)
+
 -- A clean journal with these bodies, whose next body was written behind its last gate, and made safe or failed.
 pub record StagesOn {D T E : Type 0} {g : Ghosts D} (old new : Journal D g) (bodies : List (List ℕ)) (body : List ℕ)
     (result : Result T E) : Type 0 where
   pub stands : StandsFor new bodies body
   pub staged : OnOk result (IsStaged (g.reads new.disk) bodies body × IsSafe g new.disk)
   pub moments : Leaves g old.disk new.disk (λ image. IsJournal image bodies)
-
--- A journal whose staged body was acknowledged, or may be there.
-pub record AcknowledgesOn {D T E : Type 0} {g : Ghosts D} (old new : Journal D g) (bodies : List (List ℕ))
-    (body : List ℕ) (result : Result T E) : Type 0 where
-  pub done : OnOk result (StandsFor new (bodies ++ body ∷ []) [] × IsSafe g new.disk)
-  pub failed : OnErr result (StandsFor new bodies body)
-  pub moments : Leaves g old.disk new.disk (IsBeforeOrAfter bodies body)

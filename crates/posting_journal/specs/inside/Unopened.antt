@@ -1,6 +1,7 @@
 -- What is known while the records of a file are counted, and where it isn't opened.
 use Rattle.std.specs.Prelude.{◌≡◌, ℕ, ◌<◌, ◌≤◌, List, slice_index, Result, IfErr, OnOk}
 use Rattle.outside_io.specs.Faults.{Rose}
+use Rattle.outside_io.specs.declared.disks.Disk.{Ghosts}
 use Rattle.posting_journal.specs.Layout.{gate_place}
 use Rattle.posting_journal.specs.Files.{IsClosed}
 use Rattle.posting_journal.specs.Creation.{CannotStand, IsForeign, IsBadAt}
@@ -12,10 +13,12 @@ abbrev pub TellsCount : ℕ → ℕ → Unopened → Type 0
 TellsCount before now Unread = Rose before now
 TellsCount before now cause = now ≡ before
 
-pub record HasUnopenedCause {T : Type 0} (before now : ℕ) (result : Result T Unopened) : Type 0 where
-  pub later : before ≤ now
-  pub failed : IfErr result (TellsCount before now)
-  pub succeeded : OnOk result (now ≡ before)
+-- a disk stays honest, or stays one that isn't
+pub record HasUnopenedCause {D T : Type 0} (g : Ghosts D) (old new : D) (result : Result T Unopened) : Type 0 where
+  pub later : g.faults old ≤ g.faults new
+  pub failed : IfErr result (TellsCount (g.faults old) (g.faults new))
+  pub succeeded : OnOk result (g.faults new ≡ g.faults old)
+  pub honesty : g.honest new → g.honest old
 
 -- the gates before that of record n are open, and their records stand
 pub record AreOpen (bytes : List ℕ) (n : ℕ) : Type 0 where

@@ -14,7 +14,7 @@ returns-clause-stages g c = λ bodies faulted honest stands.
     let s = staging g.D.Disk old.disk c.put.new.disk bodies body c.put.result fewer size
     (kept_clean old.clean bodies faulted (g.D.Disk.reads old.disk) c.requires.clean stands.reads)
     (λ image left. kept_clean old.clean bodies faulted image c.requires.clean (stands.images image left))
-    (λ image left. g.met.D.Disk.only_now old.disk image (c.put.ensures.honesty honest) left) puts in
+    (λ image left. g.met.D.Disk.only_now old.disk image (c.put.ensures.cause.honesty honest) left) puts in
     record {
       stands = record {
         count = stands.count;

@@ -6,7 +6,7 @@ use Rattle.posting_journal.proofs.journal.Journal.start.Goals as goal
 
 pub returns-in-Ok-clause-opened : goal.returns-in-Ok-clause-opened
 returns-in-Ok-clause-opened g c = λ honest.
-    let opened = c.in-Ok.ensures.opened honest in
+    let opened = c.in-Ok.ensures.answers.opened honest in
     record {
       bodies = opened.bodies;
       opened = opened.opened;
@@ -22,17 +22,17 @@ returns-in-Ok-clause-opened g c = λ honest.
 
 pub returns-in-Ok-clause-due : goal.returns-in-Ok-clause-due
 returns-in-Ok-clause-due g c = λ cause honest refusal.
-    let opened = c.in-Ok.ensures.opened honest in
+    let opened = c.in-Ok.ensures.answers.opened honest in
     refusal_never (g.D.Disk.reads c.args.disk) cause opened.bodies refusal opened.opened
 
 pub returns-in-Err-clause-due : goal.returns-in-Err-clause-due
 returns-in-Err-clause-due g c = λ cause honest refusal.
     let bytes = g.D.Disk.reads c.args.disk in
-    due_cause bytes c.cause_of-cause.result cause refusal (c.cause_of-cause.ensures.shown bytes (c.in-Err.ensures.refused honest))
+    due_cause bytes c.cause_of-cause.result cause refusal (c.cause_of-cause.ensures.shown bytes (c.in-Err.ensures.answers.refused honest))
 
 pub returns-in-Err-clause-refused : goal.returns-in-Err-clause-refused
-returns-in-Err-clause-refused g c = λ honest. c.cause_of-cause.ensures.shown (g.D.Disk.reads c.args.disk) (c.in-Err.ensures.refused honest)
+returns-in-Err-clause-refused g c = λ honest. c.cause_of-cause.ensures.shown (g.D.Disk.reads c.args.disk) (c.in-Err.ensures.answers.refused honest)
 
 pub returns-in-Err-clause-told : goal.returns-in-Err-clause-told
 returns-in-Err-clause-told g c =
-    rw c.faults.ensures at c.cause_of-cause.ensures.told (g.D.Disk.faults c.args.disk) c.in-Err.ensures.cause.failed
+    rw c.faults.ensures at c.cause_of-cause.ensures.told (g.D.Disk.faults c.args.disk) c.in-Err.ensures.answers.cause.failed
