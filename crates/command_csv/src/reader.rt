@@ -7,6 +7,7 @@ ghost use Rattle.command_csv.specs.Answers.{GivesScript, IsScriptAnswer};
 ghost use Rattle.command_csv.specs.Reads.{AreLineRows, Reads, lanes_of, lines_of as lines_among, valuations_in};
 ghost use Rattle.command_csv.specs.Rows.{rows_of};
 ghost use Rattle.command_csv.specs.Cause.{HasScriptCause};
+ghost use Rattle.command_csv.specs.inside.Starting.{StandsAtStart};
 ghost use Rattle.command_csv.specs.declared.fault.ScriptFault.{ScriptFault as AFault};
 
 use crate::fault::ScriptFault;
@@ -45,10 +46,7 @@ fn read_lines(alloc: Global, bytes: &[u8]) -> Result<Vec<ClerkLine>, ScriptFault
     ensures ok { IfOk result (λ entries. AreLineRows (rows_of bytes.now) entries.items) }
     ensures fault { IfErr result (HasScriptCause bytes.now) }
 {
-    let mut rows = ReaderBuilder::new()
-        .has_headers(false)
-        .flexible(true)
-        .from_reader(alloc, bytes);
+    let mut rows = reader_of(alloc, bytes)?;
     let mut row = ByteRecord::new(alloc);
     let mut entries = Vec::new(alloc);
     let mut count: u32 = 0;
@@ -64,6 +62,21 @@ fn read_lines(alloc: Global, bytes: &[u8]) -> Result<Vec<ClerkLine>, ScriptFault
         }
     }
     Ok(entries)
+}
+
+// A reader of all rows. It has a header row, which is no row of the script: else it would take the first row for one, and
+// keep it twice beside itself.
+fn reader_of(alloc: Global, bytes: &[u8]) -> Result<Reader<&[u8]>, ScriptFault>
+    ensures start { IfOk result (StandsAtStart bytes.now) }
+    ensures fault { IfErr result (λ fault. fault ≡ ScriptFault.NoMemory) }
+{
+    let mut rows = ReaderBuilder::new()
+        .flexible(true)
+        .from_reader(alloc, bytes);
+    match rows.set_byte_headers(ByteRecord::new(alloc)) {
+        Ok(()) => Ok(rows),
+        Err(_) => Err(ScriptFault::NoMemory),
+    }
 }
 
 // The next row, and whether there was one, of a reader that takes rows of any lengths.

@@ -1,4 +1,4 @@
-use Rattle.command_csv.proofs.Names.{sym, refl, ◌∙◌, inr, true, false, [], arith, Reached, strip_bom}
+use Rattle.command_csv.proofs.Names.{sym, refl, true, false, [], arith, Reached, strip_bom}
 use Rattle.csv.specs.Records.{fields_of}
 use Rattle.command_csv.proofs.Progress.{found, row_counted, row_right, row_faulty, no_row, none_read, none_valued, few_valued}
 use Rattle.command_csv.proofs.reader.read_lines.Goals as goal
@@ -6,18 +6,16 @@ use Rattle.command_csv.proofs.reader.read_lines.Goals as goal
 pub loop-entries-init : goal.loop-entries-init
 unfolding Reached
 loop-entries-init c =
-    let fr = c.from_reader-rows.ensures in
-    let e = c.has_headers.ensures in
-    let f = c.flexible.ensures in
+    let at = c.in_ok-rows.ensures.start in
     record {
-      plain = rw (f, e) at fr.trim ∙ c.new.ensures.trim;
-      ready = inr (inr (rw (f, e) at fr.has_headers, fr.headers));
-      flexible = rw f at fr.flexible;
-      config = rw (f, e) at fr.config ∙ c.new.ensures.config;
+      plain = at.plain;
+      ready = at.ready;
+      flexible = at.flexible;
+      config = at.config;
       left = strip_bom c.args.bytes.now;
-      source = fr.source;
+      source = at.source;
       behind = [];
-      reached = (sym fr.state, refl);
+      reached = (sym at.state, refl);
       number = refl;
       right = none_read c.new-entries.ensures.items;
       valued = none_valued c.new-entries.ensures.items;
