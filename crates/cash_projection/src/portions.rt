@@ -2,8 +2,8 @@
 ghost use Rattle.std.specs.Prelude.{◌≡◌, IfOk};
 ghost use Rattle.cash_projection.specs.inside.Portions.{policies_of_portions};
 
-use policy_types::{NoMemory, Policy};
-use std::alloc::Global;
+use policy_types::Policy;
+use std::alloc::{AllocError, Global};
 
 /// The policies of a portion: so few that the last portions take no time, and so many that their tallies are few.
 pub const POLICIES_IN_PORTION: usize = 4_096;
@@ -18,7 +18,7 @@ pub struct Portion<'a> {
 pub fn portions_of<'a>(
     alloc: Global,
     policies: &'a [Policy],
-) -> Result<Vec<Portion<'a>>, NoMemory>
+) -> Result<Vec<Portion<'a>>, AllocError>
     ensures { IfOk result (λ portions. policies_of_portions portions.items ≡ policies.now) }
 {
     let mut portions = Vec::new(alloc);

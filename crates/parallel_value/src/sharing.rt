@@ -61,16 +61,35 @@ pub fn map_onto<R: Threads + Sync, I: Sync, O: Copy + Send + Drop, P: Piece<I, O
     ensures pieces { AreAsBefore P.takes P.gives pieces.old pieces.new }
 {
     let before = values.len();
-    let parts = items.len().div_ceil(items_in_part);
-    let (at_work, _) = pieces.split_at_mut(parts.clamp(1, pieces.len()));
-    let added = add_all(rt, alloc, at_work, items, items_in_part, values);
+    let added = add_by_few(rt, alloc, pieces, items, items_in_part, values);
     if added.is_err() {
         values.truncate(before);
     }
     added
 }
 
-// Adds the values of the items; where memory is wanting, it may be some of them.
+// Adds the values of the items by as many workers as there are parts; where memory is wanting, it may be some of them.
+fn add_by_few<R: Threads + Sync, I: Sync, O: Copy + Send + Drop, P: Piece<I, O> + Send>(
+    rt: &R,
+    alloc: Global,
+    pieces: &mut [P],
+    items: &[I],
+    items_in_part: usize,
+    values: &mut Vec<O>,
+) -> Result<(), AllocError>
+    requires workers { (1 ≤ length pieces.old) × (length pieces.old ≤ 64) }
+    requires taken { TakeAll P.takes pieces.old items.now }
+    requires part { 1 ≤ items_in_part }
+    ensures values { OnOk result (AddsBehind (AreValues P.gives pieces.old items.now) values.old.items values.new.items) }
+    ensures behind { StandBehind values.old.items values.new.items }
+    ensures pieces { AreAsBefore P.takes P.gives pieces.old pieces.new }
+{
+    let parts = items.len().div_ceil(items_in_part);
+    let (at_work, _) = pieces.split_at_mut(parts.clamp(1, pieces.len()));
+    add_all(rt, alloc, at_work, items, items_in_part, values)
+}
+
+// Adds the values of the items by all workers.
 fn add_all<R: Threads + Sync, I: Sync, O: Copy + Send + Drop, P: Piece<I, O> + Send>(
     rt: &R,
     alloc: Global,
