@@ -4,7 +4,7 @@ use Rattle.std.proofs.lemmas.List.Elements.{All-from_recursion}
 use Rattle.std.proofs.Math.Seq.{take-add}
 use Rattle.std.specs.declared.alloc.AllocError.{AllocError}
 use Rattle.parallel_value.specs.declared.sharing.Made.{Made}
-use Rattle.parallel_value.proofs.PieceSteps.{all_more, may_alone, may_back, may_front, still_as_before, values_next, zip_append, zip_more, as_before_whole}
+use Rattle.parallel_value.proofs.PieceSteps.{all_front, all_more, as_before_whole, may_alone, may_back, may_front, still_as_before, values_next, zip_append, zip_more}
 
 all_drop : {X : Type 0} (P : X → Type 0) (n : ℕ) (xs : List X) → AllByRecursion P xs → AllByRecursion P (drop n xs)
 all_drop P zero xs all = all
