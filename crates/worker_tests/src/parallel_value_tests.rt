@@ -172,14 +172,7 @@ fn the_squares_stand_in_order(rt: HostRuntime) -> Result<(), Fail> {
     let mut added: Vec<u64> = Vec::new(alloc);
     added.push(7)?;
     assert_eq!(rt;
-        add_squared(
-            &rt,
-            alloc,
-            &mut pieces,
-            &items,
-            ITEMS_IN_PART,
-            &mut added
-        ),
+        add_squared(&rt, alloc, &mut pieces, &items, ITEMS_IN_PART, &mut added),
         Ok(())
     );
     let Some((first, rest)) = added.as_slice().split_first() else {
@@ -217,12 +210,18 @@ fn each_part_is_taken_once(rt: HostRuntime) -> Result<(), Fail> {
         let all = &mut pieces[..workers.clamp(1, 8)];
         let part = part.max(1);
         let made = all_squared(&rt, alloc, all, &items, part);
-        assert!(rt; made.is_ok_and(|values| values.len() == items.len()), "{workers} workers");
+        assert!(rt;
+            made.is_ok_and(|values| values.len() == items.len()),
+            "{workers} workers"
+        );
         let parts = items.len().div_ceil(part).max(1);
         let mut done = 0_u64;
         for (piece, number) in pieces.iter().zip(0_usize..8) {
             done = done.saturating_add(piece.done);
-            assert!(rt; number < parts || piece.done == 0, "{number} of {workers} at {parts}");
+            assert!(rt;
+                number < parts || piece.done == 0,
+                "{number} of {workers} at {parts}"
+            );
         }
         assert_eq!(rt; done, u64::from(many), "{workers} workers");
     }
