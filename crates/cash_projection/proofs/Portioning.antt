@@ -1,6 +1,7 @@
 -- The portions of a list of policies, and their tallies.
 use Rattle.cash_projection.proofs.Names.{◌≡◌, ℕ, zero, suc, ◌+◌, ◌<◌, ◌≤◌, arith, List, [], ◌∷◌, ◌++◌, length, take, get_or, refl, sym, ap, ◌∙◌, subst, append-nil, append_assoc, length-append, inl, inr, ℤ, AllByRecursion, AllZip, take_all, most_commands, Policy, Dated, AreValues, MayGive, TakeAll, IsOfIssue, AreTallies, AreTalliesOfFew, GivesTally, IsProjectorFor, TakesPortion, policies_of_portions, IsSized, IsTallyOf, Tally}
 use Rattle.std.proofs.lemmas.Slice.Zip.{AllZip-long}
+use Rattle.parallel_value.specs.Pieces.{AddsBehind}
 use Rattle.parallel_value.proofs.PieceSteps.{all_back, all_front, all_more, zip_more}
 use Rattle.cash_projection.specs.declared.portions.Portion.{Portion}
 use Rattle.cash_projection.specs.declared.projector.Projector.{Projector}
@@ -25,12 +26,6 @@ portion_cut policies cut more portion rest back whole longer parts =
     ∙ append_assoc (policies_of_portions cut) portion.policies.now back
     ∙ ap (λ (ps : List Policy). policies_of_portions cut ++ ps) parts
     ∙ whole
-
--- and the last is what is left
-pub portions_whole : (policies : List Policy) (cut more : List Portion) (portion : Portion) (rest : List Policy) → policies_of_portions cut ++ rest ≡ policies
-    → more ≡ cut ++ portion ∷ [] → portion.policies.now ≡ rest → policies_of_portions more ≡ policies
-portions_whole policies cut more portion rest whole longer last =
-    ap policies_of_portions longer ∙ policies_behind cut portion ∙ ap (λ (ps : List Policy). policies_of_portions cut ++ ps) last ∙ whole
 
 -- the workers take each portion
 module _ (basis : List Dated) (on : ℤ) (years : ℕ) where
@@ -58,11 +53,17 @@ module _ (basis : List Dated) (on : ℤ) (years : ℕ) where
   may_tally (projector ∷ more) each portion tally (inl given) = each.0.by portion tally given
   may_tally (projector ∷ more) each portion tally (inr may) = may_tally more each.1 portion tally may
 
-  pub all_tallied : (projectors : List Projector) (portions : List Portion) (tallies : List Tally) → AllByRecursion (IsProjectorFor basis on years) projectors
+  all_tallied : (projectors : List Projector) (portions : List Portion) (tallies : List Tally) → AllByRecursion (IsProjectorFor basis on years) projectors
       → AreValues GivesTally projectors portions tallies → AreTallies basis on years portions tallies
   all_tallied projectors portions tallies each values =
       zip_more (MayGive GivesTally projectors) (λ (portion : Portion) (tally : Tally). IsTallyOf basis on years portion.policies.now tally)
       portions tallies (may_tally projectors each) values
+
+  -- where the tallies were added to none
+  pub all_added : (projectors : List Projector) (portions : List Portion) (old new : List Tally) → AllByRecursion (IsProjectorFor basis on years) projectors
+      → old ≡ [] → AddsBehind (AreValues GivesTally projectors portions) old new → AreTallies basis on years portions new
+  all_added projectors portions old new each none adds =
+      subst (AreTallies basis on years portions) (sym (adds.1 ∙ ap (λ (l : List Tally). l ++ adds.0) none)) (all_tallied projectors portions adds.0 each adds.2)
 
 zip_next : {X Y : Type 0} (P : X → Y → Type 0) (xs : List X) (ys : List Y) (i : ℕ) (none : Y) → AllZip P xs ys → i < length ys
     → (x : X) × (take (i + 1) xs ≡ take i xs ++ x ∷ []) × P x (get_or ys i none)

@@ -1,9 +1,12 @@
-// The portions of a list of policies, one for each worker.
-ghost use Rattle.std.specs.Prelude.{◌≡◌, ◌≤◌, IfOk};
+// The portions of a list of policies, which workers take in turn.
+ghost use Rattle.std.specs.Prelude.{◌≡◌, IfOk};
 ghost use Rattle.cash_projection.specs.inside.Portions.{policies_of_portions};
 
-use policy_types::{NoMemory, Policy};
-use std::alloc::Global;
+use policy_types::Policy;
+use std::alloc::{AllocError, Global};
+
+/// The policies of a portion: so few that the last portions take no time, and so many that their tallies are few.
+pub const POLICIES_IN_PORTION: usize = 4_096;
 
 /// Policies that stand together in a list.
 #[derive(Clone, Copy)]
@@ -11,23 +14,19 @@ pub struct Portion<'a> {
     pub policies: &'a [Policy],
 }
 
-/// So many portions, as long as one another or with a longer last, which are the policies one behind the other.
+/// Portions of so many policies, or a last of fewer, which are the policies one behind the other.
 pub fn portions_of<'a>(
     alloc: Global,
     policies: &'a [Policy],
-    many: usize,
-) -> Result<Vec<Portion<'a>>, NoMemory>
-    requires { 1 ≤ many }
+) -> Result<Vec<Portion<'a>>, AllocError>
     ensures { IfOk result (λ portions. policies_of_portions portions.items ≡ policies.now) }
 {
-    let size = policies.len() / many;
-    let mut portions = Vec::with_capacity(alloc, many)?;
+    let mut portions = Vec::new(alloc);
     let mut rest = policies;
-    for _ in 0..many - 1 {
-        let (front, back) = rest.split_at(size.min(rest.len()));
-        portions.push_reserved(Portion { policies: front });
+    while rest.len() > 0 {
+        let (front, back) = rest.split_at(POLICIES_IN_PORTION.min(rest.len()));
+        portions.push(Portion { policies: front })?;
         rest = back;
     }
-    portions.push_reserved(Portion { policies: rest });
     Ok(portions)
 }

@@ -1,5 +1,5 @@
 // The tally of a list of policies, by several workers at the same time.
-ghost use Rattle.std.specs.Prelude.{◌≡◌, ◌≤◌, ◌+◌, ◌*◌, IfOk, OnOk, length, ℤ, List};
+ghost use Rattle.std.specs.Prelude.{◌≡◌, ◌≤◌, ◌*◌, IfOk, OnOk, length, ℤ, List};
 ghost use Rattle.cash_projection.specs.Names.{AllByRecursion, Dated, most_commands};
 ghost use Rattle.parallel_value.specs.Pieces.{AreAsBefore};
 ghost use Rattle.cash_projection.specs.Policies.{IsOfIssue};
@@ -9,32 +9,35 @@ ghost use Rattle.cash_projection.specs.declared.portions.Portion.{Portion as APo
 
 use crate::path::SurvivalPath;
 use crate::paths::Paths;
-use crate::portions::{Portion, portions_of};
+use crate::portions::{POLICIES_IN_PORTION, portions_of};
 use crate::projector::Projector;
 use crate::tally::Tally;
 use basis_book::Basis;
-use parallel_value::map_into;
+use parallel_value::map_onto;
 use policy_types::{NoMemory, Policy};
 use std::alloc::Global;
 use std::mem::size_of;
 use std::thread::Threads;
 
+/// The policies that are tallied together.
+pub const POLICIES_IN_ROOM: usize = 131_072;
+
 /// What all workers keep together, counted in paths.
-const PATHS_TOGETHER: usize = 960;
+const PATHS_TOGETHER: usize = 768;
 
 /// A worker keeps no more: there are 131 ages of a table.
 const MOST_PATHS: usize = 237;
 
-/// A worker's tally takes no more than so many paths.
-const PATHS_FOR_A_TALLY: usize = 3;
+/// The tallies of a room's portions are there twice: as they were made, and in their order.
+const TALLIES_OF_A_ROOM: usize = 2 * POLICIES_IN_ROOM / POLICIES_IN_PORTION;
 
 // So it stays below 4 MiB, with 128 KiB for all else.
-const _: () = prove!(PATHS_TOGETHER * size_of::<SurvivalPath>() <= 4_063_232);
+const _: () = prove!(
+    PATHS_TOGETHER * size_of::<SurvivalPath>() + TALLIES_OF_A_ROOM * size_of::<Tally>() <= 4_063_232
+);
 
-const _: () = prove!(size_of::<Tally>() <= PATHS_FOR_A_TALLY * size_of::<SurvivalPath>());
-
-/// The tally of policies, by all workers, each of which goes through a portion of its own. It is the same for any number
-/// of them.
+/// The tally of policies, by all workers, each of which takes the next portion that none has taken. It is the same for any
+/// number of them.
 pub fn tally_in<R: Threads + Sync>(
     rt: &R,
     alloc: Global,
@@ -51,15 +54,10 @@ pub fn tally_in<R: Threads + Sync>(
         → IfOk result (λ tally. IsTallyOf basis on years policies.now tally) }
     ensures projectors { OnOk result (AreAsBefore TakesPortion GivesTally projectors.old projectors.new) }
 {
-    let portions = portions_of(alloc, policies, projectors.len())?;
-    let mut tallies = Vec::from_elem(alloc, Tally::new(years), portions.len())?;
-    Ok(tally_portions(
-        rt,
-        projectors,
-        portions.as_slice(),
-        tallies.as_mut_slice(),
-        years,
-    ))
+    let portions = portions_of(alloc, policies)?;
+    let mut tallies = Vec::with_capacity(alloc, portions.len())?;
+    map_onto(rt, alloc, projectors, portions.as_slice(), 1, &mut tallies)?;
+    Ok(joined(years, tallies.as_slice()))
 }
 
 /// So many workers, each with paths of its own.
@@ -93,31 +91,9 @@ pub fn projectors_for<'a>(
 fn paths_of_a_worker(many: usize) -> u16
     requires { (1 ≤ many) × (many ≤ 64) }
     ensures some { 1 ≤ result }
-    ensures together { many * (result + 3) ≤ 960 }
+    ensures together { many * result ≤ 768 }
 {
-    (PATHS_TOGETHER / many - PATHS_FOR_A_TALLY).min(MOST_PATHS) as u16
-}
-
-// The tally of all portions, by all workers, each of which writes into places of its own.
-fn tally_portions<R: Threads + Sync>(
-    rt: &R,
-    projectors: &mut [Projector<'_>],
-    portions: &[Portion<'_>],
-    places: &mut [Tally],
-    years: u8,
-) -> Tally
-    requires workers { (1 ≤ length projectors.old) × (length projectors.old ≤ 64) }
-    requires places { length places.old ≡ length portions.now }
-    requires years { years ≤ 131 }
-    requires each { (basis : List Dated) × ((on : ℤ) × AllByRecursion (IsProjectorFor basis on years) projectors.old) }
-    requires sound { AllByRecursion IsOfIssue (policies_of_portions portions.now) }
-    requires few { length (policies_of_portions portions.now) ≤ most_commands }
-    ensures tally { (basis : List Dated) (on : ℤ) → AllByRecursion (IsProjectorFor basis on years) projectors.old
-        → IsTallyOf basis on years (policies_of_portions portions.now) result }
-    ensures projectors { AreAsBefore TakesPortion GivesTally projectors.old projectors.new }
-{
-    map_into(rt, projectors, portions, places);
-    joined(years, places)
+    (PATHS_TOGETHER / many).min(MOST_PATHS) as u16
 }
 
 // All tallies together, in their order.

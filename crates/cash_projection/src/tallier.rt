@@ -7,16 +7,13 @@ ghost use Rattle.cash_projection.specs.inside.Rooms.{CanTally, HasTallied};
 
 use crate::printing::Projection;
 use crate::projector::Projector;
-use crate::sharing::{projectors_for, tally_in};
+use crate::sharing::{POLICIES_IN_ROOM, projectors_for, tally_in};
 use crate::tally::Tally;
 use basis_book::Basis;
 use policy_types::{NoMemory, Policy};
 use snapshot_value::{POLICIES_TO_A_WORKER, Reader};
 use std::alloc::Global;
 use std::thread::Threads;
-
-/// The policies that are read before they are tallied.
-const POLICIES_IN_ROOM: usize = 131_072;
 
 /// By what policies are projected.
 #[derive(Clone, Copy)]

@@ -4,7 +4,7 @@ use Rattle.std.proofs.lemmas.List.Elements.{All-from_recursion}
 use Rattle.std.proofs.Math.Seq.{take-add}
 use Rattle.std.specs.declared.alloc.AllocError.{AllocError}
 use Rattle.parallel_value.specs.declared.sharing.Made.{Made}
-use Rattle.parallel_value.proofs.PieceSteps.{all_more, may_alone, may_back, may_front, still_as_before, values_next, zip_append, zip_more}
+use Rattle.parallel_value.proofs.PieceSteps.{all_front, all_more, as_before_whole, may_alone, may_back, may_front, still_as_before, values_next, zip_append, zip_more}
 
 all_drop : {X : Type 0} (P : X → Type 0) (n : ℕ) (xs : List X) → AllByRecursion P xs → AllByRecursion P (drop n xs)
 all_drop P zero xs all = all
@@ -16,8 +16,8 @@ all_take P zero xs all = tt
 all_take P (suc n) [] all = tt
 all_take P (suc n) (x ∷ xs) all = (all.0, all_take P n xs all.1)
 
-pub all_part : {X : Type 0} (P : X → Type 0) (first : ℕ) (xs : List X) → AllByRecursion P xs → AllByRecursion P (take 512 (drop first xs))
-all_part P first xs all = all_take P 512 (drop first xs) (all_drop P first xs all)
+pub all_part : {X : Type 0} (P : X → Type 0) (size first : ℕ) (xs : List X) → AllByRecursion P xs → AllByRecursion P (take size (drop first xs))
+all_part P size first xs all = all_take P size (drop first xs) (all_drop P first xs all)
 
 all_append : {X : Type 0} (P : X → Type 0) (xs ys : List X) → AllByRecursion P xs → AllByRecursion P ys → AllByRecursion P (xs ++ ys)
 all_append P [] ys front back = back
@@ -30,12 +30,12 @@ all_among : {X : Type 0} (P : X → Type 0) (xs : List X) (x : X) → IsAmong xs
 all_among P xs x among all = subst P (sym among.1.1) (All-from_recursion P xs all among.0 x among.1.0)
 
 -- the first items, and the part behind them
-take_part : {X : Type 0} (xs part : List X) (first : ℕ) → part ≡ take 512 (drop first xs) → take (first + length part) xs ≡ take first xs ++ part
-take_part xs part first is =
+take_part : {X : Type 0} (xs part : List X) (size first : ℕ) → part ≡ take size (drop first xs) → take (first + length part) xs ≡ take first xs ++ part
+take_part xs part size first is =
     let rest = drop first xs in
-    let long : length part ≡ min 512 (length rest) = ap (λ l. length l) is ∙ length-take 512 rest in
+    let long : length part ≡ min size (length rest) = ap (λ l. length l) is ∙ length-take size rest in
     take-add first (length part) xs
-    ∙ ap (λ l. take first xs ++ l) (ap (λ n. take n rest) long ∙ take_min 512 rest ∙ sym is)
+    ∙ ap (λ l. take first xs ++ l) (ap (λ n. take n rest) long ∙ take_min size rest ∙ sym is)
 
 -- what stands behind what stands behind the first
 pub stand_more : {O : Type 0} (old ys zs : List O) → StandBehind old ys → StandBehind ys zs → StandBehind old zs
@@ -58,53 +58,66 @@ module _ {I O : Type 0} (Gives : I → O → Type 0) where
   )
 
   -- the values of one part more
-  pub adds_part : (items part : List I) (first : ℕ) (old ys zs : List O) → part ≡ take 512 (drop first items)
+  pub adds_part : (items part : List I) (size first : ℕ) (old ys zs : List O) → part ≡ take size (drop first items)
       → AddsBehind (AllZip Gives (take first items)) old ys → AddsBehind (AllZip Gives part) ys zs
       → AddsBehind (AllZip Gives (take (first + length part) items)) old zs
-  adds_part items part first old ys zs is adds more = (
+  adds_part items part size first old ys zs is adds more = (
     adds.0 ++ more.0,
     more.1 ∙ ap (λ l. l ++ more.0) adds.1 ∙ append_assoc old adds.0 more.0,
-    subst (λ l. AllZip Gives l (adds.0 ++ more.0)) (sym (take_part items part first is))
+    subst (λ l. AllZip Gives l (adds.0 ++ more.0)) (sym (take_part items part size first is))
         (zip_append Gives (take first items) adds.0 part more.0 adds.2 more.2),
   )
 
+-- values that fewer workers may give, as those of more
+pub adds_more : {I O U : Type 0} (G H : I → O → Type 0) (items : List I) (old ys : List O) (result : Result U AllocError)
+    → ((item : I) (value : O) → G item value → H item value) → OnOk result (AddsBehind (AllZip G items) old ys)
+    → OnOk result (AddsBehind (AllZip H items) old ys)
+adds_more G H items old ys (Ok u) more adds = (adds.0, adds.1, zip_more G H items adds.0 more adds.2)
+adds_more G H items old ys (Err fault) more adds = tt
+
 module _ {P I O : Type 0} (takes : P → I → Type 0) (gives : P → I → O → Type 0) where
   -- what was made with fewer workers
-  made_more : (G H : I → O → Type 0) (items : List I) (all : List (Made O)) → ((item : I) (value : O) → G item value → H item value)
-      → AllByRecursion (IsMadePart G items) all → AllByRecursion (IsMadePart H items) all
-  made_more G H items all more made = all_more _ _ all (λ m is. (is.0, zip_more G H _ _ more is.1)) made
+  made_more : (G H : I → O → Type 0) (size : ℕ) (items : List I) (all : List (Made O)) → ((item : I) (value : O) → G item value → H item value)
+      → AllByRecursion (IsMadePart G size items) all → AllByRecursion (IsMadePart H size items) all
+  made_more G H size items all more made = all_more _ _ all (λ m is. (is.0, zip_more G H _ _ more is.1)) made
 
-  pub made_before : (one two : P) (items : List I) (m : Made O) → IsAsBefore takes gives one two → IsMadePart (gives two) items m → IsMadePart (gives one) items m
-  made_before one two items m before is = (is.0, zip_more (gives two) (gives one) _ _ (λ item value given. before.gives_only item value given) is.1)
+  pub made_before : (one two : P) (size : ℕ) (items : List I) (m : Made O) → IsAsBefore takes gives one two → IsMadePart (gives two) size items m
+      → IsMadePart (gives one) size items m
+  made_before one two size items m before is = (is.0, zip_more (gives two) (gives one) _ _ (λ item value given. before.gives_only item value given) is.1)
 
-  pub made_alone : (ps : List P) (d : P) (items : List I) (result : Result (Vec (Made O) Global) AllocError) → length ps ≡ 1
-      → IfOk result (λ made. AllByRecursion (IsMadePart (gives (get_or ps 0 d)) items) made.items) → IfOk result (λ made. AreMadeParts gives ps items made.items)
-  made_alone ps d items (Ok made) one is = made_more _ _ items made.items (may_alone takes gives ps d one) is
-  made_alone ps d items (Err fault) one is = tt
+  pub made_alone : (ps : List P) (d : P) (size : ℕ) (items : List I) (result : Result (Vec (Made O) Global) AllocError) → length ps ≡ 1
+      → IfOk result (λ made. AllByRecursion (IsMadePart (gives (get_or ps 0 d)) size items) made.items)
+      → IfOk result (λ made. AreMadeParts gives ps size items made.items)
+  made_alone ps d size items (Ok made) one is = made_more _ _ size items made.items (may_alone takes gives ps d one) is
+  made_alone ps d size items (Err fault) one is = tt
 
-  made_append : (ps qs : List P) (items : List I) (front back : List (Made O)) → AreMadeParts gives ps items front → AreMadeParts gives qs items back
-      → AreMadeParts gives (ps ++ qs) items (front ++ back)
-  made_append ps qs items front back first last =
-      all_append _ front back (made_more _ _ items front (may_front takes gives ps qs) first) (made_more _ _ items back (may_back takes gives ps qs) last)
+  made_append : (ps qs : List P) (size : ℕ) (items : List I) (front back : List (Made O)) → AreMadeParts gives ps size items front
+      → AreMadeParts gives qs size items back → AreMadeParts gives (ps ++ qs) size items (front ++ back)
+  made_append ps qs size items front back first last =
+      all_append _ front back (made_more _ _ size items front (may_front takes gives ps qs) first) (made_more _ _ size items back (may_back takes gives ps qs) last)
 
-  pub made_of_both : (ps qs : List P) (items : List I) (left right result : Result (Vec (Made O) Global) AllocError)
-      → IfOk left (λ one. AreMadeParts gives ps items one.items) → IfOk right (λ other. AreMadeParts gives qs items other.items)
-      → IfOk result (λ made. AreBoth left right made.items) → IfOk result (λ made. AreMadeParts gives (ps ++ qs) items made.items)
-  made_of_both ps qs items (Ok one) (Ok other) (Ok made) first last both =
-      subst (λ l. AreMadeParts gives (ps ++ qs) items l) (sym both) (made_append ps qs items one.items other.items first last)
-  made_of_both ps qs items (Ok one) (Err fault) (Ok made) first last both = absurd both
-  made_of_both ps qs items (Err fault) right (Ok made) first last both = absurd both
-  made_of_both ps qs items left right (Err fault) first last both = tt
+  pub made_of_both : (ps qs : List P) (size : ℕ) (items : List I) (left right result : Result (Vec (Made O) Global) AllocError)
+      → IfOk left (λ one. AreMadeParts gives ps size items one.items) → IfOk right (λ other. AreMadeParts gives qs size items other.items)
+      → IfOk result (λ made. AreBoth left right made.items) → IfOk result (λ made. AreMadeParts gives (ps ++ qs) size items made.items)
+  made_of_both ps qs size items (Ok one) (Ok other) (Ok made) first last both =
+      subst (λ l. AreMadeParts gives (ps ++ qs) size items l) (sym both) (made_append ps qs size items one.items other.items first last)
+  made_of_both ps qs size items (Ok one) (Err fault) (Ok made) first last both = absurd both
+  made_of_both ps qs size items (Err fault) right (Ok made) first last both = absurd both
+  made_of_both ps qs size items left right (Err fault) first last both = tt
 
-  -- values of one worker, as those of the workers that it is one of
-  pub adds_of_one : (ps : List P) (piece : P) (items : List I) (old ys : List O) → IsOneOf gives ps piece → AddsBehind (AllZip (gives piece) items) old ys
-      → AddsBehind (AreValues gives ps items) old ys
-  adds_of_one ps piece items old ys one adds = (adds.0, adds.1, zip_more _ _ items adds.0 one adds.2)
+  -- the workers in front are at work, and the others stay as they are
+  pub take_at_work : (ps front back : List P) (items : List I) → ps ≡ front ++ back → TakeAll takes ps items → TakeAll takes front items
+  take_at_work ps front back items whole all = all_front _ front back (subst (λ l. TakeAll takes l items) whole all)
 
-  pub adds_of_result : (ps : List P) (piece : P) (items : List I) (old ys : List O) {U : Type 0} (result : Result U AllocError) → IsOneOf gives ps piece
-      → OnOk result (AddsBehind (AllZip (gives piece) items) old ys) → OnOk result (AddsBehind (AreValues gives ps items) old ys)
-  adds_of_result ps piece items old ys (Ok u) one adds = adds_of_one ps piece items old ys one adds
-  adds_of_result ps piece items old ys (Err fault) one adds = tt
+  all_still : (ps : List P) → AllZip (IsAsBefore takes gives) ps ps
+  all_still [] = tt
+  all_still (p ∷ ps) = (record { takes_still = λ item took. took; gives_only = λ item value given. given }, all_still ps)
+
+  pub others_still : (ps front back new : List P) → ps ≡ front ++ back → AllZip (IsAsBefore takes gives) front new → AllZip (IsAsBefore takes gives) ps (new ++ back)
+  others_still ps front back new whole first = as_before_whole takes gives ps front back new back whole first (all_still back)
+
+  pub may_at_work : (ps front back : List P) → ps ≡ front ++ back → (item : I) (value : O) → MayGive gives front item value → MayGive gives ps item value
+  may_at_work ps front back whole item value may = subst (λ l. MayGive gives l item value) (sym whole) (may_front takes gives front back item value may)
 
   pub one_alone : (ps : List P) (d : P) → length ps ≡ 1 → IsOneOf gives ps (get_or ps 0 d)
   one_alone ps d one = may_alone takes gives ps d one
@@ -123,17 +136,17 @@ module _ {P I O : Type 0} (takes : P → I → Type 0) (gives : P → I → O �
   first_before (p ∷ ps) (q ∷ qs) d after before some last = (still_as_before takes gives p q after before.0 last, before.1)
 
   -- a part that was found
-  pub found_made : (ps : List P) (items : List I) (all : List (Made O)) (m : Made O) (first : ℕ) → AreMadeParts gives ps items all → IsAmong all m
-      → m.first ≡ first → AllZip (MayGive gives ps) (take 512 (drop first items)) m.values.items
-  found_made ps items all m first made among is =
-      subst (λ n. AllZip (MayGive gives ps) (take 512 (drop n items)) m.values.items) is (all_among _ all m among made).1
+  pub found_made : (ps : List P) (size : ℕ) (items : List I) (all : List (Made O)) (m : Made O) (first : ℕ) → AreMadeParts gives ps size items all
+      → IsAmong all m → m.first ≡ first → AllZip (MayGive gives ps) (take size (drop first items)) m.values.items
+  found_made ps size items all m first made among is =
+      subst (λ n. AllZip (MayGive gives ps) (take size (drop n items)) m.values.items) is (all_among _ all m among made).1
 
-  pub found_part : (ps : List P) (items part : List I) (all : List (Made O)) (first : ℕ) (found : Option (Bor (Made O))) → AreMadeParts gives ps items all
-      → part ≡ take 512 (drop first items) → IfSome found (λ one. IsAmong all one.now × (one.now.first ≡ first))
+  pub found_part : (ps : List P) (size : ℕ) (items part : List I) (all : List (Made O)) (first : ℕ) (found : Option (Bor (Made O)))
+      → AreMadeParts gives ps size items all → part ≡ take size (drop first items) → IfSome found (λ one. IsAmong all one.now × (one.now.first ≡ first))
       → IfSome found (λ one. AreValues gives ps part one.now.values.items)
-  found_part ps items part all first (Some one) made is there =
-      subst (λ l. AreValues gives ps l one.now.values.items) (sym is) (found_made ps items all one.now first made there.0 there.1)
-  found_part ps items part all first None made is there = tt
+  found_part ps size items part all first (Some one) made is there =
+      subst (λ l. AreValues gives ps l one.now.values.items) (sym is) (found_made ps size items all one.now first made there.0 there.1)
+  found_part ps size items part all first None made is there = tt
 
   -- the first worker, after the parts were made, gives only what one of them gave
   pub one_of_old : (old new : List P) (d : P) → AllZip (IsAsBefore takes gives) old new → 1 ≤ length old → IsOneOf gives old (get_or new 0 d)

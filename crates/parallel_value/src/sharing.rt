@@ -15,9 +15,6 @@ use std::alloc::{AllocError, Global};
 use std::sync::atomic::{AtomicUsize, Ordering};
 use std::thread::{Threads, join_mut};
 
-/// The items of a part: so few that the last parts take no time, and so many that taking one does not count.
-const ITEMS_IN_PART: usize = 512;
-
 /// What one worker made of one part: the values of its items, from the first on.
 #[derive(Drop)]
 pub(crate) struct Made<O> {
@@ -31,51 +28,79 @@ pub fn map_in<R: Threads + Sync, I: Sync, O: Copy + Send + Drop, P: Piece<I, O> 
     alloc: Global,
     pieces: &mut [P],
     items: &[I],
+    items_in_part: usize,
 ) -> Result<Vec<O>, AllocError>
     requires workers { (1 ≤ length pieces.old) × (length pieces.old ≤ 64) }
     requires taken { TakeAll P.takes pieces.old items.now }
+    requires part { 1 ≤ items_in_part }
     ensures values { IfOk result (λ values. AreValues P.gives pieces.old items.now values.items) }
     ensures function { (f : I → O) → Compute P.gives pieces.old f → IfOk result (λ values. values.items ≡ map f items.now) }
     ensures pieces { AreAsBefore P.takes P.gives pieces.old pieces.new }
 {
     let mut values = Vec::new(alloc);
-    map_onto(rt, alloc, pieces, items, &mut values)?;
+    map_onto(rt, alloc, pieces, items, items_in_part, &mut values)?;
     Ok(values)
 }
 
-/// Adds the values of the items to those that are there, in their order; after `AllocError` those alone are there. Each
-/// worker but one has a thread of its own; one worker alone starts no thread.
+/// Adds the values of the items to those that are there, in their order; after `AllocError` those alone are there. A part
+/// has so many items, or the last fewer: so few that the last parts take no time, and so many that taking one doesn't
+/// count. No more workers than parts are set going; each but one has a thread of its own, and one alone starts none.
 pub fn map_onto<R: Threads + Sync, I: Sync, O: Copy + Send + Drop, P: Piece<I, O> + Send>(
     rt: &R,
     alloc: Global,
     pieces: &mut [P],
     items: &[I],
+    items_in_part: usize,
     values: &mut Vec<O>,
 ) -> Result<(), AllocError>
     requires workers { (1 ≤ length pieces.old) × (length pieces.old ≤ 64) }
     requires taken { TakeAll P.takes pieces.old items.now }
+    requires part { 1 ≤ items_in_part }
     ensures values { OnOk result (AddsBehind (AreValues P.gives pieces.old items.now) values.old.items values.new.items) }
     ensures refused { OnErr result (values.new.items ≡ values.old.items) }
     ensures pieces { AreAsBefore P.takes P.gives pieces.old pieces.new }
 {
     let before = values.len();
-    let added = add_all(rt, alloc, pieces, items, values);
+    let added = add_by_few(rt, alloc, pieces, items, items_in_part, values);
     if added.is_err() {
         values.truncate(before);
     }
     added
 }
 
-// Adds the values of the items; where memory is wanting, it may be some of them.
+// Adds the values of the items by as many workers as there are parts; where memory is wanting, it may be some of them.
+fn add_by_few<R: Threads + Sync, I: Sync, O: Copy + Send + Drop, P: Piece<I, O> + Send>(
+    rt: &R,
+    alloc: Global,
+    pieces: &mut [P],
+    items: &[I],
+    items_in_part: usize,
+    values: &mut Vec<O>,
+) -> Result<(), AllocError>
+    requires workers { (1 ≤ length pieces.old) × (length pieces.old ≤ 64) }
+    requires taken { TakeAll P.takes pieces.old items.now }
+    requires part { 1 ≤ items_in_part }
+    ensures values { OnOk result (AddsBehind (AreValues P.gives pieces.old items.now) values.old.items values.new.items) }
+    ensures behind { StandBehind values.old.items values.new.items }
+    ensures pieces { AreAsBefore P.takes P.gives pieces.old pieces.new }
+{
+    let parts = items.len().div_ceil(items_in_part);
+    let (at_work, _) = pieces.split_at_mut(parts.clamp(1, pieces.len()));
+    add_all(rt, alloc, at_work, items, items_in_part, values)
+}
+
+// Adds the values of the items by all workers.
 fn add_all<R: Threads + Sync, I: Sync, O: Copy + Send + Drop, P: Piece<I, O> + Send>(
     rt: &R,
     alloc: Global,
     pieces: &mut [P],
     items: &[I],
+    items_in_part: usize,
     values: &mut Vec<O>,
 ) -> Result<(), AllocError>
     requires workers { (1 ≤ length pieces.old) × (length pieces.old ≤ 64) }
     requires taken { TakeAll P.takes pieces.old items.now }
+    requires part { 1 ≤ items_in_part }
     ensures values { OnOk result (AddsBehind (AreValues P.gives pieces.old items.now) values.old.items values.new.items) }
     ensures behind { StandBehind values.old.items values.new.items }
     ensures pieces { AreAsBefore P.takes P.gives pieces.old pieces.new }
@@ -83,8 +108,8 @@ fn add_all<R: Threads + Sync, I: Sync, O: Copy + Send + Drop, P: Piece<I, O> + S
     if pieces.len() < 2 {
         return add_by_one(pieces, items, values);
     }
-    let made = make_parts(rt, alloc, pieces, items, &AtomicUsize::new(0))?;
-    add_parts(&mut pieces[0], items, made.as_slice(), values)
+    let made = make_parts(rt, alloc, pieces, items, items_in_part, &AtomicUsize::new(0))?;
+    add_parts(&mut pieces[0], items, items_in_part, made.as_slice(), values)
 }
 
 // Sets the worker in front going, and then the others.
@@ -94,18 +119,19 @@ fn make_parts<R: Threads + Sync, I: Sync, O: Copy + Send + Drop, P: Piece<I, O> 
     alloc: Global,
     pieces: &mut [P],
     items: &[I],
+    items_in_part: usize,
     next: &AtomicUsize,
 ) -> Result<Vec<Made<O>>, AllocError>
     requires workers { (1 ≤ length pieces.old) × (length pieces.old ≤ 64) }
     requires taken { TakeAll P.takes pieces.old items.now }
-    ensures made { IfOk result (λ made. AreMadeParts P.gives pieces.old items.now made.items) }
+    ensures made { IfOk result (λ made. AreMadeParts P.gives pieces.old items_in_part items.now made.items) }
     ensures pieces { AreAsBefore P.takes P.gives pieces.old pieces.new }
 {
     if pieces.len() < 2 {
-        return make_by_one(alloc, pieces, items, next);
+        return make_by_one(alloc, pieces, items, items_in_part, next);
     }
     let (front, back) = pieces.split_at_mut(1);
-    make_both(rt, alloc, front, back, items, next)
+    make_both(rt, alloc, front, back, items, items_in_part, next)
 }
 
 // Parts are made by the workers in front and by those behind at the same time.
@@ -116,13 +142,14 @@ fn make_both<R: Threads + Sync, I: Sync, O: Copy + Send + Drop, P: Piece<I, O> +
     front: &mut [P],
     back: &mut [P],
     items: &[I],
+    items_in_part: usize,
     next: &AtomicUsize,
 ) -> Result<Vec<Made<O>>, AllocError>
     requires front { (1 ≤ length front.old) × (length front.old ≤ 64) }
     requires back { (1 ≤ length back.old) × (length back.old ≤ 64) }
     requires first { TakeAll P.takes front.old items.now }
     requires last { TakeAll P.takes back.old items.now }
-    ensures made { IfOk result (λ made. AreMadeParts P.gives (front.old ++ back.old) items.now made.items) }
+    ensures made { IfOk result (λ made. AreMadeParts P.gives (front.old ++ back.old) items_in_part items.now made.items) }
     ensures front { AreAsBefore P.takes P.gives front.old front.new }
     ensures back { AreAsBefore P.takes P.gives back.old back.new }
 {
@@ -132,16 +159,16 @@ fn make_both<R: Threads + Sync, I: Sync, O: Copy + Send + Drop, P: Piece<I, O> +
             requires sync { IsSync R.row × IsSync I.row × IsSend O.row × IsSend P.row }
             requires workers { (1 ≤ length front.now) × (length front.now ≤ 64) }
             requires taken { TakeAll P.takes front.now items.now }
-            ensures made { IfOk result (λ made. AreMadeParts P.gives front.entry.now items.entry.now made.items) }
+            ensures made { IfOk result (λ made. AreMadeParts P.gives front.entry.now items_in_part items.entry.now made.items) }
             ensures pieces { AreAsBefore P.takes P.gives front.entry.now front.exit.now }
-        { make_parts(rt, alloc, front, items, next) },
+        { make_parts(rt, alloc, front, items, items_in_part, next) },
         &mut || -> Result<Vec<Made<O>>, AllocError>
             requires sync { IsSync R.row × IsSync I.row × IsSend O.row × IsSend P.row }
             requires workers { (1 ≤ length back.now) × (length back.now ≤ 64) }
             requires taken { TakeAll P.takes back.now items.now }
-            ensures made { IfOk result (λ made. AreMadeParts P.gives back.entry.now items.entry.now made.items) }
+            ensures made { IfOk result (λ made. AreMadeParts P.gives back.entry.now items_in_part items.entry.now made.items) }
             ensures pieces { AreAsBefore P.takes P.gives back.entry.now back.exit.now }
-        { make_parts(rt, alloc, back, items, next) },
+        { make_parts(rt, alloc, back, items, items_in_part, next) },
     );
     both(left, right)
 }
@@ -151,35 +178,36 @@ fn make_by_one<I, O: Drop, P: Piece<I, O>>(
     alloc: Global,
     pieces: &mut [P],
     items: &[I],
+    items_in_part: usize,
     next: &AtomicUsize,
 ) -> Result<Vec<Made<O>>, AllocError>
     requires one { length pieces.old ≡ 1 }
     requires taken { TakeAll P.takes pieces.old items.now }
-    ensures made { IfOk result (λ made. AreMadeParts P.gives pieces.old items.now made.items) }
+    ensures made { IfOk result (λ made. AreMadeParts P.gives pieces.old items_in_part items.now made.items) }
     ensures pieces { AreAsBefore P.takes P.gives pieces.old pieces.new }
 {
-    make_alone(alloc, &mut pieces[0], items, next)
+    make_alone(alloc, &mut pieces[0], items, items_in_part, next)
 }
 
-// Takes one part after the other, until none is left.
+// Takes one part after the other, until none is left. The counter is at the first item of the next.
 fn make_alone<I, O: Drop, P: Piece<I, O>>(
     alloc: Global,
     piece: &mut P,
     items: &[I],
+    items_in_part: usize,
     next: &AtomicUsize,
 ) -> Result<Vec<Made<O>>, AllocError>
     requires taken { AllByRecursion (P.takes piece.old) items.now }
-    ensures made { IfOk result (λ made. AllByRecursion (IsMadePart (P.gives piece.old) items.now) made.items) }
+    ensures made { IfOk result (λ made. AllByRecursion (IsMadePart (P.gives piece.old) items_in_part items.now) made.items) }
     ensures piece { IsAsBefore P.takes P.gives piece.old piece.new }
 {
-    let parts = items.len().div_ceil(ITEMS_IN_PART);
     let mut made = Vec::new(alloc);
-    for _ in 0..parts {
-        let part = next.fetch_add(1, Ordering::SeqCst);
-        if part >= parts {
+    for _ in 0..items.len() {
+        let first = next.fetch_add(items_in_part, Ordering::SeqCst);
+        if first >= items.len() {
             break;
         }
-        let one = make_part(alloc, piece, items, part * ITEMS_IN_PART)?;
+        let one = make_part(alloc, piece, items, items_in_part, first)?;
         made.push(one)?;
     }
     Ok(made)
@@ -190,42 +218,45 @@ fn make_part<I, O: Drop, P: Piece<I, O>>(
     alloc: Global,
     piece: &mut P,
     items: &[I],
+    items_in_part: usize,
     first: usize,
 ) -> Result<Made<O>, AllocError>
     requires within { first ≤ length items.now }
     requires taken { AllByRecursion (P.takes piece.old) items.now }
-    ensures made { IfOk result (IsMadePart (P.gives piece.old) items.now) }
+    ensures made { IfOk result (IsMadePart (P.gives piece.old) items_in_part items.now) }
     ensures piece { IsAsBefore P.takes P.gives piece.old piece.new }
 {
-    let values = map_alone(alloc, piece, part_at(items, first))?;
+    let values = map_alone(alloc, piece, part_at(items, items_in_part, first))?;
     Ok(Made { first, values })
 }
 
 // The items of the part of this first item.
-fn part_at<I>(items: &[I], first: usize) -> &[I]
+fn part_at<I>(items: &[I], items_in_part: usize, first: usize) -> &[I]
     requires { first ≤ length items.now }
-    ensures { result.now ≡ take 512 (drop first items.now) }
+    ensures { result.now ≡ take items_in_part (drop first items.now) }
 {
     let left = &items[first..];
-    &left[..left.len().min(ITEMS_IN_PART)]
+    &left[..left.len().min(items_in_part)]
 }
 
 // Adds the values of all parts, in their order. The worker makes those that aren't there.
 fn add_parts<I, O: Copy + Drop, P: Piece<I, O>>(
     piece: &mut P,
     items: &[I],
+    items_in_part: usize,
     made: &[Made<O>],
     values: &mut Vec<O>,
 ) -> Result<(), AllocError>
     requires taken { AllByRecursion (P.takes piece.old) items.now }
-    ensures values { (workers : List P) → IsOneOf P.gives workers piece.old → AreMadeParts P.gives workers items.now made.now
+    requires part { 1 ≤ items_in_part }
+    ensures values { (workers : List P) → IsOneOf P.gives workers piece.old → AreMadeParts P.gives workers items_in_part items.now made.now
         → OnOk result (AddsBehind (AreValues P.gives workers items.now) values.old.items values.new.items) }
     ensures behind { StandBehind values.old.items values.new.items }
     ensures piece { IsAsBefore P.takes P.gives piece.old piece.new }
 {
     let mut first = 0;
     while first < items.len() {
-        let part = part_at(items, first);
+        let part = part_at(items, items_in_part, first);
         add_part(piece, part, found(made, first), values)?;
         first += part.len();
     }

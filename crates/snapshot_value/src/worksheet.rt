@@ -24,6 +24,9 @@ const POLICIES_READ_FOR_A_WORKER: usize = 32_768;
 /// The most policies that are read before they are valued.
 const POLICIES_TOGETHER: usize = 131_072;
 
+/// The policies that a worker takes at once.
+const POLICIES_IN_PART: usize = 512;
+
 /// The columns of present values that all workers together keep, of some 2 kB each.
 const COLUMNS_KEPT: u32 = 8_192;
 
@@ -189,6 +192,6 @@ fn value_all<R: Threads + Sync>(
         → OnOk result (AddsBehind (AreSmallRows basis on measure policies.now) rows.old.items rows.new.items) }
     ensures workers { AreAsBefore TakesPolicy GivesRow workers.old workers.new }
 {
-    map_onto(rt, alloc, workers, policies, rows)?;
+    map_onto(rt, alloc, workers, policies, POLICIES_IN_PART, rows)?;
     Ok(())
 }

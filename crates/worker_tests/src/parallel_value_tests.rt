@@ -7,7 +7,7 @@ use std::test::Fail;
 use std::thread::{Threads, yield_now};
 
 /// The items of a part, which a worker takes at once.
-const ITEMS_IN_PART: u32 = 512;
+const ITEMS_IN_PART: usize = 512;
 
 /// How often a worker looks before it gives up.
 const LOOKS: u32 = 20_000_000;
@@ -69,10 +69,12 @@ fn all_squared<R: Threads + Sync>(
     alloc: Global,
     pieces: &mut [Squares],
     items: &[u32],
+    items_in_part: usize,
 ) -> Result<Vec<u64>, AllocError>
-    requires { (1 ≤ length pieces.old) × (length pieces.old ≤ 64) }
+    requires workers { (1 ≤ length pieces.old) × (length pieces.old ≤ 64) }
+    requires part { 1 ≤ items_in_part }
 {
-    map_in(rt, alloc, pieces, items)
+    map_in(rt, alloc, pieces, items, items_in_part)
 }
 
 fn fill_squared<R: Threads + Sync>(
@@ -92,11 +94,13 @@ fn add_squared<R: Threads + Sync>(
     alloc: Global,
     pieces: &mut [Squares],
     items: &[u32],
+    items_in_part: usize,
     values: &mut Vec<u64>,
 ) -> Result<(), AllocError>
-    requires { (1 ≤ length pieces.old) × (length pieces.old ≤ 64) }
+    requires workers { (1 ≤ length pieces.old) × (length pieces.old ≤ 64) }
+    requires part { 1 ≤ items_in_part }
 {
-    map_onto(rt, alloc, pieces, items, values)
+    map_onto(rt, alloc, pieces, items, items_in_part, values)
 }
 
 fn add_held<R: Threads + Sync>(
@@ -104,11 +108,13 @@ fn add_held<R: Threads + Sync>(
     alloc: Global,
     pieces: &mut [Held<'_>],
     items: &[u32],
+    items_in_part: usize,
     values: &mut Vec<u64>,
 ) -> Result<(), AllocError>
-    requires { (1 ≤ length pieces.old) × (length pieces.old ≤ 64) }
+    requires workers { (1 ≤ length pieces.old) × (length pieces.old ≤ 64) }
+    requires part { 1 ≤ items_in_part }
 {
-    map_onto(rt, alloc, pieces, items, values)
+    map_onto(rt, alloc, pieces, items, items_in_part, values)
 }
 
 // The squares by workers, each of which waits at its first item until so many are begun.
@@ -131,7 +137,14 @@ fn squared_by_held<R: Threads + Sync>(
         piece.until = *until;
     }
     let mut values: Vec<u64> = Vec::new(alloc);
-    add_held(rt, alloc, &mut pieces[..until.len()], items, &mut values)?;
+    add_held(
+        rt,
+        alloc,
+        &mut pieces[..until.len()],
+        items,
+        ITEMS_IN_PART,
+        &mut values,
+    )?;
     Ok(values)
 }
 
@@ -144,13 +157,13 @@ fn numbers(alloc: Global, many: u32) -> Result<Vec<u32>, Fail> {
     Ok(items)
 }
 
-// Three workers, by each of the three calls; what stood in a place or in front of it.
+// Three workers, by each of the three calls; what stood in a place or in front of it. Parts of one item and of many.
 #[test]
 fn the_squares_stand_in_order(rt: HostRuntime) -> Result<(), Fail> {
     let alloc = rt.alloc();
     let items = numbers(alloc, 1_025)?;
     let mut pieces = [Squares { done: 0 }; 3];
-    let made = all_squared(&rt, alloc, &mut pieces, &items);
+    let made = all_squared(&rt, alloc, &mut pieces, &items, 1);
     assert!(rt; made.is_ok_and(|values| are_squares(values.as_slice())));
     let mut filled: Vec<u64> = Vec::new(alloc);
     filled.resize(items.len(), 7)?;
@@ -159,7 +172,7 @@ fn the_squares_stand_in_order(rt: HostRuntime) -> Result<(), Fail> {
     let mut added: Vec<u64> = Vec::new(alloc);
     added.push(7)?;
     assert_eq!(rt;
-        add_squared(&rt, alloc, &mut pieces, &items, &mut added),
+        add_squared(&rt, alloc, &mut pieces, &items, ITEMS_IN_PART, &mut added),
         Ok(())
     );
     let Some((first, rest)) = added.as_slice().split_first() else {
@@ -179,12 +192,48 @@ fn are_squares(values: &[u64]) -> bool {
     values.len() == 1_025
 }
 
+// Workers, items and items of a part: each item is gone through once, and by no more workers than there are parts.
+#[test]
+fn each_part_is_taken_once(rt: HostRuntime) -> Result<(), Fail> {
+    let alloc = rt.alloc();
+    for (workers, many, part) in [
+        (1_usize, 5_u32, 1_usize),
+        (3, 0, 1),
+        (3, 2, 1),
+        (3, 64, 1),
+        (8, 1_025, 512),
+        (2, 1_025, 512),
+        (3, 7, usize::MAX),
+    ] {
+        let items = numbers(alloc, many)?;
+        let mut pieces = [Squares { done: 0 }; 8];
+        let all = &mut pieces[..workers.clamp(1, 8)];
+        let part = part.max(1);
+        let made = all_squared(&rt, alloc, all, &items, part);
+        assert!(rt;
+            made.is_ok_and(|values| values.len() == items.len()),
+            "{workers} workers"
+        );
+        let parts = items.len().div_ceil(part).max(1);
+        let mut done = 0_u64;
+        for (piece, number) in pieces.iter().zip(0_usize..8) {
+            done = done.saturating_add(piece.done);
+            assert!(rt;
+                number < parts || piece.done == 0,
+                "{number} of {workers} at {parts}"
+            );
+        }
+        assert_eq!(rt; done, u64::from(many), "{workers} workers");
+    }
+    Ok(())
+}
+
 // Each waits at its first item until all are at theirs.
 #[test]
 fn all_workers_are_at_work_at_the_same_time(rt: HostRuntime) -> Result<(), Fail> {
     let alloc = rt.alloc();
     for workers in [2_u32, 3, 8] {
-        let items = numbers(alloc, workers.wrapping_mul(ITEMS_IN_PART))?;
+        let items = numbers(alloc, workers.wrapping_mul(512))?;
         let until = [workers; 8];
         let until = &until[..(workers as usize).clamp(1, 8)];
         let missed = AtomicU32::new(0);

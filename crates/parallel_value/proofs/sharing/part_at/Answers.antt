@@ -7,5 +7,5 @@ returns g c =
     let rest = drop c.args.first c.args.items.now in
     let whole : take (length c.args.items.now - c.args.first) rest ≡ rest =
     ap (λ n. take n rest) (sym (length-drop c.args.first c.args.items.now)) ∙ take-length rest in
-    let least : c.min.result ≡ min 512 (length rest) = omega (arith, c.min.ensures, ap (λ l. length l) whole) in
-    ap (λ l. take c.min.result l) whole ∙ ap (λ n. take n rest) least ∙ take_min 512 rest
+    let least : c.min.result ≡ min c.args.items_in_part (length rest) = omega (arith, c.min.ensures, ap (λ l. length l) whole) in
+    ap (λ l. take c.min.result l) whole ∙ ap (λ n. take n rest) least ∙ take_min c.args.items_in_part rest
