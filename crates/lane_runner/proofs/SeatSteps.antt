@@ -151,17 +151,8 @@ module _ {D W : Type 0} where
       let kept_shares : new.shares ≡ mid.shares - mid.shares / 2 = ap (λ (p : Holding (OfficeOpening D W)). p.shares) enters.kept_is in
       omega (arith, enough, kept_shares)
 
-  -- what is known of a pass is known of it once others were entered
-  pub facts_kept : (old kept : Holding (OfficeOpening D W)) (outlets : List Outlet) (seats : List (Seat D W)) → HasEntered old kept outlets seats
-      → PassFacts IsOfficeHistory old → PassFacts IsOfficeHistory kept
-  facts_kept old kept outlets seats entered facts = record {
-    lawful = rw (entered.opening, entered.seen) facts.lawful;
-    paged = rw (entered.seen, entered.caller, entered.made, entered.ended) facts.paged;
-    apart = rw (entered.caller, entered.ended) facts.apart;
-  }
-
-  pub left_none : (pass : Holding (OfficeOpening D W)) → PassFacts IsOfficeHistory pass → HasLeft pass pass []
-  left_none pass facts = record {
+  pub left_none : (pass : Holding (OfficeOpening D W)) → HasLeft pass pass []
+  left_none pass = record {
     turnstile = refl;
     opening = refl;
     caller = refl;
@@ -171,13 +162,11 @@ module _ {D W : Type 0} where
     begins = ([], sym (append-nil pass.seen));
     each = tt;
     ended = sym (append-nil pass.ended);
-    facts = facts;
   }
 
   pub left_more : (old mid new gone : Holding (OfficeOpening D W)) (seats : List (Seat D W)) (outlet : Outlet)
-      → HasLeft old mid seats → LeavesLock gone mid new → PassFacts IsOfficeHistory new → HasLeft old new (seats ++ (gone, outlet) ∷ [])
-  left_more old mid new gone seats outlet so_far leaves facts = record {
-    facts = facts;
+      → HasLeft old mid seats → LeavesLock gone mid new → HasLeft old new (seats ++ (gone, outlet) ∷ [])
+  left_more old mid new gone seats outlet so_far leaves = record {
     turnstile = ap (λ (p : Holding (OfficeOpening D W)). p.turnstile) leaves.new_is ∙ so_far.turnstile;
     opening = ap (λ (p : Holding (OfficeOpening D W)). p.opening) leaves.new_is ∙ so_far.opening;
     caller = ap (λ (p : Holding (OfficeOpening D W)). p.caller) leaves.new_is ∙ so_far.caller;

@@ -99,6 +99,8 @@ pub fn run_lanes<
     enter_all(office, pass, outlets, &mut seats);
     run_beside::<R, X, D, K, W, G>(&run, &mut seats, &mut inlets, moments, &mut page, output);
     leave_all(office, pass, seats, &mut callers);
+    // What is known of every pass (`PassFacts`) is told of this one here.
+    pass.caller();
     let written = page.written();
     let Page { lines, latest, .. } = page;
     Ok(Ran {
@@ -264,7 +266,7 @@ fn leave_all<D: Disk, W: Watching>(
     seats: Vec<Seat<D, W>>,
     callers: &mut Vec<u64>,
 )
-    requires ours { (pass.old.turnstile ≡ office.now) × PassFacts IsOfficeHistory pass.old
+    requires ours { (pass.old.turnstile ≡ office.now)
         × AllByRecursion (λ seat. seat.0.turnstile ≡ office.now) seats.items }
     requires callers { (callers.old.items ≡ []) × (length seats.items ≤ vec_capacity callers.old) }
     ensures left { HasLeft pass.old pass.new seats.items }

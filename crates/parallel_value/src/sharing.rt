@@ -108,8 +108,21 @@ fn add_all<R: Threads + Sync, I: Sync, O: Copy + Send + Drop, P: Piece<I, O> + S
     if pieces.len() < 2 {
         return add_by_one(pieces, items, values);
     }
-    let made = make_parts(rt, alloc, pieces, items, items_in_part, &AtomicUsize::new(0))?;
-    add_parts(&mut pieces[0], items, items_in_part, made.as_slice(), values)
+    let made = make_parts(
+        rt,
+        alloc,
+        pieces,
+        items,
+        items_in_part,
+        &AtomicUsize::new(0),
+    )?;
+    add_parts(
+        &mut pieces[0],
+        items,
+        items_in_part,
+        made.as_slice(),
+        values,
+    )
 }
 
 // Sets the worker in front going, and then the others.

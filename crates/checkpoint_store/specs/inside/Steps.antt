@@ -1,15 +1,9 @@
 -- What the steps of the calls do, for the contracts of the steps alone.
 use Rattle.std.specs.Prelude.{◌≡◌, ◌⊎◌, ℕ, Bool, false, List, ◌∷◌, drop, Result, OnOk}
-use Rattle.outside_io.specs.Disks.{HasDiskCause}
 use Rattle.checkpoint_store.specs.Names.{Ghosts, IsSafe, Passes}
 use Rattle.checkpoint_store.specs.declared.snapshot.Snapshot.{Snapshot}
 use Rattle.checkpoint_store.specs.Checkpoints.{CheckpointBytes, IsNoCheckpoint}
 use Rattle.checkpoint_store.specs.Stores.{AreShut, DifferInGate, IsShut, KnowsGate, MightBeLeft}
-
--- A call on a disk failed only where its count of faults rose, and a disk that is honest after it was so before.
-pub record TellsFailure {D T E : Type 0} (g : Ghosts D) (old new : D) (result : Result T E) : Type 0 where
-  pub cause : HasDiskCause (g.faults old) (g.faults new) result
-  pub honesty : g.honest new → g.honest old
 
 -- an image from before, with another gate
 abbrev pub HasOtherGate : {D : Type 0} → Ghosts D → D → List ℕ → Type 0

@@ -189,4 +189,3 @@ module _ {D W : Type 0} where
     pub begins : StartsWith new.seen old.seen
     pub each : AllByRecursion (λ (seat : Seat D W). StartsWith new.seen seat.0.seen) seats
     pub ended : new.ended ≡ old.ended ++ flat_map (λ (seat : Seat D W). pages seat.0) seats
-    pub facts : PassFacts IsOfficeHistory new

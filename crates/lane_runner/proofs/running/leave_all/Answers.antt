@@ -18,5 +18,5 @@ loop-seat-preserved g c = record {
   callers_len = omega (arith, c.push_reserved.ensures.len, c.loop-seat.invariant.callers_len, length-append c.loop-seat.yielded (c.in-Some.seat ∷ []));
   callers_enough = c.push_reserved.ensures.capacity ∙ c.loop-seat.invariant.callers_enough;
   left = left_more c.args.pass.now c.loop-seat.pass c.leave.new.pass c.in-Some.seat.0 c.loop-seat.yielded c.in-Some.seat.1 c.loop-seat.invariant.left
-      c.leave.ensures.leaves c.leave.ensures.facts;
+      c.leave.ensures.leaves;
 }

@@ -1,5 +1,5 @@
 use Rattle.lane_runner.proofs.Names.{length, ◌∙◌, arith, IsRoomFor}
-use Rattle.lane_runner.proofs.SeatSteps.{facts_kept, shares_for_all, turns_for_all, zip_length}
+use Rattle.lane_runner.proofs.SeatSteps.{shares_for_all, turns_for_all, zip_length}
 use Rattle.lane_runner.proofs.RunSteps.{are_ready, has_run, lanes_are, news_many, seats_ours}
 use Rattle.lane_runner.proofs.SettleSteps.{ends_entered}
 use Rattle.lane_runner.proofs.LaneSteps.{answered_as}
@@ -31,7 +31,6 @@ run_beside-requires-clause-ends g c κs within = ends_entered c.enter_all.new.se
 pub leave_all-requires-clause-ours : goal.leave_all-requires-clause-ours
 leave_all-requires-clause-ours g c = (
   c.enter_all.ensures.entered.turnstile ∙ c.requires.ours,
-  facts_kept c.args.pass.now c.enter_all.new.pass c.in_ok-outlets.field-0.outlets.items c.enter_all.new.seats.items c.enter_all.ensures.entered c.caller.ensures.facts,
   seats_ours c.args.basis.now c.args.office.now c.args.pass.now c.args.lanes.now c.enter_all.new.seats.items c.run_beside.new.seats.items
       c.run_beside.ensures.run c.enter_all.ensures.entered.fresh c.requires.ours,
 )
@@ -44,13 +43,13 @@ leave_all-requires-clause-callers g c =
 pub returns-clause-answered : goal.returns-clause-answered
 returns-clause-answered g c =
     answered_as c.args.basis.now c.args.lanes.now c.args.pass.now c.leave_all.new.pass c.run_beside.new.seats.items c.run_beside.new.page.lines
-    c.requires.lanes c.leave_all.ensures.left.facts
+    c.requires.lanes c.caller-2.ensures.facts
     (has_run c.args.basis.now c.args.lanes.now c.args.pass.now c.enter_all.new.pass c.leave_all.new.pass c.in_ok-outlets.field-0.outlets.items c.enter_all.new.seats.items
     c.run_beside.new.seats.items c.requires.lanes c.enter_all.ensures.entered c.run_beside.ensures.run c.leave_all.ensures.left c.caller.ensures.facts
-    c.leave_all.ensures.left.facts)
+    c.caller-2.ensures.facts)
     (lanes_are c.args.basis.now c.args.lanes.now c.args.pass.now c.enter_all.new.pass c.leave_all.new.pass c.in_ok-outlets.field-0.outlets.items
     c.enter_all.new.seats.items c.run_beside.new.seats.items c.requires.lanes c.enter_all.ensures.entered c.run_beside.ensures.run
-    c.leave_all.ensures.left c.caller.ensures.facts c.leave_all.ensures.left.facts)
+    c.leave_all.ensures.left c.caller.ensures.facts c.caller-2.ensures.facts)
     c.run_beside.ensures.moved c.run_beside.ensures.sorted c.new.result (c.new.ensures ∙ c.leave_all.ensures.callers)
 
 pub returns-clause-wrote : goal.returns-clause-wrote
