@@ -1,7 +1,7 @@
 // A snapshot is saved.
 ghost use Rattle.std.specs.Prelude.{◌≡◌, ℕ, ◌+◌, ◌*◌, ◌≤◌, ◌++◌, false, List, length, IsTrue, OnOk};
 ghost use Rattle.checkpoint_store.specs.Names.{flat_map, IsSafe, Leaves, most_commands};
-ghost use Rattle.posting_journal.specs.Faults.{HasCause, TellsFaults};
+ghost use Rattle.posting_journal.specs.Faults.{TellsFailure, TellsFaults};
 ghost use Rattle.checkpoint_store.specs.Checkpoints.{CheckpointBytes, IsSoundSnapshot};
 ghost use Rattle.checkpoint_store.specs.Spelling.{policy_bytes, snapshot_bytes, StandBehindGate};
 ghost use Rattle.checkpoint_store.specs.Stores.{AreShut, IsKeptBy, IsKeptOrSavedBy, Knows, MightLeave, Saves, StoreLeaves, store_disk};
@@ -40,7 +40,7 @@ impl<E: Disk> Store<E> {
 
     fn write(&mut self, snapshot: &Snapshot) -> Result<(), Failed>
         requires { IsSoundSnapshot snapshot.now }
-        ensures disk { HasCause E.Disk (store_disk self.old) (store_disk self.new) result }
+        ensures disk { TellsFailure E.Disk (store_disk self.old) (store_disk self.new) result }
         ensures saves { E.honest (store_disk self.new) → Knows self.old → Saves self.old self.new snapshot.now result }
     {
         if self.closed {
@@ -54,7 +54,7 @@ impl<E: Disk> Store<E> {
     fn replace(&mut self, snapshot: &Snapshot) -> Result<(), Failed>
         requires sound { IsSoundSnapshot snapshot.now }
         requires closed { IsTrue self.old.closed }
-        ensures disk { HasCause E.Disk (store_disk self.old) (store_disk self.new) result }
+        ensures disk { TellsFailure E.Disk (store_disk self.old) (store_disk self.new) result }
         ensures saves { E.honest (store_disk self.new) → Knows self.old → Saves self.old self.new snapshot.now result }
     {
         self.write_rest(snapshot)?;
@@ -64,7 +64,7 @@ impl<E: Disk> Store<E> {
     // Closes a gate that is open or isn't known.
     fn close(&mut self) -> Result<(), Failed>
         requires { self.old.closed ≡ false }
-        ensures disk { HasCause E.Disk (store_disk self.old) (store_disk self.new) result }
+        ensures disk { TellsFailure E.Disk (store_disk self.old) (store_disk self.new) result }
         ensures closed { OnOk result (IsTrue self.new.closed) }
         ensures left { E.honest (store_disk self.new) → Knows self.old → StoreLeaves self.old self.new (IsKeptBy self.old) }
     {
@@ -77,7 +77,7 @@ impl<E: Disk> Store<E> {
     fn write_rest(&mut self, snapshot: &Snapshot) -> Result<(), Failed>
         requires sound { IsSoundSnapshot snapshot.now }
         requires closed { IsTrue self.old.closed }
-        ensures disk { HasCause E.Disk (store_disk self.old) (store_disk self.new) result }
+        ensures disk { TellsFailure E.Disk (store_disk self.old) (store_disk self.new) result }
         ensures closed { IsTrue self.new.closed }
         ensures written { E.honest (store_disk self.new) → Knows self.old
             → OnOk result (StandBehindGate (snapshot_bytes snapshot.now) (E.reads (store_disk self.new))
@@ -99,7 +99,7 @@ impl<E: Disk> Store<E> {
     // Opens the gate before a snapshot that was written.
     fn open(&mut self, snapshot: &Snapshot) -> Result<(), Failed>
         requires sound { IsSoundSnapshot snapshot.now }
-        ensures disk { HasCause E.Disk (store_disk self.old) (store_disk self.new) result }
+        ensures disk { TellsFailure E.Disk (store_disk self.old) (store_disk self.new) result }
         ensures opened { self.new.closed ≡ false }
         ensures gates { E.honest (store_disk self.new)
             → StandBehindGate (snapshot_bytes snapshot.now) (E.reads (store_disk self.old))
@@ -115,7 +115,7 @@ impl<E: Disk> Store<E> {
 fn write_policies<E: Disk>(disk: &mut E, policies: &[Policy]) -> Result<(), Failed>
     requires few { length policies.now ≤ most_commands }
     requires begun { E.honest disk.old → 64 ≤ length (E.reads disk.old) }
-    ensures disk { HasCause E.Disk disk.old disk.new result }
+    ensures disk { TellsFailure E.Disk disk.old disk.new result }
     ensures written { (front : List ℕ) → E.honest disk.new → length front ≡ 63
         → StandBehindGate front (E.reads disk.old)
         → OnOk result (StandBehindGate (front ++ flat_map policy_bytes policies.now) (E.reads disk.new)) }

@@ -7,7 +7,7 @@ ghost use Rattle.command_csv.specs.Answers.{GivesScript, IsScriptAnswer};
 ghost use Rattle.command_csv.specs.Reads.{AreLineRows, Reads, lanes_of, lines_of as lines_among, valuations_in};
 ghost use Rattle.command_csv.specs.Rows.{rows_of};
 ghost use Rattle.command_csv.specs.Cause.{HasScriptCause};
-ghost use Rattle.command_csv.specs.inside.Starting.{StandsAtStart};
+ghost use Rattle.command_csv.specs.inside.Starting.{HasReadNothing};
 ghost use Rattle.command_csv.specs.declared.fault.ScriptFault.{ScriptFault as AFault};
 
 use crate::fault::ScriptFault;
@@ -67,7 +67,7 @@ fn read_lines(alloc: Global, bytes: &[u8]) -> Result<Vec<ClerkLine>, ScriptFault
 // A reader of all rows. It has a header row, which is no row of the script: else it would take the first row for one, and
 // keep it twice beside itself.
 fn reader_of(alloc: Global, bytes: &[u8]) -> Result<Reader<&[u8]>, ScriptFault>
-    ensures start { IfOk result (StandsAtStart bytes.now) }
+    ensures start { IfOk result (HasReadNothing bytes.now) }
     ensures fault { IfErr result (λ fault. fault ≡ ScriptFault.NoMemory) }
 {
     let mut rows = ReaderBuilder::new()

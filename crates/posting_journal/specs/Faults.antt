@@ -15,6 +15,6 @@ pub record TellsFaults {D T : Type 0} (g : Ghosts D) (old new : D) (result : Res
 
 -- A step of a call fails only where the count rose, and leaves the count where it succeeds. A disk stays honest, or
 -- stays one that isn't.
-pub record HasCause {D T E : Type 0} (g : Ghosts D) (old new : D) (result : Result T E) : Type 0 where
+pub record TellsFailure {D T E : Type 0} (g : Ghosts D) (old new : D) (result : Result T E) : Type 0 where
   pub disk : HasDiskCause (g.faults old) (g.faults new) result
   pub honesty : g.honest new → g.honest old

@@ -1,6 +1,6 @@
 // What is done with an open journal.
 ghost use Rattle.std.specs.Prelude.{◌≡◌, ℕ, ◌+◌, ◌<◌, ◌++◌, [], ◌∷◌, List, false, if◌then◌else◌, is_ok, IsTrue, OnOk, MatchResult, Ok, Err, length};
-ghost use Rattle.posting_journal.specs.Faults.{HasCause, TellsFaults};
+ghost use Rattle.posting_journal.specs.Faults.{TellsFailure, TellsFaults};
 ghost use Rattle.posting_journal.specs.Files.{IsStaged};
 ghost use Rattle.posting_journal.specs.Layout.{gate_place, body_place, most_records};
 ghost use Rattle.posting_journal.specs.Runs.{IsSafe};
@@ -81,7 +81,7 @@ impl<D: Disk> Journal<D> {
         requires clean { IsTrue (is_clean self.old) }
         ensures count { count_of self.new ≡ count_of self.old }
         ensures clean { IsTrue (is_clean self.new) }
-        ensures cause { HasCause D.Disk (disk_of self.old) (disk_of self.new) result }
+        ensures cause { TellsFailure D.Disk (disk_of self.old) (disk_of self.new) result }
         ensures next { D.honest (disk_of self.new)
             → OnOk result (gate_place ((count_of self.new) + 1) < length (D.reads (disk_of self.new))) }
         ensures stages { (bodies : List (List ℕ)) (faulted : List ℕ) → D.honest (disk_of self.new)
@@ -99,7 +99,7 @@ impl<D: Disk> Journal<D> {
             → gate_place ((count_of self.old) + 1) < length (D.reads (disk_of self.old)) }
         ensures count { count_of self.new ≡ (if is_ok result then (count_of self.old) + 1 else (count_of self.old)) }
         ensures clean { is_clean self.new ≡ is_ok result }
-        ensures cause { HasCause D.Disk (disk_of self.old) (disk_of self.new) result }
+        ensures cause { TellsFailure D.Disk (disk_of self.old) (disk_of self.new) result }
         ensures acknowledges { (bodies : List (List ℕ)) (body : List ℕ) → D.honest (disk_of self.new)
             → (count_of self.old) ≡ length bodies
             → IsStaged (D.reads (disk_of self.old)) bodies body → IsSafe D.Disk (disk_of self.old)

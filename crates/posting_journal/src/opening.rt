@@ -1,7 +1,7 @@
 // The opening of a file.
 ghost use Rattle.std.specs.Prelude.{◌≡◌, length, IfOk};
 ghost use Rattle.posting_journal.specs.Creation.{IsUnfinished};
-ghost use Rattle.posting_journal.specs.Faults.{HasCause};
+ghost use Rattle.posting_journal.specs.Faults.{TellsFailure};
 ghost use Rattle.posting_journal.specs.inside.Kinds.{IsOfKind, IsLongIfMade};
 ghost use Rattle.posting_journal.specs.Opening.{IsOpenedOn, OpensOn, HasSynced};
 ghost use Rattle.posting_journal.specs.inside.Steps.{AnswersOpening};
@@ -46,7 +46,7 @@ fn open_safe<D: Disk>(disk: &mut D) -> Result<u32, Unopened>
 // Reads the first bytes.
 fn kind_of<D: Disk>(disk: &mut D, size: u64) -> Result<FileKind, Failed>
     requires { D.honest disk.old → size ≡ length (D.reads disk.old) }
-    ensures cause { HasCause D.Disk disk.old disk.new result }
+    ensures cause { TellsFailure D.Disk disk.old disk.new result }
     ensures long { IfOk result (λ kind. IsLongIfMade size kind) }
     ensures kind { D.honest disk.new → IfOk result (λ kind. IsOfKind (D.reads disk.old) kind) }
     ensures unwritten { D.honest disk.new → LooksOn D.Disk disk.old disk.new }

@@ -1,6 +1,6 @@
 // A part of the file that was read at once.
 ghost use Rattle.std.specs.Prelude.{◌≡◌, ℕ, ◌+◌, ◌-◌, ◌*◌, ◌≤◌, ◌↔◌, List, length, take, drop, slice_index, IsTrue, OnOk, OnErr};
-ghost use Rattle.posting_journal.specs.Faults.{HasCause};
+ghost use Rattle.posting_journal.specs.Faults.{TellsFailure};
 ghost use Rattle.posting_journal.specs.Layout.{gate_place, body_place, most_in_piece};
 ghost use Rattle.posting_journal.specs.Pieces.{HasBody, HasGate, IsEmptyPiece, IsFilled, IsPartOf};
 ghost use Rattle.posting_journal.specs.Runs.{LooksOn};
@@ -44,7 +44,7 @@ impl Stretch {
     ) -> Result<(), Failed>
         requires room { many ≤ 65 * most_in_piece }
         requires within { D.honest disk.old → gate_place from + many ≤ length (D.reads disk.old) }
-        ensures cause { HasCause D.Disk disk.old disk.new result }
+        ensures cause { TellsFailure D.Disk disk.old disk.new result }
         ensures unwritten { D.honest disk.new → LooksOn D.Disk disk.old disk.new }
         ensures filled { OnOk result (IsFilled self.new from many) }
         ensures empty { OnErr result (IsEmptyPiece self.new) }

@@ -1,6 +1,6 @@
 // The records of a file that was made, gate by gate. The gates are read by pieces.
 ghost use Rattle.std.specs.Prelude.{◌≡◌, ◌↔◌, ◌+◌, ◌<◌, ◌≤◌, length, IsTrue, IfOk, IfErr, OnOk, slice_index};
-ghost use Rattle.posting_journal.specs.Faults.{HasCause};
+ghost use Rattle.posting_journal.specs.Faults.{TellsFailure};
 ghost use Rattle.posting_journal.specs.Layout.{gate_place, most_records};
 ghost use Rattle.posting_journal.specs.Pieces.{HasGate, IsPartOf};
 ghost use Rattle.posting_journal.specs.Runs.{LooksOn};
@@ -64,7 +64,7 @@ fn turn_to<D: Disk>(disk: &mut D, size: u64, n: u32, piece: &mut Stretch) -> Res
     requires within { gate_place n < size }
     requires told { D.honest disk.old → size ≡ length (D.reads disk.old) }
     requires part { D.honest disk.old → IsPartOf piece.old (D.reads disk.old) }
-    ensures cause { HasCause D.Disk disk.old disk.new result }
+    ensures cause { TellsFailure D.Disk disk.old disk.new result }
     ensures unwritten { D.honest disk.new → LooksOn D.Disk disk.old disk.new }
     ensures has { OnOk result (HasGate piece.new n) }
     ensures part { D.honest disk.new → IsPartOf piece.new (D.reads disk.new) }

@@ -3,7 +3,7 @@ use Rattle.std.specs.Prelude.{◌≡◌, ℕ, ◌≤◌, List, length, Result, I
 use Rattle.outside_io.specs.Disks.{Only, Torn, Writes}
 use Rattle.outside_io.specs.declared.disks.Disk.{Ghosts}
 use Rattle.posting_journal.specs.Creation.{IsEmpty, IsUnfinished, OpensToBodies}
-use Rattle.posting_journal.specs.Faults.{HasCause}
+use Rattle.posting_journal.specs.Faults.{TellsFailure}
 use Rattle.posting_journal.specs.Files.{IsJournal, IsStaged}
 use Rattle.posting_journal.specs.Layout.{empty_journal, most_records}
 use Rattle.posting_journal.specs.Runs.{IsSafe, IsSafeWith, Leaves, Passes}
@@ -25,7 +25,7 @@ pub record PutsOn {D T E : Type 0} (g : Ghosts D) (old new : D) (at : ℕ) (byte
 
 -- A step of a creation: at Ok what has P is safe, and at each moment the file is an unfinished creation, or the journal.
 pub record CreatesOn {D T E : Type 0} (g : Ghosts D) (old new : D) (P : List ℕ → Type 0) (result : Result T E) : Type 0 where
-  pub cause : HasCause g old new result
+  pub cause : TellsFailure g old new result
   pub done : g.honest new → OnOk result (IsSafeWith g P new)
   pub moments : g.honest new → Passes g old new IsEmpty
 
