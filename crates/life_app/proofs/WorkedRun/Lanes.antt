@@ -22,35 +22,23 @@ entries : List ClerkLine
 entries = (record { clerk = 1; line = PostLine short_premium }) ∷ (record { clerk = 2; line = PostLine hand_premium })
     ∷ (record { clerk = 1; line = Value (pos 18628) Now 1 }) ∷ (record { clerk = 2; line = PostLine other_premium }) ∷ []
 
-placed : ℕ → Entry → Placed
+abbrev placed : ℕ → Entry → Placed
 placed n turn = (n, turn)
 
-valued : AnswersLine [] (Value (pos 18628) Now 1) (placed 1 lanes_pin ∷ placed 3 rows_turn ∷ placed 5 given_up_turn ∷ [])
-unfolding placed
+abbrev valuing : List Placed
+valuing = placed 1 lanes_pin ∷ placed 3 rows_turn ∷ placed 5 given_up_turn ∷ []
+
+valued : AnswersLine [] (Value (pos 18628) Now 1) valuing
 valued = (refl, (1, refl, (λ wet. refl)))
 
 merge : IsMerge lanes_turns typed_lanes (11 ∷ 12 ∷ []) []
-unfolding placed IsDistinct
+unfolding IsDistinct
 merge = record {
   distinct = ((refl, tt), (tt, tt));
   theirs = ((0, lit< tt, refl), ((0, lit< tt, refl), ((1, lit< tt, refl), ((0, lit< tt, refl), ((1, lit< tt, refl), ((0, lit< tt, refl), tt))))));
   answers = (
-    (
-      placed 0 refused_turn ∷ [],
-      (
-        placed 1 lanes_pin ∷ placed 3 rows_turn ∷ placed 5 given_up_turn ∷ [],
-        refl,
-        refl,
-        (placed 1 lanes_pin ∷ placed 3 rows_turn ∷ placed 5 given_up_turn ∷ [], ([], refl, valued, refl)),
-      ),
-    ),
-    (
-      (
-        placed 2 paid_turn ∷ [],
-        (placed 4 fault_turn ∷ [], refl, refl, (placed 4 fault_turn ∷ [], ([], refl, refl, refl))),
-      ),
-      tt,
-    ),
+    (placed 0 refused_turn ∷ [], (valuing, refl, refl, (valuing, ([], refl, valued, refl)))),
+    ((placed 2 paid_turn ∷ [], (placed 4 fault_turn ∷ [], refl, refl, (placed 4 fault_turn ∷ [], ([], refl, refl, refl)))), tt),
   );
 }
 
@@ -120,13 +108,7 @@ ran = record {
   legal = legal;
   pins = tt;
   lines = lines;
-  tells = (
-    refl,
-    (
-      inr ((λ dry. let low = dry.1 in omega (arith, low)), (two_rows, (first_row, (second_row, tt)), refl)),
-      (refl, (refl, tt)),
-    ),
-  );
+  tells = (refl, (inr ((λ dry. let low = dry.1 in omega (arith, low)), (two_rows, (first_row, (second_row, tt)), refl)), (refl, (refl, tt))));
   shown = λ honest. (lanes_piece ∷ [], refl, shown);
   wrote = sym written;
   replies = (other_premium, (given_up_turn ∷ [], faulted));
@@ -151,14 +133,7 @@ left_lanes = (
   inl refl,
   may_open,
   inl left_bytes,
-  record {
-    held = hand_premium ∷ [];
-    rest = [];
-    more = other_premium ∷ [];
-    front = refl;
-    one = (given_up_turn ∷ [], (faulted, refl));
-    are = refl;
-  },
+  record { held = hand_premium ∷ []; rest = []; more = other_premium ∷ []; front = refl; one = (given_up_turn ∷ [], (faulted, refl)); are = refl },
 )
 
 -- ---- the next run
@@ -167,7 +142,7 @@ abbrev late_answer : AnsweredLine
 late_answer = record { clerk = 2; line = PostLine other_premium; first = (0, late_turn); rest = [] }
 
 late_merge : IsMerge (late_turn ∷ []) late_lanes (12 ∷ []) []
-unfolding placed IsDistinct
+unfolding IsDistinct
 late_merge = record { distinct = (tt, tt); theirs = ((0, lit< tt, refl), tt); answers = ((placed 0 late_turn ∷ [], ([], refl, refl, refl)), tt) }
 
 late_written : posting_text 2 other_premium late_turn.reply ++ [] ≡ late_text

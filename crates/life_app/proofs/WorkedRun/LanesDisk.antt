@@ -13,14 +13,7 @@ use Rattle.life_app.proofs.WorkedRun.Row.{facts, kept_looked, quiet_left}
 -- ---- the turns are legal
 
 valid_other : IsValid other_issue
-valid_other = record {
-  id_in = (lit≤ tt, lit≤ tt);
-  day_in = (omega (arith, ints), omega (arith, ints));
-  age_in = lit≤ tt;
-  years_in = (lit≤ tt, lit≤ tt);
-  amount_in = (lit≤ tt, lit≤ tt);
-  premium_in = (lit≤ tt, lit≤ tt);
-}
+valid_other = record { id_in = (lit≤ tt, lit≤ tt); day_in = (omega (arith, ints), omega (arith, ints)); age_in = lit≤ tt; years_in = (lit≤ tt, lit≤ tt); amount_in = (lit≤ tt, lit≤ tt); premium_in = (lit≤ tt, lit≤ tt) }
 
 pub valid_short : IsValid short_premium
 valid_short = ((lit≤ tt, lit≤ tt), (omega (arith, ints), omega (arith, ints)), (lit≤ tt, lit≤ tt))
@@ -32,9 +25,8 @@ pub legal : IsLegal lanes_opening lanes_turns
 unfolding anniversary_of day_number date_of date_at year_of month_of days_before days_before_year days_of_months
 legal = record {
   opens = record { accepted = (refl, (refl, tt)); valid = (valid_issue, (valid_other, tt)); few = lit≤ tt };
-  due = refl then (omega arith, refl, refl) then (refl, refl) then
-      ((2, 2), refl, (lanes_pin, refl, refl), omega arith, refl) then (refl, (lit≤ tt, tt)) then
-      ((2, 2), refl, (lanes_pin, refl, refl)) then tt;
+  due = refl then (omega arith, refl, refl) then (refl, refl) then ((2, 2), refl, (lanes_pin, refl, refl), omega arith, refl)
+      then (refl, (lit≤ tt, tt)) then ((2, 2), refl, (lanes_pin, refl, refl)) then tt;
 }
 
 pub goes_on : IsLegal (opened_on held_commands 0) (again_turn ∷ [])
@@ -47,11 +39,7 @@ goes_on = record {
 pub too_late : IsLegal (opened_on left_commands 0) (late_turn ∷ [])
 unfolding anniversary_of day_number date_of date_at year_of month_of days_before days_before_year days_of_months
 too_late = record {
-  opens = record {
-    accepted = (refl, (refl, (refl, (refl, tt))));
-    valid = (valid_issue, (valid_other, (valid_premium, (valid_other_premium, tt))));
-    few = lit≤ tt;
-  };
+  opens = record { accepted = (refl, (refl, (refl, (refl, tt)))); valid = (valid_issue, (valid_other, (valid_premium, (valid_other_premium, tt)))); few = lit≤ tt };
   due = (refl, tt);
 }
 
@@ -142,14 +130,7 @@ held_three image journal = record { held = hand_premium ∷ []; rest = []; more 
 
 held_four : (image : List ℕ) → IsJournal image four → HoldsOnce lanes_opening lanes_turns image
 unfolding faulted
-held_four image journal = record {
-  held = hand_premium ∷ [];
-  rest = [];
-  more = other_premium ∷ [];
-  front = refl;
-  one = (given_up_turn ∷ [], (faulted, refl));
-  opens = inl (of_four image journal);
-}
+held_four image journal = record { held = hand_premium ∷ []; rest = []; more = other_premium ∷ []; front = refl; one = (given_up_turn ∷ [], (faulted, refl)); opens = inl (of_four image journal) }
 
 paying_held : (moment : ℕ) (image : List ℕ) → Left file paid_calls moment image → HoldsOnce lanes_opening lanes_turns image
 paying_held moment image left = elim (posted_left file (looks 2 file) two hand_premium (lit< tt) premium_size found (looks_safe 2 file) refl moment image left) [
@@ -185,7 +166,7 @@ front_held n image left =
       | inr one ↦ (
         rest ++ other_premium ∷ [],
         subst (λ (cs : List Command). Opens image (both_issues ++ cs))
-        (ap (λ (cs : List Command). cs ++ other_premium ∷ []) all ∙ append_assoc front rest (other_premium ∷ [])) (inl (of_four image one)),
+            (ap (λ (cs : List Command). cs ++ other_premium ∷ []) all ∙ append_assoc front rest (other_premium ∷ [])) (inl (of_four image one)),
       )
     ]
 

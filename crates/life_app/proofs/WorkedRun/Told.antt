@@ -82,8 +82,8 @@ module _ (line : ValueLine) where
               ),
             ),
           ),
-          (λ honest. (hand_issue ∷ [], second_left.opened honest_last, lit≤ tt)),
         ),
+        (λ honest. (hand_issue ∷ [], second_left.opened honest_last, lit≤ tt)),
       ),
     ),
     (
@@ -103,28 +103,7 @@ module _ (line : ValueLine) where
         },
       ),
     ),
-    (
-      7,
-      (
-        5,
-        (
-          2,
-          (
-            1,
-            (
-              refl,
-              record {
-                spells = refl;
-                seed_in = lit≤ tt;
-                count_in = (lit≤ tt, lit≤ tt);
-                lanes_in = (lit≤ tt, lit≤ tt);
-                workers_in = (lit≤ tt, lit≤ tt);
-              },
-            ),
-          ),
-        ),
-      ),
-    ),
+    (7, (5, (2, (1, (refl, record { spells = refl; seed_in = lit≤ tt; count_in = (lit≤ tt, lit≤ tt); lanes_in = (lit≤ tt, lit≤ tt); workers_in = (lit≤ tt, lit≤ tt) }))))),
     λ words. (Done, refl, tt),
   )
 
