@@ -1,5 +1,6 @@
 -- The worked run's first half: the journals that are read, the answers, what a crash leaves, and the cut.
-use Rattle.life_app.proofs.Names.{◌≡◌, ◌⊎◌, ℕ, true, List, [], ◌∷◌, length, refl, sym, subst, inl, inr, lit≤, lit<, AreAllowed, Synced, writes_within, left_only_now, Accepted, IsJournal, IsSafe, spelling_of, HasKept, HoldsAtLeast, HoldsNow, HoldsOnce, IsLeftBy, KeepsAccepted, JournalBytes, Opens, hand_issue, hand_premium, premium_turn, both, valid_issue, HasRun, HasAnsweredSome, WasCut, CalledDisk, HonestCalls, Unsynced, called, creation, cut_file, called_disk, empty_disk, issuing, last_disk, paid_disk, first_calls, second_calls, reopening, untorn, both_commands, cut_run, first_opening, first_turns, issue_turn}
+use Rattle.life_app.proofs.Names.{◌≡◌, ◌⊎◌, ◌≤◌, ℕ, true, List, [], ◌∷◌, length, refl, sym, subst, inl, inr, lit≤, lit<, AreAllowed, FileCall, Synced, Entry, Opening, IsLeftAlone, writes_within, left_only_now, Accepted, IsJournal, IsSafe, spelling_of, HasKept, HoldsAtLeast, HoldsNow, HoldsOnce, IsLeftBy, KeepsAccepted, JournalBytes, Opens, hand_issue, hand_premium, premium_turn, both, valid_issue, HasRun, HasAnsweredSome, WasCut, CalledDisk, HonestCalls, Unsynced, called, creation, cut_file, called_disk, empty_disk, issuing, last_disk, paid_disk, first_calls, second_calls, reopening, untorn, both_commands, cut_run, first_opening, first_turns, issue_turn}
+use Rattle.office_state.specs.Images.{AreQuiet, faults_after}
 use Rattle.office_state.proofs.KeptSteps.{keeps_first, keeps_more, kept_now}
 use Rattle.life_app.proofs.WorkedRun.Calls.{AreSafe, Left, created, creation_left, creation_safe, first_bytes, is_posted, is_still, looks_allowed, looks_safe, posted_left, posted_safe, posted_within, posting_leaves, reads}
 
@@ -158,21 +159,31 @@ pub found_safe : (first : List ℕ) → IsSafe called (called_disk first [])
 found_safe first image (inl same) = same
 found_safe first image (inr none) = absurd none
 
-pub first_left : IsLeftBy called empty_disk paid_disk first_opening first_turns
-first_left = record {
+-- a disk that was found so is left by these turns
+pub left_by : (file : List ℕ) (calls : List FileCall) (opening : Opening) (turns : List Entry) → 1 ≤ length calls
+    → called.faults (called_disk file calls) ≡ faults_after opening turns → Opens file opening.commands
+    → ((image : List ℕ) → called.may_leave (called_disk file calls) image → HoldsNow opening turns image)
+    → ((moment : ℕ) (image : List ℕ) → Left file calls moment image → HoldsOnce opening turns image)
+    → KeepsAccepted called (called_disk file []) (called_disk file calls) opening turns
+    → (AreQuiet turns → IsLeftAlone called (called_disk file []) (called_disk file calls))
+    → IsLeftBy called (called_disk file []) (called_disk file calls) opening turns
+left_by file calls opening turns some faults opens now held kept alone = record {
   honesty = λ honest. (tt, refl);
-  faults = refl;
-  opened = λ honest. inr (refl, inl (lit≤ tt));
-  now = λ honest image left. now_both image left;
-  since = λ honest image left. inr (paying_held 0 image left);
+  faults = faults;
+  opened = λ honest. opens;
+  now = λ honest. now;
+  since = λ honest image left. inr (held 0 image left);
   synced = λ honest. (
-    called_disk [] (Synced true ∷ []),
-    record { honest = ((tt, tt), refl); reads = refl; safe = λ image left. left; later = lit≤ tt; passed = lit≤ tt },
-    λ image left. paying_held 1 image left,
+    called_disk file (Synced true ∷ []),
+    record { honest = ((tt, tt), refl); reads = refl; safe = λ image left. left; later = lit≤ tt; passed = some },
+    held 1,
   );
-  kept = λ honest. kept_both;
-  alone = λ quiet. absurd quiet.0;
+  kept = λ honest. kept;
+  alone = alone;
 }
+
+pub first_left : IsLeftBy called empty_disk paid_disk first_opening first_turns
+first_left = left_by [] first_calls first_opening first_turns (lit≤ tt) refl (inr (refl, inl (lit≤ tt))) now_both paying_held kept_both (λ quiet. absurd quiet.0)
 
 pub first_ran : HasRun called empty_disk paid_disk first_opening first_turns
 first_ran = record { honest = honest_paid; safe = found_safe []; left = first_left }

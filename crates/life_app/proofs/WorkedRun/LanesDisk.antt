@@ -1,5 +1,5 @@
 -- What the two lanes leave of their disk.
-use Rattle.life_app.proofs.Names.{◌≡◌, ◌⊎◌, ◌+◌, ℕ, true, List, [], ◌∷◌, ◌++◌, ◌∙◌, length, take, drop, refl, ap, sym, subst, inl, inr, lit≤, lit<, arith, ints, anniversary_of, day_number, date_of, date_at, year_of, month_of, days_before, days_before_year, days_of_months, append_assoc, filter_map-append, AreAllowed, Synced, Command, Entry, Opening, opened_on, IsLegal, accepted_of, accepted_by, IsJournal, spelling_of, HasFaultedBefore, HoldsAtLeast, HoldsNow, HoldsOnce, IsLeftBy, KeepsAccepted, JournalBytes, Opens, hand_issue, hand_premium, valid_issue, valid_premium, called, called_disk, issuing, looks, untorn}
+use Rattle.life_app.proofs.Names.{◌≡◌, ◌⊎◌, ◌+◌, ℕ, true, List, [], ◌∷◌, ◌++◌, ◌∙◌, length, take, drop, refl, ap, sym, subst, inl, inr, lit≤, lit<, arith, ints, anniversary_of, day_number, date_of, date_at, year_of, month_of, days_before, days_before_year, days_of_months, append_assoc, filter_map-append, AreAllowed, Command, Entry, Opening, opened_on, IsLegal, accepted_of, accepted_by, IsJournal, spelling_of, HasFaultedBefore, HoldsAtLeast, HoldsNow, HoldsOnce, IsLeftBy, KeepsAccepted, JournalBytes, Opens, hand_issue, hand_premium, valid_issue, valid_premium, called, called_disk, issuing, looks, untorn}
 use Rattle.std.proofs.lemmas.List.{take-append-drop}
 use Rattle.office_state.proofs.KeptSteps.{keeps_more, keeps_still, keeps_unaccepted, kept_now}
 use Rattle.journal_replay.specs.Replays.{bodies_of}
@@ -7,7 +7,7 @@ use Rattle.policy_machine.proofs.Turns.{◌then◌}
 use Rattle.policy_types.specs.Valid.{IsValid}
 use Rattle.life_app.specs.WorkedRun.Lanes.{again_turn, both_issues, fault_disk, fault_turn, given_up_turn, held_commands, lanes_disk, lanes_opening, lanes_pin, lanes_turns, late_turn, left_commands, looked_again, open_disk, other_issue, other_premium, paid_calls, paid_turn, refused_turn, rows_turn, short_premium, shut_file}
 use Rattle.life_app.proofs.WorkedRun.Calls.{AreSafe, Left, failed_image, failed_left, failing_leaves, is_posted, is_still, looks_allowed, looks_left, looks_safe, posted_left, posted_safe, posted_within, posting_leaves, reads}
-use Rattle.life_app.proofs.WorkedRun.First.{issued, issued_safe, only_now, premium_size}
+use Rattle.life_app.proofs.WorkedRun.First.{issued, issued_safe, left_by, only_now, premium_size}
 use Rattle.life_app.proofs.WorkedRun.Row.{facts, kept_looked, quiet_left}
 
 -- ---- the turns are legal
@@ -200,20 +200,9 @@ kept_fault = keeps_unaccepted called lanes_disk lanes_opening (called_disk file 
     (keeps_still called lanes_disk lanes_opening (called_disk file paid_calls) (refused_turn ∷ lanes_pin ∷ paid_turn ∷ []) rows_turn refl kept_paid) refl
 
 pub lanes_left : IsLeftBy called lanes_disk fault_disk lanes_opening lanes_turns
-lanes_left = record {
-  honesty = λ honest. (tt, refl);
-  faults = refl;
-  opened = λ honest. found_opens;
-  now = λ honest image left. lanes_now image left;
-  since = λ honest image left. inr (lanes_held 0 image left);
-  synced = λ honest. (
-    called_disk file (Synced true ∷ []),
-    record { honest = ((tt, tt), refl); reads = refl; safe = λ image left. left; later = lit≤ tt; passed = lit≤ tt },
-    λ image left. lanes_held 1 image left,
-  );
-  kept = λ honest. keeps_still called lanes_disk lanes_opening fault_disk (refused_turn ∷ lanes_pin ∷ paid_turn ∷ rows_turn ∷ fault_turn ∷ []) given_up_turn refl kept_fault;
-  alone = λ quiet. absurd quiet.1.1.0;
-}
+lanes_left = left_by file fault_disk.calls lanes_opening lanes_turns (lit≤ tt) refl found_opens lanes_now lanes_held
+    (keeps_still called lanes_disk lanes_opening fault_disk (refused_turn ∷ lanes_pin ∷ paid_turn ∷ rows_turn ∷ fault_turn ∷ []) given_up_turn refl kept_fault)
+    (λ quiet. absurd quiet.1.1.0)
 
 -- either file may be left
 pub may_shut : called.may_leave fault_disk shut_file

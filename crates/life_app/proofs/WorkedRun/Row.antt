@@ -1,12 +1,12 @@
 -- The worked run holds what its cases say.
-use Rattle.life_app.proofs.Names.{◌≡◌, ◌⊎◌, ℕ, true, List, [], ◌∷◌, ◌++◌, ◌∙◌, ap, append-nil, refl, sym, subst, inl, inr, lit≤, lit<, Synced, left_by_now, reads_as_left, Command, Entry, Accepted, IsLegal, accepted_of, IsJournal, LooksOn, spelling_of, HoldsNow, HoldsOnce, IsLeftAlone, IsLeftBy, KeepsAccepted, JournalBytes, Opens, hand_issue, hand_premium, premium_turn, opens_to_one, valid_issue, HasRun, AreLeft, AreRuns, CalledDisk, Unsynced, called, cut_disk, cut_file, called_disk, empty_disk, last_disk, paid_disk, second_calls, looks, opened_on, reopening, untorn, CrashesByHand, ImagesByHand, FoundByHand, LeftByHand, OpenedByHand, RanByHand, RowByHand, both_commands, cut_run, first_opening, first_turns, looked_disk, second_opening, second_turns, whole_run}
+use Rattle.life_app.proofs.Names.{◌≡◌, ◌⊎◌, ℕ, true, List, [], ◌∷◌, ◌++◌, ◌∙◌, ap, append-nil, refl, sym, subst, inl, inr, lit≤, lit<, left_by_now, reads_as_left, Command, Entry, Accepted, IsLegal, accepted_of, IsJournal, LooksOn, spelling_of, HoldsNow, HoldsOnce, IsLeftAlone, IsLeftBy, KeepsAccepted, JournalBytes, Opens, hand_issue, hand_premium, premium_turn, opens_to_one, valid_issue, HasRun, AreLeft, AreRuns, CalledDisk, Unsynced, called, cut_disk, cut_file, called_disk, empty_disk, last_disk, paid_disk, second_calls, looks, opened_on, reopening, untorn, CrashesByHand, ImagesByHand, FoundByHand, LeftByHand, OpenedByHand, RanByHand, RowByHand, both_commands, cut_run, first_opening, first_turns, looked_disk, second_opening, second_turns, whole_run}
 use Rattle.life_dates.specs.Anniversary as dates
 use Rattle.office_state.specs.Images.{faults_after}
 use Rattle.office_state.proofs.KeptSteps.{keeps_first, keeps_more, kept_now}
 use Rattle.life_app.proofs.CrashLaws.{afterwards, as_before, during, next_commands, opened_again}
 use Rattle.life_app.proofs.RunLaws.{Facts, runs_left}
 use Rattle.life_app.proofs.WorkedRun.Calls.{Left, looks_allowed, looks_left, looks_safe, posted_left, posting_leaves}
-use Rattle.life_app.proofs.WorkedRun.First.{answered_some, cut, first_left, first_ran, found_safe, honest_last, honest_paid, journal_of_both, journal_of_issue, least_issue, only_now, paid_again, paid_again_safe, premium_size, was_cut}
+use Rattle.life_app.proofs.WorkedRun.First.{answered_some, cut, first_left, first_ran, found_safe, honest_last, honest_paid, journal_of_both, journal_of_issue, least_issue, left_by, only_now, paid_again, paid_again_safe, premium_size, was_cut}
 
 -- ---- one that opens the office on a file, and adds nothing
 
@@ -43,20 +43,8 @@ module _ (n : ℕ) (file : List ℕ) (commands : List Command) (bytes : JournalB
   pub quiet_left : (turns : List Entry) → accepted_of turns ≡ [] → 0 ≡ faults_after (opened_on commands 0) turns
       → KeepsAccepted called (called_disk file []) (called_disk file (looks n file)) (opened_on commands 0) turns
       → IsLeftBy called (called_disk file []) (called_disk file (looks n file)) (opened_on commands 0) turns
-  quiet_left turns none faultless kept = record {
-    honesty = λ honest. (tt, refl);
-    faults = faultless;
-    opened = λ honest. inl bytes;
-    now = λ honest image left. now_as_found turns none image left;
-    since = λ honest image left. inr (as_before (opened_on commands 0) turns image (inl (still image (looks_left n file 0 image left))));
-    synced = λ honest. (
-      called_disk file (Synced true ∷ []),
-      record { honest = ((tt, tt), refl); reads = refl; safe = λ image left. left; later = lit≤ tt; passed = lit≤ tt },
-      λ image left. as_before (opened_on commands 0) turns image (inl (still image (looks_left n file 1 image left))),
-    );
-    kept = λ honest. kept;
-    alone = λ quiet. alone n file;
-  }
+  quiet_left turns none faultless kept = left_by file (looks n file) (opened_on commands 0) turns (lit≤ tt) faultless (inl bytes) (now_as_found turns none)
+      (λ moment image left. as_before (opened_on commands 0) turns image (inl (still image (looks_left n file moment image left)))) kept (λ quiet. alone n file)
 
 cut_kept : KeepsAccepted called cut_disk looked_disk second_opening []
 cut_kept = kept_looked 2 cut_file (hand_issue ∷ []) (journal_of_issue cut_file cut)
@@ -105,24 +93,8 @@ kept_again = keeps_more called cut_disk second_opening looked_disk last_disk [] 
     (posting_leaves cut_file reopening (spelling_of hand_issue ∷ []) hand_premium (lit< tt) premium_size cut (looks_safe 2 cut_file) refl) least_issue cut_kept
     (kept_now called cut_disk second_opening last_disk second_turns only_now honest_last (lit≤ tt) now_again)
 
-synced_disk : CalledDisk
-synced_disk = called_disk cut_file (Synced true ∷ [])
-
 pub second_left : IsLeftBy called cut_disk last_disk second_opening second_turns
-second_left = record {
-  honesty = λ honest. (tt, refl);
-  faults = refl;
-  opened = λ honest. inl (journal_of_issue cut_file cut);
-  now = λ honest image left. now_again image left;
-  since = λ honest image left. inr (again_held 0 image left);
-  synced = λ honest. (
-    called_disk cut_file (Synced true ∷ []),
-    record { honest = ((tt, tt), refl); reads = refl; safe = λ image left. left; later = lit≤ tt; passed = lit≤ tt },
-    λ image left. again_held 1 image left,
-  );
-  kept = λ honest. kept_again;
-  alone = λ quiet. absurd quiet.0;
-}
+second_left = left_by cut_file second_calls second_opening second_turns (lit≤ tt) refl (inl (journal_of_issue cut_file cut)) now_again again_held kept_again (λ quiet. absurd quiet.0)
 
 pub second_ran : HasRun called cut_disk last_disk second_opening second_turns
 second_ran = record { honest = honest_last; safe = found_safe cut_file; left = second_left }
