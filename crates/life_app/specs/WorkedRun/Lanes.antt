@@ -1,7 +1,7 @@
 -- Two lanes whose turns lie between one another, with their disk: a premium is refused, two policies are valued by rates while the
 -- other clerk posts, and behind that clerk's second premium a sync fails; the run ends, and the file is opened again
 use Rattle.std.specs.Prelude.{ℕ, List, [], ◌∷◌, ◌++◌, codes, pos}
-use Rattle.life_app.specs.Names.{Reads, AnsweredLine, AreLinesOf, hand_issue, hand_premium, IsLegal, Opening, opened_on, Command, Endowment, Now, Entry, Reply, Accepted, Refused, Faulted, Pinned, Policies, Unpinned, Policy, Lane, lane_of, HaveAFault, FileCall, file_reads, Opens, Stream, status_of, Done, DiskFault}
+use Rattle.life_app.specs.Names.{Reads, AnsweredLine, AreLinesOf, hand_issue, hand_premium, IsLegal, Opening, opened_on, Command, Endowment, Now, Entry, Reply, Accepted, Refused, Faulted, Pinned, Policies, Unpinned, Policy, Lane, lane_of, HaveAFault, FileCall, file_reads, Opens, Stream}
 use Rattle.policy_machine.specs.Merge.{IsMerge}
 use Rattle.policy_machine.specs.Rules.{issued}
 use Rattle.policy_types.specs.declared.command.Command.TheVariants.{Issue, Premium}
@@ -105,13 +105,13 @@ fault_disk = called_disk lanes_disk.first (fails 3 other_premium paid_calls)
 abbrev pub output_by : CalledDisk → List ℕ → Stream
 output_by disk text = record (output_of text) { pieces_after = (record { bytes = text; since = called.clock disk }) ∷ [] }
 
--- the run ends with the fault, as is promised
+-- the run ends with 8 for the fault, as is promised
 abbrev pub PromisedLanes : Type 0
 PromisedLanes = AreLinesOf lanes_answers lanes_turns typed_lanes (11 ∷ 12 ∷ []) []
     × IsRunOf called lanes_disk fault_disk typed_lanes two_bases two_auditors (output_by fault_disk lanes_text)
     (WroteWhole (output_by fault_disk lanes_text)) HaveAFault
     × IsPromised called Opens run_wording table_reserves lanes_disk fault_disk typed_lanes two_bases two_auditors
-    (output_by fault_disk lanes_text) (status_of DiskFault)
+    (output_by fault_disk lanes_text) 8
 
 -- The disk failed in a posting when the one premium was accepted; so the file that the run leaves opens to both issues and that
 -- premium, perhaps with the other: its gate may be shut or open.
@@ -152,4 +152,4 @@ looked_again = called_disk open_disk.first (looks 4 open_disk.first)
 abbrev pub ReopenedLanes : Type 0
 ReopenedLanes = IsLegal (opened_on held_commands 0) (again_turn ∷ [])
     × IsPromised called Opens run_wording table_reserves open_disk looked_again late_lanes [] []
-    (output_by looked_again late_text) (status_of Done)
+    (output_by looked_again late_text) 0
