@@ -124,7 +124,6 @@ promised_lanes = (
 )
 
 pub left_lanes : LeftLanes
-unfolding faulted
 left_lanes = (
   (other_premium, (given_up_turn ∷ [], faulted)),
   record { before = faulted.before; caller = 12; count = 1; after = given_up_turn ∷ []; turns = refl; then = refl },
@@ -145,7 +144,7 @@ late_merge : IsMerge (late_turn ∷ []) late_lanes (12 ∷ []) []
 unfolding IsDistinct
 late_merge = record { distinct = (tt, tt); theirs = ((0, lit< tt, refl), tt); answers = ((placed 0 late_turn ∷ [], ([], refl, refl, refl)), tt) }
 
-late_written : posting_text 2 other_premium late_turn.reply ++ [] ≡ late_text
+late_written : flat_map (λ (text : List ℕ). text) (posting_text 2 other_premium late_turn.reply ∷ []) ++ [] ≡ late_text
 unfolding day_text date_of date_at year_of month_of days_before days_before_year days_of_months digits
 late_written = refl
 

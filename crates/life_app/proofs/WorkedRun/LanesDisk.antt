@@ -93,7 +93,7 @@ honest_fault = (((((paid_allowed, tt), tt), tt), tt), posted_within file paid_ca
 
 -- ---- what a crash leaves
 
-pub faulted : HasFaultedBefore lanes_turns other_premium (given_up_turn ∷ [])
+abbrev pub faulted : HasFaultedBefore lanes_turns other_premium (given_up_turn ∷ [])
 faulted = record { before = refused_turn ∷ lanes_pin ∷ paid_turn ∷ rows_turn ∷ []; caller = 12; count = 1; turns = refl }
 
 image_left : (image : List ℕ) → called.may_leave fault_disk image → IsJournal image three ⊎ IsJournal image four
@@ -129,7 +129,6 @@ held_three : (image : List ℕ) → IsJournal image three → HoldsOnce lanes_op
 held_three image journal = record { held = hand_premium ∷ []; rest = []; more = []; front = refl; one = tt; opens = inl (of_three image journal) }
 
 held_four : (image : List ℕ) → IsJournal image four → HoldsOnce lanes_opening lanes_turns image
-unfolding faulted
 held_four image journal = record { held = hand_premium ∷ []; rest = []; more = other_premium ∷ []; front = refl; one = (given_up_turn ∷ [], (faulted, refl)); opens = inl (of_four image journal) }
 
 paying_held : (moment : ℕ) (image : List ℕ) → Left file paid_calls moment image → HoldsOnce lanes_opening lanes_turns image
