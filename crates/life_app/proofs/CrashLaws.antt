@@ -2,7 +2,7 @@
 use Rattle.life_app.proofs.Names.{◌≡◌, ℕ, List, [], ◌∷◌, ◌++◌, refl, ap, sym, ◌∙◌, subst, inl, inr, append-nil, append_assoc, Ghosts, Command, Entry, Opening, accepted_of, commands_after, IsSafe, HoldsOnce, IsLeftAlone, IsOneMore, Opens, opens_to_one, AreAllHeld, AreHeld, HasRun}
 
 -- a file that opens to the commands from before the run
-as_before : (opening : Opening) (history : List Entry) (image : List ℕ) → Opens image opening.commands → HoldsOnce opening history image
+pub as_before : (opening : Opening) (history : List Entry) (image : List ℕ) → Opens image opening.commands → HoldsOnce opening history image
 as_before opening history image opens = record {
   held = [];
   rest = accepted_of history;

@@ -131,7 +131,7 @@ there_once opening history held (command ∷ other ∷ more) image one opens = a
 
 module _ {D : Type 0} (g : Ghosts D) (old new : D) (output : Stream) where
   -- a run that ended so
-  promised : (lanes : List Lane) (basis : List Dated) (auditors : List Auditor) (Wrote : List (List ℕ) → List ℕ → Type 0)
+  pub promised : (lanes : List Lane) (basis : List Dated) (auditors : List Auditor) (Wrote : List (List ℕ) → List ℕ → Type 0)
       (Replies : List Entry → List ℕ → Type 0) (ending : Ending) → (ran : IsRunOf g old new lanes basis auditors output Wrote Replies)
       → ((texts : List (List ℕ)) (reports : List ℕ) → Wrote texts reports
       → WroteAsEnded g old new ran.history ran.dry texts reports output ending)

@@ -19,7 +19,7 @@ pub use Rattle.life_app.specs.Runs.{IsLeftSo, AreLeft, AreRuns, WasCut, AddsComm
 pub use Rattle.life_app.specs.TableReserves.{table_reserves, AreOnce}
 pub use Rattle.life_app.specs.Texts.{run_wording, AreAlike, IsPlainReply, IsPlainRow, IsPlainWorth, TellsApart}
 pub use Rattle.life_app.specs.Words.{AskForRun, AskForCheckpoint, AskForValue, AreNoWords, AskForGenerate, AskForLoad, AskForProject}
-pub use Rattle.life_app.specs.WorkedRun.Calls.{called, CalledDisk, cut_disk, last_disk, cut_file, called_disk, Unsynced, untorn, empty_disk, reopening, creation, paid_disk, second_calls, puts, posts, stages, HonestCalls, issuing, first_calls}
+pub use Rattle.life_app.specs.WorkedRun.Calls.{called, CalledDisk, cut_disk, last_disk, cut_file, called_disk, Unsynced, untorn, empty_disk, reopening, creation, paid_disk, second_calls, puts, posts, stages, fails, looks, HonestCalls, issuing, first_calls}
 pub use Rattle.life_app.specs.WorkedRun.Due.{letters, letters_filing, value_lanes, value_script, no_input, BasisByHand, DueByHand, DueOfTheRun, NeedsByHand, basisless_shelf, cut_filing, faulty_script, stocked_shelf}
 pub use Rattle.life_app.specs.WorkedRun.Promise.{output_of, shelf_that_told, two_auditors, given_script, premium_lanes, premium_script, premium_text, GivenByHand, HeadlineByHand, ObeyedByHand, PromisedByHand, ToldOnceSafe, premium_line}
 pub use Rattle.life_app.specs.WorkedRun.Runs.{both_commands, looked_disk, second_opening, cut_run, first_opening, first_turns, second_turns, issue_turn, CrashesByHand, ImagesByHand, FoundByHand, LeftByHand, OpenedByHand, RanByHand, RowByHand, whole_run}

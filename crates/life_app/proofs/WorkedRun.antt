@@ -5,4 +5,5 @@ pub mod Promise
 pub mod Due
 pub mod Both
 pub mod Told
+pub mod LanesDisk
 pub mod Lanes

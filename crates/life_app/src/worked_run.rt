@@ -5,7 +5,7 @@ ghost use Rattle.life_app.specs.WorkedRun.Runs.{CrashesByHand, FoundByHand, Imag
 ghost use Rattle.life_app.specs.WorkedRun.Promise.{GivenByHand, HeadlineByHand, ObeyedByHand, PromisedByHand, ToldOnceSafe};
 ghost use Rattle.life_app.specs.WorkedRun.Due.{BasisByHand, DueByHand, DueOfTheRun, NeedsByHand};
 ghost use Rattle.life_app.specs.WorkedRun.Both.{DueOfBothByHand, DueOfTheSaving, LeftOfTwoByHand, OtherwiseByHand, PartsOfTwoByHand, RowOfTwoByHand, SavedByHand, StatedByHand, TrustedByHand};
-ghost use Rattle.life_app.specs.WorkedRun.Lanes.{LegalLanes, ReopenedLanes, ToldLanes};
+ghost use Rattle.life_app.specs.WorkedRun.Lanes.{LeftLanes, LegalLanes, PromisedLanes, ReopenedLanes};
 ghost use Rattle.life_app.specs.WorkedRun.Told.{EnclosedByHand, EndedByHand, ModesByHand, ReasonsByHand};
 
 use basis_shelf::shelves_by_hand;
@@ -77,10 +77,11 @@ pub fn told_by_hand()
     lines_are_written();
 }
 
-/// Two lanes: a premium is refused, two policies are valued while the other clerk posts, the disk fails in a posting, and the
-/// file is opened again.
+/// Two lanes: a premium is refused, two policies are valued by rates while the other clerk posts, the disk fails in a posting,
+/// and the file is opened again.
 pub fn lanes_by_hand()
     ensures legal { LegalLanes }
-    ensures told { ToldLanes }
+    ensures promised { PromisedLanes }
+    ensures left { LeftLanes }
     ensures reopened { ReopenedLanes }
 {}

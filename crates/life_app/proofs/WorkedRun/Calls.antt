@@ -1,5 +1,5 @@
 -- What a worked run's calls leave.
-use Rattle.life_app.proofs.Names.{◌≡◌, ◌≢◌, ◌⊎◌, ℕ, ◌<◌, Bool, true, false, List, [], ◌∷◌, ◌++◌, length, take, drop, get_or, refl, sym, ◌∙◌, ap, subst, inl, inr, lit≤, lit<, arith, length-append, cases_eq, le-leb, FileCall, WrittenTo, file_reads, writes_within, sync_failed, SafeUnless, AreAllowed, FileImage, FileLeft, left_only_now, Command, HasRecords, IsJournal, IsStaged, Leaves, spelling_of, JournalBytes, Opens, Unsynced, called, creation, called_disk, posts, stages, untorn}
+use Rattle.life_app.proofs.Names.{◌≡◌, ◌≢◌, ◌⊎◌, ℕ, ◌<◌, ◌≤◌, Bool, true, false, List, [], ◌∷◌, ◌++◌, length, take, drop, get_or, refl, sym, ◌∙◌, ap, subst, inl, inr, lit≤, lit<, arith, length-append, cases_eq, le-leb, FileCall, WrittenTo, file_reads, writes_within, sync_failed, SafeUnless, AreAllowed, FileImage, FileLeft, left_only_now, Command, HasRecords, IsJournal, IsStaged, Leaves, spelling_of, JournalBytes, Opens, Unsynced, called, creation, called_disk, fails, looks, posts, stages, untorn}
 use Rattle.std.specs.Prelude.{nat_le, slice_index, ◌&&◌}
 use Rattle.outside_io.specs.Disks.{Torn}
 use Rattle.posting_journal.specs.Creation.{IsUnfinished}
@@ -19,6 +19,10 @@ reads first calls = file_reads first untorn calls
 -- a crash leaves what is read
 abbrev pub AreSafe : List ℕ → List FileCall → Type 0
 AreSafe first calls = (image : List ℕ) → Image first calls image → image ≡ reads first calls
+
+not_yet : (file image : List ℕ) → (image ≡ file) ⊎ Unsynced image → image ≡ file
+not_yet file image (inl same) = same
+not_yet file image (inr none) = absurd none
 
 is_safe : (failed : Bool) (safe before : Type 0) → failed ≡ false → SafeUnless failed safe before → safe
 is_safe true safe before none left = cc
@@ -82,17 +86,37 @@ module _ (first : List ℕ) (calls : List FileCall) (bodies : List (List ℕ)) (
   posted_left moment image (inr now) =
       inr (inr (subst (λ (e : List ℕ). IsJournal e (bodies ++ spelling_of command ∷ [])) (sym (posted_safe image now.1)) is_posted))
 
+  -- where the last sync failed, the record is there or not
+  pub failed_image : (image : List ℕ) → Image first (fails (length bodies) command calls) image → IsJournal image bodies ⊎ IsJournal image (bodies ++ spelling_of command ∷ [])
+  failed_image image left = staged_either bodies (spelling_of command) image (opening image left)
+
+  pub failed_left : (moment : ℕ) (image : List ℕ) → Left first (fails (length bodies) command calls) moment image
+      → Left first calls moment image ⊎ (IsJournal image bodies ⊎ IsJournal image (bodies ++ spelling_of command ∷ []))
+  failed_left moment image (inr now) = inr (failed_image image now.1)
+  failed_left moment image (inl before) = posted_left moment image (inl before)
+
   -- as a step of a run
-  pub posting_leaves : AreAllowed first untorn calls → Leaves called (called_disk first calls) (called_disk first (posts (length bodies) command calls))
+  step_leaves : (new : List FileCall) → length calls ≤ length new
+      → ((moment : ℕ) (image : List ℕ) → Left first new moment image
+      → Left first calls moment image ⊎ (IsJournal image bodies ⊎ IsJournal image (bodies ++ spelling_of command ∷ [])))
+      → Leaves called (called_disk first calls) (called_disk first new)
       (λ (image : List ℕ). IsJournal image bodies ⊎ IsJournal image (bodies ++ spelling_of command ∷ []))
-  posting_leaves allowed = record {
-    later = omega arith;
-    each = λ image left. elim (posted_left (length calls) image left) [
+  step_leaves new later left_by = record {
+    later = later;
+    each = λ image left. elim (left_by (length calls) image left) [
       | inl before ↦ inl (subst (λ (e : List ℕ). IsJournal e bodies) (sym (safe image (left_only_now first untorn Unsynced calls image before))) journal)
       | inr now ↦ now
     ];
-    before = λ moment image passed left. posted_left moment image left;
+    before = λ moment image passed left. left_by moment image left;
   }
+
+  pub posting_leaves : Leaves called (called_disk first calls) (called_disk first (posts (length bodies) command calls))
+      (λ (image : List ℕ). IsJournal image bodies ⊎ IsJournal image (bodies ++ spelling_of command ∷ []))
+  posting_leaves = step_leaves (posts (length bodies) command calls) (omega arith) posted_left
+
+  pub failing_leaves : Leaves called (called_disk first calls) (called_disk first (fails (length bodies) command calls))
+      (λ (image : List ℕ). IsJournal image bodies ⊎ IsJournal image (bodies ++ spelling_of command ∷ []))
+  failing_leaves = step_leaves (fails (length bodies) command calls) (omega arith) failed_left
 
   pub posted_within : writes_within first untorn calls ≡ true → writes_within first untorn (posts (length bodies) command calls) ≡ true
   posted_within before =
@@ -100,6 +124,21 @@ module _ (first : List ℕ) (calls : List FileCall) (bodies : List (List ℕ)) (
       (le-leb (gate_place (length bodies)) (length (reads first (stages (length bodies) command calls))) (omega (arith, is_staged.end.there)))
       (both_true (nat_le (body_place (length bodies)) (length (reads first calls))) (writes_within first untorn calls)
       (le-leb (body_place (length bodies)) (length (reads first calls)) (omega (arith, journal.end.there))) before)
+
+-- ---- a file is looked at
+
+pub looks_safe : (n : ℕ) (file : List ℕ) → AreSafe file (looks n file)
+looks_safe n file image left = left
+
+pub looks_allowed : (n : ℕ) (file : List ℕ) → AreAllowed file untorn (looks n file)
+looks_allowed n file = ((((tt, tt), refl), refl), refl)
+
+pub looks_left : (n : ℕ) (file : List ℕ) (moment : ℕ) (image : List ℕ) → Left file (looks n file) moment image → image ≡ file
+looks_left n file moment image (inr now) = now.1
+looks_left n file moment image (inl (inr now)) = now.1
+looks_left n file moment image (inl (inl (inr now))) = now.1
+looks_left n file moment image (inl (inl (inl (inr now)))) = now.1
+looks_left n file moment image (inl (inl (inl (inl before)))) = not_yet file image before.1
 
 -- ---- the creation
 
@@ -161,10 +200,6 @@ as_read image bytes same opens = subst (λ (e : List ℕ). Opens e []) (sym same
 nothing : (image : List ℕ) → image ≡ [] → Opens image []
 nothing image same = as_read image [] same (no_commands [] (inl (lit≤ tt)))
 
-not_yet : (image : List ℕ) → (image ≡ []) ⊎ Unsynced image → image ≡ []
-not_yet image (inl same) = same
-not_yet image (inr none) = absurd none
-
 pub creation_left : (moment : ℕ) (image : List ℕ) → Left [] creation moment image → Opens image []
 creation_left moment image (inr now) = as_read image (reads [] creation) now.1 (inl first_bytes)
 creation_left moment image (inl (inr now)) =
@@ -179,4 +214,4 @@ creation_left moment image (inl (inl (inl (inl (inl (inr now)))))) =
 creation_left moment image (inl (inl (inl (inl (inl (inl (inr now))))))) = nothing image now.1
 creation_left moment image (inl (inl (inl (inl (inl (inl (inl (inr now)))))))) = nothing image now.1
 creation_left moment image (inl (inl (inl (inl (inl (inl (inl (inl (inr now))))))))) = nothing image now.1
-creation_left moment image (inl (inl (inl (inl (inl (inl (inl (inl (inl before))))))))) = nothing image (not_yet image before.1)
+creation_left moment image (inl (inl (inl (inl (inl (inl (inl (inl (inl before))))))))) = nothing image (not_yet [] image before.1)

@@ -67,27 +67,7 @@ module _ (clerk : NoClerk) (line : ValueLine) (basis : BasisOfOneRow) (bad : Fir
     has_basis,
     (hand_issue ∷ [], journal, lit≤ tt),
     no_journal,
-    (
-      1,
-      (
-        Terminal,
-        (
-          refl,
-          record {
-            pieces = bare (codes "2021-01-01") ∷ [];
-            spells = refl;
-            only = tt;
-            day = codes "2021-01-01";
-            alone = refl;
-            day_is = new_year;
-            position_is = refl;
-            workers_are = refl;
-            basis_is = refl;
-            measure_is = refl;
-          },
-        ),
-      ),
-    ),
+    (1, (Terminal, (refl, record { pieces = bare (codes "2021-01-01") ∷ []; spells = refl; only = tt; day = codes "2021-01-01"; alone = refl; day_is = new_year; position_is = refl; workers_are = refl; basis_is = refl; measure_is = refl }))),
   )
 
 -- whatever the second disk, which stays

@@ -1,7 +1,8 @@
 -- The worked run's first half: the journals that are read, the answers, what a crash leaves, and the cut.
-use Rattle.life_app.proofs.Names.{◌≡◌, ◌⊎◌, ℕ, true, List, [], ◌∷◌, length, refl, sym, subst, inl, inr, lit≤, lit<, AreAllowed, Synced, writes_within, left_only_now, Accepted, IsJournal, IsSafe, spelling_of, HasKept, HoldsAtLeast, HoldsNow, HoldsOnce, IsLeftBy, KeepsAccepted, JournalBytes, Opens, hand_issue, hand_premium, premium_turn, both, valid_issue, HasRun, HasAnsweredSome, WasCut, CalledDisk, HonestCalls, Unsynced, called, creation, cut_file, called_disk, empty_disk, issuing, last_disk, paid_disk, first_calls, second_calls, reopening, untorn, both_commands, cut_run, first_opening, first_turns, issue_turn}
+use Rattle.life_app.proofs.Names.{◌≡◌, ◌⊎◌, ◌≤◌, ℕ, true, List, [], ◌∷◌, length, refl, sym, subst, inl, inr, lit≤, lit<, AreAllowed, FileCall, Synced, Entry, Opening, IsLeftAlone, writes_within, left_only_now, Accepted, IsJournal, IsSafe, spelling_of, HasKept, HoldsAtLeast, HoldsNow, HoldsOnce, IsLeftBy, KeepsAccepted, JournalBytes, Opens, hand_issue, hand_premium, premium_turn, both, valid_issue, HasRun, HasAnsweredSome, WasCut, CalledDisk, HonestCalls, Unsynced, called, creation, cut_file, called_disk, empty_disk, issuing, last_disk, paid_disk, first_calls, second_calls, reopening, untorn, both_commands, cut_run, first_opening, first_turns, issue_turn}
+use Rattle.office_state.specs.Images.{AreQuiet, faults_after}
 use Rattle.office_state.proofs.KeptSteps.{keeps_first, keeps_more, kept_now}
-use Rattle.life_app.proofs.WorkedRun.Calls.{AreSafe, Left, created, creation_left, creation_safe, first_bytes, is_posted, is_still, posted_left, posted_safe, posted_within, posting_leaves, reads}
+use Rattle.life_app.proofs.WorkedRun.Calls.{AreSafe, Left, created, creation_left, creation_safe, first_bytes, is_posted, is_still, looks_allowed, looks_safe, posted_left, posted_safe, posted_within, posting_leaves, reads}
 
 -- ---- the commands
 
@@ -40,14 +41,11 @@ paid_safe = posted_safe [] issuing (spelling_of hand_issue ∷ []) hand_premium 
 pub cut : IsJournal cut_file (spelling_of hand_issue ∷ [])
 cut = is_still [] issuing (spelling_of hand_issue ∷ []) hand_premium (lit< tt) premium_size issued issued_safe refl
 
-pub reopened_safe : AreSafe cut_file reopening
-reopened_safe image left = left
-
 pub paid_again : IsJournal (reads cut_file second_calls) (spelling_of hand_issue ∷ spelling_of hand_premium ∷ [])
-paid_again = is_posted cut_file reopening (spelling_of hand_issue ∷ []) hand_premium (lit< tt) premium_size cut reopened_safe refl
+paid_again = is_posted cut_file reopening (spelling_of hand_issue ∷ []) hand_premium (lit< tt) premium_size cut (looks_safe 2 cut_file) refl
 
 pub paid_again_safe : AreSafe cut_file second_calls
-paid_again_safe = posted_safe cut_file reopening (spelling_of hand_issue ∷ []) hand_premium (lit< tt) premium_size cut reopened_safe refl
+paid_again_safe = posted_safe cut_file reopening (spelling_of hand_issue ∷ []) hand_premium (lit< tt) premium_size cut (looks_safe 2 cut_file) refl
 
 -- ---- the answers
 
@@ -61,7 +59,7 @@ paid_within : writes_within [] untorn first_calls ≡ true
 paid_within = posted_within [] issuing (spelling_of hand_issue ∷ []) hand_premium (lit< tt) premium_size issued issued_safe refl issued_within
 
 paid_again_within : writes_within cut_file untorn second_calls ≡ true
-paid_again_within = posted_within cut_file reopening (spelling_of hand_issue ∷ []) hand_premium (lit< tt) premium_size cut reopened_safe refl refl
+paid_again_within = posted_within cut_file reopening (spelling_of hand_issue ∷ []) hand_premium (lit< tt) premium_size cut (looks_safe 2 cut_file) refl refl
 
 created_allowed : AreAllowed [] untorn creation
 created_allowed = (((((((((tt, tt), refl), refl), tt), tt), tt), tt), tt), tt)
@@ -72,11 +70,8 @@ issued_allowed = ((((created_allowed, tt), tt), tt), tt)
 paid_allowed : AreAllowed [] untorn first_calls
 paid_allowed = ((((issued_allowed, tt), tt), tt), tt)
 
-pub reopened_allowed : AreAllowed cut_file untorn reopening
-reopened_allowed = ((((tt, tt), refl), refl), refl)
-
 paid_again_allowed : AreAllowed cut_file untorn second_calls
-paid_again_allowed = ((((reopened_allowed, tt), tt), tt), tt)
+paid_again_allowed = ((((looks_allowed 2 cut_file, tt), tt), tt), tt)
 
 pub honest_issued : called.honest (called_disk [] issuing)
 honest_issued = (issued_allowed, issued_within)
@@ -151,34 +146,44 @@ kept_none = keeps_first called empty_disk first_opening (called_disk [] creation
 kept_issue : KeepsAccepted called empty_disk (called_disk [] issuing) first_opening (issue_turn ∷ [])
 kept_issue = keeps_more called empty_disk first_opening (called_disk [] creation) (called_disk [] issuing) [] issue_turn
     (λ (image : List ℕ). IsJournal image [] ⊎ IsJournal image (spelling_of hand_issue ∷ []))
-    (posting_leaves [] creation [] hand_issue (lit< tt) issue_size created creation_safe refl created_allowed) least_none kept_none
+    (posting_leaves [] creation [] hand_issue (lit< tt) issue_size created creation_safe refl) least_none kept_none
     (kept_now called empty_disk first_opening (called_disk [] issuing) (issue_turn ∷ []) only_now honest_issued (lit≤ tt) now_issue)
 
 kept_both : KeepsAccepted called empty_disk paid_disk first_opening first_turns
 kept_both = keeps_more called empty_disk first_opening (called_disk [] issuing) paid_disk (issue_turn ∷ []) (premium_turn (Accepted 2))
     (λ (image : List ℕ). IsJournal image (spelling_of hand_issue ∷ []) ⊎ IsJournal image (spelling_of hand_issue ∷ spelling_of hand_premium ∷ []))
-    (posting_leaves [] issuing (spelling_of hand_issue ∷ []) hand_premium (lit< tt) premium_size issued issued_safe refl issued_allowed) least_issue kept_issue
+    (posting_leaves [] issuing (spelling_of hand_issue ∷ []) hand_premium (lit< tt) premium_size issued issued_safe refl) least_issue kept_issue
     (kept_now called empty_disk first_opening paid_disk first_turns only_now honest_paid (lit≤ tt) now_both)
 
 pub found_safe : (first : List ℕ) → IsSafe called (called_disk first [])
 found_safe first image (inl same) = same
 found_safe first image (inr none) = absurd none
 
-pub first_left : IsLeftBy called empty_disk paid_disk first_opening first_turns
-first_left = record {
+-- a disk that was found so is left by these turns
+pub left_by : (file : List ℕ) (calls : List FileCall) (opening : Opening) (turns : List Entry) → 1 ≤ length calls
+    → called.faults (called_disk file calls) ≡ faults_after opening turns → Opens file opening.commands
+    → ((image : List ℕ) → called.may_leave (called_disk file calls) image → HoldsNow opening turns image)
+    → ((moment : ℕ) (image : List ℕ) → Left file calls moment image → HoldsOnce opening turns image)
+    → KeepsAccepted called (called_disk file []) (called_disk file calls) opening turns
+    → (AreQuiet turns → IsLeftAlone called (called_disk file []) (called_disk file calls))
+    → IsLeftBy called (called_disk file []) (called_disk file calls) opening turns
+left_by file calls opening turns some faults opens now held kept alone = record {
   honesty = λ honest. (tt, refl);
-  faults = refl;
-  opened = λ honest. inr (refl, inl (lit≤ tt));
-  now = λ honest image left. now_both image left;
-  since = λ honest image left. inr (paying_held 0 image left);
+  faults = faults;
+  opened = λ honest. opens;
+  now = λ honest. now;
+  since = λ honest image left. inr (held 0 image left);
   synced = λ honest. (
-    called_disk [] (Synced true ∷ []),
-    record { honest = ((tt, tt), refl); reads = refl; safe = λ image left. left; later = lit≤ tt; passed = lit≤ tt },
-    λ image left. paying_held 1 image left,
+    called_disk file (Synced true ∷ []),
+    record { honest = ((tt, tt), refl); reads = refl; safe = λ image left. left; later = lit≤ tt; passed = some },
+    held 1,
   );
-  kept = λ honest. kept_both;
-  alone = λ quiet. absurd quiet.0;
+  kept = λ honest. kept;
+  alone = alone;
 }
+
+pub first_left : IsLeftBy called empty_disk paid_disk first_opening first_turns
+first_left = left_by [] first_calls first_opening first_turns (lit≤ tt) refl (inr (refl, inl (lit≤ tt))) now_both paying_held kept_both (λ quiet. absurd quiet.0)
 
 pub first_ran : HasRun called empty_disk paid_disk first_opening first_turns
 first_ran = record { honest = honest_paid; safe = found_safe []; left = first_left }

@@ -1,36 +1,49 @@
 -- The two lanes are as their cases say.
-use Rattle.life_app.proofs.Names.{◌≡◌, ℕ, List, [], ◌∷◌, ◌++◌, refl, inl, inr, lit≤, lit<, arith, pos, digits, IsDistinct, ints, anniversary_of, day_number, date_of, date_at, year_of, month_of, days_before, days_before_year, days_of_months, day_text, Dated, hand_premium, valid_issue, valid_premium, NoBasis, Now, Entry, InForce, HasFaultedBefore, Row, Word, heading_text, row_text, total_text, IsEnclosingRow, table_reserves}
+use Rattle.life_app.proofs.Names.{◌≡◌, ◌++◌, ℕ, List, [], ◌∷◌, refl, sym, subst, inl, inr, lit≤, lit<, arith, ints, flat_map, pos, digits, IsDistinct, anniversary_of, day_number, date_of, date_at, year_of, month_of, days_before, days_before_year, days_of_months, day_text, Accepted, Faulted, Refused, hand_premium, valid_premium, BelowTable, Now, Entry, InForce, Opens, Row, Terminal, Word, block_text, heading_text, row_text, total_text, posting_text, reports_text, reports_of, Done, DiskFault, IsRunOf, TakenPiece, called, two_auditors}
 use Rattle.csv.proofs.OnLiterals.{csv_on_literals}
 use Rattle.command_csv.proofs.WorkedScripts.{reads, row_of}
 use Rattle.command_csv.specs.declared.row.ClerkLine.{ClerkLine}
-use Rattle.policy_machine.specs.Merge.{AnswersLine, Placed}
-use Rattle.policy_machine.proofs.Turns.{◌then◌}
-use Rattle.policy_types.specs.Valid.{IsValid}
+use Rattle.lane_runner.specs.AnsweredLines.{AnsweredLine, AreLinesOf}
+use Rattle.policy_machine.specs.Merge.{AnswersLine, IsMerge, Placed}
+use Rattle.policy_types.specs.declared.refusal.Refusal.TheVariants.{WrongAmount}
 use Rattle.policy_types.specs.declared.script.Line.TheVariants.{Post as PostLine, Value}
-use Rattle.life_app.specs.WorkedRun.Lanes.{LegalLanes, ReopenedLanes, ToldLanes, lanes_script, lanes_turns, other_issue, other_premium, paid_turn, lanes_pin, rows_turn, refused_turn, short_premium, unpaid_policy, given_up_turn, fault_turn}
-
-valid_other : IsValid other_issue
-valid_other = record {
-  id_in = (lit≤ tt, lit≤ tt);
-  day_in = (omega (arith, ints), omega (arith, ints));
-  age_in = lit≤ tt;
-  years_in = (lit≤ tt, lit≤ tt);
-  amount_in = (lit≤ tt, lit≤ tt);
-  premium_in = (lit≤ tt, lit≤ tt);
-}
-
-valid_short : IsValid short_premium
-valid_short = ((lit≤ tt, lit≤ tt), (omega (arith, ints), omega (arith, ints)), (lit≤ tt, lit≤ tt))
-
-valid_other_premium : IsValid other_premium
-valid_other_premium = ((lit≤ tt, lit≤ tt), (omega (arith, ints), omega (arith, ints)), (lit≤ tt, lit≤ tt))
+use Rattle.program_endings.specs.Replies.{AreAnswered, HaveAFault}
+use Rattle.script_run.specs.Shown.{AreSafeWhenShown, IsAcceptedReply}
+use Rattle.script_run.specs.Texts.{WroteWhole}
+use Rattle.valuing_modes.proofs.WorkedValuation.{first_row, second_row}
+use Rattle.life_app.proofs.HeadlineLaws.{promised}
+use Rattle.life_app.specs.WorkedRun.Lanes.{LegalLanes, LeftLanes, PromisedLanes, ReopenedLanes, both_issues, fault_disk, fault_turn, given_up_turn, lanes_answers, lanes_disk, lanes_pin, lanes_script, lanes_text, lanes_turns, late_lanes, late_text, late_turn, left_commands, looked_again, open_disk, other_premium, output_by, paid_turn, refused_turn, rows_turn, short_premium, typed_lanes}
+use Rattle.life_app.specs.WorkedRun.Told.{first_value, two_bases}
+use Rattle.life_app.proofs.WorkedRun.First.{only_now}
+use Rattle.life_app.proofs.WorkedRun.LanesDisk.{faulted, found_opens, front_held, goes_on, honest_fault, lanes_left, late_left, left_bytes, legal, may_open, may_shut, shut_opens, too_late, valid_other_premium, valid_short}
+use Rattle.life_app.proofs.WorkedRun.Promise.{one_alone}
 
 entries : List ClerkLine
 entries = (record { clerk = 1; line = PostLine short_premium }) ∷ (record { clerk = 2; line = PostLine hand_premium })
-    ∷ (record { clerk = 1; line = Value (pos 18262) Now 1 }) ∷ (record { clerk = 2; line = PostLine other_premium }) ∷ []
+    ∷ (record { clerk = 1; line = Value (pos 18628) Now 1 }) ∷ (record { clerk = 2; line = PostLine other_premium }) ∷ []
+
+abbrev placed : ℕ → Entry → Placed
+placed n turn = (n, turn)
+
+abbrev valuing : List Placed
+valuing = placed 1 lanes_pin ∷ placed 3 rows_turn ∷ placed 5 given_up_turn ∷ []
+
+valued : AnswersLine [] (Value (pos 18628) Now 1) valuing
+valued = (refl, (1, refl, (λ wet. refl)))
+
+merge : IsMerge lanes_turns typed_lanes (11 ∷ 12 ∷ []) []
+unfolding IsDistinct
+merge = record {
+  distinct = ((refl, tt), (tt, tt));
+  theirs = ((0, lit< tt, refl), ((0, lit< tt, refl), ((1, lit< tt, refl), ((0, lit< tt, refl), ((1, lit< tt, refl), ((0, lit< tt, refl), tt))))));
+  answers = (
+    (placed 0 refused_turn ∷ [], (valuing, refl, refl, (valuing, ([], refl, valued, refl)))),
+    ((placed 2 paid_turn ∷ [], (placed 4 fault_turn ∷ [], refl, refl, (placed 4 fault_turn ∷ [], ([], refl, refl, refl)))), tt),
+  );
+}
 
 pub legal_lanes : LegalLanes
-unfolding entries csv_on_literals digits day_text IsDistinct anniversary_of day_number date_of date_at year_of month_of days_before days_before_year days_of_months
+unfolding entries csv_on_literals digits day_text date_of date_at year_of month_of days_before days_before_year days_of_months
 legal_lanes = (
   reads lanes_script entries _ refl (record {
     each = (
@@ -38,113 +51,131 @@ legal_lanes = (
       (
         row_of 2 (PostLine hand_premium) (lit≤ tt, lit≤ tt) valid_premium,
         (
-          row_of 1 (Value (pos 18262) Now 1) (lit≤ tt, lit≤ tt) ((omega (arith, ints), omega (arith, ints)), tt, (lit≤ tt, lit≤ tt)),
+          row_of 1 (Value (pos 18628) Now 1) (lit≤ tt, lit≤ tt) ((omega (arith, ints), omega (arith, ints)), tt, (lit≤ tt, lit≤ tt)),
           (row_of 2 (PostLine other_premium) (lit≤ tt, lit≤ tt) valid_other_premium, tt),
         ),
       ),
     );
     few = lit≤ tt;
   }),
-  record {
-    opens = record { accepted = (refl, (refl, tt)); valid = (valid_issue, (valid_other, tt)); few = lit≤ tt };
-    due = refl then (omega arith, refl, refl) then (refl, refl) then
-        ((2, 2), refl, (lanes_pin, refl, refl), omega arith, refl) then (refl, (lit≤ tt, tt)) then
-        ((2, 2), refl, (lanes_pin, refl, refl)) then tt;
-  },
-  record {
-    distinct = ((refl, tt), (tt, tt));
-    theirs = ((0, lit< tt, refl), ((0, lit< tt, refl), ((1, lit< tt, refl), ((0, lit< tt, refl), ((1, lit< tt, refl), ((0, lit< tt, refl), tt))))));
-    answers = (
-      (
-        placed 0 refused_turn ∷ [],
-        (
-          placed 1 lanes_pin ∷ placed 3 rows_turn ∷ placed 5 given_up_turn ∷ [],
-          refl,
-          refl,
-          (placed 1 lanes_pin ∷ placed 3 rows_turn ∷ placed 5 given_up_turn ∷ [], ([], refl, valued, refl)),
-        ),
-      ),
-      (
-        (
-          placed 2 paid_turn ∷ [],
-          (placed 4 fault_turn ∷ [], refl, refl, (placed 4 fault_turn ∷ [], ([], refl, refl, refl))),
-        ),
-        tt,
-      ),
-    );
-  },
+  legal,
+  merge,
 )
-  where
-    placed : ℕ → Entry → Placed
-    placed n turn = (n, turn)
 
-    valued : AnswersLine [] (Value (pos 18262) Now 1) (placed 1 lanes_pin ∷ placed 3 rows_turn ∷ placed 5 given_up_turn ∷ [])
-    valued = (refl, (1, refl, (λ wet. refl)))
-
-none_of_none : (before after : List Dated) (entry : Dated) → [] ≡ before ++ entry ∷ after → ⊥
-none_of_none [] after entry never = cc
-none_of_none (other ∷ before) after entry never = cc
-
--- without a row in the basis
-row : (id : ℕ) → IsEnclosingRow table_reserves [] (pos 18262) (unpaid_policy id)
-    (record { id = id; status = InForce; t = 0; worth = Word NoBasis })
-row id = record {
-  id = refl;
-  status = refl;
-  insured = λ insured index entry picked. absurd (none_of_none picked.before picked.after entry picked.split);
-  unnamed = λ insured none. refl;
-  uninsured = λ never. absurd (never (inl refl, omega (arith, ints)));
-}
+-- ---- the texts
 
 abbrev two_rows : List Row
-two_rows = (record { id = 7001; status = InForce; t = 0; worth = Word NoBasis })
-    ∷ (record { id = 7002; status = InForce; t = 0; worth = Word NoBasis }) ∷ []
+two_rows = first_value ∷ (record { id = 7002; status = InForce; t = 0; worth = Word BelowTable }) ∷ []
 
-pub told_lanes : ToldLanes
-unfolding anniversary_of day_number date_of date_at year_of month_of days_before days_before_year days_of_months day_text row_text heading_text total_text digits
-told_lanes = (
-  record {
-    rising = (lit< tt, (lit< tt, (lit< tt, tt)));
-    clerks = ((0, lit< tt, refl), ((0, lit< tt, refl), ((1, lit< tt, refl), ((1, lit< tt, refl), tt))));
-    turns = (refl, ((refl, (1, refl, (λ wet. refl))), (refl, (refl, tt))));
-    each = (refl, refl, (refl, refl, tt));
-  },
-  (
-    refl,
-    (
-      inr ((λ dry. let low = dry.1 in omega (arith, low)), (two_rows, (row 7001, (row 7002, tt)), refl)),
-      (refl, (refl, tt)),
-    ),
-  ),
+abbrev texts : List (List ℕ)
+texts = posting_text 1 short_premium (Refused (WrongAmount 40000)) ∷ block_text 1 (pos 18628) 2 Terminal two_rows
+    ∷ posting_text 2 hand_premium (Accepted 3) ∷ posting_text 2 other_premium (Faulted 1) ∷ []
+
+written : flat_map (λ (text : List ℕ). text) texts ++ reports_text (reports_of two_auditors (hand_premium ∷ [])) ≡ lanes_text
+unfolding day_text date_of date_at year_of month_of days_before days_before_year days_of_months row_text heading_text total_text digits
+written = refl
+
+lines : AreLinesOf lanes_answers lanes_turns typed_lanes (11 ∷ 12 ∷ []) []
+lines = record {
+  rising = (lit< tt, (lit< tt, (lit< tt, tt)));
+  clerks = ((0, lit< tt, refl), ((0, lit< tt, refl), ((1, lit< tt, refl), ((1, lit< tt, refl), tt))));
+  turns = (refl, ((refl, (1, refl, (λ wet. refl))), (refl, (refl, tt))));
+  each = (refl, refl, (refl, refl, tt));
+}
+
+-- ---- the run
+
+abbrev lanes_piece : TakenPiece
+lanes_piece = record { bytes = lanes_text; since = called.clock fault_disk }
+
+shown : AreSafeWhenShown called Opens fault_disk both_issues lanes_turns lanes_answers texts (lanes_piece ∷ [])
+shown later earlier piece split before after line there accepted reached image left =
+    front_held _ image (only_now fault_disk image honest_fault
+    (subst (λ (p : TakenPiece). called.left_since fault_disk p.since image) (sym (one_alone lanes_piece piece later earlier split)) left))
+
+ran : IsRunOf called lanes_disk fault_disk typed_lanes two_bases two_auditors (output_by fault_disk lanes_text)
+    (WroteWhole (output_by fault_disk lanes_text)) HaveAFault
+unfolding anniversary_of day_number date_of date_at year_of month_of days_before days_before_year days_of_months
+ran = record {
+  commands = both_issues;
+  callers = 11 ∷ 12 ∷ [];
+  dry = [];
+  history = lanes_turns;
+  answered = lanes_answers;
+  texts = texts;
+  opened = λ honest. found_opens;
+  merge = merge;
+  legal = legal;
+  pins = tt;
+  lines = lines;
+  tells = (refl, (inr ((λ dry. let low = dry.1 in omega (arith, low)), (two_rows, (first_row, (second_row, tt)), refl)), (refl, (refl, tt))));
+  shown = λ honest. (lanes_piece ∷ [], refl, shown);
+  wrote = sym written;
+  replies = (other_premium, (given_up_turn ∷ [], faulted));
+  disk = lanes_left;
+}
+
+pub promised_lanes : PromisedLanes
+promised_lanes = (
+  lines,
+  ran,
+  promised called lanes_disk fault_disk (output_by fault_disk lanes_text) typed_lanes two_bases two_auditors _ _ DiskFault ran
+      (λ all reports wrote. (wrote, ran.replies, lit≤ tt)),
 )
 
-faulted : HasFaultedBefore lanes_turns other_premium (given_up_turn ∷ [])
-faulted = record { before = refused_turn ∷ lanes_pin ∷ paid_turn ∷ rows_turn ∷ []; caller = 12; count = 1; turns = refl }
-
-pub reopened_lanes : ReopenedLanes
-unfolding faulted anniversary_of day_number date_of date_at year_of month_of days_before days_before_year days_of_months
-reopened_lanes = (
+pub left_lanes : LeftLanes
+left_lanes = (
   (other_premium, (given_up_turn ∷ [], faulted)),
   record { before = faulted.before; caller = 12; count = 1; after = given_up_turn ∷ []; turns = refl; then = refl },
+  may_shut,
+  shut_opens,
   inl refl,
-  record {
-    held = hand_premium ∷ [];
-    rest = [];
-    more = other_premium ∷ [];
-    front = refl;
-    one = (given_up_turn ∷ [], (faulted, refl));
-    are = refl;
-  },
-  record {
-    opens = record { accepted = (refl, (refl, (refl, tt))); valid = (valid_issue, (valid_other, (valid_premium, tt))); few = lit≤ tt };
-    due = ((refl, refl), tt);
-  },
-  record {
-    opens = record {
-      accepted = (refl, (refl, (refl, (refl, tt))));
-      valid = (valid_issue, (valid_other, (valid_premium, (valid_other_premium, tt))));
-      few = lit≤ tt;
-    };
-    due = (refl, tt);
-  },
+  may_open,
+  inl left_bytes,
+  record { held = hand_premium ∷ []; rest = []; more = other_premium ∷ []; front = refl; one = (given_up_turn ∷ [], (faulted, refl)); are = refl },
+)
+
+-- ---- the next run
+
+abbrev late_answer : AnsweredLine
+late_answer = record { clerk = 2; line = PostLine other_premium; first = (0, late_turn); rest = [] }
+
+late_merge : IsMerge (late_turn ∷ []) late_lanes (12 ∷ []) []
+unfolding IsDistinct
+late_merge = record { distinct = (tt, tt); theirs = ((0, lit< tt, refl), tt); answers = ((placed 0 late_turn ∷ [], ([], refl, refl, refl)), tt) }
+
+late_written : flat_map (λ (text : List ℕ). text) (posting_text 2 other_premium late_turn.reply ∷ []) ++ [] ≡ late_text
+unfolding day_text date_of date_at year_of month_of days_before days_before_year days_of_months digits
+late_written = refl
+
+late_ran : IsRunOf called open_disk looked_again late_lanes [] [] (output_by looked_again late_text) (WroteWhole (output_by looked_again late_text)) AreAnswered
+late_ran = record {
+  commands = left_commands;
+  callers = 12 ∷ [];
+  dry = [];
+  history = late_turn ∷ [];
+  answered = late_answer ∷ [];
+  texts = posting_text 2 other_premium late_turn.reply ∷ [];
+  opened = λ honest. inl left_bytes;
+  merge = late_merge;
+  legal = too_late;
+  pins = tt;
+  lines = record { rising = tt; clerks = ((0, lit< tt, refl), tt); turns = (refl, tt); each = (refl, refl, tt) };
+  tells = (refl, tt);
+  shown = λ honest. (
+    (record { bytes = late_text; since = called.clock looked_again }) ∷ [],
+    refl,
+    λ later earlier piece split before after line there accepted reached image left.
+        absurd (subst (λ (l : AnsweredLine). IsAcceptedReply l.first.1.reply) (sym (one_alone late_answer line before after there)) accepted),
+  );
+  wrote = sym late_written;
+  replies = ((tt, tt), refl);
+  disk = late_left;
+}
+
+pub reopened_lanes : ReopenedLanes
+reopened_lanes = (
+  goes_on,
+  promised called open_disk looked_again (output_by looked_again late_text) late_lanes [] [] _ _ Done late_ran
+      (λ all reports wrote. (wrote, late_ran.replies)),
 )

@@ -57,7 +57,7 @@ unfolding digits told
 written = refl
 
 -- one alone is the one among these
-one_alone : {A : Type 0} (x y : A) (before after : List A) → x ∷ [] ≡ before ++ y ∷ after → x ≡ y
+pub one_alone : {A : Type 0} (x y : A) (before after : List A) → x ∷ [] ≡ before ++ y ∷ after → x ≡ y
 one_alone {A} x y [] after same = ap head same
   where
     head : List A → A

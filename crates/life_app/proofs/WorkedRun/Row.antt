@@ -1,43 +1,84 @@
 -- The worked run holds what its cases say.
-use Rattle.life_app.proofs.Names.{◌≡◌, ◌⊎◌, ℕ, true, List, [], ◌∷◌, refl, sym, subst, inl, inr, lit≤, lit<, Synced, left_by_now, reads_as_left, Command, Entry, Accepted, IsLegal, accepted_of, IsJournal, LooksOn, spelling_of, HoldsNow, HoldsOnce, IsLeftAlone, IsLeftBy, KeepsAccepted, JournalBytes, Opens, hand_issue, hand_premium, premium_turn, opens_to_one, valid_issue, HasRun, AreLeft, AreRuns, CalledDisk, Unsynced, called, cut_disk, cut_file, called_disk, empty_disk, last_disk, paid_disk, second_calls, reopening, untorn, CrashesByHand, ImagesByHand, FoundByHand, LeftByHand, OpenedByHand, RanByHand, RowByHand, both_commands, cut_run, first_opening, first_turns, looked_disk, second_opening, second_turns, whole_run}
+use Rattle.life_app.proofs.Names.{◌≡◌, ◌⊎◌, ℕ, true, List, [], ◌∷◌, ◌++◌, ◌∙◌, ap, append-nil, refl, sym, subst, inl, inr, lit≤, lit<, left_by_now, reads_as_left, Command, Entry, Accepted, IsLegal, accepted_of, IsJournal, LooksOn, spelling_of, HoldsNow, HoldsOnce, IsLeftAlone, IsLeftBy, KeepsAccepted, JournalBytes, Opens, hand_issue, hand_premium, premium_turn, opens_to_one, valid_issue, HasRun, AreLeft, AreRuns, CalledDisk, Unsynced, called, cut_disk, cut_file, called_disk, empty_disk, last_disk, paid_disk, second_calls, looks, opened_on, reopening, untorn, CrashesByHand, ImagesByHand, FoundByHand, LeftByHand, OpenedByHand, RanByHand, RowByHand, both_commands, cut_run, first_opening, first_turns, looked_disk, second_opening, second_turns, whole_run}
 use Rattle.life_dates.specs.Anniversary as dates
+use Rattle.office_state.specs.Images.{faults_after}
 use Rattle.office_state.proofs.KeptSteps.{keeps_first, keeps_more, kept_now}
-use Rattle.life_app.proofs.CrashLaws.{afterwards, during, next_commands, opened_again}
+use Rattle.life_app.proofs.CrashLaws.{afterwards, as_before, during, next_commands, opened_again}
 use Rattle.life_app.proofs.RunLaws.{Facts, runs_left}
-use Rattle.life_app.proofs.WorkedRun.Calls.{Left, posted_left, posting_leaves}
-use Rattle.life_app.proofs.WorkedRun.First.{answered_some, cut, first_left, first_ran, found_safe, honest_last, honest_paid, journal_of_both, journal_of_issue, least_issue, only_now, paid_again, paid_again_safe, premium_size, reopened_allowed, reopened_safe, was_cut}
+use Rattle.life_app.proofs.WorkedRun.Calls.{Left, looks_allowed, looks_left, looks_safe, posted_left, posting_leaves}
+use Rattle.life_app.proofs.WorkedRun.First.{answered_some, cut, first_left, first_ran, found_safe, honest_last, honest_paid, journal_of_both, journal_of_issue, least_issue, left_by, only_now, paid_again, paid_again_safe, premium_size, was_cut}
+
+-- ---- one that opens the office on a file, and adds nothing
+
+looked : (n : ℕ) (file : List ℕ) → LooksOn called (called_disk file []) (called_disk file (looks n file))
+looked n file = record {
+  facts = record { reads = refl; images = λ image left. inl left };
+  time = record {
+    later = lit≤ tt;
+    nothing_else = λ moment image passed left. inr (inl (looks_left n file moment image left));
+    keeps = λ moment image passed left. inl (inl (inl (inl left)));
+  };
+}
+
+alone : (n : ℕ) (file : List ℕ) → IsLeftAlone called (called_disk file []) (called_disk file (looks n file))
+alone n file = record {
+  honesty = λ honest. (tt, refl);
+  unwritten = λ honest finished. looked n file;
+  since = λ honest image left. inl (inl (looks_left n file 0 image left));
+  synced = λ honest. inl (looked n file);
+}
+
+module _ (n : ℕ) (file : List ℕ) (commands : List Command) (bytes : JournalBytes file commands) where
+  still : (image : List ℕ) → image ≡ file → JournalBytes image commands
+  still image same = subst (λ (e : List ℕ). JournalBytes e commands) (sym same) bytes
+
+  now_as_found : (turns : List Entry) → accepted_of turns ≡ [] → (image : List ℕ) → image ≡ file → HoldsNow (opened_on commands 0) turns image
+  now_as_found turns none image same =
+      inl (subst (JournalBytes image) (sym (ap (λ (cs : List Command). commands ++ cs) none ∙ append-nil commands)) (still image same))
+
+  pub kept_looked : KeepsAccepted called (called_disk file []) (called_disk file (looks n file)) (opened_on commands 0) []
+  kept_looked = keeps_first called (called_disk file []) (opened_on commands 0) (called_disk file (looks n file))
+      (kept_now called (called_disk file []) (opened_on commands 0) (called_disk file (looks n file)) [] only_now (looks_allowed n file, refl) (lit≤ tt) (now_as_found [] refl))
+
+  pub quiet_left : (turns : List Entry) → accepted_of turns ≡ [] → 0 ≡ faults_after (opened_on commands 0) turns
+      → KeepsAccepted called (called_disk file []) (called_disk file (looks n file)) (opened_on commands 0) turns
+      → IsLeftBy called (called_disk file []) (called_disk file (looks n file)) (opened_on commands 0) turns
+  quiet_left turns none faultless kept = left_by file (looks n file) (opened_on commands 0) turns (lit≤ tt) faultless (inl bytes) (now_as_found turns none)
+      (λ moment image left. as_before (opened_on commands 0) turns image (inl (still image (looks_left n file moment image left)))) kept (λ quiet. alone n file)
+
+cut_kept : KeepsAccepted called cut_disk looked_disk second_opening []
+cut_kept = kept_looked 2 cut_file (hand_issue ∷ []) (journal_of_issue cut_file cut)
+
+pub honest_looked : called.honest looked_disk
+honest_looked = (looks_allowed 2 cut_file, refl)
+
+pub left_alone : IsLeftAlone called cut_disk looked_disk
+left_alone = alone 2 cut_file
+
+pub opened_left : IsLeftBy called cut_disk looked_disk second_opening []
+opened_left = quiet_left 2 cut_file (hand_issue ∷ []) (journal_of_issue cut_file cut) [] refl refl cut_kept
 
 -- ---- the second run
-
-reopening_left : (moment : ℕ) (image : List ℕ) → Left cut_file reopening moment image → image ≡ cut_file
-reopening_left moment image (inr now) = now.1
-reopening_left moment image (inl (inr now)) = now.1
-reopening_left moment image (inl (inl (inr now))) = now.1
-reopening_left moment image (inl (inl (inl (inr now)))) = now.1
-reopening_left moment image (inl (inl (inl (inl before)))) = found_safe cut_file image before.1
 
 as_cut : (image : List ℕ) → image ≡ cut_file → IsJournal image (spelling_of hand_issue ∷ [])
 as_cut image same = subst (λ (e : List ℕ). IsJournal e (spelling_of hand_issue ∷ [])) (sym same) cut
 
-issue_alone : (turns : List Entry) (rest : List Command) → accepted_of turns ≡ rest → (image : List ℕ) → IsJournal image (spelling_of hand_issue ∷ []) → HoldsOnce second_opening turns image
-issue_alone turns rest accepts image journal = record { held = []; rest = rest; more = []; front = accepts; one = tt; opens = inl (journal_of_issue image journal) }
+issue_alone : (image : List ℕ) → IsJournal image (spelling_of hand_issue ∷ []) → HoldsOnce second_opening second_turns image
+issue_alone image journal = record { held = []; rest = hand_premium ∷ []; more = []; front = refl; one = tt; opens = inl (journal_of_issue image journal) }
 
 premium_too : (image : List ℕ) → IsJournal image (spelling_of hand_issue ∷ spelling_of hand_premium ∷ []) → HoldsOnce second_opening second_turns image
 premium_too image journal = record { held = hand_premium ∷ []; rest = []; more = []; front = refl; one = tt; opens = inl (journal_of_both image journal) }
 
 since_cut : (moment : ℕ) (image : List ℕ) → Left cut_file second_calls moment image
     → Left cut_file reopening moment image ⊎ (IsJournal image (spelling_of hand_issue ∷ []) ⊎ IsJournal image (spelling_of hand_issue ∷ spelling_of hand_premium ∷ []))
-since_cut = posted_left cut_file reopening (spelling_of hand_issue ∷ []) hand_premium (lit< tt) premium_size cut reopened_safe refl
+since_cut = posted_left cut_file reopening (spelling_of hand_issue ∷ []) hand_premium (lit< tt) premium_size cut (looks_safe 2 cut_file) refl
 
 again_held : (moment : ℕ) (image : List ℕ) → Left cut_file second_calls moment image → HoldsOnce second_opening second_turns image
 again_held moment image left = elim (since_cut moment image left) [
-  | inl before ↦ issue_alone second_turns (hand_premium ∷ []) refl image (as_cut image (reopening_left moment image before))
-  | inr (inl one) ↦ issue_alone second_turns (hand_premium ∷ []) refl image one
+  | inl before ↦ issue_alone image (as_cut image (looks_left 2 cut_file moment image before))
+  | inr (inl one) ↦ issue_alone image one
   | inr (inr two) ↦ premium_too image two
 ]
-
-now_cut : (image : List ℕ) → called.may_leave looked_disk image → HoldsNow second_opening [] image
-now_cut image left = inl (journal_of_issue image (as_cut image left))
 
 pub both_now : (image : List ℕ) → called.may_leave last_disk image → JournalBytes image both_commands
 both_now image left = journal_of_both image
@@ -46,76 +87,17 @@ both_now image left = journal_of_both image
 now_again : (image : List ℕ) → called.may_leave last_disk image → HoldsNow second_opening second_turns image
 now_again image left = inl (both_now image left)
 
-pub honest_looked : called.honest looked_disk
-honest_looked = (reopened_allowed, refl)
-
-kept_looked : KeepsAccepted called cut_disk looked_disk second_opening []
-kept_looked = keeps_first called cut_disk second_opening looked_disk
-    (kept_now called cut_disk second_opening looked_disk [] only_now honest_looked (lit≤ tt) now_cut)
-
 kept_again : KeepsAccepted called cut_disk last_disk second_opening second_turns
 kept_again = keeps_more called cut_disk second_opening looked_disk last_disk [] (premium_turn (Accepted 2))
     (λ (image : List ℕ). IsJournal image (spelling_of hand_issue ∷ []) ⊎ IsJournal image (spelling_of hand_issue ∷ spelling_of hand_premium ∷ []))
-    (posting_leaves cut_file reopening (spelling_of hand_issue ∷ []) hand_premium (lit< tt) premium_size cut reopened_safe refl reopened_allowed) least_issue kept_looked
+    (posting_leaves cut_file reopening (spelling_of hand_issue ∷ []) hand_premium (lit< tt) premium_size cut (looks_safe 2 cut_file) refl) least_issue cut_kept
     (kept_now called cut_disk second_opening last_disk second_turns only_now honest_last (lit≤ tt) now_again)
 
-synced_disk : CalledDisk
-synced_disk = called_disk cut_file (Synced true ∷ [])
-
 pub second_left : IsLeftBy called cut_disk last_disk second_opening second_turns
-second_left = record {
-  honesty = λ honest. (tt, refl);
-  faults = refl;
-  opened = λ honest. inl (journal_of_issue cut_file cut);
-  now = λ honest image left. now_again image left;
-  since = λ honest image left. inr (again_held 0 image left);
-  synced = λ honest. (
-    called_disk cut_file (Synced true ∷ []),
-    record { honest = ((tt, tt), refl); reads = refl; safe = λ image left. left; later = lit≤ tt; passed = lit≤ tt },
-    λ image left. again_held 1 image left,
-  );
-  kept = λ honest. kept_again;
-  alone = λ quiet. absurd quiet.0;
-}
+second_left = left_by cut_file second_calls second_opening second_turns (lit≤ tt) refl (inl (journal_of_issue cut_file cut)) now_again again_held kept_again (λ quiet. absurd quiet.0)
 
 pub second_ran : HasRun called cut_disk last_disk second_opening second_turns
 second_ran = record { honest = honest_last; safe = found_safe cut_file; left = second_left }
-
--- ---- one that opens the office and posts nothing
-
-looked : LooksOn called cut_disk looked_disk
-looked = record {
-  facts = record { reads = refl; images = λ image left. inl left };
-  time = record {
-    later = lit≤ tt;
-    nothing_else = λ moment image passed left. inr (inl (reopening_left moment image left));
-    keeps = λ moment image passed left. inl (inl (inl (inl left)));
-  };
-}
-
-pub left_alone : IsLeftAlone called cut_disk looked_disk
-left_alone = record {
-  honesty = λ honest. (tt, refl);
-  unwritten = λ honest finished. looked;
-  since = λ honest image left. inl (inl (reopening_left 0 image left));
-  synced = λ honest. inl looked;
-}
-
-pub opened_left : IsLeftBy called cut_disk looked_disk second_opening []
-opened_left = record {
-  honesty = λ honest. (tt, refl);
-  faults = refl;
-  opened = λ honest. inl (journal_of_issue cut_file cut);
-  now = λ honest image left. now_cut image left;
-  since = λ honest image left. inr (issue_alone [] [] refl image (as_cut image (reopening_left 0 image left)));
-  synced = λ honest. (
-    called_disk cut_file (Synced true ∷ []),
-    record { honest = ((tt, tt), refl); reads = refl; safe = λ image left. left; later = lit≤ tt; passed = lit≤ tt },
-    λ image left. issue_alone [] [] refl image (as_cut image (reopening_left 1 image left)),
-  );
-  kept = λ honest. kept_looked;
-  alone = λ quiet. left_alone;
-}
 
 -- ---- the runs in a row
 

@@ -55,76 +55,9 @@ module _ (line : ValueLine) where
     bad_file,
     bad_file,
     reads_values,
-    (
-      pos 18628,
-      (
-        5,
-        (
-          codes "basis.csv",
-          (
-            1,
-            (
-              Terminal,
-              (
-                refl,
-                record {
-                  pieces = bare (codes "2021-01-01") ∷ joined (codes "at") (codes "5") ∷ [];
-                  spells = refl;
-                  only = (inl refl, tt);
-                  day = codes "2021-01-01";
-                  alone = refl;
-                  day_is = new_year;
-                  position_is = (lit≤ tt, refl);
-                  workers_are = refl;
-                  basis_is = refl;
-                  measure_is = refl;
-                },
-              ),
-            ),
-          ),
-          (λ honest. (hand_issue ∷ [], second_left.opened honest_last, lit≤ tt)),
-        ),
-      ),
-    ),
-    (
-      1,
-      (
-        refl,
-        record {
-          pieces = bare (codes "2021-01-01") ∷ bare (codes "1") ∷ [];
-          spells = refl;
-          only = tt;
-          day = codes "2021-01-01";
-          alone = refl;
-          day_is = new_year;
-          years_in = (lit≤ tt, lit≤ tt);
-          workers_are = refl;
-          basis_is = refl;
-        },
-      ),
-    ),
-    (
-      7,
-      (
-        5,
-        (
-          2,
-          (
-            1,
-            (
-              refl,
-              record {
-                spells = refl;
-                seed_in = lit≤ tt;
-                count_in = (lit≤ tt, lit≤ tt);
-                lanes_in = (lit≤ tt, lit≤ tt);
-                workers_in = (lit≤ tt, lit≤ tt);
-              },
-            ),
-          ),
-        ),
-      ),
-    ),
+    (pos 18628, (5, (codes "basis.csv", (1, (Terminal, (refl, record { pieces = bare (codes "2021-01-01") ∷ joined (codes "at") (codes "5") ∷ []; spells = refl; only = (inl refl, tt); day = codes "2021-01-01"; alone = refl; day_is = new_year; position_is = (lit≤ tt, refl); workers_are = refl; basis_is = refl; measure_is = refl }))), (λ honest. (hand_issue ∷ [], second_left.opened honest_last, lit≤ tt))))),
+    (1, (refl, record { pieces = bare (codes "2021-01-01") ∷ bare (codes "1") ∷ []; spells = refl; only = tt; day = codes "2021-01-01"; alone = refl; day_is = new_year; years_in = (lit≤ tt, lit≤ tt); workers_are = refl; basis_is = refl })),
+    (7, (5, (2, (1, (refl, record { spells = refl; seed_in = lit≤ tt; count_in = (lit≤ tt, lit≤ tt); lanes_in = (lit≤ tt, lit≤ tt); workers_in = (lit≤ tt, lit≤ tt) }))))),
     λ words. (Done, refl, tt),
   )
 

@@ -1,6 +1,6 @@
 -- A worked run, told by the calls of its file: an empty file becomes a journal, a policy is issued, and a premium is posted of
 -- which a crash leaves the body behind a closed gate; the file is opened again, and the premium is posted anew
-use Rattle.std.specs.Prelude.{◌≡◌, ℕ, true, List, [], ◌∷◌, ◌++◌, Some, length, take, drop}
+use Rattle.std.specs.Prelude.{◌≡◌, ℕ, ◌+◌, ◌*◌, true, false, List, [], ◌∷◌, ◌++◌, Some, length, take, drop}
 use Rattle.life_app.specs.Names.{FileCall, Measured, ReadFrom, WrittenTo, Synced, file_reads, writes_within, AreAllowed, FileImage, FileLeft, Ghosts, Command, hand_issue, hand_premium, issue_record, journal_of_two, premium_body}
 use Rattle.posting_journal.specs.Layout.{body_place, gate_place, header}
 use Rattle.record_codec.specs.Spelling.{spelling_of}
@@ -18,10 +18,16 @@ pub record CalledDisk : Type 0 where
   pub first : List ℕ
   pub calls : List FileCall
 
--- It means what a file's record of its calls means; no call of it failed.
+-- how many syncs failed
+abbrev pub failures : List FileCall → ℕ
+failures [] = 0
+failures (Synced false ∷ earlier) = failures earlier + 1
+failures (call ∷ earlier) = failures earlier
+
+-- It means what a file's record of its calls means; no call of it failed but syncs.
 abbrev pub called : Ghosts CalledDisk
 called = record {
-  faults = λ disk. 0;
+  faults = λ disk. failures disk.calls;
   honest = λ disk. AreAllowed disk.first untorn disk.calls × (writes_within disk.first untorn disk.calls ≡ true);
   reads = λ disk. file_reads disk.first untorn disk.calls;
   may_leave = λ disk image. FileImage disk.first untorn Unsynced disk.calls image;
@@ -43,6 +49,10 @@ stages n command earlier = puts (body_place n) (spelling_of command ++ 0 ∷ [])
 abbrev pub posts : ℕ → Command → List FileCall → List FileCall
 posts n command earlier = puts (gate_place n) (1 ∷ []) (stages n command earlier)
 
+-- the same, but the sync behind the open gate fails
+abbrev pub fails : ℕ → Command → List FileCall → List FileCall
+fails n command earlier = Synced false ∷ WrittenTo (gate_place n) (1 ∷ []) true ∷ stages n command earlier
+
 -- an empty file is made safe and looked at, and then a journal is created in three steps
 abbrev pub creation : List FileCall
 creation = puts 0 (1 ∷ []) (puts 1 (header ++ 0 ∷ []) (puts 0 (0 ∷ [])
@@ -59,10 +69,14 @@ first_calls = posts 1 hand_premium issuing
 abbrev pub cut_file : List ℕ
 cut_file = file_reads [] untorn (stages 1 hand_premium issuing)
 
--- that is made safe, measured and read
+-- a file with so many records is made safe, measured and read
+abbrev pub looks : ℕ → List ℕ → List FileCall
+looks n file = ReadFrom 17 (65 * n + 1) (Some (take (65 * n + 1) (drop 17 file))) ∷ ReadFrom 0 18 (Some (take 18 file))
+    ∷ Measured (Some (length file)) ∷ Synced true ∷ []
+
+-- the cut file has room for two
 abbrev pub reopening : List FileCall
-reopening = ReadFrom 17 131 (Some (take 131 (drop 17 cut_file))) ∷ ReadFrom 0 18 (Some (take 18 cut_file))
-    ∷ Measured (Some (length cut_file)) ∷ Synced true ∷ []
+reopening = looks 2 cut_file
 
 -- the premium again
 abbrev pub second_calls : List FileCall

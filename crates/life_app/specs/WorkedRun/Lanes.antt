@@ -1,7 +1,7 @@
--- Two lanes whose turns lie between one another: a premium is refused, two policies are valued while the other clerk posts, and
--- that clerk's second premium meets a fault of the disk; the run ends, and the file is opened again
+-- Two lanes whose turns lie between one another, with their disk: a premium is refused, two policies are valued by rates while the
+-- other clerk posts, and behind that clerk's second premium a sync fails; the run ends, and the file is opened again
 use Rattle.std.specs.Prelude.{ℕ, List, [], ◌∷◌, ◌++◌, codes, pos}
-use Rattle.life_app.specs.Names.{AllZip, Reads, AnsweredLine, AreLinesOf, hand_issue, hand_premium, IsLegal, Opening, opened_on, Command, Endowment, Now, Entry, Reply, Accepted, Refused, Faulted, Pinned, Policies, Unpinned, Policy, Lane, HaveAFault}
+use Rattle.life_app.specs.Names.{Reads, AnsweredLine, AreLinesOf, hand_issue, hand_premium, IsLegal, Opening, opened_on, Command, Endowment, Now, Entry, Reply, Accepted, Refused, Faulted, Pinned, Policies, Unpinned, Policy, Lane, lane_of, HaveAFault, FileCall, file_reads, Opens, Stream}
 use Rattle.policy_machine.specs.Merge.{IsMerge}
 use Rattle.policy_machine.specs.Rules.{issued}
 use Rattle.policy_types.specs.declared.command.Command.TheVariants.{Issue, Premium}
@@ -9,28 +9,33 @@ use Rattle.policy_types.specs.declared.entry.Call.{Call}
 use Rattle.policy_types.specs.declared.entry.Call.TheVariants.{Post, Pin, Read, Unpin}
 use Rattle.policy_types.specs.declared.refusal.Refusal.TheVariants.{TooEarly, WrongAmount}
 use Rattle.policy_types.specs.declared.script.Line.TheVariants.{Post as PostLine, Value}
+use Rattle.script_run.specs.Outcome.{IsRunOf}
+use Rattle.script_run.specs.Texts.{WroteWhole}
 use Rattle.life_app.specs.Crashes.{AreAllHeld, AreHeld}
-use Rattle.life_app.specs.Headline.{IsToldLine, WasFaulted}
+use Rattle.life_app.specs.Headline.{IsPromised, WasFaulted}
 use Rattle.life_app.specs.TableReserves.{table_reserves}
 use Rattle.life_app.specs.Texts.{run_wording}
+use Rattle.life_app.specs.WorkedRun.Calls.{CalledDisk, called, called_disk, fails, issuing, looks, posts, stages, untorn}
+use Rattle.life_app.specs.WorkedRun.Promise.{output_of, two_auditors}
+use Rattle.life_app.specs.WorkedRun.Told.{two_bases}
 
--- another policy of the same day, its premium, and one that is a cent short
+-- another policy of the next day, its premium, and one that is a cent short
 abbrev pub other_issue : Command
-other_issue = Issue 7002 (pos 18262) Endowment 0 3 100000 40000
+other_issue = Issue 7002 (pos 18263) Endowment 0 3 100000 40000
 
 abbrev pub other_premium : Command
-other_premium = Premium 7002 (pos 18262) 40000
+other_premium = Premium 7002 (pos 18263) 40000
 
 abbrev pub short_premium : Command
 short_premium = Premium 7001 (pos 18262) 39999
 
 -- what two clerks typed, and their lanes
 abbrev pub lanes_script : List ℕ
-lanes_script = codes "1,premium,7001,2020-01-01,399.99\n2,premium,7001,2020-01-01,400.00\n1,value,2020-01-01,now,1\n2,premium,7002,2020-01-01,400.00\n"
+lanes_script = codes "1,premium,7001,2020-01-01,399.99\n2,premium,7001,2020-01-01,400.00\n1,value,2021-01-01,now,1\n2,premium,7002,2020-01-02,400.00\n"
 
 abbrev pub typed_lanes : List Lane
 typed_lanes =
-    (record { number = 1; lines = PostLine short_premium ∷ Value (pos 18262) Now 1 ∷ [] })
+    (record { number = 1; lines = PostLine short_premium ∷ Value (pos 18628) Now 1 ∷ [] })
     ∷ (record { number = 2; lines = PostLine hand_premium ∷ PostLine other_premium ∷ [] }) ∷ []
 
 abbrev pub both_issues : List Command
@@ -39,8 +44,8 @@ both_issues = hand_issue ∷ other_issue ∷ []
 abbrev pub lanes_opening : Opening
 lanes_opening = opened_on both_issues 0
 
-abbrev pub unpaid_policy : ℕ → Policy
-unpaid_policy id = issued id (pos 18262) Endowment 0 3 100000 40000
+abbrev pub unpaid_policies : List Policy
+unpaid_policies = issued 7001 (pos 18262) Endowment 0 3 100000 40000 ∷ issued 7002 (pos 18263) Endowment 0 3 100000 40000 ∷ []
 
 -- the clerks' turns, under the callers 11 and 12
 abbrev pub by_caller : ℕ → Call → Reply → Entry
@@ -56,7 +61,7 @@ abbrev pub paid_turn : Entry
 paid_turn = by_caller 12 (Post hand_premium) (Accepted 3)
 
 abbrev pub rows_turn : Entry
-rows_turn = by_caller 11 (Read 1 0) (Policies (unpaid_policy 7001 ∷ unpaid_policy 7002 ∷ []))
+rows_turn = by_caller 11 (Read 1 0) (Policies unpaid_policies)
 
 abbrev pub fault_turn : Entry
 fault_turn = by_caller 12 (Post other_premium) (Faulted 1)
@@ -74,30 +79,77 @@ LegalLanes = Reads lanes_script typed_lanes × IsLegal lanes_opening lanes_turns
 abbrev pub lanes_answers : List AnsweredLine
 lanes_answers =
     (record { clerk = 1; line = PostLine short_premium; first = (0, refused_turn); rest = [] })
-    ∷ (record { clerk = 1; line = Value (pos 18262) Now 1; first = (1, lanes_pin); rest = (3, rows_turn) ∷ (5, given_up_turn) ∷ [] })
+    ∷ (record { clerk = 1; line = Value (pos 18628) Now 1; first = (1, lanes_pin); rest = (3, rows_turn) ∷ (5, given_up_turn) ∷ [] })
     ∷ (record { clerk = 2; line = PostLine hand_premium; first = (2, paid_turn); rest = [] })
     ∷ (record { clerk = 2; line = PostLine other_premium; first = (4, fault_turn); rest = [] }) ∷ []
 
--- the valuation is of the two policies before any premium, by a basis without rows
-abbrev pub lanes_texts : List (List ℕ)
-lanes_texts = (codes "1,premium,7001,refused,wrongamount,400.00" ++ 10 ∷ [])
-    ∷ (codes "1,value,2020-01-01,2,2" ++ 10 ∷ codes "row,7001,inforce,0,nobasis" ++ 10
-    ∷ codes "row,7002,inforce,0,nobasis" ++ 10 ∷ codes "total,0.00,0.00,2" ++ 10 ∷ [])
-    ∷ (codes "2,premium,7001,accepted,3" ++ 10 ∷ [])
-    ∷ (codes "2,premium,7002,fault" ++ 10 ∷ []) ∷ []
+-- The valuation is of the two policies before any premium: the one by the rates from 2000 on, and by those from 2020 on the other
+-- has none of its age. And so many premiums are added up.
+abbrev pub lanes_text : List ℕ
+lanes_text = codes "1,premium,7001,refused,wrongamount,400.00" ++ 10 ∷ codes "1,value,2021-01-01,2,2" ++ 10
+    ∷ codes "row,7001,inforce,1,127.22,127.23" ++ 10 ∷ codes "row,7002,inforce,0,belowtable" ++ 10 ∷ codes "total,127.22,127.23,1" ++ 10
+    ∷ codes "2,premium,7001,accepted,3" ++ 10 ∷ codes "2,premium,7002,fault" ++ 10
+    ∷ codes "watcher,1,1,1" ++ 10 ∷ codes "watcher,2,1,40000" ++ 10 ∷ []
 
-abbrev pub ToldLanes : Type 0
-ToldLanes = AreLinesOf lanes_answers lanes_turns typed_lanes (11 ∷ 12 ∷ []) []
-    × AllZip (IsToldLine run_wording table_reserves both_issues lanes_turns [] []) lanes_answers lanes_texts
+-- The file holds both issues. It is read, the one premium is posted, and the sync behind the other's gate fails.
+abbrev pub lanes_disk : CalledDisk
+lanes_disk = called_disk (file_reads [] untorn (posts 1 other_issue issuing)) []
+
+abbrev pub paid_calls : List FileCall
+paid_calls = posts 2 hand_premium (looks 2 lanes_disk.first)
+
+abbrev pub fault_disk : CalledDisk
+fault_disk = called_disk lanes_disk.first (fails 3 other_premium paid_calls)
+
+-- all is written when that is so, by the disk's last moment
+abbrev pub output_by : CalledDisk → List ℕ → Stream
+output_by disk text = record (output_of text) { pieces_after = (record { bytes = text; since = called.clock disk }) ∷ [] }
+
+-- the run ends with 8 for the fault, as is promised
+abbrev pub PromisedLanes : Type 0
+PromisedLanes = AreLinesOf lanes_answers lanes_turns typed_lanes (11 ∷ 12 ∷ []) []
+    × IsRunOf called lanes_disk fault_disk typed_lanes two_bases two_auditors (output_by fault_disk lanes_text)
+    (WroteWhole (output_by fault_disk lanes_text)) HaveAFault
+    × IsPromised called Opens run_wording table_reserves lanes_disk fault_disk typed_lanes two_bases two_auditors
+    (output_by fault_disk lanes_text) 8
 
 -- The disk failed in a posting when the one premium was accepted; so the file that the run leaves opens to both issues and that
--- premium, perhaps with the other, and the next run goes on from there: where it stands, it is paid for a year.
+-- premium, perhaps with the other: its gate may be shut or open.
+abbrev pub held_commands : List Command
+held_commands = both_issues ++ hand_premium ∷ []
+
 abbrev pub left_commands : List Command
 left_commands = both_issues ++ hand_premium ∷ other_premium ∷ []
 
+abbrev pub shut_file : List ℕ
+shut_file = file_reads lanes_disk.first untorn (stages 3 other_premium paid_calls)
+
+abbrev pub open_disk : CalledDisk
+open_disk = called_disk (called.reads fault_disk) []
+
+abbrev pub LeftLanes : Type 0
+LeftLanes = HaveAFault lanes_turns [] × WasFaulted lanes_turns (hand_premium ∷ []) other_premium
+    × called.may_leave fault_disk shut_file × Opens shut_file held_commands × AreAllHeld lanes_opening lanes_turns held_commands
+    × called.may_leave fault_disk open_disk.first × Opens open_disk.first left_commands × AreHeld lanes_opening lanes_turns left_commands
+
+-- The next run goes on from there: the other premium is accepted, or where it stands, it is paid for a year, and the run that is
+-- told so is as is promised, too.
+abbrev pub again_turn : Entry
+again_turn = by_caller 12 (Post other_premium) (Accepted 4)
+
+abbrev pub late_turn : Entry
+late_turn = by_caller 12 (Post other_premium) (Refused (TooEarly (pos 18629)))
+
+abbrev pub late_lanes : List Lane
+late_lanes = lane_of 2 (PostLine other_premium ∷ [])
+
+abbrev pub late_text : List ℕ
+late_text = codes "2,premium,7002,refused,tooearly,2021-01-02" ++ 10 ∷ []
+
+abbrev pub looked_again : CalledDisk
+looked_again = called_disk open_disk.first (looks 4 open_disk.first)
+
 abbrev pub ReopenedLanes : Type 0
-ReopenedLanes = HaveAFault lanes_turns [] × WasFaulted lanes_turns (hand_premium ∷ []) other_premium
-    × AreAllHeld lanes_opening lanes_turns (both_issues ++ hand_premium ∷ [])
-    × AreHeld lanes_opening lanes_turns left_commands
-    × IsLegal (opened_on (both_issues ++ hand_premium ∷ []) 0) (by_caller 12 (Post other_premium) (Accepted 4) ∷ [])
-    × IsLegal (opened_on left_commands 0) (by_caller 12 (Post other_premium) (Refused (TooEarly (pos 18628))) ∷ [])
+ReopenedLanes = IsLegal (opened_on held_commands 0) (again_turn ∷ [])
+    × IsPromised called Opens run_wording table_reserves open_disk looked_again late_lanes [] []
+    (output_by looked_again late_text) 0
