@@ -1,8 +1,7 @@
 -- The basis that a basis file and the tables it names make.
 use Rattle.std.specs.Prelude.{◌≡◌, ℕ, List, Option}
 use Rattle.std.specs.List.{AllZip}
-use Rattle.basis_shelf.specs.Names.{AnyTable, SpellsAny, BasisRow, Dated}
-use Rattle.basis_book.specs.File.{IsBasisFile}
+use Rattle.basis_shelf.specs.Names.{AnyTable, SpellsAny, BasisRow, Dated, IsBasisFile}
 use Rattle.basis_shelf.specs.Files.{IsFile}
 
 -- the file of this name spells this table, by age alone or by age at issue and duration

@@ -1,10 +1,8 @@
 -- The first file of a basis that is absent, too long or refused: the basis file, or the table of the first row that
 -- has none.
 use Rattle.std.specs.Prelude.{◌≡◌, ℕ, ◌+◌, ◌⊎◌, List, ◌∷◌, ◌++◌, length, All, Option, Err}
-use Rattle.basis_shelf.specs.Names.{BasisRow, TableKind, IsAnyAnswer}
-use Rattle.basis_book.specs.declared.fault.BasisFault.{BasisFault}
+use Rattle.basis_shelf.specs.Names.{BasisRow, TableKind, IsAnyAnswer, BasisFault, IsFileFault}
 use Rattle.basis_book.specs.declared.fault.BasisFault.TheVariants as fault
-use Rattle.basis_book.specs.File.{IsFileFault}
 use Rattle.xtbml_subset.specs.declared.fault.TableKind.TheVariants as kind
 use Rattle.xtbml_subset.specs.declared.fault.TableFault.TheVariants as table
 use Rattle.basis_shelf.specs.declared.fault.BadBasis.{BadBasis}

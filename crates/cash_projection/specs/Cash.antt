@@ -1,7 +1,6 @@
 -- What a list of policies is expected to pay and to be paid, by year from the current one, without interest and lapses.
 use Rattle.std.specs.Prelude.{◌≡◌, ℕ, ◌+◌, ◌*◌, ◌^◌, ◌<◌, ◌≤◌, List, [], ◌∷◌, length, slice_index_or}
-use Rattle.cash_projection.specs.Names.{ONE, UNIT, down, up, pair_of, Pair}
-use Rattle.present_value.specs.Fractions.{Fraction, Between}
+use Rattle.cash_projection.specs.Names.{ONE, UNIT, down, up, pair_of, Pair, Fraction, Between}
 use Rattle.cash_projection.specs.Survival.{alive, alive_by, dying, dying_by}
 use Rattle.cash_projection.specs.Prospects.{Prospect, premium_due, death_due, maturity_due}
 use Rattle.cash_projection.specs.declared.years.Year.{Year}

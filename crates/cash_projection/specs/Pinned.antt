@@ -1,9 +1,7 @@
 -- The projection of the policies at a pinned position.
 use Rattle.std.specs.Prelude.{◌≡◌, ℕ, List, length, ℤ, Result}
-use Rattle.cash_projection.specs.Names.{All, Policy, Dated}
+use Rattle.cash_projection.specs.Names.{All, Policy, Dated, Holding, OfficeOpening}
 use Rattle.policy_types.specs.declared.entry.At.{At}
-use Rattle.turn_lock.specs.Passes.{Holding}
-use Rattle.shared_office.specs.Offices.{OfficeOpening}
 use Rattle.snapshot_value.specs.Reading.{HasMadeOfBook}
 use Rattle.snapshot_value.specs.declared.valuation.ValueFault.{ValueFault}
 use Rattle.cash_projection.specs.Policies.{IsCashOf}

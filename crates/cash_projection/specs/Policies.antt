@@ -1,12 +1,9 @@
 -- The prospect of a policy on a day by a basis, and the cash of a list of policies.
 use Rattle.std.specs.Prelude.{◌≡◌, ℕ, ◌+◌, List, All, ℤ, ◌<ℤ◌, Result, Ok, Err, false, ◌<◌, slice_index_or}
-use Rattle.cash_projection.specs.Names.{AllZip, Policy, Rates, rate_at, table_along, AnyTable, Dated, IsPicked}
+use Rattle.cash_projection.specs.Names.{AllZip, Policy, Rates, rate_at, table_along, AnyTable, Dated, IsPicked, Shape, shape_of, NotValued}
 use Rattle.policy_types.specs.Valid.{IsIssue}
 use Rattle.policy_types.specs.declared.policy.Status.{Status}
 use Rattle.policy_types.specs.declared.policy.Status.TheVariants.{InForce}
-use Rattle.rate_table.specs.declared.shape.Shape.{Shape}
-use Rattle.plan_benefits.specs.Shapes.{shape_of}
-use Rattle.plan_benefits.specs.declared.fault.NotValued.{NotValued}
 use Rattle.policy_value.specs.Rows.{IsInsured, IsYear}
 use Rattle.cash_projection.specs.Prospects.{Prospect}
 use Rattle.cash_projection.specs.Cash.{EnclosesExpected, RoundedCash, no_year, total_of}

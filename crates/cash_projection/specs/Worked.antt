@@ -1,7 +1,6 @@
 -- Projections worked by hand, over a table whose rates of the ages 0 to 4 are 0.1, 0.2, 0.25, 0.5 and 1.
 use Rattle.std.specs.Prelude.{◌≡◌, ℕ, ◌+◌, List, [], ◌∷◌, true, false}
-use Rattle.cash_projection.specs.Names.{rate_at, pair_of}
-use Rattle.present_value.specs.Fractions.{Between}
+use Rattle.cash_projection.specs.Names.{rate_at, pair_of, Between}
 use Rattle.present_value.specs.Worked.{five_ages}
 use Rattle.cash_projection.specs.Prospects.{Prospect}
 use Rattle.cash_projection.specs.Cash.{expected_premiums, expected_deaths, expected_maturities, rounded_year}

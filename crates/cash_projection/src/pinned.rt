@@ -1,8 +1,7 @@
 // The projection of the policies at the newest position of an office.
 ghost use Rattle.std.specs.Prelude.{◌≡◌, ◌≤◌};
 ghost use Rattle.policy_types.specs.declared.entry.At.TheVariants.{Now};
-ghost use Rattle.turn_lock.specs.Passes.{PassFacts};
-ghost use Rattle.shared_office.specs.Offices.{IsOfficeHistory};
+ghost use Rattle.cash_projection.specs.Names.{PassFacts, IsOfficeHistory};
 ghost use Rattle.shared_office.specs.Pins.{KeepsPins};
 ghost use Rattle.snapshot_value.specs.Valuing.{most_turns};
 ghost use Rattle.cash_projection.specs.Pinned.{HasProjected};

@@ -1,8 +1,7 @@
 // The text of a projection.
 ghost use Rattle.std.specs.Prelude.{◌≡◌, ◌≤◌, ◌++◌, length, IfOk, OnOk};
-ghost use Rattle.std.specs.List.{All};
+ghost use Rattle.cash_projection.specs.Names.{All, behind_commas};
 ghost use Rattle.life_dates.specs.Calendar.{IsTermDay};
-ghost use Rattle.text_lines.specs.Lines.{behind_commas};
 ghost use Rattle.cash_projection.specs.Text.{IsTellable, asked_text, projection_text, words_text, year_fields, year_text};
 
 use crate::years::{Year, Years};

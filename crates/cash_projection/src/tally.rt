@@ -1,7 +1,6 @@
 // What a list of policies adds up to.
 ghost use Rattle.std.specs.Prelude.{◌≡◌, ◌≤◌, ◌<◌, ◌≤ℤ◌, ◌+◌, ◌-◌, ◌++◌, if◌then◌else◌, ℕ, ℤ, [], List, IfOk};
-ghost use Rattle.cash_projection.specs.Names.{Dated, most_commands, APolicy, IsBelow, table_along};
-ghost use Rattle.plan_benefits.specs.Shapes.{shape_of};
+ghost use Rattle.cash_projection.specs.Names.{Dated, most_commands, APolicy, IsBelow, table_along, shape_of};
 ghost use Rattle.cash_projection.specs.Prospects.{IsSmall, Prospect as AProspect, due};
 ghost use Rattle.cash_projection.specs.Policies.{IsCashOf, IsOfIssue, charged, prospect_of};
 ghost use Rattle.cash_projection.specs.inside.Paths.{ArePaths, IsSurvivalPath, IsTableOfRow};

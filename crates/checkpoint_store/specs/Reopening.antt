@@ -1,10 +1,7 @@
 -- What reopening answers: the snapshot of a journal, or why there is none
 use Rattle.std.specs.Prelude.{◌≡◌, ◌⊎◌, ℕ, ◌+◌, ◌-◌, ◌<◌, ◌≤◌, List, [], length, map, take, None, slice_index_or, IfOk, OnOk, Result, Ok, Err}
-use Rattle.checkpoint_store.specs.Names.{AllByRecursion, Rose, Ghosts, IsAccepted, judge, Command, IsValid, LooksOn}
-use Rattle.journal_replay.specs.Replays.{BodiesHave, StaysAs, bodies_of}
-use Rattle.posting_journal.specs.States.{StandsFor, count_of, disk_of}
+use Rattle.checkpoint_store.specs.Names.{AllByRecursion, Rose, Ghosts, IsAccepted, judge, Command, IsValid, LooksOn, BodiesHave, StaysAs, bodies_of, StandsFor, count_of, disk_of, spelling_of}
 use Rattle.posting_journal.specs.declared.journal.Journal.{Journal}
-use Rattle.record_codec.specs.Spelling.{spelling_of}
 use Rattle.checkpoint_store.specs.declared.faults.ReopenFault.{ReopenFault}
 use Rattle.checkpoint_store.specs.declared.faults.ReopenFault.TheVariants.{DiskFault, BadRecord, NoMemory}
 use Rattle.checkpoint_store.specs.declared.snapshot.Snapshot.{Snapshot}

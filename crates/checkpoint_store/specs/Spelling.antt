@@ -2,11 +2,8 @@
 -- byte 63 stand the figures; and from byte 64 on stand the policies in order of issue, 48 bytes each. Every number has its
 -- high byte first.
 use Rattle.std.specs.Prelude.{◌≡◌, ℕ, List, [], ◌∷◌, ◌++◌, length, take, drop, replicate}
-use Rattle.std.specs.Int.{w32, w64, to_be_bytes, cast_unsigned}
-use Rattle.checkpoint_store.specs.Names.{flat_map, Policy, InForce, Lapsed, Claimed, Matured, Expired, Settled, PaidUp}
-use Rattle.policy_types.specs.declared.policy.Status.{Status}
+use Rattle.checkpoint_store.specs.Names.{w32, w64, to_be_bytes, cast_unsigned, flat_map, Policy, InForce, Lapsed, Claimed, Matured, Expired, Settled, PaidUp, Status, plan_byte}
 use Rattle.money_ledgers.specs.declared.ledger.Ledger.{Ledger}
-use Rattle.record_codec.specs.Fields.{plan_byte}
 use Rattle.checkpoint_store.specs.declared.snapshot.Snapshot.{Snapshot}
 
 -- LIFECHKP, the version 1 and the size 48 of a policy, both in two bytes, and four zero bytes

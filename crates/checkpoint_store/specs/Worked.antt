@@ -1,9 +1,7 @@
 -- Worked checkpoints, computed from the definitions alone; the bytes were packed by hand from the table of the format
 use Rattle.std.specs.Prelude.{◌≡◌, ℕ, ◌++◌, List, [], ◌∷◌, map, pos, negsuc, Ok, Err}
-use Rattle.checkpoint_store.specs.Names.{Command, Policy, Claimed, issued}
+use Rattle.checkpoint_store.specs.Names.{Command, Policy, Claimed, issued, Endowment, spelling_of}
 use Rattle.policy_types.specs.declared.command.Command.TheVariants.{Issue, Upgrade}
-use Rattle.policy_types.specs.declared.command.Plan.TheVariants.{Endowment}
-use Rattle.record_codec.specs.Spelling.{spelling_of}
 use Rattle.checkpoint_store.specs.declared.faults.ReopenFault.TheVariants.{DiskFault, BadRecord, NoMemory}
 use Rattle.checkpoint_store.specs.declared.snapshot.Snapshot.{Snapshot}
 use Rattle.checkpoint_store.specs.Checkpoints.{CheckpointBytes, IsNoCheckpoint, IsSnapshotOf, IsSoundSnapshot}

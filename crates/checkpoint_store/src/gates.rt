@@ -1,8 +1,7 @@
 // Writes that leave the rest of the file, or its gate, as it is.
 ghost use Rattle.std.specs.Prelude.{◌≡◌, ◌↔◌, ◌+◌, ◌≤◌, ◌∷◌, drop, length, IsTrue, IfOk, OnOk};
 ghost use Rattle.outside_io.specs.Disks.{Holds};
-ghost use Rattle.posting_journal.specs.Faults.{TellsFailure};
-ghost use Rattle.posting_journal.specs.Runs.{IsSafe, LooksOn};
+ghost use Rattle.checkpoint_store.specs.Names.{TellsFailure, IsSafe, LooksOn};
 ghost use Rattle.checkpoint_store.specs.Stores.{AreShut, IsShut};
 ghost use Rattle.checkpoint_store.specs.inside.Steps.{GatesOn, LooksAtGate, StaysShut};
 

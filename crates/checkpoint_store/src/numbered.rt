@@ -1,7 +1,6 @@
 // The books by number, while records are decided anew.
 ghost use Rattle.std.specs.Prelude.{◌≡◌, ◌<◌, [], nat_eq, false, IfErr, IfOk, IfSome, OnOk};
-ghost use Rattle.checkpoint_store.specs.Names.{lookup, most_commands, IsValid, id_of, is_upgrade, judged, IsSound};
-ghost use Rattle.indexmap.specs.IndexMap.{index_of};
+ghost use Rattle.checkpoint_store.specs.Names.{lookup, most_commands, IsValid, id_of, is_upgrade, judged, IsSound, index_of};
 ghost use Rattle.journal_replay.specs.declared.keeper.Unkept.TheVariants.{NoMemory};
 ghost use Rattle.checkpoint_store.specs.inside.Numbered.{AreBooksOf, AreSoundBooks, HasSetPolicy};
 

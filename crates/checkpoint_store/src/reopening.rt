@@ -1,8 +1,6 @@
 // A store and a journal are reopened.
 ghost use Rattle.std.specs.Prelude.{◌≡◌, ℕ, ◌≤◌, List, [], length, None, IfErr, IfOk};
-ghost use Rattle.journal_replay.specs.Replays.{HasReplayCause, StaysAs, Stops};
-ghost use Rattle.policy_machine.specs.Book.{judge};
-ghost use Rattle.posting_journal.specs.States.{disk_of};
+ghost use Rattle.checkpoint_store.specs.Names.{HasReplayCause, StaysAs, Stops, judge, disk_of};
 ghost use Rattle.checkpoint_store.specs.Checkpoints.{IsSoundSnapshot};
 ghost use Rattle.checkpoint_store.specs.Reopening.{AreDecided, IsSnapshotOfFront, IsSnapshotRead, IsStartOf, IsTrueWhereUsed, KeepsAsBefore, Reopens};
 ghost use Rattle.checkpoint_store.specs.Stores.{store_disk};

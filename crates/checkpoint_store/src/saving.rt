@@ -1,7 +1,6 @@
 // A snapshot is saved.
 ghost use Rattle.std.specs.Prelude.{◌≡◌, ℕ, ◌+◌, ◌*◌, ◌≤◌, ◌++◌, false, List, length, IsTrue, OnOk};
-ghost use Rattle.checkpoint_store.specs.Names.{flat_map, IsSafe, Leaves, most_commands};
-ghost use Rattle.posting_journal.specs.Faults.{TellsFailure, TellsFaults};
+ghost use Rattle.checkpoint_store.specs.Names.{flat_map, IsSafe, Leaves, most_commands, TellsFailure, TellsFaults};
 ghost use Rattle.checkpoint_store.specs.Checkpoints.{CheckpointBytes, IsSoundSnapshot};
 ghost use Rattle.checkpoint_store.specs.Spelling.{policy_bytes, snapshot_bytes, StandBehindGate};
 ghost use Rattle.checkpoint_store.specs.Stores.{AreShut, IsKeptBy, IsKeptOrSavedBy, Knows, MightLeave, Saves, StoreLeaves, store_disk};

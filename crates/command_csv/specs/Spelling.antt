@@ -1,8 +1,7 @@
 -- How a clerk's line is written: the fields of its row
 use Rattle.std.specs.Prelude.{ℕ, List, [], ◌∷◌, codes, decimal}
 use Rattle.policy_types.specs.declared.command.Command.{Command}
-use Rattle.policy_types.specs.declared.command.Command.TheVariants.{Issue, Premium, Alter, Lapse, Reinstate, Claim, Settle, Mature, PaidUp, Upgrade}
-use Rattle.command_csv.specs.Names.{At, Now, Position, plan_word, Line, Post, Value, Trim, day_text, cents_text}
+use Rattle.command_csv.specs.Names.{Issue, Premium, Alter, Lapse, Reinstate, Claim, Settle, Mature, PaidUp, Upgrade, At, Now, Position, plan_word, Line, Post, Value, Trim, day_text, cents_text}
 use Rattle.command_csv.specs.declared.row.ClerkLine.{ClerkLine}
 
 -- a line of clerk 1

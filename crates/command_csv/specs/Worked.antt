@@ -1,7 +1,6 @@
 -- Scripts, and what they say: each kind of line as a clerk writes it, and some first faults
 use Rattle.std.specs.Prelude.{ℕ, List, [], ◌∷◌, ◌++◌, pos, codes, replicate}
-use Rattle.command_csv.specs.Names.{flat_map, Now, Position, Line, Post, Value, Trim}
-use Rattle.policy_types.specs.declared.command.Command.TheVariants.{Issue, Premium, Alter, Lapse, Reinstate, Claim, Settle, Mature, PaidUp, Upgrade}
+use Rattle.command_csv.specs.Names.{flat_map, Now, Position, Line, Post, Value, Trim, Issue, Premium, Alter, Lapse, Reinstate, Claim, Settle, Mature, PaidUp, Upgrade}
 use Rattle.policy_types.specs.declared.command.Plan.TheVariants.{Endowment}
 use Rattle.command_csv.specs.Reads.{Reads, IsFirstScriptFault, lane_of}
 

@@ -1,7 +1,6 @@
 // The next field of a row, where it is what it has to be.
 ghost use Rattle.std.specs.Prelude.{◌≡◌, ◌≢◌, ℕ, ℤ, ◌≤◌, ◌<◌, ◌+◌, ◌∷◌, [], ⊤, take, decimal, ◌↔◌, IsTrue, IfSome, IfNone};
-ghost use Rattle.command_csv.specs.Names.{fields_of, IsId, IsCommandDay, IsAmount, IsReinstatement, IsIssueAge, AreYears, APosition, day_text, cents_text, plan_word};
-ghost use Rattle.policy_types.specs.declared.command.Plan.{Plan as APlan};
+ghost use Rattle.command_csv.specs.Names.{fields_of, IsId, IsCommandDay, IsAmount, IsReinstatement, IsIssueAge, AreYears, APosition, day_text, cents_text, plan_word, APlan};
 ghost use Rattle.command_csv.specs.declared.kind.Kind.{Kind as AKind};
 ghost use Rattle.command_csv.specs.inside.Forms.{KindMayStandBehind, kind_spelling};
 ghost use Rattle.command_csv.specs.Reads.{AreWorkers, IsClerk, IsPosition};

@@ -1,7 +1,6 @@
 // A script, read row by row.
 ghost use Rattle.std.specs.Prelude.{◌≡◌, ◌≤◌, List, Some, [], ◌∷◌, true, length, IfOk, IfErr, OnOk, Result};
-ghost use Rattle.csv.specs.Reading.{ReadRecord, Ready, error_kind, is_flexible, reader_trim, stops_reader, took_first};
-ghost use Rattle.command_csv.specs.Names.{fields_of, ALane};
+ghost use Rattle.command_csv.specs.Names.{ReadRecord, Ready, error_kind, is_flexible, reader_trim, stops_reader, took_first, fields_of, ALane};
 ghost use Rattle.csv.specs.declared.reader.Trim.TheVariants as trim;
 ghost use Rattle.command_csv.specs.Answers.{GivesScript, IsScriptAnswer};
 ghost use Rattle.command_csv.specs.Reads.{AreLineRows, Reads, lanes_of, lines_of as lines_among, valuations_in};

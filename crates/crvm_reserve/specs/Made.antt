@@ -1,10 +1,8 @@
 use Rattle.std.specs.Prelude.{◌≡◌, ℕ, ◌+◌, ◌*◌, ◌<◌, ◌≤◌}
-use Rattle.crvm_reserve.specs.Names.{Rates, ONE, rate_at, Fraction, Between, Cover, UNIT, AreValuesAt}
+use Rattle.crvm_reserve.specs.Names.{Rates, ONE, rate_at, Fraction, Between, Cover, UNIT, AreValuesAt, CanValue, AreColumns, Values}
 use Rattle.rate_table.specs.declared.shape.Shape.{Shape}
-use Rattle.present_value.specs.Values.{CanValue, AreColumns}
 use Rattle.present_value.specs.declared.pair.Columns.{Columns}
 use Rattle.present_value.specs.declared.pair.Pair.{Pair}
-use Rattle.present_value.specs.declared.pair.Values.{Values}
 use Rattle.crvm_reserve.specs.Rounded.{excess_lo, excess_hi, beta_lo, beta_hi, reserve_lo, reserve_hi}
 use Rattle.crvm_reserve.specs.declared.premium.Premium.{Premium}
 use Rattle.crvm_reserve.specs.declared.premium.PremiumParts.{PremiumParts}

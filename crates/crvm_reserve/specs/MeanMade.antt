@@ -1,7 +1,6 @@
 -- What a mean reserve is made from.
 use Rattle.std.specs.Prelude.{◌≡◌, ℕ, ◌+◌, ◌<◌, ◌≤◌}
-use Rattle.crvm_reserve.specs.Names.{ONE, Cover, AreValuesAt}
-use Rattle.present_value.specs.declared.pair.Values.{Values}
+use Rattle.crvm_reserve.specs.Names.{ONE, Cover, AreValuesAt, Values}
 use Rattle.crvm_reserve.specs.Made.{IsReserved, premium_of}
 use Rattle.crvm_reserve.specs.declared.mean.MeanParts.{MeanParts}
 

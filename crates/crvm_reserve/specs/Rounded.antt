@@ -1,6 +1,5 @@
 use Rattle.std.specs.Prelude.{ℕ, ◌+◌, ◌-◌, ◌*◌, min}
-use Rattle.crvm_reserve.specs.Names.{Cover, year, death, UNIT, down, up}
-use Rattle.present_value.specs.Recursion.{ben_lo, ben_hi, ann_lo, ann_hi}
+use Rattle.crvm_reserve.specs.Names.{Cover, year, death, UNIT, down, up, ben_lo, ben_hi, ann_lo, ann_hi}
 
 -- The rounded premium and reserve per unit of amount, in units of 10^-16, from the rounded values of the
 -- benefits and of the premiums: each lower value has the parts that make it least, rounded down, and each

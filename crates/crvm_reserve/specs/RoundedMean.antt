@@ -1,6 +1,5 @@
 use Rattle.std.specs.Prelude.{ℕ, zero, suc, ◌+◌, ◌-◌, ◌*◌, nat_lt, if◌then◌else◌}
-use Rattle.crvm_reserve.specs.Names.{Cover, UNIT, down, up}
-use Rattle.present_value.specs.Recursion.{ben_lo, ben_hi}
+use Rattle.crvm_reserve.specs.Names.{Cover, UNIT, down, up, ben_lo, ben_hi}
 use Rattle.crvm_reserve.specs.Rounded.{excess_lo, excess_hi, beta_lo, beta_hi, reserve_lo, reserve_hi, amount_lo, amount_hi, paid_up_lo, paid_up_hi}
 
 -- The rounded mean reserve: the terminal reserves around it and the net premium are added up as they are rounded,

@@ -1,6 +1,5 @@
 ghost use Rattle.std.specs.Prelude.{◌≡◌, ◌+◌, ◌-◌, ◌<◌, ◌≤◌, min, length};
-ghost use Rattle.crvm_reserve.specs.Names.{ONE, AreRates, HoldsAge, rate_at, last_age_of, Between, UNIT, cover_of, beta, cap_of, cap_shape, AreValuesAt};
-ghost use Rattle.present_value.specs.Values.{AreColumns};
+ghost use Rattle.crvm_reserve.specs.Names.{ONE, AreRates, HoldsAge, rate_at, last_age_of, Between, UNIT, cover_of, beta, cap_of, cap_shape, AreValuesAt, AreColumns};
 ghost use Rattle.crvm_reserve.specs.Made.{CanReserve, AreMadeFor, premium_of};
 
 use crate::cap::shape_of_cap;

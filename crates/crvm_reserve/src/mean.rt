@@ -1,6 +1,5 @@
 ghost use Rattle.std.specs.Prelude.{◌≡◌, ◌*◌, ◌<◌, ◌≤◌, ℕ};
-ghost use Rattle.crvm_reserve.specs.Names.{UNIT, down, up, Encloses, Cover};
-ghost use Rattle.present_value.specs.Mean.{mean_reserve, net_premium};
+ghost use Rattle.crvm_reserve.specs.Names.{UNIT, down, up, Encloses, Cover, mean_reserve, net_premium};
 ghost use Rattle.crvm_reserve.specs.Made.{AreClose, AreMade, AreMadeFor, premium_of};
 ghost use Rattle.crvm_reserve.specs.MeanMade.{AreMeanParts, AreMeanPartsOf};
 ghost use Rattle.crvm_reserve.specs.RoundedMean.{net_lo, net_hi, double_lo, double_hi, rounded_mean};

@@ -1,7 +1,6 @@
 // The mean reserve of a paid-up policy: no premium is due.
 ghost use Rattle.std.specs.Prelude.{◌≡◌, ◌*◌, ◌≤◌, ℕ};
-ghost use Rattle.present_value.specs.Mean.{paid_up_mean};
-ghost use Rattle.crvm_reserve.specs.Names.{Encloses, Cover};
+ghost use Rattle.crvm_reserve.specs.Names.{paid_up_mean, Encloses, Cover};
 ghost use Rattle.crvm_reserve.specs.Made.{ArePaidUp, ArePaidUpFor};
 ghost use Rattle.crvm_reserve.specs.MeanMade.{ArePaidUpMean, ArePaidUpMeanOf};
 ghost use Rattle.crvm_reserve.specs.RoundedMean.{rounded_paid_up_mean};

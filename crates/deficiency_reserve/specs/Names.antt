@@ -1,4 +1,5 @@
 -- The names from elsewhere that several rooms cite, passed on from one place. Declares nothing.
+pub use Rattle.crvm_reserve.specs.Made.{ArePaidUpFor, IsPaidUpFor, IsPaidUpAt}
 unfoldable pub use Rattle.present_value.specs.Fractions.{times, whole, plus, less, lesser}
 pub use Rattle.present_value.specs.Fractions.{Fraction, Between}
 unfoldable pub use Rattle.present_value.specs.Premium.{beta}

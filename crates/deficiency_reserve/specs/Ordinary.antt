@@ -1,9 +1,8 @@
 -- What the minimum rests on: the values of a cover, and the bounds of its ordinary reserve.
 use Rattle.std.specs.Prelude.{ℕ, ◌≤◌}
-use Rattle.deficiency_reserve.specs.Names.{Cover, reserve, Encloses}
+use Rattle.deficiency_reserve.specs.Names.{Cover, reserve, Encloses, ArePaidUpFor, IsPaidUpFor}
 use Rattle.present_value.specs.declared.pair.Columns.{Columns}
 use Rattle.present_value.specs.declared.pair.Values.{Values}
-use Rattle.crvm_reserve.specs.Made.{ArePaidUpFor, IsPaidUpFor}
 
 -- the bounds enclose the ordinary reserve of an amount by a cover and its cap
 pub record IsOrdinary (c cap : Cover) (t amount : ℕ) (ordinary : ℕ × ℕ) : Type 0 where

@@ -1,6 +1,5 @@
 ghost use Rattle.std.specs.Prelude.{◌≡◌, ◌≤◌, ℕ, max};
-ghost use Rattle.deficiency_reserve.specs.Names.{Encloses, Cover};
-ghost use Rattle.crvm_reserve.specs.Made.{ArePaidUpFor, IsPaidUpAt, IsPaidUpFor};
+ghost use Rattle.deficiency_reserve.specs.Names.{Encloses, Cover, ArePaidUpFor, IsPaidUpAt, IsPaidUpFor};
 ghost use Rattle.deficiency_reserve.specs.Minimum.{minimum};
 ghost use Rattle.deficiency_reserve.specs.RoundedMinimum.{gross_lo, gross_hi, rounded_minimum};
 ghost use Rattle.deficiency_reserve.specs.Ordinary.{HasOrdinary, HasOrdinaryFor, HaveOrdinary, HaveOrdinaryFor};

@@ -1,7 +1,6 @@
 -- The lanes that may be run
 use Rattle.std.specs.Prelude.{◌≤◌, ◌^◌, Bool, true, false, List, All, length}
-use Rattle.lane_runner.specs.Names.{filter, Line, Post, Value, Trim, Lane, AreRising, lines_in, numbers_of}
-use Rattle.policy_types.specs.Valid.{IsCommandDay, IsValid}
+use Rattle.lane_runner.specs.Names.{filter, Line, Post, Value, Trim, Lane, AreRising, lines_in, numbers_of, IsCommandDay, IsValid}
 
 -- a posting is of a valid command, and a valuation is on a day of commands and has 1 to 64 workers
 abbrev pub IsRightLine : Line → Type 0

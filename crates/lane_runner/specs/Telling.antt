@@ -1,8 +1,6 @@
 -- What a lane tells of its lines, one after the other
 use Rattle.std.specs.Prelude.{◌≡◌, ℕ, ◌<◌, List, Some, slice_get}
-use Rattle.lane_runner.specs.Names.{AllByRecursion, Dated, Entry, AnswersLine}
-use Rattle.policy_types.specs.Valid.{IsValid}
-use Rattle.policy_machine.specs.History.{IsLegal, Opening, commands_after}
+use Rattle.lane_runner.specs.Names.{AllByRecursion, Dated, Entry, AnswersLine, IsValid, IsLegal, Opening, commands_after}
 use Rattle.lane_runner.specs.declared.transcript.TranscriptLine.{TranscriptLine}
 use Rattle.lane_runner.specs.AnsweredLines.{AnsweredLine, turns_in}
 use Rattle.lane_runner.specs.Lanes.{IsRightLine}

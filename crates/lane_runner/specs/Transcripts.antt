@@ -1,13 +1,11 @@
 -- What a transcript tells of the lanes that were run
 use Rattle.std.specs.Prelude.{◌≡◌, ◌↔◌, ℕ, ◌≤◌, ◌+◌, ◌^◌, nat_eq, Bool, true, false, List, ◌++◌, map, take, Some}
-use Rattle.lane_runner.specs.Names.{AllByRecursion, AllZip, Contains, IsDistinct, filter, Dated, Entry, Line, Post, Value, Trim, Lane, AnswersLanes, Holding, OfficeOpening, IsSnapshot}
+use Rattle.lane_runner.specs.Names.{AllByRecursion, AllZip, Contains, IsDistinct, filter, Dated, Entry, Line, Post, Value, Trim, Lane, AnswersLanes, Holding, OfficeOpening, IsSnapshot, Opening, commands_after, StartsWith, entries_of}
 use Rattle.policy_types.specs.declared.command.Command.{Command}
 use Rattle.policy_types.specs.declared.entry.Reply.{Reply}
 use Rattle.policy_types.specs.declared.entry.Reply.TheVariants.{Pinned, PinRefused, Floor}
-use Rattle.policy_machine.specs.History.{Opening, commands_after}
 use Rattle.policy_value.specs.declared.worth.Measure.TheVariants.{Terminal}
 use Rattle.office_state.specs.Posting.{reply_of}
-use Rattle.turn_lock.specs.History.{StartsWith, entries_of}
 use Rattle.lane_runner.specs.declared.transcript.TranscriptLine.{TranscriptLine}
 use Rattle.lane_runner.specs.declared.transcript.Outcome.{Outcome}
 use Rattle.lane_runner.specs.declared.transcript.Outcome.TheVariants.{Posted, Trimmed, Valued, ValueRefused, ValueNoMemory}

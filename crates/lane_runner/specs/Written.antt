@@ -1,8 +1,6 @@
 -- What was written of the text of a run
 use Rattle.std.specs.Prelude.{◌≡◌, ◌<◌, ℕ, List, Option, Result, Ok, Err, length, take}
-use Rattle.std.specs.Io.KnownBytes.{Appends}
-use Rattle.lane_runner.specs.Names.{flat_map, AppendsPart}
-use Rattle.outside_io.specs.Faults.{Rose}
+use Rattle.lane_runner.specs.Names.{Appends, flat_map, AppendsPart, Rose}
 use Rattle.lane_runner.specs.declared.transcript.TranscriptLine.{TranscriptLine}
 use Rattle.lane_runner.specs.declared.wording.Unwritten.{Unwritten}
 use Rattle.lane_runner.specs.declared.wording.Unwritten.TheVariants.{WriteFault, NoMemory}

@@ -1,8 +1,7 @@
 // Lanes are run at the same time, each in a pass of its own, and a writer beside them writes their lines.
 ghost use Rattle.std.specs.Prelude.{◌≡◌, ◌≤◌, ◌<◌, ◌^◌, [], None, length, map, vec_capacity, OnErr, IfOk};
-ghost use Rattle.lane_runner.specs.Names.{AllByRecursion, AllZip, flat_map, PassFacts, IsOfficeHistory, lines_in, SameConsumer, received};
+ghost use Rattle.lane_runner.specs.Names.{AllByRecursion, AllZip, flat_map, PassFacts, IsOfficeHistory, lines_in, SameConsumer, received, IsPermutation};
 ghost use Rattle.std.specs.Thread.{IsSync};
-ghost use Rattle.std.specs.List.Sorted.{IsPermutation};
 ghost use Rattle.lane_runner.specs.Lanes.{AreRightLanes};
 ghost use Rattle.lane_runner.specs.Transcripts.{HasAnsweredLanes};
 ghost use Rattle.lane_runner.specs.Shown.{HasShown};

@@ -1,7 +1,6 @@
 -- Which ending is due, where the devices don't fail on which it rests
 use Rattle.std.specs.Prelude.{◌≡◌, ◌≤◌, ◌<◌, ◌⊎◌, ℕ, ℤ, true, List, codes, length}
-use Rattle.life_app.specs.Names.{Rose, Files, GivesMore, Command, Position, Lane, Dated, IsBasis, AreWords, Mode, Run, Value, Project, State, Checkpoint, Generate, Load, Opens, OpensToNone, Input, IsWholeInput, Shelving, Stream, Ending, Done, Usage, BadScript, BadBasis, BadJournal, ReadFault, DiskFault, Ahead, IsReadAs, IsUnreadable, asks_for_values, most_script_bytes, position_of}
-use Rattle.basis_shelf.specs.FirstBad.{IsFirstBadFile}
+use Rattle.life_app.specs.Names.{Rose, Files, GivesMore, Command, Position, Lane, Dated, IsBasis, AreWords, Mode, Run, Value, Project, State, Checkpoint, Generate, Load, Opens, OpensToNone, Input, IsWholeInput, Shelving, Stream, Ending, Done, Usage, BadScript, BadBasis, BadJournal, ReadFault, DiskFault, Ahead, IsReadAs, IsUnreadable, asks_for_values, most_script_bytes, position_of, IsFirstBadFile}
 use Rattle.basis_shelf.specs.declared.fault.BadBasis.{BadBasis as ABadBasis}
 use Rattle.life_app.specs.Needs.{AreTrusted, Filing, HasDiskFault, HasNewFault, HasSecond, Second, Without, seen_by}
 use Rattle.life_app.specs.Words.{AreNoWords, AskForRun, AskForValue}

@@ -1,7 +1,6 @@
 -- What the headline is given: the texts of the lines, and what a row of a basis makes of a policy
 use Rattle.std.specs.Prelude.{ℕ, ℤ, List}
-use Rattle.life_app.specs.Names.{Dated, Command, Reply, Policy, Row, Fraction}
-use Rattle.plan_benefits.specs.declared.fault.NotValued.{NotValued}
+use Rattle.life_app.specs.Names.{Dated, Command, Reply, Policy, Row, Fraction, NotValued}
 use Rattle.policy_types.specs.declared.entry.PinRefusal.{PinRefusal}
 use Rattle.policy_types.specs.declared.watcher.Report.{Report}
 

@@ -4,20 +4,13 @@
 -- which files make which basis under a name: they make one at most. So are the texts, of which the line of a posting tells its
 -- reply, and a valuation its rows; and the exact reserves, of which there is one at most.
 use Rattle.std.specs.Prelude.{◌≡◌, ◌⊎◌, ℕ, ℤ, ◌≤◌, ◌<ℤ◌, All, List, [], ◌∷◌, ◌++◌, codes, nat_eq, true, false, take}
-use Rattle.life_app.specs.Names.{AllByRecursion, AllZip, Contains, IsDistinct, Dated, IsPicked, Rose, Files, TakenPiece, Ghosts, Command, Policy, Reply, Faulted, Floor, Pinned, PinRefused, Entry, Lane, IsLegal, accepted_of, opened_on, Row, Bounds, Word, Fraction, AnsweredLine, AreLinesOf, Auditor, reports_of, IsShown, AreAnswered, HaveAFault, LackMemory, status_of, Input, Shelving, Stream, WroteLine, Ending, Done, BadScript, BadBasis, BadJournal, ReadFault, WriteFault, DiskFault, NoMemory, IsRefused, asks_for_values}
+use Rattle.life_app.specs.Names.{AllByRecursion, AllZip, Contains, IsDistinct, Dated, IsPicked, Rose, Files, TakenPiece, Ghosts, Command, Policy, Reply, Faulted, Floor, Pinned, PinRefused, Entry, Lane, IsLegal, accepted_of, opened_on, Row, Bounds, Word, Fraction, AnsweredLine, AreLinesOf, Auditor, reports_of, IsShown, AreAnswered, HaveAFault, LackMemory, status_of, Input, Shelving, Stream, WroteLine, Ending, Done, BadScript, BadBasis, BadJournal, ReadFault, WriteFault, DiskFault, NoMemory, IsRefused, asks_for_values, book, IsInsured, IsYear, Worth, StartCause, SaysWhy, AreSafeWhenShown, WroteFront, WroteUpTo, WroteWhole}
 use Rattle.plan_benefits.specs.declared.fault.NotValued.TheVariants.{NoBasis}
 use Rattle.policy_types.specs.declared.entry.Call.TheVariants.{Post as PostCall}
 use Rattle.policy_types.specs.declared.script.Line.{Line}
 use Rattle.policy_types.specs.declared.script.Line.TheVariants.{Post, Value, Trim}
-use Rattle.policy_machine.specs.Book.{book}
-use Rattle.policy_value.specs.Rows.{IsInsured, IsYear}
-use Rattle.policy_value.specs.declared.worth.Worth.{Worth}
 use Rattle.present_value.specs.Reserve.{Encloses}
-use Rattle.office_state.specs.declared.faults.StartCause.{StartCause}
-use Rattle.program_endings.specs.Refusals.{SaysWhy}
 use Rattle.program_endings.specs.WithoutBasis.{EndsNoBasis}
-use Rattle.script_run.specs.Shown.{AreSafeWhenShown}
-use Rattle.script_run.specs.Texts.{WroteFront, WroteUpTo, WroteWhole}
 use Rattle.life_app.specs.Given.{Reserves, Wording}
 
 -- by an entry of the basis: the bounds enclose the exact reserve of the amount at the policy's year, to at most two cents, or

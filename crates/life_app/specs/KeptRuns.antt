@@ -1,9 +1,6 @@
 -- A list of runs over both disks, each ended by its return or by a crash at any moment, and what they leave
 use Rattle.std.specs.Prelude.{◌≡◌, ◌⊎◌, ℕ, List, [], ◌∷◌, ◌++◌}
-use Rattle.life_app.specs.Names.{AllByRecursion, Ghosts, Command, Entry, Opening, IsSafe, Leaves, IsLeftAlone, IsNoneOrEarlierOrHeld, IsMadeSafe, TwoDisks}
-use Rattle.policy_types.specs.Valid.{IsValid}
-use Rattle.policy_machine.specs.Book.{IsAccepted}
-use Rattle.checkpoint_store.specs.Checkpoints.{CheckpointBytes, IsSnapshotOf}
+use Rattle.life_app.specs.Names.{AllByRecursion, Ghosts, Command, Entry, Opening, IsSafe, Leaves, IsLeftAlone, IsNoneOrEarlierOrHeld, IsMadeSafe, TwoDisks, IsValid, IsAccepted, CheckpointBytes, IsSnapshotOf}
 use Rattle.checkpoint_store.specs.declared.snapshot.Snapshot.{Snapshot}
 use Rattle.life_app.specs.Runs.{IsLeftSo, IsRunOn, OneRun}
 

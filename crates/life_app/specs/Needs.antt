@@ -1,8 +1,6 @@
 -- What the words need of the basis and the disks
 use Rattle.std.specs.Prelude.{◌≡◌, ℕ, ◌<◌, ◌⊎◌, ℤ, List, None, length, codes}
-use Rattle.life_app.specs.Names.{Rose, Files, Ghosts, Command, Position, Mode, State, Checkpoint, Opens, Input, Shelving, Stream, WroteOrFailed, ReadsForValues, TellsTruth}
-use Rattle.policy_types.specs.declared.entry.At.{At}
-use Rattle.basis_shelf.specs.FirstBad.{IsFirstBadFile}
+use Rattle.life_app.specs.Names.{Rose, Files, Ghosts, Command, Position, Mode, State, Checkpoint, Opens, Input, Shelving, Stream, WroteOrFailed, ReadsForValues, TellsTruth, At, IsFirstBadFile}
 use Rattle.basis_shelf.specs.Lines.{bad_basis_text}
 use Rattle.basis_shelf.specs.declared.fault.BadBasis.{BadBasis}
 use Rattle.life_app.specs.Words.{AskForLoad, AskForProject, AskForRun, AskForValue}

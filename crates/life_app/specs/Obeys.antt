@@ -1,10 +1,6 @@
 -- What the program does at its words, over the journal's disk and a second one, or none, and the status with which it ends
 use Rattle.std.specs.Prelude.{◌≡◌, ℕ, ◌⊎◌, List, codes, Option, Some, None}
-use Rattle.life_app.specs.Names.{Ghosts, Auditor, AreWords, Mode, Run, Value, Project, State, Checkpoint, Generate, Load, status_of, Input, Shelving, Stream, WroteLine, Ending, Usage, NoMemory, EndsRun, books_text, policy_account, EndsCheckpoint, EndsStateKept, EndsValue}
-use Rattle.stating_modes.specs.Stating.{EndsState}
-use Rattle.valuing_modes.specs.Projecting.{EndsProject}
-use Rattle.trial_load.specs.Generating.{EndsGenerate}
-use Rattle.trial_load.specs.Loading.{EndsLoad}
+use Rattle.life_app.specs.Names.{Ghosts, Auditor, AreWords, Mode, Run, Value, Project, State, Checkpoint, Generate, Load, status_of, Input, Shelving, Stream, WroteLine, Ending, Usage, NoMemory, EndsRun, books_text, policy_account, EndsCheckpoint, EndsStateKept, EndsValue, EndsState, EndsProject, EndsGenerate, EndsLoad}
 use Rattle.life_app.specs.Words.{AreNoWords}
 
 -- how `state` of all policies ends: by the journal alone, or by both disks

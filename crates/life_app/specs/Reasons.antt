@@ -1,8 +1,6 @@
 -- Each status has its reason
 use Rattle.std.specs.Prelude.{◌≡◌, ℕ, ◌⊎◌, List}
-use Rattle.life_app.specs.Names.{Rose, AreWords, Mode, IsShown, status_of, Input, Shelving, Stream, Ending, Done, Usage, BadScript, BadBasis, BadJournal, ReadFault, WriteFault, DiskFault, NoMemory, Ahead, IsRefused}
-use Rattle.office_state.specs.declared.faults.StartCause.{StartCause}
-use Rattle.program_endings.specs.Refusals.{SaysWhy}
+use Rattle.life_app.specs.Names.{Rose, AreWords, Mode, IsShown, status_of, Input, Shelving, Stream, Ending, Done, Usage, BadScript, BadBasis, BadJournal, ReadFault, WriteFault, DiskFault, NoMemory, Ahead, IsRefused, StartCause, SaysWhy}
 use Rattle.life_app.specs.Needs.{AreTrusted, Filing, HasBadFile, HasDiskFault, HasSecond, IsPastTheEnd, NeedBasis, Second, seen_by}
 use Rattle.life_app.specs.Words.{AreNoWords, AskForCheckpoint, AskForRun}
 

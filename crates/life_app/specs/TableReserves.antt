@@ -1,8 +1,7 @@
 -- The exact reserves by the tables, as the headline is given them
 use Rattle.std.specs.Prelude.{◌≡◌, ℕ, Ok, Err}
-use Rattle.life_app.specs.Names.{Dated, Policy, Fraction}
+use Rattle.life_app.specs.Names.{Dated, Policy, Fraction, NotValued}
 use Rattle.plan_benefits.specs.Shapes.{shape_of}
-use Rattle.plan_benefits.specs.declared.fault.NotValued.{NotValued}
 use Rattle.policy_value.specs.Covers.{AreByDuration, cap_along, cover_along}
 use Rattle.policy_value.specs.Measures.{exact_reserve}
 use Rattle.rate_table.specs.declared.shape.Shape.{Shape}

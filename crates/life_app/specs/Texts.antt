@@ -1,10 +1,7 @@
 -- The texts of the program, as the headline is given them
 use Rattle.std.specs.Prelude.{◌≡◌, ℕ, ◌<◌, ◌^◌, ℤ, List, length}
-use Rattle.life_app.specs.Names.{AllByRecursion, Command, Reply, Accepted, Refused, Faulted, Blank, Terminal, Row, Bounds, Word}
-use Rattle.policy_types.specs.Valid.{id_of}
-use Rattle.policy_value.specs.declared.worth.Worth.{Worth}
+use Rattle.life_app.specs.Names.{AllByRecursion, Command, Reply, Accepted, Refused, Faulted, Blank, Terminal, Row, Bounds, Word, id_of, Worth, posting_text, reports_text, trim_text, unpinned_text, unvalued_text}
 use Rattle.report_text.specs.Block.{block_text}
-use Rattle.transcript_text.specs.Transcript.{posting_text, reports_text, trim_text, unpinned_text, unvalued_text}
 use Rattle.life_app.specs.Given.{Wording}
 
 abbrev pub run_wording : Wording

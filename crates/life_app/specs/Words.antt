@@ -1,8 +1,7 @@
 -- What the program's words ask for, by the kind of command
 use Rattle.std.specs.Prelude.{ℕ, ℤ, List}
-use Rattle.policy_types.specs.declared.entry.At.{At}
+use Rattle.life_app.specs.Names.{At, AreWords, Mode, Run, Value, Project, Checkpoint, Generate, Load}
 use Rattle.policy_value.specs.declared.worth.Measure.{Measure}
-use Rattle.life_app.specs.Names.{AreWords, Mode, Run, Value, Project, Checkpoint, Generate, Load}
 
 -- the words are of no command
 abbrev pub AreNoWords : List (List ℕ) → Type 0

@@ -1,14 +1,10 @@
 -- Worked cases of what a run and `state` write, computed from the definitions alone. Day 18262 is 2020-01-01
 use Rattle.std.specs.Prelude.{◌≡◌, ◌⊎◌, ◌++◌, ℕ, List, [], ◌∷◌, Some, pos, codes}
-use Rattle.life_app.specs.Names.{AllZip, AreWords, Mode, Ghosts, Command, Endowment, Reply, Accepted, Refused, Faulted, Blank, Entry, PostLine, Lane, AnsweredLine, AreLinesOf, opened_on, Stream, WroteLine, BadJournal, NoMemory, books_text, policy_account, AreTrue, TwoDisks, Row, Bounds}
-use Rattle.policy_types.specs.declared.command.Command.TheVariants.{Issue, Premium, Alter, Lapse, Reinstate, Claim, Settle, Mature, PaidUp, Upgrade}
-use Rattle.policy_types.specs.declared.policy.Status.TheVariants.{InForce, Lapsed, Claimed, Matured, Expired, Settled, PaidUp as IsPaidUp}
+use Rattle.life_app.specs.Names.{AllZip, AreWords, Mode, Ghosts, Command, Endowment, Reply, Accepted, Refused, Faulted, Blank, Entry, PostLine, Lane, AnsweredLine, AreLinesOf, opened_on, Stream, WroteLine, BadJournal, NoMemory, books_text, policy_account, AreTrue, TwoDisks, Row, Bounds, Issue, Premium, Alter, Lapse, Reinstate, Claim, Settle, Mature, PaidUp, Upgrade, InForce, Lapsed, Claimed, Matured, Expired, Settled, IsPaidUp, Taken, Unknown, BeforeLast, WrongStatus, TermOver, NothingDue, TooEarly, GraceOver, NotInArrears, TooLate, WrongAmount, NotAReduction, NotMatured, OverSettled, Full, NotUpgraded, Upgraded, IsLineText, posting_text, reports_text, trim_text, unpinned_text, unvalued_text, watcher_text}
 use Rattle.policy_types.specs.declared.refusal.Refusal.{Refusal}
-use Rattle.policy_types.specs.declared.refusal.Refusal.TheVariants.{Taken, Unknown, BeforeLast, WrongStatus, TermOver, NothingDue, TooEarly, GraceOver, NotInArrears, TooLate, WrongAmount, NotAReduction, NotMatured, OverSettled, Full, NotUpgraded, Upgraded}
 use Rattle.policy_types.specs.declared.entry.Call.TheVariants.{Post}
 use Rattle.policy_types.specs.declared.entry.PinRefusal.TheVariants.{Ahead, Trimmed, PinsFull}
 use Rattle.policy_machine.specs.Worked.Cases.{policy_issue}
-use Rattle.transcript_text.specs.Transcript.{IsLineText, posting_text, reports_text, trim_text, unpinned_text, unvalued_text, watcher_text}
 use Rattle.program_endings.specs.Worked.{output_with}
 use Rattle.life_app.specs.Needs.{AreTrusted, Filing, HasDiskFault, HasNewFault, HasSecond, With, Without, seen_by}
 use Rattle.life_app.specs.TableReserves.{AreOnce, table_reserves}

@@ -1,7 +1,6 @@
 // The top call over the journal's disk alone.
 ghost use Rattle.std.specs.Prelude.{◌≡◌, ◌≤◌, ◌⊎◌, None, [], map, length, string_bytes};
-ghost use Rattle.life_app.specs.Names.{AllByRecursion, OpensToNone, status_of, between, input_between, shelf_between, AnEnding};
-ghost use Rattle.watcher_set.specs.Limits.{most_watchers};
+ghost use Rattle.life_app.specs.Names.{AllByRecursion, OpensToNone, status_of, between, input_between, shelf_between, AnEnding, most_watchers};
 ghost use Rattle.life_app.specs.Due.{IsDueEnding};
 ghost use Rattle.life_app.specs.Needs.{Without, filing_between};
 ghost use Rattle.life_app.specs.Obeys.{Obeys};

@@ -1,3 +1,4 @@
+pub mod Names
 pub mod Answers
 pub mod Pieces
 pub mod Values

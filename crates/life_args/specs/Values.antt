@@ -1,12 +1,9 @@
 -- What the values of a command line say. Numbers are decimal digits without a sign and without leading zeros.
 use Rattle.std.specs.Prelude.{◌≡◌, ℕ, ◌≤◌, List, [], ◌∷◌, codes, decimal, Option, Some, None, ℤ}
-use Rattle.policy_types.specs.declared.entry.At.{At}
-use Rattle.policy_types.specs.declared.entry.At.TheVariants.{Now, Position}
+use Rattle.life_args.specs.Names.{At, Now, Position, Measure, Terminal, Mean, Deficiency}
 use Rattle.life_dates.specs.Calendar.{IsDay}
 use Rattle.life_dates.specs.DayText.{day_text}
 use Rattle.basis_book.specs.Name.{IsName}
-use Rattle.policy_value.specs.declared.worth.Measure.{Measure}
-use Rattle.policy_value.specs.declared.worth.Measure.TheVariants.{Terminal, Mean, Deficiency}
 
 -- a day from 1900-01-01 to 2199-12-31, as YYYY-MM-DD
 abbrev pub IsDayValue : List ℕ → ℤ → Type 0

@@ -1,9 +1,6 @@
 -- The words of the program's commands
 use Rattle.std.specs.Prelude.{◌≡◌, ℕ, List, [], ◌∷◌, map, codes, decimal, string_bytes, String, Option, ℤ}
-use Rattle.std.specs.Global.{Global}
-use Rattle.std.specs.List.{Contains}
-use Rattle.policy_types.specs.declared.entry.At.{At}
-use Rattle.policy_value.specs.declared.worth.Measure.{Measure}
+use Rattle.life_args.specs.Names.{Global, Contains, At, Measure}
 use Rattle.life_args.specs.declared.fault.WordsFault.{WordsFault}
 use Rattle.life_args.specs.declared.fault.WordsFault.TheVariants.{Usage, NoMemory}
 use Rattle.life_args.specs.declared.mode.Mode.{Mode}

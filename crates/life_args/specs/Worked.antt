@@ -1,8 +1,6 @@
 -- Worked words: each command as it is typed, and words that are nearly one
 use Rattle.std.specs.Prelude.{◌≡◌, ℕ, List, [], ◌∷◌, map, codes, string_bytes, String, Some, None, pos}
-use Rattle.std.specs.Global.{Global}
-use Rattle.policy_types.specs.declared.entry.At.TheVariants.{Now, Position}
-use Rattle.policy_value.specs.declared.worth.Measure.TheVariants.{Terminal, Mean, Deficiency}
+use Rattle.life_args.specs.Names.{Global, Now, Position, Terminal, Mean, Deficiency}
 use Rattle.life_args.specs.declared.mode.Mode.{Mode}
 use Rattle.life_args.specs.declared.mode.Mode.TheVariants.{Run, Value, Project, State, Checkpoint, Generate, Load}
 use Rattle.life_args.specs.Words.{AskFor, AskForNothing}

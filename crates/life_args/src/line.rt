@@ -1,7 +1,6 @@
 // What stands behind the first word: values that stand alone, and options with their values.
 ghost use Rattle.std.specs.Prelude.{◌≡◌, [], true, IfOk, false, map, string_bytes};
-ghost use Rattle.std.specs.List.{list_any};
-ghost use Rattle.clap.specs.Words.{app_of, is_simple_and_free, rule_of};
+ghost use Rattle.life_args.specs.Names.{list_any, app_of, is_simple_and_free, rule_of};
 ghost use Rattle.life_args.specs.inside.Lines as lines;
 ghost use Rattle.life_args.specs.inside.Lines.{ReadsLine, TakesWords, flag_rule, line_app, no_option_names, option_rule};
 ghost use Rattle.life_args.specs.inside.Verbs.{options_of};

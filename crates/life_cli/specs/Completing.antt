@@ -1,11 +1,9 @@
 -- Which status a run of the program ends with: the reasons, and what is due comes about
 use Rattle.std.specs.Prelude.{◌≡◌, ◌⊎◌, ℕ, List}
-use Rattle.office_state.specs.Journals.{OpensToNone}
+use Rattle.life_cli.specs.Names.{OpensToNone, Input, Shelving, Stream, Filing, Second}
 use Rattle.program_endings.specs.Status.{status_of}
-use Rattle.program_endings.specs.Writing.{Input, Shelving, Stream}
 use Rattle.program_endings.specs.declared.ending.Ending.{Ending}
 use Rattle.life_app.specs.Due.{IsDueEnding}
-use Rattle.life_app.specs.Needs.{Filing, Second}
 use Rattle.life_app.specs.Reasons.{IsReasoned}
 
 pub record EndsDuly (words : List (List ℕ)) (input : Input) (output : Stream) (shelf : Shelving) (disk : Filing) (second : Second)

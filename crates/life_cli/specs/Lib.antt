@@ -1,3 +1,4 @@
+pub mod Names
 pub mod Shipped
 pub mod Completing
 pub mod ShippedRun

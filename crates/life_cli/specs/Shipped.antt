@@ -1,14 +1,8 @@
 -- What the program does on the devices that it is shipped with, from its start to its end
 use Rattle.std.specs.Prelude.{◌==◌, ℕ, false, List, [], ◌∷◌, length, Option, None, Some}
-use Rattle.outside_io.specs.Shelves.{Files}
-use Rattle.outside_io.specs.Streams.{TakenPiece}
-use Rattle.outside_io.specs.declared.disks.Disk.{Ghosts}
+use Rattle.life_cli.specs.Names.{Files, TakenPiece, Ghosts, Input, Shelving, Stream, IsFirstFound, Filing, Obeys}
 use Rattle.watcher_set.specs.Noted.{Auditor}
 use Rattle.watcher_set.specs.Premiums.{premiums_of}
-use Rattle.program_endings.specs.Writing.{Input, Shelving, Stream}
-use Rattle.life_app.specs.Headline.{IsFirstFound}
-use Rattle.life_app.specs.Needs.{Filing}
-use Rattle.life_app.specs.Obeys.{Obeys}
 
 -- it counts commands, and is done at so many
 abbrev pub count_auditor : ℕ → Auditor

@@ -3,12 +3,8 @@ use Rattle.std.specs.Prelude.{ℕ, List}
 use Rattle.basis_book.specs.Dated.{Dated}
 use Rattle.basis_shelf.specs.Bases.{IsBasis}
 use Rattle.command_csv.specs.Reads.{Reads}
-use Rattle.office_state.specs.Journals.{Opens}
-use Rattle.outside_io.specs.declared.disks.Disk.{Ghosts}
+use Rattle.life_cli.specs.Names.{Opens, Ghosts, Input, IsWholeInput, Shelving, Stream, IsGivenBasis, IsPromisedFromStart, With}
 use Rattle.policy_types.specs.declared.script.Lane.{Lane}
-use Rattle.program_endings.specs.Writing.{Input, IsWholeInput, Shelving, Stream}
-use Rattle.life_app.specs.Headline.{IsGivenBasis, IsPromisedFromStart}
-use Rattle.life_app.specs.Needs.{With}
 use Rattle.life_app.specs.TableReserves.{table_reserves}
 use Rattle.life_app.specs.Texts.{run_wording}
 use Rattle.life_app.specs.Words.{AskForRun}

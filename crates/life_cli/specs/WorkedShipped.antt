@@ -1,7 +1,6 @@
 -- The worked run's second half as one of the shipped program, from the start of its devices
 use Rattle.std.specs.Prelude.{[], ◌∷◌, List, Some, codes}
-use Rattle.outside_io.specs.Shelves.{Agrees}
-use Rattle.outside_io.specs.Streams.{TakenPiece}
+use Rattle.life_cli.specs.Names.{Agrees, TakenPiece}
 use Rattle.life_app.specs.WorkedRun.Both.{saved_file, second_disk}
 use Rattle.life_app.specs.WorkedRun.Calls.{called, cut_file, last_disk}
 use Rattle.life_app.specs.WorkedRun.Promise.{premium_script, premium_text}

@@ -2,10 +2,7 @@
 // waiting, and these devices: no way leads to another.
 ghost use Rattle.std.specs.Prelude.{◌≡◌, Some, [], codes, map, string_bytes};
 ghost use Rattle.std.specs.Process.{exit_status};
-ghost use Rattle.outside_io.specs.Shelves.{Files};
-ghost use Rattle.program_endings.specs.Writing.{between, input_between, shelf_between};
-ghost use Rattle.life_app.specs.Needs.{With, filing_between};
-ghost use Rattle.life_app.specs.Obeys.{Obeys};
+ghost use Rattle.life_cli.specs.Names.{Files, between, input_between, shelf_between, With, filing_between, Obeys};
 ghost use Rattle.life_cli.specs.Completing.{EndsDuly};
 ghost use Rattle.life_cli.specs.Shipped.{input_from_start, output_from_start, shelf_from_start, shipped_auditors};
 ghost use Rattle.life_cli.specs.ShippedRun.{IsShipped};

@@ -1,8 +1,7 @@
 -- What the images of a disk hold, on which an office was opened
 use Rattle.std.specs.Prelude.{◌≡◌, ◌⊎◌, ℕ, ◌≤◌, List, [], ◌∷◌, ◌++◌, None}
-use Rattle.office_state.specs.Names.{AllByRecursion, filter_map, last_or, Ghosts, Command, Post, Reply, Accepted, Faulted, Entry, Opening, accepted_of, commands_after, fault_of, IsUnfinished, LooksOn}
+use Rattle.office_state.specs.Names.{AllByRecursion, filter_map, last_or, Ghosts, Command, Post, Reply, Accepted, Faulted, Entry, Opening, accepted_of, commands_after, fault_of, IsUnfinished, LooksOn, IsSynced}
 use Rattle.std.specs.Option.{unwrap_or}
-use Rattle.posting_journal.specs.Opening.{IsSynced}
 use Rattle.office_state.specs.Journals.{JournalBytes, Opens}
 
 -- a posting of the command met a fault of the disk, and after it came these turns

@@ -1,8 +1,6 @@
 -- The journal of a list of commands, as a whole file
 use Rattle.std.specs.Prelude.{◌≡◌, ◌⊎◌, ℕ, List, [], ◌∷◌, ◌++◌, length, None}
-use Rattle.office_state.specs.Names.{AllByRecursion, Command, IsValid, judge, IsAccepted, bodies_of, IsUnfinished, IsForeign, IsBadAt}
-use Rattle.record_codec.specs.Spelling.{spelling_of}
-use Rattle.posting_journal.specs.Files.{IsJournal}
+use Rattle.office_state.specs.Names.{AllByRecursion, Command, IsValid, judge, IsAccepted, bodies_of, IsUnfinished, IsForeign, IsBadAt, spelling_of, IsJournal}
 use Rattle.office_state.specs.declared.faults.StartCause.{StartCause}
 use Rattle.office_state.specs.declared.faults.StartCause.TheVariants.{DiskFault, NotAJournal, BadRecord, NoMemory}
 

@@ -1,9 +1,7 @@
 -- The office stands for the history of its turns
 use Rattle.std.specs.Prelude.{◌≡◌, ◌⊎◌, ℕ, ◌+◌, ◌≤◌, List, IfSome, drop, length}
-use Rattle.office_state.specs.Names.{Ghosts, Command, Entry, ledger_of, book, Opening, IsLegal, accepted_of, commands_after, floor_of, own, versions_from, WatcherGhosts}
+use Rattle.office_state.specs.Names.{Ghosts, Command, Entry, ledger_of, book, Opening, IsLegal, accepted_of, commands_after, floor_of, own, versions_from, WatcherGhosts, IsSynced, sent}
 use Rattle.office_state.specs.versions.Commands.{sets_of}
-use Rattle.posting_journal.specs.Opening.{IsSynced}
-use Rattle.rtrb.specs.Ring.{sent}
 use Rattle.office_state.specs.declared.state.OfficeState.{OfficeState}
 use Rattle.office_state.specs.Images.{AreQuiet, AreSafeSince, HoldsNow, HoldsOnce, HoldsSince, IsLeftAlone, KeepsAccepted, faults_after}
 use Rattle.office_state.specs.Journals.{Opens}

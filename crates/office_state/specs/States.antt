@@ -1,8 +1,6 @@
 -- What a caller sees of an office
 use Rattle.std.specs.Prelude.{ℕ, List, Option}
-use Rattle.office_state.specs.Names.{Ghosts, Command, Policy, Opening, opened_on, disk_under, WatcherGhosts, versions_in}
-use Rattle.policy_types.specs.Accounts.{Booking}
-use Rattle.watcher_set.specs.Noted.{Auditor}
+use Rattle.office_state.specs.Names.{Ghosts, Command, Policy, Opening, opened_on, disk_under, WatcherGhosts, versions_in, Booking, Auditor}
 use Rattle.std.specs.declared.alloc.Global.{Global}
 use Rattle.rtrb.specs.declared.AnyItems.{AnyItems}
 use Rattle.rtrb.specs.declared.producer.Producer.{Producer}

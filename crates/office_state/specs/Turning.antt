@@ -1,7 +1,6 @@
 -- The turns of pins, reads and trims
 use Rattle.std.specs.Prelude.{ℕ, List, Ok, Err, Result}
-use Rattle.office_state.specs.Names.{Policy, Pin, PinAt, Read, Unpin, Trim, Reply, Pinned, PinRefused, Policies, Unpinned, Floor, Entry}
-use Rattle.policy_types.specs.declared.entry.PinRefusal.{PinRefusal}
+use Rattle.office_state.specs.Names.{Policy, Pin, PinAt, Read, Unpin, Trim, Reply, Pinned, PinRefused, Policies, Unpinned, Floor, Entry, PinRefusal}
 use Rattle.office_state.specs.declared.held.PinInfo.{PinInfo}
 
 -- the reply of a pin's turn

@@ -1,8 +1,7 @@
 -- Worked files of an office: a journal of two commands, what a crash leaves of a posting, and what the turns of a history say of it.
 -- The bytes are those of record_codec's worked bodies and of posting_journal's worked files
 use Rattle.std.specs.Prelude.{◌≡◌, ℕ, List, [], ◌∷◌, ◌++◌, take, replicate, pos}
-use Rattle.office_state.specs.Names.{Command, Issue, Premium, Post, Reply, Accepted, Refused, Faulted, Blank, Entry, Opening, opened_on}
-use Rattle.policy_types.specs.declared.command.Plan.TheVariants.{Endowment}
+use Rattle.office_state.specs.Names.{Command, Issue, Premium, Post, Reply, Accepted, Refused, Faulted, Blank, Entry, Opening, opened_on, Endowment}
 use Rattle.policy_types.specs.declared.refusal.Refusal.TheVariants.{NothingDue}
 use Rattle.record_codec.specs.Worked.{first_issue_bytes}
 use Rattle.posting_journal.specs.Worked.{header_by_hand}

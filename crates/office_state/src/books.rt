@@ -1,7 +1,6 @@
 // The books: each policy's versions, and the balances that the accepted commands leave.
 ghost use Rattle.std.specs.Prelude.{◌≡◌, ◌+◌, ◌<◌, ◌≤◌, ◌++◌, [], ◌∷◌, Ok, Some, None, false, OnOk, length, take, slice_get};
-ghost use Rattle.policy_types.specs.Limits.{most_commands};
-ghost use Rattle.office_state.specs.Names.{IsValid, id_of, is_upgrade, Upgrade, ledger_of, book, judge_of, judged_after, policy_of, balances, next, IsPlaceIn};
+ghost use Rattle.office_state.specs.Names.{most_commands, IsValid, id_of, is_upgrade, Upgrade, ledger_of, book, judge_of, judged_after, policy_of, balances, next, IsPlaceIn};
 ghost use Rattle.office_state.specs.inside.Keeping.{Keeps, Keeps-prop};
 
 use crate::accepted_list::AcceptedList;

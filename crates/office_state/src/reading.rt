@@ -1,8 +1,6 @@
 // What is read of an office, and how it ends.
 ghost use Rattle.std.specs.Prelude.{◌≡◌, ◌<◌, ◌≤◌, Some, IfSome, List, length, take, slice_get};
-ghost use Rattle.office_state.specs.Names.{Entry, balances, ledger_of, book, accepted_of, commands_after, floor_of};
-ghost use Rattle.watcher_set.specs.Noted.{reports_of};
-ghost use Rattle.rtrb.specs.Ring.{sent};
+ghost use Rattle.office_state.specs.Names.{Entry, balances, ledger_of, book, accepted_of, commands_after, floor_of, reports_of, sent};
 ghost use Rattle.office_state.specs.Images.{AreSafeSince, IsLeftBy};
 ghost use Rattle.office_state.specs.Standing.{KeepsFew, StandsFor};
 ghost use Rattle.office_state.specs.States.{auditors_of, begun_of, commands_of, count_of, disk_of, floor_kept, kept_count, opening_of, outlet_of, turns_of};

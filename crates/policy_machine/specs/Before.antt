@@ -1,9 +1,7 @@
 -- The rules as they were before a policy could be made paid up, kept for one law: old journals mean what they meant. Their
 -- numbers, days and bookings are their own: a rule that changes doesn't change them.
 use Rattle.std.specs.Prelude.{◌≡◌, ◌+◌, ◌-◌, ◌*◌, ◌&&◌, ◌==◌, true, not, nat_lt, nat_le, int_lt, int_le, if◌then◌else◌, List, [], ◌∷◌, ◌++◌, ℕ, ℤ, pos, ◌+ℤ◌, ◌-ℤ◌, Some, None, Option, Ok, Err, Result}
-use Rattle.policy_machine.specs.Names.{count_by, filter_map, fold, range_with_len, Command, Issue, Premium, Alter, Lapse, Reinstate, Claim, Settle, Mature, PaidUp, Upgrade, Term, Whole, Endowment, Limited, Policy, InForce, Lapsed, Claimed, Matured, Expired, Settled, Refusal, Taken, Unknown, BeforeLast, WrongStatus, TermOver, NothingDue, TooEarly, GraceOver, NotInArrears, TooLate, WrongAmount, NotAReduction, NotMatured, OverSettled, Booking, nothing_booked, premium_received, benefit_incurred, benefit_paid, booked_at_term, added, id_of}
-use Rattle.policy_types.specs.declared.command.Plan.{Plan}
-use Rattle.life_dates.specs.Anniversary.{anniversary_of}
+use Rattle.policy_machine.specs.Names.{count_by, filter_map, fold, range_with_len, Command, Issue, Premium, Alter, Lapse, Reinstate, Claim, Settle, Mature, PaidUp, Upgrade, Term, Whole, Endowment, Limited, Policy, InForce, Lapsed, Claimed, Matured, Expired, Settled, Refusal, Taken, Unknown, BeforeLast, WrongStatus, TermOver, NothingDue, TooEarly, GraceOver, NotInArrears, TooLate, WrongAmount, NotAReduction, NotMatured, OverSettled, Booking, nothing_booked, premium_received, benefit_incurred, benefit_paid, booked_at_term, added, id_of, Plan, anniversary_of}
 use Rattle.policy_machine.specs.Rules.{Check, refuse, first_refusal, decided, is_in_force, is_lapsed, awaits_settlement}
 use Rattle.policy_machine.specs.Book.{own, kept, issue_id, left_by, refusal_in}
 

@@ -1,7 +1,6 @@
 -- The histories of the office that are legal: every reply is the one due after the turns before it
 use Rattle.std.specs.Prelude.{◌≡◌, ℕ, ◌+◌, ◌-◌, ◌^◌, ◌<◌, ◌≤◌, min, Bool, true, not, ◌==◌, if◌then◌else◌, List, [], ◌∷◌, ◌++◌, length, take, drop, slice_get, Some, None, Option}
-use Rattle.policy_machine.specs.Names.{AllByRecursion, filter_map, list_any, last_or, range_with_len, unwrap_or, Command, Refusal, Full, Call, Post, Pin, PinAt, Read, Unpin, Trim, Reply, Accepted, Refused, Faulted, Pinned, PinRefused, Policies, Unpinned, Floor, Blank, Ahead, Trimmed, PinsFull, Entry, IsValid}
-use Rattle.policy_types.specs.Limits.{most_commands}
+use Rattle.policy_machine.specs.Names.{AllByRecursion, filter_map, list_any, last_or, range_with_len, unwrap_or, Command, Refusal, Full, Call, Post, Pin, PinAt, Read, Unpin, Trim, Reply, Accepted, Refused, Faulted, Pinned, PinRefused, Policies, Unpinned, Floor, Blank, Ahead, Trimmed, PinsFull, Entry, IsValid, most_commands}
 use Rattle.policy_machine.specs.Book.{book, judge, IsAccepted}
 
 -- what an office was opened on: the commands of its journal, and the disk's count of faults then

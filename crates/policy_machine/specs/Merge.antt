@@ -1,11 +1,9 @@
 -- How the turns of several clerks make one history: each clerk's lines are answered once, in order
 use Rattle.std.specs.Prelude.{◌≡◌, ℕ, ◌+◌, ◌*◌, ◌/◌, ◌==◌, nat_eq, map, List, [], ◌∷◌, ◌++◌, take}
-use Rattle.policy_machine.specs.Names.{AllByRecursion, Contains, IsDistinct, enumerate_from, filter, range_with_len, Call, Post, Pin, PinAt, Read, Unpin, TrimCall, Reply, Pinned, PinRefused, Entry}
+use Rattle.policy_machine.specs.Names.{AllByRecursion, Contains, IsDistinct, enumerate_from, filter, range_with_len, Call, Post, Pin, PinAt, Read, Unpin, TrimCall, Reply, Pinned, PinRefused, Entry, Now, Position, Lane}
 use Rattle.policy_types.specs.declared.entry.At.{At}
-use Rattle.policy_types.specs.declared.entry.At.TheVariants.{Now, Position}
 use Rattle.policy_types.specs.declared.script.Line.{Line}
 use Rattle.policy_types.specs.declared.script.Line.TheVariants.{Post as PostLine, Value, Trim}
-use Rattle.policy_types.specs.declared.script.Lane.{Lane}
 use Rattle.policy_machine.specs.History.{policies_per_read}
 
 -- a turn beside its place in the history

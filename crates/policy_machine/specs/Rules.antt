@@ -1,9 +1,7 @@
 -- The rules of a policy's life: for each command the checks in their order, and what the command changes
 use Rattle.std.specs.Prelude.{ℕ, ◌+◌, ◌-◌, ◌*◌, ◌<◌, ◌≤◌, ◌↔◌, Bool, true, not, ◌&&◌, ◌==◌, nat_lt, nat_le, int_lt, int_le, if◌then◌else◌, List, [], ◌∷◌, ℤ, pos, ◌+ℤ◌, ◌-ℤ◌, ◌≤ℤ◌, IsTrue, Some, None, Option, Ok, Err, Result}
-use Rattle.policy_machine.specs.Names.{count_by, range_with_len, Command, Issue, Premium, Alter, Lapse, Reinstate, Claim, Settle, Mature, MakePaidUp, Upgrade, Term, Whole, Endowment, Limited, Policy, Status, Refusal, Taken, Unknown, BeforeLast, WrongStatus, TermOver, NothingDue, TooEarly, GraceOver, NotInArrears, TooLate, WrongAmount, NotAReduction, NotMatured, OverSettled, IsIssue, IsCommandDay}
-use Rattle.policy_types.specs.declared.command.Plan.{Plan}
+use Rattle.policy_machine.specs.Names.{count_by, range_with_len, Command, Issue, Premium, Alter, Lapse, Reinstate, Claim, Settle, Mature, MakePaidUp, Upgrade, Term, Whole, Endowment, Limited, Policy, Status, Refusal, Taken, Unknown, BeforeLast, WrongStatus, TermOver, NothingDue, TooEarly, GraceOver, NotInArrears, TooLate, WrongAmount, NotAReduction, NotMatured, OverSettled, IsIssue, IsCommandDay, Plan, anniversary_of}
 use Rattle.policy_types.specs.declared.policy.Status.TheVariants.{InForce, Lapsed, Claimed, Matured, Expired, Settled, PaidUp}
-use Rattle.life_dates.specs.Anniversary.{anniversary_of}
 
 -- the years of insurance of a plan, from the issue on
 abbrev pub years_in : Plan → ℕ → ℕ → ℕ

@@ -1,4 +1,5 @@
 -- Worked cases of the rules, the histories and the merges, computed from the definitions alone
+pub mod Names
 pub mod Cases
 pub mod Issues
 pub mod Premiums

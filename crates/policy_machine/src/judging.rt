@@ -1,7 +1,6 @@
 // Whether a command is accepted after those before it.
 ghost use Rattle.std.specs.Prelude.{◌≡◌, ◌<◌, ◌++◌, ◌∷◌, [], List, None, IfSome, IfOk, length};
-ghost use Rattle.policy_machine.specs.Names.{option_copied, ACommand, Upgrade, IsValid, id_of};
-ghost use Rattle.policy_types.specs.Limits.{most_commands};
+ghost use Rattle.policy_machine.specs.Names.{option_copied, ACommand, Upgrade, IsValid, id_of, most_commands};
 ghost use Rattle.policy_machine.specs.Book.{judged, left_by, upgrade_of};
 ghost use Rattle.policy_machine.specs.Rules.{IsSound};
 

@@ -1,7 +1,6 @@
 -- The cover of a policy by a table of either kind, and the cover that limits its net premium.
 use Rattle.std.specs.Prelude.{ℕ, ◌+◌, ◌<◌}
-use Rattle.policy_value.specs.Names.{Shape, IsRateOf, table_along, Cover, cover_of, cap_of}
-use Rattle.select_rates.specs.declared.any.AnyTable.{AnyTable}
+use Rattle.policy_value.specs.Names.{Shape, IsRateOf, table_along, Cover, cover_of, cap_of, AnyTable}
 
 -- by the rates of the age at issue
 abbrev pub cover_along : AnyTable → Shape → ℕ → Cover

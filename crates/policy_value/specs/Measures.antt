@@ -1,9 +1,8 @@
 -- What a policy is worth by each measure
 use Rattle.std.specs.Prelude.{◌≡◌, ℕ, ◌*◌, ◌<◌, ⊤}
-use Rattle.policy_value.specs.Names.{Policy, InForce, PaidUp, Cover, ben, beta}
+use Rattle.policy_value.specs.Names.{Policy, InForce, PaidUp, Cover, ben, beta, reserve, Encloses}
 use Rattle.policy_types.specs.declared.policy.Status.{Status}
 use Rattle.present_value.specs.Fractions.{Fraction}
-use Rattle.present_value.specs.Reserve.{reserve, Encloses}
 use Rattle.present_value.specs.Mean.{mean_reserve, paid_up_mean}
 use Rattle.crvm_reserve.specs.Rounded.{beta_lo, beta_hi, rounded, rounded_paid_up}
 use Rattle.crvm_reserve.specs.RoundedMean.{rounded_mean, rounded_paid_up_mean}

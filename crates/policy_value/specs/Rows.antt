@@ -1,9 +1,7 @@
 -- The row of a policy in a valuation: its worth on a day by a basis and a measure, or the word why it has none
 use Rattle.std.specs.Prelude.{◌≡◌, ℕ, ◌≤◌, ◌⊎◌, min, ⊤, List, All, ℤ, ◌<ℤ◌, ◌≤ℤ◌, Result, Ok, Err}
-use Rattle.policy_value.specs.Names.{Policy, InForce, PaidUp, Shape, shape_of, Dated, IsPicked}
+use Rattle.policy_value.specs.Names.{Policy, InForce, PaidUp, Shape, shape_of, Dated, IsPicked, AnyTable, NotValued}
 use Rattle.life_dates.specs.Anniversary.{IsCompleted}
-use Rattle.select_rates.specs.declared.any.AnyTable.{AnyTable}
-use Rattle.plan_benefits.specs.declared.fault.NotValued.{NotValued}
 use Rattle.plan_benefits.specs.declared.fault.NotValued.TheVariants.{NoBasis}
 use Rattle.policy_value.specs.declared.worth.Row.{Row}
 use Rattle.policy_value.specs.declared.worth.Worth.{Worth}

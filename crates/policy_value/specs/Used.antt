@@ -1,7 +1,6 @@
 -- What a row does to the cache that it is handed.
 use Rattle.std.specs.Prelude.{◌≡◌, ℕ, List, All, ℤ, ◌<ℤ◌, Result, Ok, Err}
-use Rattle.policy_value.specs.Names.{Policy, PaidUp, Shape, shape_of, Dated, IsPicked}
-use Rattle.plan_benefits.specs.declared.fault.NotValued.{NotValued}
+use Rattle.policy_value.specs.Names.{Policy, PaidUp, Shape, shape_of, Dated, IsPicked, NotValued}
 use Rattle.policy_value.specs.declared.cache.ColumnCache.{ColumnCache}
 use Rattle.policy_value.specs.declared.key.CacheKey.{CacheKey}
 use Rattle.policy_value.specs.Rows.{IsInsured}

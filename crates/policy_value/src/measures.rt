@@ -1,7 +1,6 @@
 // What an insured policy is worth at a year of its cover, by each measure.
 ghost use Rattle.std.specs.Prelude.{◌≡◌, ◌≤◌, ◌*◌};
-ghost use Rattle.present_value.specs.Reserve.{Encloses};
-ghost use Rattle.policy_types.specs.Valid.{IsAmount};
+ghost use Rattle.policy_value.specs.Names.{Encloses, IsAmount};
 ghost use Rattle.policy_value.specs.Caches.{IsRightFor};
 ghost use Rattle.policy_value.specs.Used.{AsksByStatus, key_of};
 ghost use Rattle.policy_value.specs.Measures.{IsBothOf, IsExactFor, IsWorthOf, exact_mean, exact_reserve, most_worth, rounded_mean_reserve, rounded_reserve};

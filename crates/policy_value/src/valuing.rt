@@ -1,6 +1,5 @@
 ghost use Rattle.std.specs.Prelude.{◌≡◌, ◌≤◌, ◌≤ℤ◌, ◌↔◌, ℕ, Ok, Some, IsTrue, slice_get};
-ghost use Rattle.policy_value.specs.Names.{Dated, IsPicked, shape_of, AShape};
-ghost use Rattle.policy_types.specs.Valid.{IsIssue};
+ghost use Rattle.policy_value.specs.Names.{Dated, IsPicked, shape_of, AShape, IsIssue};
 ghost use Rattle.policy_value.specs.Caches.{IsRightFor};
 ghost use Rattle.policy_value.specs.Used.{UsesCache, AsksByBasis, AsksByShape};
 ghost use Rattle.policy_value.specs.Measures.{most_worth};

@@ -1,8 +1,6 @@
 -- What calls tell of the disk's faults.
 use Rattle.std.specs.Prelude.{◌≡◌, ◌≤◌, Result, IfErr, OnOk}
-use Rattle.outside_io.specs.Disks.{HasDiskCause}
-use Rattle.outside_io.specs.Faults.{Rose}
-use Rattle.outside_io.specs.declared.disks.Disk.{Ghosts}
+use Rattle.posting_journal.specs.Names.{HasDiskCause, Rose, Ghosts}
 use Rattle.posting_journal.specs.declared.faults.DiskFault.{DiskFault}
 
 -- A call fails only where the disk's count rose, and answers the count that then stands; one that succeeds leaves the

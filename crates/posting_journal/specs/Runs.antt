@@ -1,7 +1,6 @@
 -- What a run of calls does to a disk that is honest after it, and so was before it.
 use Rattle.std.specs.Prelude.{ℕ, List}
-use Rattle.outside_io.specs.Disks.{Only, Looks, Elapses, LeavesOnly}
-use Rattle.outside_io.specs.declared.disks.Disk.{Ghosts}
+use Rattle.posting_journal.specs.Names.{Only, Looks, Elapses, LeavesOnly, Ghosts}
 
 -- nothing was written
 pub record LooksOn {D : Type 0} (g : Ghosts D) (old new : D) : Type 0 where

@@ -1,7 +1,6 @@
 -- What opening a journal answers.
 use Rattle.std.specs.Prelude.{◌≡◌, ℕ, List, [], Result, Ok, Err}
-use Rattle.outside_io.specs.Faults.{Rose}
-use Rattle.outside_io.specs.declared.disks.Disk.{Ghosts}
+use Rattle.posting_journal.specs.Names.{Rose, Ghosts}
 use Rattle.posting_journal.specs.Files.{IsJournal}
 use Rattle.posting_journal.specs.Creation.{IsForeign, IsBadAt, OpensToBodies}
 use Rattle.posting_journal.specs.Opening.{HasSynced}

@@ -1,10 +1,8 @@
 -- How a mode ends that opened no office: the line that says why
 use Rattle.std.specs.Prelude.{◌≡◌, ℕ, List, ◌++◌, codes, decimal}
-use Rattle.outside_io.specs.declared.disks.Disk.{Ghosts}
-use Rattle.office_state.specs.Images.{IsLeftAlone}
+use Rattle.program_endings.specs.Names.{Ghosts, IsLeftAlone, NotAJournal, BadRecord, FaultyDisk, NoRoom}
 use Rattle.office_state.specs.Journals.{IsShown}
 use Rattle.office_state.specs.declared.faults.StartCause.{StartCause}
-use Rattle.office_state.specs.declared.faults.StartCause.TheVariants.{NotAJournal, BadRecord, DiskFault as FaultyDisk, NoMemory as NoRoom}
 use Rattle.program_endings.specs.declared.ending.Ending.{Ending}
 use Rattle.program_endings.specs.declared.ending.Ending.TheVariants.{BadJournal, DiskFault, NoMemory}
 use Rattle.program_endings.specs.Writing.{Stream, WroteLine}

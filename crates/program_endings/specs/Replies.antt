@@ -2,10 +2,7 @@
 use Rattle.std.specs.Prelude.{◌≡◌, ℕ, ◌⊎◌, List, [], slice_get, Some}
 use Rattle.std.specs.List.{AllByRecursion, Contains}
 use Rattle.policy_types.specs.declared.command.Command.{Command}
-use Rattle.policy_types.specs.declared.entry.Entry.{Entry}
-use Rattle.policy_types.specs.declared.entry.Reply.{Reply}
-use Rattle.policy_types.specs.declared.entry.Reply.TheVariants.{Faulted, Pinned, Blank}
-use Rattle.office_state.specs.Images.{HasFaulted}
+use Rattle.program_endings.specs.Names.{Entry, Reply, Faulted, Pinned, Blank, HasFaulted}
 
 -- a posting was answered: it was accepted or refused
 abbrev pub IsAnswered : Reply → Type 0

@@ -2,10 +2,7 @@
 use Rattle.std.specs.Prelude.{ℕ, List, codes, Result, Ok, Err, Vec, ◌≡◌}
 use Rattle.std.specs.Global.{Global}
 use Rattle.policy_types.specs.declared.watcher.NoMemory.{NoMemory as Lack}
-use Rattle.outside_io.specs.Faults.{Rose}
-use Rattle.outside_io.specs.Streams.{AppendsPart}
-use Rattle.outside_io.specs.declared.disks.Disk.{Ghosts}
-use Rattle.office_state.specs.Images.{IsLeftAlone}
+use Rattle.program_endings.specs.Names.{Rose, AppendsPart, Ghosts, IsLeftAlone}
 use Rattle.program_endings.specs.declared.ending.Ending.{Ending}
 use Rattle.program_endings.specs.declared.ending.Ending.TheVariants.{Done, BadJournal, WriteFault, DiskFault, NoMemory}
 use Rattle.program_endings.specs.Writing.{Stream, WroteAll, WroteLine}

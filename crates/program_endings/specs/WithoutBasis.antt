@@ -1,7 +1,6 @@
 -- How a mode ends without the basis that it needs: the line that says why
 use Rattle.std.specs.Prelude.{◌≡◌, ℕ, List, codes}
-use Rattle.outside_io.specs.Faults.{Rose}
-use Rattle.outside_io.specs.Shelves.{Files}
+use Rattle.program_endings.specs.Names.{Rose, Files}
 use Rattle.basis_shelf.specs.FirstBad.{IsFirstBadFile}
 use Rattle.basis_shelf.specs.Lines.{bad_basis_text}
 use Rattle.basis_shelf.specs.declared.fault.BadBasis.{BadBasis}

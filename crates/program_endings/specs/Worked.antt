@@ -1,16 +1,12 @@
 -- Worked cases of endings, lines and replies. What was written is compared with what the lines have to be, byte by byte
 use Rattle.std.specs.Prelude.{◌+◌, ◌≡◌, ℕ, List, [], ◌∷◌, ◌++◌, Option, Some, None, codes, pos}
-use Rattle.outside_io.specs.declared.disks.Disk.{Ghosts}
+use Rattle.program_endings.specs.Names.{Ghosts, Reply, Accepted, Refused, Faulted, Pinned, Blank, Entry, NotAJournal, BadRecord}
 use Rattle.policy_types.specs.declared.command.Command.TheVariants.{Lapse}
 use Rattle.policy_types.specs.declared.entry.Call.TheVariants.{Post, Pin}
-use Rattle.policy_types.specs.declared.entry.Reply.{Reply}
-use Rattle.policy_types.specs.declared.entry.Reply.TheVariants.{Accepted, Refused, Faulted, Pinned, Blank}
-use Rattle.policy_types.specs.declared.entry.Entry.{Entry}
 use Rattle.policy_types.specs.declared.refusal.Refusal.TheVariants.{Unknown}
 use Rattle.policy_machine.specs.History.{IsLegal, opened_on}
 use Rattle.policy_machine.specs.Worked.Cases.{posting, premium_on, unpaid}
 use Rattle.policy_machine.specs.Worked.Pins.{second_issue}
-use Rattle.office_state.specs.declared.faults.StartCause.TheVariants.{NotAJournal, BadRecord}
 use Rattle.basis_shelf.specs.declared.fault.BasisWord.TheVariants.{AgeGap}
 use Rattle.program_endings.specs.declared.ending.Ending.TheVariants.{Done, Usage, BadScript, BadBasis as BadBasisFile, BadJournal, ReadFault, WriteFault, DiskFault, NoMemory, Ahead}
 use Rattle.program_endings.specs.Status.{status_of}

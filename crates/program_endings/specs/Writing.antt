@@ -1,9 +1,6 @@
 -- What passes between the program and its devices in a call
 use Rattle.std.specs.Prelude.{◌≡◌, ℕ, ◌⊎◌, List, [], ◌∷◌, ◌++◌, Option, Some, IfSome}
-use Rattle.std.specs.Io.KnownBytes.{Appends, IsAtEnd}
-use Rattle.outside_io.specs.Faults.{Rose}
-use Rattle.outside_io.specs.Shelves.{Files}
-use Rattle.outside_io.specs.Streams.{AppendsPart, TakenPiece}
+use Rattle.program_endings.specs.Names.{Appends, IsAtEnd, Rose, Files, AppendsPart, TakenPiece}
 
 -- an input at two moments: its count of faults, the bytes that are left in it where it tells them, the bytes that it gave
 -- so far, and whether a read of it has seen the end

@@ -1,8 +1,6 @@
 // What is written: a line that stands alone, or a whole text.
 ghost use Rattle.std.specs.Prelude.{◌≡◌, ◌≤◌, ◌++◌, codes, OnErr, OnOk};
-ghost use Rattle.std.specs.Io.KnownBytes.{Appends};
-ghost use Rattle.outside_io.specs.Faults.{HasCause};
-ghost use Rattle.outside_io.specs.Streams.{AppendsPart};
+ghost use Rattle.program_endings.specs.Names.{Appends, HasCause, AppendsPart};
 ghost use Rattle.program_endings.specs.Texts.{EndsText};
 ghost use Rattle.program_endings.specs.Writing.{WroteLine, WroteOrFailed, between};
 ghost use Rattle.program_endings.specs.declared.ending.Ending.TheVariants.{NoMemory as NoRoom};

@@ -1,9 +1,6 @@
 -- The fields of a command in a record, each 0 where its kind has none
 use Rattle.std.specs.Prelude.{ℕ, ℤ, pos}
-use Rattle.policy_types.specs.declared.command.Command.{Command}
-use Rattle.policy_types.specs.declared.command.Command.TheVariants.{Issue, Premium, Alter, Lapse, Reinstate, Claim, Settle, Mature, PaidUp, Upgrade}
-use Rattle.policy_types.specs.declared.command.Plan.{Plan}
-use Rattle.policy_types.specs.declared.command.Plan.TheVariants.{Term, Whole, Endowment, Limited}
+use Rattle.record_codec.specs.Names.{Command, Issue, Premium, Alter, Lapse, Reinstate, Claim, Settle, Mature, PaidUp, Upgrade, Plan, Term, Whole, Endowment, Limited}
 use Rattle.record_codec.specs.declared.fields.RecordFields.{RecordFields}
 
 -- the byte of a plan

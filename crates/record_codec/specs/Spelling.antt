@@ -1,8 +1,6 @@
 -- The body of a journal's record: 64 bytes that spell one command
 use Rattle.std.specs.Prelude.{◌≡◌, ◌++◌, List, [], ◌∷◌, ℕ, replicate}
-use Rattle.std.specs.Int.{w32, w64, to_be_bytes, cast_unsigned}
-use Rattle.policy_types.specs.declared.command.Command.{Command}
-use Rattle.policy_types.specs.Valid.{IsValid}
+use Rattle.record_codec.specs.Names.{w32, w64, to_be_bytes, cast_unsigned, Command, IsValid}
 use Rattle.record_codec.specs.declared.fields.RecordFields.{RecordFields}
 use Rattle.record_codec.specs.Fields.{fields_of}
 

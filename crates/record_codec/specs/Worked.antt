@@ -1,8 +1,6 @@
 -- Worked bodies, computed from the definitions alone; the bytes were packed by hand from the table of the format
 use Rattle.std.specs.Prelude.{◌≡◌, ◌++◌, List, [], ◌∷◌, ℕ, pos, negsuc, replicate}
-use Rattle.policy_types.specs.declared.command.Command.{Command}
-use Rattle.policy_types.specs.declared.command.Command.TheVariants.{Issue, Premium, Alter, Lapse, Reinstate, Claim, Settle, Mature, PaidUp, Upgrade}
-use Rattle.policy_types.specs.declared.command.Plan.TheVariants.{Endowment}
+use Rattle.record_codec.specs.Names.{Command, Issue, Premium, Alter, Lapse, Reinstate, Claim, Settle, Mature, PaidUp, Upgrade, Endowment}
 use Rattle.record_codec.specs.Spelling.{spelling_of, IsSpelling}
 
 -- the command is spelled by these 28 bytes and 36 zeros

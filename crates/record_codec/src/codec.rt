@@ -1,7 +1,6 @@
 // Records of commands.
 ghost use Rattle.std.specs.Prelude.{◌≡◌, Some, IfSome};
-ghost use Rattle.policy_types.specs.Valid.{IsValid};
-ghost use Rattle.policy_types.specs.declared.command.Command.{Command};
+ghost use Rattle.record_codec.specs.Names.{IsValid, Command};
 ghost use Rattle.record_codec.specs.Spelling.{spelling_of, IsSpelling};
 
 use crate::body::{body_with, fields_at};

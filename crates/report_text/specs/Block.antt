@@ -1,19 +1,12 @@
 -- The text of a valuation by a measure: a line that says what was valued, a row for each policy, and the total
 use Rattle.std.specs.Prelude.{ℕ, ◌≤◌, ⊤, Bool, true, false, List, [], ◌∷◌, ◌++◌, ℤ, codes, decimal, length}
-use Rattle.std.specs.List.{All, sum_by, count_by, flat_map}
+use Rattle.report_text.specs.Names.{All, sum_by, count_by, flat_map, cents_text, line_of, NoBasis, BelowTable, PastTable, RateHigh, Short, Enough, Close, Terminal, Mean, Deficiency, Row, Bounds, Both, Word}
 use Rattle.life_dates.specs.DayText.{day_text}
-use Rattle.money_core.specs.CentsText.{cents_text}
 use Rattle.policy_types.specs.Words.{status_word}
-use Rattle.text_lines.specs.Lines.{line_of}
 use Rattle.plan_benefits.specs.declared.fault.NotValued.{NotValued}
-use Rattle.plan_benefits.specs.declared.fault.NotValued.TheVariants.{NoBasis, BelowTable, PastTable, RateHigh}
 use Rattle.deficiency_reserve.specs.declared.answer.Adequacy.{Adequacy}
-use Rattle.deficiency_reserve.specs.declared.answer.Adequacy.TheVariants.{Short, Enough, Close}
 use Rattle.policy_value.specs.declared.worth.Measure.{Measure}
-use Rattle.policy_value.specs.declared.worth.Measure.TheVariants.{Terminal, Mean, Deficiency}
-use Rattle.policy_value.specs.declared.worth.Row.{Row}
 use Rattle.policy_value.specs.declared.worth.Worth.{Worth}
-use Rattle.policy_value.specs.declared.worth.Worth.TheVariants.{Bounds, Both, Word}
 
 -- why a policy has no reserve
 abbrev pub reason_word : NotValued → List ℕ

@@ -1,3 +1,4 @@
+pub mod Names
 pub mod Block
 pub mod Parts
 pub mod Worked

@@ -1,11 +1,7 @@
 -- Small valuations, worked outside of this repository
 use Rattle.std.specs.Prelude.{◌≡◌, [], ◌∷◌, ◌++◌, codes, pos}
 use Rattle.policy_types.specs.declared.policy.Status.TheVariants.{InForce, Lapsed, PaidUp}
-use Rattle.plan_benefits.specs.declared.fault.NotValued.TheVariants.{PastTable}
-use Rattle.deficiency_reserve.specs.declared.answer.Adequacy.TheVariants.{Short, Enough, Close}
-use Rattle.policy_value.specs.declared.worth.Measure.TheVariants.{Terminal, Mean, Deficiency}
-use Rattle.policy_value.specs.declared.worth.Row.{Row}
-use Rattle.policy_value.specs.declared.worth.Worth.TheVariants.{Bounds, Both, Word}
+use Rattle.report_text.specs.Names.{PastTable, Short, Enough, Close, Terminal, Mean, Deficiency, Row, Bounds, Both, Word}
 use Rattle.report_text.specs.Block.{row_text, total_text, block_text}
 
 -- an endowment after a year

@@ -1,8 +1,6 @@
 // The whole text of a valuation.
 ghost use Rattle.std.specs.Prelude.{◌≡◌, ◌≤◌, ◌++◌, length, IfOk, OnOk};
-ghost use Rattle.life_dates.specs.Calendar.{IsDay};
-ghost use Rattle.policy_types.specs.Limits.{most_commands};
-ghost use Rattle.text_lines.specs.Lines.{behind_commas};
+ghost use Rattle.report_text.specs.Names.{IsDay, most_commands, behind_commas};
 ghost use Rattle.report_text.specs.Block.{heading_text, measure_fields, block_text, AreSummable};
 
 use crate::rows::write_row;

@@ -1,7 +1,6 @@
 // The rows of a valuation, each written from its end to its start.
 ghost use Rattle.std.specs.Prelude.{◌≡◌, ◌≤◌, ◌+◌, ◌++◌, ◌∷◌, [], length, IfOk};
-ghost use Rattle.money_core.specs.CentsText.{cents_text};
-ghost use Rattle.text_lines.specs.Lines.{behind_commas};
+ghost use Rattle.report_text.specs.Names.{cents_text, behind_commas};
 ghost use Rattle.report_text.specs.Block.{adequacy_word, reason_word, row_text, worth_fields};
 
 use policy_types::NoMemory;

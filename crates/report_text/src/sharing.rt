@@ -1,8 +1,6 @@
 // The whole text of a valuation, of which several workers write the rows at the same time.
 ghost use Rattle.std.specs.Prelude.{◌≡◌, ◌≤◌, ◌++◌, length, IfOk, OnOk, IsOk, Err};
-ghost use Rattle.std.specs.List.{AllByRecursion, flat_map};
-ghost use Rattle.life_dates.specs.Calendar.{IsDay};
-ghost use Rattle.policy_types.specs.Limits.{most_commands};
+ghost use Rattle.report_text.specs.Names.{AllByRecursion, flat_map, IsDay, most_commands};
 ghost use Rattle.report_text.specs.Block.{row_text, block_text, AreSummable};
 ghost use Rattle.report_text.specs.Parts.{rows_of_parts, had_text};
 

@@ -1,7 +1,6 @@
 // What the rows of a valuation add up to.
 ghost use Rattle.std.specs.Prelude.{◌≡◌, ◌+◌, ◌<◌, ◌≤◌, ◌++◌, ◌^◌, length, IfOk, OnOk, if◌then◌else◌};
-ghost use Rattle.policy_types.specs.Limits.{most_commands};
-ghost use Rattle.text_lines.specs.Lines.{behind_commas};
+ghost use Rattle.report_text.specs.Names.{most_commands, behind_commas};
 ghost use Rattle.report_text.specs.Block.{lower_bound, upper_bound, lower_minimum, upper_minimum, is_unvalued, lower_sum, upper_sum, lower_minimum_sum, upper_minimum_sum, unvalued_count, sum_fields, total_text, IsSummable, AreSummable};
 
 use policy_types::NoMemory;

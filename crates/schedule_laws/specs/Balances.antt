@@ -1,7 +1,6 @@
 -- What the four accounts have to do with each other and with the book
 use Rattle.std.specs.Prelude.{◌≡◌, ℕ, List, pos}
-use Rattle.schedule_laws.specs.Names.{sum_by, Command, book, IsAccepted}
-use Rattle.policy_types.specs.declared.policy.Policy.{Policy}
+use Rattle.schedule_laws.specs.Names.{sum_by, Command, book, IsAccepted, Policy}
 use Rattle.policy_types.specs.Accounts.{against, sum_of}
 use Rattle.policy_machine.specs.Accounts.{ledger_of}
 

@@ -1,10 +1,6 @@
 -- What a pin holds: the book at its position, whatever stands between its reads
 use Rattle.std.specs.Prelude.{◌≡◌, ℕ, ◌*◌, ◌≤◌, List, [], length, map, take, drop, slice_get, Some}
-use Rattle.schedule_laws.specs.Names.{AllByRecursion, flat_map, Entry, book, Opening, IsLegal, commands_after, floor_of, live_pin, policies_per_read}
-use Rattle.policy_types.specs.declared.policy.Policy.{Policy}
-use Rattle.policy_types.specs.declared.entry.Call.TheVariants.{Read}
-use Rattle.policy_types.specs.declared.entry.Reply.{Reply}
-use Rattle.policy_types.specs.declared.entry.Reply.TheVariants.{Pinned, Slice as Policies}
+use Rattle.schedule_laws.specs.Names.{AllByRecursion, flat_map, Entry, book, Opening, IsLegal, commands_after, floor_of, live_pin, policies_per_read, Policy, Read, Reply, Pinned, Policies}
 use Rattle.policy_machine.specs.Merge.{reads_of}
 
 -- the book after the first commands of a history's

@@ -1,11 +1,8 @@
 -- Every call has a reply that is due, and but for faults and want of memory only one
 use Rattle.std.specs.Prelude.{◌≡◌, ℕ, ◌≤◌, List, Some}
-use Rattle.schedule_laws.specs.Names.{Command, Entry, Opening, IsDue, IsOwnPin, live_pin}
+use Rattle.schedule_laws.specs.Names.{Command, Entry, Opening, IsDue, IsOwnPin, live_pin, Post, Read, Unpin, Reply, Accepted, Refused, Faulted}
 use Rattle.policy_types.specs.declared.refusal.Refusal.{Refusal}
 use Rattle.policy_types.specs.declared.entry.Call.{Call}
-use Rattle.policy_types.specs.declared.entry.Call.TheVariants.{Post, Read, Unpin}
-use Rattle.policy_types.specs.declared.entry.Reply.{Reply}
-use Rattle.policy_types.specs.declared.entry.Reply.TheVariants.{Accepted, Refused, Faulted}
 
 -- a call that posts nothing
 abbrev pub PostsNothing : Call → Type 0

@@ -1,18 +1,11 @@
 -- How a run ends that read its script: what was written, the history that the text tells of, and the disk
 use Rattle.std.specs.Prelude.{◌≡◌, ℕ, ◌⊎◌, List, ◌++◌, codes}
-use Rattle.basis_book.specs.Dated.{Dated}
-use Rattle.script_run.specs.Names.{Rose, AllZip, TakenPiece, Ghosts, Lane, Ending, Done, BadJournal, WriteFault, DiskFault, NoMemory, Stream, WroteLine}
-use Rattle.policy_types.specs.declared.command.Command.{Command}
-use Rattle.policy_types.specs.declared.entry.Entry.{Entry}
-use Rattle.policy_machine.specs.History.{IsLegal, accepted_of, opened_on}
+use Rattle.script_run.specs.Names.{Dated, Rose, AllZip, TakenPiece, Ghosts, Lane, Ending, Done, BadJournal, WriteFault, DiskFault, NoMemory, Stream, WroteLine, Command, Entry, IsLegal, accepted_of, opened_on, Auditor, reports_of, AnsweredLine, AreLinesOf, IsLineText, reports_text}
 use Rattle.policy_machine.specs.Merge.{IsMerge}
-use Rattle.watcher_set.specs.Noted.{Auditor, reports_of}
-use Rattle.lane_runner.specs.AnsweredLines.{AnsweredLine, AreLinesOf}
 use Rattle.office_state.specs.Images.{IsLeftAlone, IsLeftBy}
 use Rattle.office_state.specs.Journals.{Opens}
 use Rattle.program_endings.specs.Replies.{ArePins, AreAnswered, LackMemory, HaveAFault, AreAny}
 use Rattle.program_endings.specs.Refusals.{IsRefusedJournal}
-use Rattle.transcript_text.specs.Transcript.{IsLineText, reports_text}
 use Rattle.script_run.specs.Shown.{AreSafeWhenShown}
 use Rattle.script_run.specs.Texts.{WroteFront, WroteUpTo, WroteWhole}
 

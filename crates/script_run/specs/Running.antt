@@ -1,9 +1,7 @@
 -- How a run ends, with the script and the basis that it needs
 use Rattle.std.specs.Prelude.{◌≡◌, ℕ, ◌⊎◌, true, false, List, []}
 use Rattle.outside_io.specs.Shelves.{Files}
-use Rattle.script_run.specs.Names.{Ghosts, Lane, GaveAll, Input, Shelving, Stream, Ending}
-use Rattle.watcher_set.specs.Noted.{Auditor}
-use Rattle.basis_book.specs.Dated.{Dated}
+use Rattle.script_run.specs.Names.{Ghosts, Lane, GaveAll, Input, Shelving, Stream, Ending, Auditor, Dated}
 use Rattle.basis_shelf.specs.Bases.{IsBasis}
 use Rattle.lone_office.specs.Beginning.{EndsOverBasis}
 use Rattle.script_run.specs.Outcome.{EndsScript}

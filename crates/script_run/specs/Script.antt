@@ -1,8 +1,7 @@
 -- The script that the input gave, and how a run ends that has none
 use Rattle.std.specs.Prelude.{ℕ, ◌<◌, ◌≤◌, ◌⊎◌, Bool, List, ◌∷◌, ◌++◌, length, codes, decimal, IfSome}
-use Rattle.script_run.specs.Names.{list_any, Rose, GivesMore, Lane, GaveAll, Input, Stream, WroteLine, Ending, BadScript, ReadFault, NoMemory}
+use Rattle.script_run.specs.Names.{list_any, Rose, GivesMore, Lane, GaveAll, Input, Stream, WroteLine, Ending, BadScript, ReadFault, NoMemory, is_value}
 use Rattle.command_csv.specs.Reads.{Reads, IsFirstScriptFault}
-use Rattle.lane_runner.specs.Lanes.{is_value}
 
 abbrev pub most_script_bytes : ℕ
 most_script_bytes = 16777216

@@ -1,12 +1,7 @@
 -- What is safe of a run by the time that a line of it is shown
 use Rattle.std.specs.Prelude.{◌≡◌, ℕ, ◌+◌, ◌<◌, List, ◌∷◌, ◌++◌, length, take}
-use Rattle.script_run.specs.Names.{flat_map, TakenPiece, taken_bytes, Ghosts}
-use Rattle.policy_types.specs.declared.command.Command.{Command}
-use Rattle.policy_types.specs.declared.entry.Entry.{Entry}
+use Rattle.script_run.specs.Names.{flat_map, TakenPiece, taken_bytes, Ghosts, Command, Entry, Accepted, accepted_of, AnsweredLine}
 use Rattle.policy_types.specs.declared.entry.Reply.{Reply}
-use Rattle.policy_types.specs.declared.entry.Reply.TheVariants.{Accepted}
-use Rattle.policy_machine.specs.History.{accepted_of}
-use Rattle.lane_runner.specs.AnsweredLines.{AnsweredLine}
 
 abbrev pub IsAcceptedReply : Reply → Type 0
 IsAcceptedReply (Accepted position) = Unit {0}

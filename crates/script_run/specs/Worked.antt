@@ -1,8 +1,7 @@
 -- Worked cases of scripts as an input gives them, and of how a run ends that read none
 use Rattle.std.specs.Prelude.{◌≡◌, ℕ, true, false, List, [], ◌∷◌, ◌++◌, None, codes, pos, length}
 use Rattle.policy_types.specs.declared.entry.At.TheVariants.{Now}
-use Rattle.script_run.specs.Names.{taken_bytes, BadScript, ReadFault, Input}
-use Rattle.policy_types.specs.declared.entry.Reply.TheVariants.{Accepted, Blank, Faulted}
+use Rattle.script_run.specs.Names.{taken_bytes, BadScript, ReadFault, Input, Accepted, Blank, Faulted}
 use Rattle.policy_types.specs.declared.script.Line.TheVariants.{Value, Trim}
 use Rattle.program_endings.specs.Worked.{output_with}
 use Rattle.script_run.specs.Script.{EndsUnread, GaveTooMany, asks_for_values, bad_row_text}

@@ -1,19 +1,14 @@
 // A run of a script: the basis is fetched where a line asks for values, the office is opened, each lane of the script is run
 // by a caller of its own while the transcript is written, and the office is closed.
 ghost use Rattle.std.specs.Prelude.{◌≡◌, ℕ, ◌<◌, ◌≤◌, [], length, IfOk};
-ghost use Rattle.script_run.specs.Names.{list_any, Stream, between, input_between, shelf_between, ReadFault};
+ghost use Rattle.script_run.specs.Names.{list_any, Stream, between, input_between, shelf_between, ReadFault, is_value, HasEnded, IsOfficeHistory, PassFacts, told_text, told_texts};
 ghost use Rattle.std.specs.Io.KnownBytes.{Appends};
-ghost use Rattle.lane_runner.specs.Lanes.{is_value};
-ghost use Rattle.lane_runner.specs.Written.{HasEnded};
-ghost use Rattle.shared_office.specs.Offices.{IsOfficeHistory};
-ghost use Rattle.turn_lock.specs.Passes.{PassFacts};
 ghost use Rattle.script_run.specs.Running.{EndsRun};
 ghost use Rattle.script_run.specs.Outcome.{EndsScript};
 ghost use Rattle.script_run.specs.Script.{asks_for_values};
 ghost use Rattle.transcript_text.specs.Lanes.{AreScriptLanes};
 ghost use Rattle.script_run.specs.inside.Ran.{AddsBy, EndsRan, EndsTold, IsWritten, output_until};
 ghost use Rattle.script_run.specs.inside.Hearing.{StartsHeard};
-ghost use Rattle.transcript_text.specs.Told.{told_text, told_texts};
 
 use crate::intake::read_lanes;
 use crate::refusing::refuse;

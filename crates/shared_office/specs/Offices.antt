@@ -1,7 +1,6 @@
 -- The histories of an office that several callers share
 use Rattle.std.specs.Prelude.{◌≤◌, List, Option, length}
-use Rattle.shared_office.specs.Names.{AllByRecursion, Entry, IsValid, Opening, IsLegal, commands_after, MomentRing}
-use Rattle.policy_types.specs.Limits.{most_commands}
+use Rattle.shared_office.specs.Names.{AllByRecursion, Entry, IsValid, Opening, IsLegal, commands_after, MomentRing, most_commands}
 
 -- what an office was opened on: its opening, the disk as it was handed in and as the office held it once it was open, and the
 -- watchers and the outlet of moments as they were handed in

@@ -1,12 +1,9 @@
 -- A pin in its caller's hands
 use Rattle.std.specs.Prelude.{◌≡◌, ◌≢◌, ℕ, false, List, slice_get, Some, Ok, Err, Result}
-use Rattle.shared_office.specs.Names.{list_any, Entry, gives_up, Holding}
+use Rattle.shared_office.specs.Names.{list_any, Entry, gives_up, Holding, Pin, PinAt, PinRefusal, Held}
 use Rattle.policy_types.specs.declared.entry.Call.{Call}
-use Rattle.policy_types.specs.declared.entry.Call.TheVariants.{Pin, PinAt}
 use Rattle.policy_types.specs.declared.entry.Reply.TheVariants.{Pinned, PinRefused}
 use Rattle.policy_types.specs.declared.entry.Reply.{Reply}
-use Rattle.policy_types.specs.declared.entry.PinRefusal.{PinRefusal}
-use Rattle.office_state.specs.declared.held.Held.{Held}
 
 -- the call asks for a pin
 abbrev pub AsksForPin : Call → Type 0

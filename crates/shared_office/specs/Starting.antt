@@ -1,12 +1,10 @@
 -- How a shared office begins and ends
 use Rattle.std.specs.Prelude.{◌≡◌, ℕ, ◌≤◌, List, [], Option, Some, IfSome}
-use Rattle.outside_io.specs.declared.disks.Disk.{Ghosts}
+use Rattle.shared_office.specs.Names.{Ghosts, Opening, accepted_of, commands_after, SameOutlet, Holding, IsFirst, OwnsAll, MomentRing, WatcherGhosts}
 use Rattle.policy_types.specs.Accounts.{Booking}
 use Rattle.policy_types.specs.declared.watcher.Report.{Report}
 use Rattle.policy_machine.specs.Accounts.{ledger_of}
-use Rattle.shared_office.specs.Names.{Opening, accepted_of, commands_after, SameOutlet, Holding, IsFirst, OwnsAll, MomentRing}
 use Rattle.watcher_set.specs.Noted.{reports_of}
-use Rattle.watcher_set.specs.declared.watching.Watching.{Ghosts as WatcherGhosts}
 use Rattle.rtrb.specs.Ring.{sent}
 use Rattle.office_state.specs.Images.{AreSafeSince, IsLeftBy}
 use Rattle.office_state.specs.Journals.{Opens}

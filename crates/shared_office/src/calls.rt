@@ -1,8 +1,7 @@
 // The calls of an office, each through a shared reference and a caller's pass.
 ghost use Rattle.std.specs.Prelude.{◌≡◌, ℕ, ◌≤◌, [], IfOk, IfErr};
 ghost use Rattle.money_ledgers.specs.Balances.{balances};
-ghost use Rattle.shared_office.specs.Names.{IsValid, moments_told, PassFacts, TableId, TakesTurn, all_shares};
-ghost use Rattle.policy_types.specs.declared.entry.Call.TheVariants.{Pin as PinCall, PinAt};
+ghost use Rattle.shared_office.specs.Names.{IsValid, moments_told, PassFacts, TableId, TakesTurn, all_shares, PinCall, PinAt};
 ghost use Rattle.office_state.specs.Opening.{HasNotOpened, HasOpened};
 ghost use Rattle.office_state.specs.Posting.{turn_of};
 ghost use Rattle.office_state.specs.Turning.{read_turn, trim_turn, unpin_turn};

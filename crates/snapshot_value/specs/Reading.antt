@@ -1,10 +1,7 @@
 -- What a caller makes of the policies at a pinned position, whatever other callers do between its reads
 use Rattle.std.specs.Prelude.{◌≡◌, ℕ, ◌≤◌, List, [], ◌∷◌, length, map, take, Some, Result, Ok, Err}
-use Rattle.policy_types.specs.declared.command.Command.{Command}
-use Rattle.snapshot_value.specs.Names.{Policy, At, commands_after, FollowsPin, Placed, pin_call, Holding, OfficeOpening}
-use Rattle.policy_types.specs.declared.entry.Reply.{Reply}
+use Rattle.snapshot_value.specs.Names.{Command, Policy, At, commands_after, FollowsPin, Placed, pin_call, Holding, OfficeOpening, Reply, book}
 use Rattle.policy_types.specs.declared.entry.Reply.TheVariants.{Pinned, PinRefused}
-use Rattle.policy_machine.specs.Book.{book}
 use Rattle.snapshot_value.specs.Growing.{Grows}
 use Rattle.snapshot_value.specs.declared.valuation.ValueFault.{ValueFault}
 use Rattle.snapshot_value.specs.declared.valuation.ValueFault.TheVariants.{Pin, NoMemory}

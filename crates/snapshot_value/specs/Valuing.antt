@@ -1,10 +1,7 @@
 -- A valuation: the rows of the policies at a pinned position, whatever other callers do between its reads
 use Rattle.std.specs.Prelude.{◌≡◌, ℕ, ◌≤◌, ℤ, List, ◌∷◌, length, take, All, Some, Result}
-use Rattle.snapshot_value.specs.Names.{AllZip, Dated, IsPicked, most_commands, Policy, At, commands_after, AnswersLine, Placed, most_worth, IsExact, IsInsured, IsWithinAmount, RowOf, Measure, Row, Holding, OfficeOpening}
-use Rattle.policy_types.specs.declared.command.Command.{Command}
-use Rattle.policy_types.specs.declared.entry.Reply.{Reply}
+use Rattle.snapshot_value.specs.Names.{AllZip, Dated, IsPicked, most_commands, Policy, At, commands_after, AnswersLine, Placed, most_worth, IsExact, IsInsured, IsWithinAmount, RowOf, Measure, Row, Holding, OfficeOpening, Command, Reply, book}
 use Rattle.policy_types.specs.declared.script.Line.TheVariants.{Value}
-use Rattle.policy_machine.specs.Book.{book}
 use Rattle.snapshot_value.specs.Growing.{Grows}
 use Rattle.snapshot_value.specs.Reading.{AnswersPinned}
 pub use Rattle.snapshot_value.specs.Reading.{dry_pins, most_turns}

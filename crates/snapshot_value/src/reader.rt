@@ -1,6 +1,5 @@
 ghost use Rattle.std.specs.Prelude.{◌≤◌, ℕ, List, [], ◌++◌, ◌+◌, IfOk, OnOk, length};
-ghost use Rattle.snapshot_value.specs.Names.{AllByRecursion, most_commands, APolicy, IsSound};
-ghost use Rattle.std.specs.Thread.{IsSync};
+ghost use Rattle.snapshot_value.specs.Names.{AllByRecursion, most_commands, APolicy, IsSound, IsSync};
 
 use policy_types::{NoMemory, Policy};
 use std::alloc::Global;

@@ -1,7 +1,6 @@
 // Something is made of the policies at a position, which is pinned, read and given up again.
 ghost use Rattle.std.specs.Prelude.{◌≡◌, ◌≤◌, ◌+◌, ◌*◌, List, IfOk, length};
-ghost use Rattle.snapshot_value.specs.Names.{AllByRecursion, most_commands, APolicy, policies_per_read, pin_call, IsSound, PassFacts, TakesTurn, IsOfficeHistory, HoldsPin, KeepsOtherPins, KeepsPins, pinning_turn};
-ghost use Rattle.std.specs.Thread.{IsSync};
+ghost use Rattle.snapshot_value.specs.Names.{AllByRecursion, most_commands, APolicy, policies_per_read, pin_call, IsSound, PassFacts, TakesTurn, IsOfficeHistory, HoldsPin, KeepsOtherPins, KeepsPins, pinning_turn, IsSync};
 ghost use Rattle.snapshot_value.specs.Reading.{HasMadeOfBook};
 ghost use Rattle.snapshot_value.specs.Valuing.{most_turns};
 ghost use Rattle.snapshot_value.specs.inside.Reads.{HasMadeOfPin, HasMadeOfReads, HasReadPart, reads_needed};

@@ -1,14 +1,9 @@
 -- The texts of statements and balances
 use Rattle.std.specs.Prelude.{ℕ, ℤ, List, [], ◌∷◌, ◌++◌, codes, decimal}
-use Rattle.std.specs.List.{flat_map}
-use Rattle.policy_types.specs.declared.command.Command.{Command}
+use Rattle.statements.specs.Names.{flat_map, Command, day_text, kind_word, status_word, entry_fields, insurance_fields, line_of}
 use Rattle.policy_types.specs.declared.policy.Policy.{Policy}
 use Rattle.policy_types.specs.Accounts.{Booking}
-use Rattle.life_dates.specs.DayText.{day_text}
 use Rattle.money_core.specs.CentsText.{cents_text, signed_cents_text}
-use Rattle.policy_types.specs.Words.{kind_word, status_word}
-use Rattle.text_lines.specs.Fields.{entry_fields, insurance_fields}
-use Rattle.text_lines.specs.Lines.{line_of}
 
 -- the line of an accepted command, with its number among all of them
 unfoldable pub entry_text : ℕ → Command → List ℕ

@@ -1,8 +1,6 @@
 // The lines of accepted commands.
 ghost use Rattle.std.specs.Prelude.{◌≡◌, ◌++◌, IfOk, OnOk};
-ghost use Rattle.policy_types.specs.Valid.{IsValid, day_of};
-ghost use Rattle.text_lines.specs.Fields.{day_fields, term_fields};
-ghost use Rattle.text_lines.specs.Lines.{behind_commas};
+ghost use Rattle.statements.specs.Names.{IsValid, day_of, day_fields, term_fields, behind_commas};
 ghost use Rattle.statements.specs.Statements.{entry_text};
 
 use policy_types::{Command, NoMemory};

@@ -1,12 +1,6 @@
 // Policies as their commands left them.
 ghost use Rattle.std.specs.Prelude.{◌≡◌, ◌+◌, ◌++◌, ◌≤◌, [], ◌∷◌, ℕ, length, IfOk, OnErr, OnOk};
-ghost use Rattle.std.specs.List.{All};
-ghost use Rattle.policy_types.specs.Valid.{IsCommandDay, IsValid};
-ghost use Rattle.policy_types.specs.Words.{plan_word};
-ghost use Rattle.policy_types.specs.declared.command.Command.{Command as ACommand};
-ghost use Rattle.life_dates.specs.DayText.{day_text};
-ghost use Rattle.text_lines.specs.Fields.{insurance_fields};
-ghost use Rattle.text_lines.specs.Lines.{behind_commas};
+ghost use Rattle.statements.specs.Names.{All, IsCommandDay, IsValid, plan_word, ACommand, day_text, insurance_fields, behind_commas};
 ghost use Rattle.statements.specs.Statements.{policy_text, progress_fields, statement_text};
 
 use crate::entries::write_entry;

@@ -1,10 +1,7 @@
 -- What `state` writes of the accepted commands of a journal
 use Rattle.std.specs.Prelude.{ℕ, ◌==◌, List, [], ◌∷◌, ◌++◌, codes, decimal, length, Option, None, Some}
-use Rattle.stating_modes.specs.Names.{enumerate_from, filter, flat_map, Command, line_of, balance_text, policy_text, statement_text}
+use Rattle.stating_modes.specs.Names.{enumerate_from, filter, flat_map, Command, line_of, balance_text, policy_text, statement_text, id_of, ledger_of, book, policy_of}
 use Rattle.policy_types.specs.declared.policy.Policy.{Policy}
-use Rattle.policy_types.specs.Valid.{id_of}
-use Rattle.policy_machine.specs.Accounts.{ledger_of}
-use Rattle.policy_machine.specs.Book.{book, policy_of}
 
 -- all policies in order of issue, the four balances, and the number of commands
 abbrev pub books_text : List Command → List ℕ

@@ -1,8 +1,7 @@
 -- What `state` writes of a snapshot, and how it ends over two disks
 use Rattle.std.specs.Prelude.{ℕ, List, ◌++◌, length}
-use Rattle.stating_modes.specs.Names.{flat_map, Ghosts, balance_text, policy_text, OpensToBodies, Snapshot, IsLeftAlone, Stream, Ending, Done, WriteFault}
+use Rattle.stating_modes.specs.Names.{flat_map, Ghosts, balance_text, policy_text, OpensToBodies, Snapshot, IsLeftAlone, Stream, Ending, Done, WriteFault, TakesSteps}
 use Rattle.money_ledgers.specs.Balances.{balances}
-use Rattle.checkpoint_store.specs.Reopening.{TakesSteps}
 use Rattle.stating_modes.specs.Telling.{EndsTelling, TellsSnapshot}
 use Rattle.stating_modes.specs.TwoDisks.{IsOnlyRead, TwoDisks}
 

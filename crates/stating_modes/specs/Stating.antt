@@ -1,8 +1,6 @@
 -- How `state` ends: what was written of the commands of the disk's file, and the disk
 use Rattle.std.specs.Prelude.{◌≡◌, ℕ, List, [], pos}
-use Rattle.stating_modes.specs.Names.{Ghosts, Command, opened_on, IsLeftBy, Opens, Stream, Ending}
-use Rattle.policy_types.specs.Accounts.{sum_of}
-use Rattle.policy_machine.specs.Accounts.{ledger_of}
+use Rattle.stating_modes.specs.Names.{Ghosts, Command, opened_on, IsLeftBy, Opens, Stream, Ending, sum_of, ledger_of}
 use Rattle.program_endings.specs.Texts.{EndsReadOnly}
 
 -- The text of the commands of the disk's file was written, their balances add up to 0, and the disk holds them still.

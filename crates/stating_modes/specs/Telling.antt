@@ -1,7 +1,6 @@
 -- How a mode ends that tells of the snapshot of a journal
 use Rattle.std.specs.Prelude.{ℕ, List, codes}
-use Rattle.stating_modes.specs.Names.{Rose, AppendsPart, Ghosts, Snapshot, IsShown, StartCause, Stream, WroteAll, WroteLine, Ending, Done, BadJournal, WriteFault, DiskFault, NoMemory}
-use Rattle.program_endings.specs.Refusals.{SaysWhy}
+use Rattle.stating_modes.specs.Names.{Rose, AppendsPart, Ghosts, Snapshot, IsShown, StartCause, Stream, WroteAll, WroteLine, Ending, Done, BadJournal, WriteFault, DiskFault, NoMemory, SaysWhy}
 use Rattle.stating_modes.specs.TwoDisks.{AreBothQuiet, AreTrue, HasOneFailed, IsHeldWhereTrue, TwoDisks}
 
 -- The text of a snapshot was written. Where the disks are true, the snapshot is that of the journal's commands.

@@ -1,8 +1,6 @@
 -- The journal's disk and a second one, which may hold a checkpoint of its journal
 use Rattle.std.specs.Prelude.{◌≡◌, ◌⊎◌, ℕ, List, []}
-use Rattle.stating_modes.specs.Names.{Rose, Ghosts, Command, opened_on, OpensToBodies, LooksOn, IsSnapshotOf, Snapshot, IsLeftBy, Opens}
-use Rattle.posting_journal.specs.Opening.{IsOpenedOn, IsSynced}
-use Rattle.checkpoint_store.specs.Reopening.{IsTrueWhereUsed}
+use Rattle.stating_modes.specs.Names.{Rose, Ghosts, Command, opened_on, OpensToBodies, LooksOn, IsSnapshotOf, Snapshot, IsLeftBy, Opens, IsOpenedOn, IsSynced, IsTrueWhereUsed}
 use Rattle.stating_modes.specs.declared.finished.FinishedKept.{FinishedKept}
 
 -- the two disks as a call gets them and as it gives them back

@@ -1,7 +1,6 @@
 -- Worked texts of an empty file, over one disk and over two, put down by hand from the format
 use Rattle.std.specs.Prelude.{◌≡◌, [], ◌∷◌, ◌++◌, codes, pos, negsuc, ◌⊎◌, ℕ, List}
-use Rattle.stating_modes.specs.Names.{Ghosts, Stream, WroteAll, WroteLine, CheckpointBytes, IsNoCheckpoint, Snapshot, BadJournal, DiskFault, Done}
-use Rattle.policy_types.specs.Accounts.{sum_of}
+use Rattle.stating_modes.specs.Names.{Ghosts, Stream, WroteAll, WroteLine, CheckpointBytes, IsNoCheckpoint, Snapshot, BadJournal, DiskFault, Done, sum_of}
 use Rattle.stating_modes.specs.Books.{books_text, policy_account}
 use Rattle.stating_modes.specs.Stating.{IsStated}
 use Rattle.stating_modes.specs.Saved.{EndsCheckpoint, IsSaved}

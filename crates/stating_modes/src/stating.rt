@@ -1,7 +1,6 @@
 // What an administrator reads: all policies, and the balances.
 ghost use Rattle.std.specs.Prelude.{◌≡◌, IfOk};
-ghost use Rattle.stating_modes.specs.Names.{AllByRecursion, flat_map, policy_text, IsSoundSnapshot, between};
-ghost use Rattle.policy_machine.specs.Rules.{IsSound};
+ghost use Rattle.stating_modes.specs.Names.{AllByRecursion, flat_map, policy_text, IsSoundSnapshot, between, IsSound};
 ghost use Rattle.stating_modes.specs.Books.{books_text};
 ghost use Rattle.stating_modes.specs.Stating.{EndsState};
 ghost use Rattle.stating_modes.specs.Stated.{EndsStateKept, IsStateTold, ReadsFew, snapshot_text};

@@ -1,3 +1,4 @@
+pub mod Names
 pub mod Transcript
 pub mod Told
 pub mod Lanes

@@ -1,16 +1,8 @@
 -- What answers can be written, and the text of what is told of answered lines
 use Rattle.std.specs.Prelude.{◌<◌, ℕ, ◌^◌, List, [], ◌++◌}
-use Rattle.std.specs.List.{flat_map}
-use Rattle.policy_types.specs.declared.refusal.Refusal.{Refusal}
-use Rattle.policy_types.specs.declared.refusal.Refusal.TheVariants.{Taken, Unknown, BeforeLast, WrongStatus, TermOver, NothingDue, TooEarly, GraceOver, NotInArrears, TooLate, WrongAmount, NotAReduction, NotMatured, OverSettled, Full, NotUpgraded, Upgraded}
-use Rattle.policy_types.specs.declared.script.Line.{Line}
-use Rattle.policy_types.specs.declared.script.Line.TheVariants.{Post, Value, Trim}
-use Rattle.policy_types.specs.declared.watcher.Report.{Report}
-use Rattle.life_dates.specs.Calendar.{IsDay, IsTermDay}
+use Rattle.transcript_text.specs.Names.{flat_map, Refusal, Taken, Unknown, BeforeLast, WrongStatus, TermOver, NothingDue, TooEarly, GraceOver, NotInArrears, TooLate, WrongAmount, NotAReduction, NotMatured, OverSettled, Full, NotUpgraded, Upgraded, Line, Post, Value, Trim, Report, IsDay, IsTermDay, reply_of, block_text}
 use Rattle.office_state.specs.declared.answer.Answer.{Answer}
 use Rattle.office_state.specs.declared.answer.Answer.TheVariants.{Refused}
-use Rattle.office_state.specs.Posting.{reply_of}
-use Rattle.report_text.specs.Block.{block_text}
 use Rattle.lane_runner.specs.declared.transcript.TranscriptLine.{TranscriptLine}
 use Rattle.lane_runner.specs.declared.transcript.Outcome.{Outcome}
 use Rattle.lane_runner.specs.declared.transcript.Outcome.TheVariants.{Posted, Trimmed, Valued, ValueRefused, ValueNoMemory}

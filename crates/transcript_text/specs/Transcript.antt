@@ -1,28 +1,19 @@
 -- The text of a run: that of each answered line of the script, in the order of their first turns, then the auditors' reports
 use Rattle.std.specs.Prelude.{◌≡◌, ◌⊎◌, ℕ, ℤ, List, [], ◌∷◌, ◌++◌, take, codes, decimal}
-use Rattle.std.specs.List.{AllZip, Contains, enumerate_from, flat_map}
+use Rattle.transcript_text.specs.Names.{AllZip, Contains, enumerate_from, flat_map, Refusal, Taken, Unknown, BeforeLast, WrongStatus, TermOver, NothingDue, TooEarly, GraceOver, NotInArrears, TooLate, WrongAmount, NotAReduction, NotMatured, OverSettled, Full, NotUpgraded, Upgraded, Line, Post, Value, Trim, Report, block_text, day_text, cents_text, line_of}
 use Rattle.basis_book.specs.Dated.{Dated}
 use Rattle.policy_types.specs.declared.command.Command.{Command}
-use Rattle.policy_types.specs.declared.refusal.Refusal.{Refusal}
-use Rattle.policy_types.specs.declared.refusal.Refusal.TheVariants.{Taken, Unknown, BeforeLast, WrongStatus, TermOver, NothingDue, TooEarly, GraceOver, NotInArrears, TooLate, WrongAmount, NotAReduction, NotMatured, OverSettled, Full, NotUpgraded, Upgraded}
 use Rattle.policy_types.specs.declared.entry.Reply.{Reply}
 use Rattle.policy_types.specs.declared.entry.Reply.TheVariants.{Accepted, Refused, Faulted, Pinned, PinRefused, Floor, Blank}
 use Rattle.policy_types.specs.declared.entry.PinRefusal.{PinRefusal}
 use Rattle.policy_types.specs.declared.entry.PinRefusal.TheVariants.{Ahead, Trimmed, PinsFull}
 use Rattle.policy_types.specs.declared.entry.Entry.{Entry}
-use Rattle.policy_types.specs.declared.script.Line.{Line}
-use Rattle.policy_types.specs.declared.script.Line.TheVariants.{Post, Value, Trim}
-use Rattle.policy_types.specs.declared.watcher.Report.{Report}
 use Rattle.policy_types.specs.Valid.{id_of}
 use Rattle.policy_machine.specs.Book.{book}
 use Rattle.policy_machine.specs.History.{Opening, commands_after}
 use Rattle.policy_value.specs.declared.worth.Measure.TheVariants.{Terminal}
 use Rattle.policy_value.specs.declared.worth.Row.{Row}
-use Rattle.report_text.specs.Block.{block_text}
 use Rattle.snapshot_value.specs.Valuing.{IsValuedRow}
-use Rattle.life_dates.specs.DayText.{day_text}
-use Rattle.money_core.specs.CentsText.{cents_text}
-use Rattle.text_lines.specs.Lines.{line_of}
 use Rattle.policy_types.specs.Words.{kind_word, status_word}
 use Rattle.lane_runner.specs.AnsweredLines.{AnsweredLine}
 

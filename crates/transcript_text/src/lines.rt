@@ -1,12 +1,7 @@
 // The text of an answered line.
 ghost use Rattle.std.specs.Prelude.{◌≡◌, ◌++◌, ◌<◌, ◌^◌, ℕ, [], ◌∷◌, decimal, IfOk, OnOk};
 ghost use Rattle.policy_types.specs.declared.entry.At.{At as AnAt};
-ghost use Rattle.policy_types.specs.declared.script.Line.TheVariants.{Value as ValueLine};
-ghost use Rattle.life_dates.specs.Calendar.{IsDay, IsTermDay};
-ghost use Rattle.life_dates.specs.DayText.{day_text};
-ghost use Rattle.money_core.specs.CentsText.{cents_text};
-ghost use Rattle.office_state.specs.Posting.{reply_of};
-ghost use Rattle.text_lines.specs.Lines.{behind_commas};
+ghost use Rattle.transcript_text.specs.Names.{ValueLine, IsDay, IsTermDay, day_text, cents_text, reply_of, behind_commas};
 ghost use Rattle.transcript_text.specs.Transcript.{pin_refusal_fields, posting_text, refusal_fields, reply_fields, trim_text, unpinned_text, unvalued_text};
 ghost use Rattle.transcript_text.specs.Told.{IsPrintable, IsToldAnswer, IsWritable, IsWritableOutcome, outcome_text, told_text};
 

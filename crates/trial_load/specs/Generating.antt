@@ -1,7 +1,6 @@
 -- How `generate` ends
 use Rattle.std.specs.Prelude.{ℕ, codes}
-use Rattle.trial_load.specs.Names.{Rose, AppendsPart, Stream, WroteAll, WroteLine, Ending, Done, WriteFault, NoMemory}
-use Rattle.load_maker.specs.GeneratedScript.{generated_text}
+use Rattle.trial_load.specs.Names.{Rose, AppendsPart, Stream, WroteAll, WroteLine, Ending, Done, WriteFault, NoMemory, generated_text}
 
 -- the generated script was written, whole or a front of it where the output failed, or there was no memory for it
 abbrev pub EndsGenerate : (seed count lanes : ℕ) → Stream → Ending → Type 0

@@ -1,30 +1,17 @@
 -- How `load` ends: the generated lanes were run, the policies were valued at the count, and a line tells of it
 use Rattle.std.specs.Prelude.{◌≡◌, ◌≢◌, ℕ, ◌⊎◌, ℤ, pos, Bool, true, false, List, [], ◌∷◌, ◌++◌, codes, decimal, length}
-use Rattle.std.specs.Io.KnownBytes.{Appends}
-use Rattle.std.specs.List.{AllByRecursion, AllZip, count_by}
-use Rattle.trial_load.specs.Names.{Rose, AppendsPart, lower_sum, unvalued_count, upper_sum, generated_lanes, Shelving, Stream, WroteAll, WroteLine, Ending, Done, BadJournal, WriteFault, DiskFault, NoMemory}
+use Rattle.trial_load.specs.Names.{Appends, AllByRecursion, AllZip, count_by, Rose, AppendsPart, lower_sum, unvalued_count, upper_sum, generated_lanes, Shelving, Stream, WroteAll, WroteLine, Ending, Done, BadJournal, WriteFault, DiskFault, NoMemory, Now, Post, Reply, Refused, Entry, Value, Lane, Opening, IsLegal, accepted_of, commands_after, opened_on, Terminal, Row, AreAnswered, AreAny, ArePins, HaveAFault, LackMemory}
 use Rattle.outside_io.specs.declared.disks.Disk.{Ghosts}
 use Rattle.policy_types.specs.declared.command.Command.{Command}
-use Rattle.policy_types.specs.declared.entry.At.TheVariants.{Now}
 use Rattle.policy_types.specs.declared.entry.Call.{Call}
-use Rattle.policy_types.specs.declared.entry.Call.TheVariants.{Post}
-use Rattle.policy_types.specs.declared.entry.Reply.{Reply}
-use Rattle.policy_types.specs.declared.entry.Reply.TheVariants.{Refused}
-use Rattle.policy_types.specs.declared.entry.Entry.{Entry}
-use Rattle.policy_types.specs.declared.script.Line.TheVariants.{Value}
-use Rattle.policy_types.specs.declared.script.Lane.{Lane}
 use Rattle.policy_machine.specs.Book.{book}
-use Rattle.policy_machine.specs.History.{Opening, IsLegal, accepted_of, commands_after, opened_on}
 use Rattle.policy_machine.specs.Merge.{IsMerge}
 use Rattle.basis_book.specs.Dated.{Dated}
-use Rattle.policy_value.specs.declared.worth.Measure.TheVariants.{Terminal}
-use Rattle.policy_value.specs.declared.worth.Row.{Row}
 use Rattle.snapshot_value.specs.Valuing.{IsValuedRow}
 use Rattle.office_state.specs.Images.{IsLeftAlone, IsLeftBy}
 use Rattle.office_state.specs.Journals.{Opens}
 use Rattle.money_core.specs.CentsText.{cents_text}
 use Rattle.text_lines.specs.Lines.{line_of}
-use Rattle.program_endings.specs.Replies.{AreAnswered, AreAny, ArePins, HaveAFault, LackMemory}
 use Rattle.program_endings.specs.Refusals.{IsRefusedJournal}
 use Rattle.lone_office.specs.Beginning.{EndsOverBasis}
 

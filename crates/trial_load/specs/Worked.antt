@@ -1,18 +1,9 @@
 -- Worked lines of `load`, put down by hand from the format
 use Rattle.std.specs.Prelude.{◌≡◌, ℕ, List, [], ◌∷◌, ◌++◌, codes, pos}
 use Rattle.policy_types.specs.declared.command.Command.TheVariants.{Lapse}
-use Rattle.policy_types.specs.declared.entry.At.TheVariants.{Now}
-use Rattle.policy_types.specs.declared.entry.Call.TheVariants.{Post, Trim}
-use Rattle.policy_types.specs.declared.entry.Reply.{Reply}
-use Rattle.policy_types.specs.declared.entry.Reply.TheVariants.{Accepted, Refused, Faulted, Floor}
-use Rattle.policy_types.specs.declared.entry.Entry.{Entry}
+use Rattle.trial_load.specs.Names.{Now, Post, Trim, Reply, Accepted, Refused, Faulted, Floor, Entry, Value, Terminal, block_text, opened_on, AreAnswered}
 use Rattle.policy_types.specs.declared.refusal.Refusal.TheVariants.{Unknown}
-use Rattle.policy_types.specs.declared.script.Line.TheVariants.{Value}
-use Rattle.policy_value.specs.declared.worth.Measure.TheVariants.{Terminal}
-use Rattle.report_text.specs.Block.{block_text}
 use Rattle.report_text.specs.Worked.{valued, past_the_table, lapsed}
-use Rattle.policy_machine.specs.History.{opened_on}
-use Rattle.program_endings.specs.Replies.{AreAnswered}
 use Rattle.program_endings.specs.Worked.{output_with}
 use Rattle.trial_load.specs.Loading.{HasLine, HasNoLine, load_day, load_text, refused_in, valuation_lane}
 

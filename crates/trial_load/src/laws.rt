@@ -1,8 +1,7 @@
 // What the definitions have to mean, as a function that does nothing.
 ghost use Rattle.std.specs.Prelude.{◌≤◌, ℕ};
 ghost use Rattle.command_csv.specs.Reads.{Reads};
-ghost use Rattle.load_maker.specs.GeneratedLanes.{generated_lanes};
-ghost use Rattle.load_maker.specs.GeneratedScript.{generated_text};
+ghost use Rattle.trial_load.specs.Names.{generated_lanes, generated_text};
 
 /// The text that `generate` writes is a script, and its lanes are those that `load` runs.
 pub fn generated_text_reads()

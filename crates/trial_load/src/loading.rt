@@ -6,9 +6,8 @@ ghost use Rattle.shared_office.specs.Offices.{IsOfficeHistory};
 ghost use Rattle.shared_office.specs.Starting.{HasStartedOffice};
 ghost use Rattle.turn_lock.specs.Passes.{PassFacts};
 ghost use Rattle.trial_load.specs.Loading.{EndsLoad, EndsLoading, load_text};
-ghost use Rattle.trial_load.specs.Names.{between, shelf_between, ReadFault, AreSummable};
+ghost use Rattle.trial_load.specs.Names.{between, shelf_between, ReadFault, AreSummable, IsWritableBlock};
 ghost use Rattle.trial_load.specs.inside.Loaded.{AreLoadLanes, EndsLine, EndsLoaded, IsLoadAnswer};
-ghost use Rattle.program_endings.specs.Blocks.{IsWritableBlock};
 
 use basis_book::Name;
 use itoa::Buffer;

@@ -1,7 +1,6 @@
 -- Histories: lists of entries, one for each turn, in the order in which the turns were handed on
 use Rattle.std.specs.Prelude.{◌≡◌, ℕ, ◌==◌, nat_lt, if◌then◌else◌, List, ◌++◌, length}
-use Rattle.std.specs.List.{filter}
-use Rattle.policy_types.specs.declared.entry.Entry.{Entry}
+use Rattle.turn_lock.specs.Names.{filter, Entry}
 
 -- the entries of one caller, in order
 abbrev pub entries_of : List Entry → ℕ → List Entry

@@ -1,3 +1,4 @@
+pub mod Names
 pub mod History
 pub mod Passes
 pub mod inside

@@ -1,8 +1,7 @@
 -- What contracts see of a pass, and what each call does to it
 use Rattle.std.specs.Prelude.{◌≡◌, ◌≢◌, ℕ, ◌+◌, ◌-◌, ◌/◌, ◌^◌, ◌<◌, nat_eq, List, [], ◌∷◌, ◌++◌, length, map, Option, Some}
-use Rattle.std.specs.List.{AllByRecursion, Contains, IsDistinct}
+use Rattle.turn_lock.specs.Names.{AllByRecursion, Contains, IsDistinct, Entry}
 pub use Rattle.atomic_table.specs.Seated.{TableId}
-use Rattle.policy_types.specs.declared.entry.Entry.{Entry}
 use Rattle.turn_lock.specs.History.{entries_of, StartsWith, longer}
 
 -- all turns that there are to take, and all shares, of a turnstile

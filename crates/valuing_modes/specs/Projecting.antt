@@ -1,15 +1,7 @@
 -- How `project` ends: what was written of the policies that the disk's file leaves, by the basis on the shelf
 use Rattle.std.specs.Prelude.{ℕ, ℤ, List, [], length}
-use Rattle.valuing_modes.specs.Names.{Ghosts, Command, Dated, Shelving, Stream, Ending}
-use Rattle.policy_machine.specs.Book.{book}
-use Rattle.policy_machine.specs.History.{opened_on}
-use Rattle.office_state.specs.Images.{IsLeftBy}
-use Rattle.office_state.specs.Journals.{Opens}
+use Rattle.valuing_modes.specs.Names.{Ghosts, Command, Dated, Shelving, Stream, Ending, book, opened_on, IsLeftBy, Opens, projection_text, Projection, EndsReadOnly, EndsOverBasis}
 use Rattle.cash_projection.specs.Pinned.{IsProjectionAt}
-use Rattle.cash_projection.specs.Text.{projection_text}
-use Rattle.cash_projection.specs.declared.printing.Projection.{Projection}
-use Rattle.program_endings.specs.Texts.{EndsReadOnly}
-use Rattle.lone_office.specs.Beginning.{EndsOverBasis}
 
 -- of the policies that all of these commands leave, projected by so many years from the day on, the text was written
 pub record IsProjectionText (commands : List Command) (on : ℤ) (years : ℕ) (basis : List Dated) (Wrote : List ℕ → Type 0) : Type 0 where

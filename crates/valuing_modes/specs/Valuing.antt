@@ -1,18 +1,8 @@
 -- How `value` ends: what was written of the policies at a position of the disk's file, by the basis on the shelf
 use Rattle.std.specs.Prelude.{◌≡◌, ℕ, ◌<◌, ◌≤◌, ◌⊎◌, ℤ, List, [], ◌++◌, length, take, codes, decimal}
-use Rattle.std.specs.List.{AllZip}
-use Rattle.valuing_modes.specs.Names.{Ghosts, Command, Now, Position, Dated, Shelving, Stream, WroteLine, Ending, Ahead}
-use Rattle.policy_types.specs.declared.entry.At.{At}
-use Rattle.policy_machine.specs.Book.{book}
-use Rattle.policy_machine.specs.History.{opened_on}
-use Rattle.policy_value.specs.declared.worth.Measure.{Measure}
+use Rattle.valuing_modes.specs.Names.{AllZip, Ghosts, Command, Now, Position, Dated, Shelving, Stream, WroteLine, Ending, Ahead, At, book, opened_on, Measure, block_text, IsLeftBy, Opens, EndsReadOnly, EndsOverBasis}
 use Rattle.policy_value.specs.declared.worth.Row.{Row}
-use Rattle.report_text.specs.Block.{block_text}
 use Rattle.snapshot_value.specs.Valuing.{IsValuedRow}
-use Rattle.office_state.specs.Images.{IsLeftBy}
-use Rattle.office_state.specs.Journals.{Opens}
-use Rattle.program_endings.specs.Texts.{EndsReadOnly}
-use Rattle.lone_office.specs.Beginning.{EndsOverBasis}
 
 -- after how many commands the policies are valued, where there are so many: all of them, or as many as are asked for
 abbrev pub position_of : At → ℕ → ℕ

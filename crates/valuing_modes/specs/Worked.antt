@@ -1,7 +1,6 @@
 -- Worked valuations of a journal without commands, of an empty file, and of positions
 use Rattle.std.specs.Prelude.{◌≡◌, [], ◌∷◌, ◌++◌, codes, pos}
-use Rattle.valuing_modes.specs.Names.{Ghosts, Now, Position, Stream, WroteAll, WroteLine}
-use Rattle.policy_value.specs.declared.worth.Measure.TheVariants.{Terminal, Mean, Deficiency}
+use Rattle.valuing_modes.specs.Names.{Ghosts, Now, Position, Stream, WroteAll, WroteLine, Terminal, Mean, Deficiency}
 use Rattle.program_endings.specs.Worked.{output_with}
 use Rattle.valuing_modes.specs.Valuing.{IsAhead, IsBeyond, IsValuation, IsValued, position_of}
 pub mod Files

@@ -3,4 +3,6 @@ pub use Rattle.std.specs.List.{AllByRecursion, sum_by, AllZip}
 pub use Rattle.policy_types.specs.Limits.{most_commands}
 pub use Rattle.policy_types.specs.Valid.{IsValid}
 pub use Rattle.policy_types.specs.declared.command.Command.{Command, Command as ACommand}
+pub use Rattle.policy_types.specs.declared.command.Command.TheVariants.{Premium, Reinstate, Issue, Settle}
 pub use Rattle.policy_types.specs.declared.watcher.Report.{Report}
+pub use Rattle.policy_types.specs.declared.watcher.Watcher.{Ghosts}

@@ -1,6 +1,5 @@
 -- What an auditor notes of the commands that it is told of, and the report that it gives of them
-use Rattle.std.specs.Prelude.{◌≡◌, ◌⊎◌, ℕ, ◌<◌, Bool, true, false, ◌||◌, if◌then◌else◌}
-use Rattle.std.specs.Prelude.{List, [], ◌∷◌, ◌++◌, length, map, take}
+use Rattle.std.specs.Prelude.{◌≡◌, ◌⊎◌, ℕ, ◌<◌, Bool, true, false, ◌||◌, if◌then◌else◌, List, [], ◌∷◌, ◌++◌, length, map, take}
 use Rattle.watcher_set.specs.Names.{Command, Report}
 
 -- an auditor as it was handed in: of which lists it says that it is done, and its own number of a list

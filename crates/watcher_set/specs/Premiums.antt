@@ -1,7 +1,6 @@
 -- The premiums that commands pay, in cents
 use Rattle.std.specs.Prelude.{ℕ, List}
-use Rattle.watcher_set.specs.Names.{sum_by, Command}
-use Rattle.policy_types.specs.declared.command.Command.TheVariants.{Premium, Reinstate}
+use Rattle.watcher_set.specs.Names.{sum_by, Command, Premium, Reinstate}
 
 -- a premium when it is due, and those that are made up to put a policy in force again
 abbrev pub paid_by : Command → ℕ

@@ -1,7 +1,6 @@
 -- What has become of the auditors that were handed in, each at its place
 use Rattle.std.specs.Prelude.{◌≡◌, ℕ, ◌+◌, ◌≤◌, true, false, List, length}
-use Rattle.watcher_set.specs.Names.{AllByRecursion, AllZip, Command, Report}
-use Rattle.policy_types.specs.declared.watcher.Watcher.{Ghosts}
+use Rattle.watcher_set.specs.Names.{AllByRecursion, AllZip, Command, Report, Ghosts}
 use Rattle.watcher_set.specs.Noted.{Auditor, is_done, report_of}
 use Rattle.watcher_set.specs.declared.place.Place.{Place}
 use Rattle.watcher_set.specs.declared.place.Place.TheVariants.{Listening, Reported}

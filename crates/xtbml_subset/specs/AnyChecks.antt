@@ -1,9 +1,6 @@
 -- The checks of a table of either kind: an axis in the first axis makes it select.
 use Rattle.std.specs.Prelude.{◌≡◌, ◌⊎◌, ℕ, List, [], ◌∷◌, Result, Ok, Err, codes}
-use Rattle.rate_table.specs.Rates.{Rates}
-use Rattle.select_rates.specs.Select.{Selected}
-use Rattle.select_rates.specs.declared.any.AnyTable.{AnyTable}
-use Rattle.select_rates.specs.declared.any.AnyTable.TheVariants.{Aggregate, Select}
+use Rattle.xtbml_subset.specs.Names.{Rates, Selected, AnyTable, Aggregate, Select}
 use Rattle.xtbml_subset.specs.declared.fault.TableKind.TheVariants as kind
 use Rattle.xtbml_subset.specs.declared.fault.TableFault.{TableFault}
 use Rattle.xtbml_subset.specs.declared.fault.TableFault.TheVariants.{Bad, NoMemory}

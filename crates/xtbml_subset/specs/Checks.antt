@@ -1,9 +1,7 @@
 -- The checks of a table, in order, over the elements of a document.
 use Rattle.std.specs.Prelude.{◌≡◌, ℕ, ◌+◌, ◌-◌, ◌*◌, Bool, true, if◌then◌else◌, ◌==◌, nat_le, List, [], ◌∷◌, map, Option, None, Some, Result, Ok, Err, codes, MatchBool, ◌⊎◌}
-use Rattle.std.specs.Option.{unwrap_or}
-use Rattle.std.specs.Str.{bytes_eq}
+use Rattle.xtbml_subset.specs.Names.{unwrap_or, bytes_eq, Rates}
 use Rattle.decimal_text.specs.Rate.{IsRate}
-use Rattle.rate_table.specs.Rates.{Rates}
 use Rattle.xtbml_subset.specs.declared.class.Class.TheVariants.{White}
 use Rattle.xtbml_subset.specs.declared.fault.TableKind.TheVariants.{NoTable, Select, Scaled, BadAge, AgeGap, BadRate}
 use Rattle.xtbml_subset.specs.declared.fault.TableFault.{TableFault}

@@ -1,4 +1,5 @@
 -- What a table file says: bytes, pieces and their nesting, documents, the checks of a table, and the answer.
+pub mod Names
 pub mod Classes
 pub mod Pieces
 pub mod Nesting

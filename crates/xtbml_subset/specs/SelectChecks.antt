@@ -1,9 +1,7 @@
 -- The checks of a select and ultimate table, in order, over the elements of a document. The first `Table` has the rates
 -- of each issue age by duration, the second the ultimate rates.
 use Rattle.std.specs.Prelude.{◌≡◌, ℕ, ◌+◌, Bool, true, false, not, ◌&&◌, ◌||◌, ◌==◌, nat_le, nat_lt, if◌then◌else◌, List, [], ◌∷◌, length, map, Option, None, Some, Result, Ok, Err, codes, MatchBool}
-use Rattle.std.specs.Option.{unwrap_or}
-use Rattle.rate_table.specs.Rates.{Rates, last_age_of}
-use Rattle.select_rates.specs.Select.{Selected}
+use Rattle.xtbml_subset.specs.Names.{unwrap_or, Rates, last_age_of, Selected}
 use Rattle.xtbml_subset.specs.declared.class.Class.TheVariants.{White}
 use Rattle.xtbml_subset.specs.declared.fault.TableKind.TheVariants.{BadAge, AgeGap, BadRate, BadDuration, NoUltimate, UltimateGap}
 use Rattle.xtbml_subset.specs.declared.fault.TableFault.{TableFault}

@@ -1,6 +1,5 @@
 ghost use Rattle.std.specs.Prelude.{◌≡◌, ℕ, ◌≤◌, ◌⊎◌, ◌∷◌, length, IfOk, OnOk, IfErr, Ok, Err, Result, Some, None};
-ghost use Rattle.rate_table.specs.Rates.{Rates};
-ghost use Rattle.select_rates.specs.declared.any.AnyTable.{AnyTable};
+ghost use Rattle.xtbml_subset.specs.Names.{Rates, AnyTable};
 ghost use Rattle.xtbml_subset.specs.declared.fault.TableFault.{TableFault};
 ghost use Rattle.xtbml_subset.specs.Answers.{SpellsTable, IsTableAnswer, Gives, Unless};
 ghost use Rattle.xtbml_subset.specs.AnyChecks.{SpellsAny, IsAnyAnswer, GivesAny, SaysSelect, aggregated};

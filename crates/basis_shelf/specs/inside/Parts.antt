@@ -1,7 +1,6 @@
 -- What the parts of the fetching answer.
 use Rattle.std.specs.Prelude.{◌≡◌, ℕ, ⊤, ◌⊎◌, List, Option, IsSome, IfSome}
-use Rattle.basis_shelf.specs.Names.{AnyTable, TableKind}
-use Rattle.basis_book.specs.declared.fault.BasisFault.{BasisFault}
+use Rattle.basis_shelf.specs.Names.{AnyTable, TableKind, BasisFault}
 use Rattle.basis_book.specs.declared.fault.BasisFault.TheVariants as fault
 use Rattle.xtbml_subset.specs.declared.fault.TableFault.{TableFault}
 use Rattle.xtbml_subset.specs.declared.fault.TableFault.TheVariants as table

@@ -1,9 +1,6 @@
 -- The sums of what policies pay and are paid.
 use Rattle.std.specs.Prelude.{◌≡◌, ℕ, ◌+◌, ◌*◌, ◌<◌, ◌≤◌, List, length, slice_index_or, ℤ, Result}
-use Rattle.cash_projection.specs.Names.{AllByRecursion, AllZip, most_commands, Policy, Rates, AnyTable, down, up, pair_at, Pair, Dated}
-use Rattle.rate_table.specs.Rates.{AreRates}
-use Rattle.rate_table.specs.declared.shape.Shape.{Shape}
-use Rattle.plan_benefits.specs.declared.fault.NotValued.{NotValued}
+use Rattle.cash_projection.specs.Names.{AllByRecursion, AllZip, most_commands, Policy, Rates, AreRates, AnyTable, down, up, pair_at, Pair, Dated, Shape, NotValued}
 use Rattle.cash_projection.specs.Prospects.{Prospect, IsSmall, due, premium_due, death_due, maturity_due}
 use Rattle.cash_projection.specs.Cash.{total_of, premium_by, death_by, maturity_by}
 use Rattle.cash_projection.specs.Policies.{IsProspect, IsProspectBy}

@@ -1,7 +1,6 @@
 -- What the books by number are the books of, for the contracts of the steps alone
 use Rattle.std.specs.Prelude.{◌≡◌, nat_eq, ◌+◌, List}
-use Rattle.checkpoint_store.specs.Names.{AllByRecursion, IsDistinct, keys_of, balances, IsAccepted, added, booking_of, Command, Policy, IsValid, id_of}
-use Rattle.indexmap.specs.IndexMap.{insert_entry}
+use Rattle.checkpoint_store.specs.Names.{AllByRecursion, IsDistinct, keys_of, balances, IsAccepted, added, booking_of, Command, Policy, IsValid, id_of, insert_entry}
 use Rattle.checkpoint_store.specs.declared.numbered.NumberedBooks.{NumberedBooks}
 use Rattle.checkpoint_store.specs.declared.snapshot.Snapshot.{Snapshot}
 use Rattle.checkpoint_store.specs.Checkpoints.{IsSnapshotOf, IsSoundSnapshot}

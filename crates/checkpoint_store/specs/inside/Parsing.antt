@@ -1,10 +1,7 @@
 -- What the bytes of a checkpoint say at their places
 use Rattle.std.specs.Prelude.{ℕ, ◌+◌, ◌<◌, ◌^◌, ◌==◌, ◌++◌, if◌then◌else◌, FitsSigned, List, [], ◌∷◌, slice_index, Option, Some, None}
-use Rattle.std.specs.Int.{w32, w64, cast_signed, from_be_bytes}
+use Rattle.checkpoint_store.specs.Names.{w32, w64, cast_signed, from_be_bytes, Term, Whole, Endowment, Limited, Policy, InForce, Lapsed, Claimed, Matured, Expired, Settled, PaidUp, Status}
 use Rattle.policy_types.specs.declared.command.Plan.{Plan}
-use Rattle.policy_types.specs.declared.command.Plan.TheVariants.{Term, Whole, Endowment, Limited}
-use Rattle.checkpoint_store.specs.Names.{Policy, InForce, Lapsed, Claimed, Matured, Expired, Settled, PaidUp}
-use Rattle.policy_types.specs.declared.policy.Status.{Status}
 use Rattle.checkpoint_store.specs.declared.front.Front.{Front}
 use Rattle.checkpoint_store.specs.Spelling.{balance_bytes, checkpoint_header, position_bytes}
 

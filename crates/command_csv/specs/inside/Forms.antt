@@ -1,7 +1,6 @@
 -- What may follow in a row from a field on
 use Rattle.std.specs.Prelude.{◌≡◌, ℕ, suc, ◌<◌, List, [], ◌∷◌, take, codes, decimal, ⊤}
-use Rattle.policy_types.specs.declared.command.Plan.{Plan}
-use Rattle.command_csv.specs.Names.{IsId, IsCommandDay, IsAmount, IsReinstatement, IsIssueAge, AreYears, day_text, cents_text, plan_word}
+use Rattle.command_csv.specs.Names.{Plan, IsId, IsCommandDay, IsAmount, IsReinstatement, IsIssueAge, AreYears, day_text, cents_text, plan_word}
 use Rattle.command_csv.specs.declared.kind.Kind.{Kind}
 use Rattle.command_csv.specs.declared.kind.Kind.TheVariants.{Issue, Premium, Alter, Lapse, Reinstate, Claim, Settle, Mature, PaidUp, Upgrade, Value, Trim}
 use Rattle.command_csv.specs.Reads.{IsClerk, IsPosition, AreWorkers, most_valuations}

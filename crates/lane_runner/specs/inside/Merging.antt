@@ -1,7 +1,6 @@
 -- The lines of all lanes, merged by their turns
 use Rattle.std.specs.Prelude.{◌≡◌, ◌⊎◌, ℕ, zero, suc, ◌+◌, ◌≤◌, ◌<◌, List, [], ◌∷◌, length, Option, Some, None}
-use Rattle.lane_runner.specs.Names.{AllByRecursion, flat_map, ConsumerLooked, SameConsumer, known_items, received}
-use Rattle.std.specs.List.Sorted.{IsPermutation}
+use Rattle.lane_runner.specs.Names.{AllByRecursion, flat_map, ConsumerLooked, SameConsumer, known_items, received, IsPermutation}
 use mathlib.Core.List.{IsPrefix}
 use Rattle.lane_runner.specs.Telling.{AreBefore}
 use Rattle.lane_runner.specs.declared.merging.Near.{Near}

@@ -1,8 +1,7 @@
 -- The parts of running lanes
 use Rattle.std.specs.Prelude.{◌≡◌, ℕ, zero, suc, ◌+◌, ◌≤◌, ◌<◌, Some, slice_get, List, [], ◌∷◌, ◌++◌, length, map, Result, Ok, Err, Box, Vec, vec_capacity}
-use Rattle.lane_runner.specs.Names.{IsPair, SameProducer, known_free, received, sent, AllByRecursion, AllZip, flat_map, Dated, Line, Value, Lane, AnswersLine, Holding, PassFacts, TableId, pages, IsOfficeHistory, OfficeOpening, most_turns}
+use Rattle.lane_runner.specs.Names.{IsPair, SameProducer, known_free, received, sent, AllByRecursion, AllZip, flat_map, Dated, Line, Value, Lane, AnswersLine, Holding, PassFacts, TableId, pages, IsOfficeHistory, OfficeOpening, most_turns, StartsWith}
 use Rattle.std.specs.Global.{Global}
-use Rattle.turn_lock.specs.History.{StartsWith}
 use Rattle.snapshot_value.specs.Growing.{Grows}
 use Rattle.snapshot_value.specs.declared.valuation.Valuation.{Valuation}
 use Rattle.snapshot_value.specs.declared.valuation.ValueFault.{ValueFault}

@@ -1,15 +1,9 @@
 -- The worked run over both disks: the cut run, then one that saves the books and is cut once they are saved, and the premium
 use Rattle.std.specs.Prelude.{◌≡◌, ◌⊎◌, ℕ, true, List, [], ◌∷◌, ◌++◌, Some, codes, length}
-use Rattle.checkpoint_store.specs.Checkpoints.{CheckpointBytes}
+use Rattle.life_app.specs.WorkedRun.Names.{CheckpointBytes, FileCall, Measured, Synced, file_reads, Opens, hand_issue, Command, status_of, Ending, Done, Usage, BadJournal, NoMemory, books_text, EndsCheckpoint, EndsStateKept, AreTrue, IsMadeSafe, TellsTruth, TwoDisks, EndsState, HasJournal, HasNoJournal, IsDueEnding, EndsBooks, EndsSave, EndsUnasked, Obeys, SaysUnasked, Filing, Second, With, filing_between, AskForCheckpoint, AreNoWords}
 use Rattle.checkpoint_store.specs.Spelling.{snapshot_bytes}
 use Rattle.checkpoint_store.specs.Worked.{issued_snapshot}
-use Rattle.life_app.specs.Names.{FileCall, Measured, Synced, file_reads, Opens, hand_issue, Command, status_of, Ending, Done, Usage, BadJournal, NoMemory, books_text, EndsCheckpoint, EndsStateKept, AreTrue, IsMadeSafe, TellsTruth, TwoDisks}
-use Rattle.stating_modes.specs.Stating.{EndsState}
-use Rattle.life_app.specs.Due.{HasJournal, HasNoJournal, IsDueEnding}
 use Rattle.life_app.specs.KeptRuns.{AreRunsOfTwo, IsLeftByCall, IsRunOfTwo, IsSnapshotOfFirst, KeepsSecond, LeavesSaved, LeavesSecond, OneRunOfTwo, SavedOfFirst, SavesBooks, WasCutAfter, WasCutBefore, WasLeftOf}
-use Rattle.life_app.specs.Obeys.{EndsBooks, EndsSave, EndsUnasked, Obeys, SaysUnasked}
-use Rattle.life_app.specs.Needs.{Filing, Second, With, filing_between}
-use Rattle.life_app.specs.Words.{AskForCheckpoint, AreNoWords}
 use Rattle.life_app.specs.WorkedRun.Due.{letters, letters_disk, letters_filing, no_input}
 use Rattle.life_app.specs.WorkedRun.Calls.{CalledDisk, called, cut_disk, called_disk, empty_disk, last_disk, puts, untorn}
 use Rattle.life_app.specs.WorkedRun.Promise.{output_of, shelf_that_told, two_auditors}

@@ -1,13 +1,7 @@
 -- Which endings are due in worked cases, of the run's script and of files by hand, so that what is due can come about
 use Rattle.std.specs.Prelude.{◌≡◌, ◌⊎◌, ℕ, true, List, [], ◌∷◌, None, Some, codes, pos, replicate}
-use Rattle.life_app.specs.Names.{Dated, IsPicked, IsBasis, lane_of, Measured, ReadFrom, Synced, Absent, Found, GivesMore, Now, Position, Lane, Terminal, Run, ToValue, State, hand_issue, status_of, Input, Shelving, Ending, Done, Usage, BadScript, BadJournal, IsReadable, IsUnreadable, most_script_bytes}
+use Rattle.life_app.specs.WorkedRun.Names.{Dated, IsPicked, IsBasis, lane_of, Measured, ReadFrom, Synced, Absent, Found, GivesMore, Now, Position, Lane, Terminal, Run, ToValue, State, hand_issue, status_of, Input, Shelving, Ending, Done, Usage, BadScript, BadJournal, IsReadable, IsUnreadable, most_script_bytes, input_that_gave, Value, HasBasis, HasItsJournal, HasItsNeeds, HasJournal, HasNoBasis, HasNoJournal, HasNoScript, HasScript, IsDueEnding, LacksItsBasis, LacksItsJournal, IsGivenBasis, Filing, Without, filing_between, AskForValue}
 use Rattle.basis_shelf.specs.Worked.{certain_death, one_row}
-use Rattle.policy_types.specs.declared.script.Line.TheVariants.{Value}
-use Rattle.script_run.specs.Worked.{input_that_gave}
-use Rattle.life_app.specs.Due.{HasBasis, HasItsJournal, HasItsNeeds, HasJournal, HasNoBasis, HasNoJournal, HasNoScript, HasScript, IsDueEnding, LacksItsBasis, LacksItsJournal}
-use Rattle.life_app.specs.Headline.{IsGivenBasis}
-use Rattle.life_app.specs.Needs.{Filing, Without, filing_between}
-use Rattle.life_app.specs.Words.{AskForValue}
 use Rattle.life_app.specs.WorkedRun.Calls.{CalledDisk, called, cut_disk, called_disk, last_disk}
 use Rattle.life_app.specs.WorkedRun.Promise.{given_script, output_of, premium_lanes, premium_script, premium_text, shelf_that_told}
 

@@ -1,20 +1,10 @@
 -- Two lanes whose turns lie between one another, with their disk: a premium is refused, two policies are valued by rates while the
 -- other clerk posts, and behind that clerk's second premium a sync fails; the run ends, and the file is opened again
 use Rattle.std.specs.Prelude.{ℕ, List, [], ◌∷◌, ◌++◌, codes, pos}
-use Rattle.life_app.specs.Names.{Reads, AnsweredLine, AreLinesOf, hand_issue, hand_premium, IsLegal, Opening, opened_on, Command, Endowment, Now, Entry, Reply, Accepted, Refused, Faulted, Pinned, Policies, Unpinned, Policy, Lane, lane_of, HaveAFault, FileCall, file_reads, Opens, Stream}
+use Rattle.life_app.specs.WorkedRun.Names.{Reads, lane_of, AnsweredLine, AreLinesOf, hand_issue, hand_premium, IsLegal, Opening, opened_on, Command, Endowment, Now, Entry, Reply, Accepted, Refused, Faulted, Pinned, Policies, Unpinned, Policy, Lane, HaveAFault, FileCall, file_reads, Opens, Stream, issued, Issue, Premium, TooEarly, WrongAmount, IsRunOf, WroteWhole, PostLine, Value, AreAllHeld, AreHeld, IsPromised, WasFaulted, table_reserves, run_wording}
 use Rattle.policy_machine.specs.Merge.{IsMerge}
-use Rattle.policy_machine.specs.Rules.{issued}
-use Rattle.policy_types.specs.declared.command.Command.TheVariants.{Issue, Premium}
 use Rattle.policy_types.specs.declared.entry.Call.{Call}
 use Rattle.policy_types.specs.declared.entry.Call.TheVariants.{Post, Pin, Read, Unpin}
-use Rattle.policy_types.specs.declared.refusal.Refusal.TheVariants.{TooEarly, WrongAmount}
-use Rattle.policy_types.specs.declared.script.Line.TheVariants.{Post as PostLine, Value}
-use Rattle.script_run.specs.Outcome.{IsRunOf}
-use Rattle.script_run.specs.Texts.{WroteWhole}
-use Rattle.life_app.specs.Crashes.{AreAllHeld, AreHeld}
-use Rattle.life_app.specs.Headline.{IsPromised, WasFaulted}
-use Rattle.life_app.specs.TableReserves.{table_reserves}
-use Rattle.life_app.specs.Texts.{run_wording}
 use Rattle.life_app.specs.WorkedRun.Calls.{CalledDisk, called, called_disk, fails, issuing, looks, posts, stages, untorn}
 use Rattle.life_app.specs.WorkedRun.Promise.{output_of, two_auditors}
 use Rattle.life_app.specs.WorkedRun.Told.{two_bases}

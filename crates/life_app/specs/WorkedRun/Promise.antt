@@ -1,16 +1,7 @@
 -- What the headline says of the worked run's second half: the script, what is written, and the basis that is given
 use Rattle.std.specs.Prelude.{◌⊎◌, ◌==◌, ℕ, false, length, List, [], ◌∷◌, ◌++◌, Option, Some, codes}
-use Rattle.life_app.specs.Names.{IsBasis, Reads, lane_of, Agrees, Answer, Lane, Post, Opens, AnsweredLine, hand_issue, hand_premium, premium_turn, Accepted, AreAnswered, Input, IsWholeInput, Shelving, Stream, Done, EndsLanes, EndsRead, EndsRun, Auditor}
-use Rattle.script_run.specs.Shown.{AreSafeWhenShown}
-use Rattle.script_run.specs.Outcome.{EndsScript, IsRunOf}
-use Rattle.script_run.specs.Texts.{WroteWhole}
-use Rattle.script_run.specs.Worked.{input_that_gave}
+use Rattle.life_app.specs.WorkedRun.Names.{IsBasis, Reads, lane_of, Agrees, Answer, Lane, Post, Opens, AnsweredLine, hand_issue, hand_premium, premium_turn, Accepted, AreAnswered, Input, IsWholeInput, Shelving, Stream, Done, EndsLanes, EndsRead, EndsRun, Auditor, AreSafeWhenShown, EndsScript, IsRunOf, WroteWhole, input_that_gave, IsGivenBasis, IsPromised, IsPromisedFromStart, IsUnrun, Obeys, table_reserves, run_wording, AskForRun}
 use Rattle.watcher_set.specs.Premiums.{premiums_of}
-use Rattle.life_app.specs.Headline.{IsGivenBasis, IsPromised, IsPromisedFromStart, IsUnrun}
-use Rattle.life_app.specs.Obeys.{Obeys}
-use Rattle.life_app.specs.TableReserves.{table_reserves}
-use Rattle.life_app.specs.Texts.{run_wording}
-use Rattle.life_app.specs.Words.{AskForRun}
 use Rattle.life_app.specs.WorkedRun.Calls.{CalledDisk, called, cut_disk, cut_file, last_disk}
 use Rattle.life_app.specs.WorkedRun.Runs.{second_turns}
 

@@ -1,10 +1,7 @@
 -- What the laws of a crash and of runs in a row say of the worked run
 use Rattle.std.specs.Prelude.{ℕ, List, [], ◌∷◌}
-use Rattle.life_app.specs.Names.{Command, Accepted, Entry, IsLegal, Opening, opened_on, HoldsOnce, IsLeftAlone, Opens, hand_issue, hand_premium, premium_turn}
+use Rattle.life_app.specs.WorkedRun.Names.{Command, Accepted, Entry, IsLegal, Opening, opened_on, HoldsOnce, IsLeftAlone, Opens, hand_issue, hand_premium, premium_turn, AreAllHeld, AreHeld, HasRun, IsFirstFound, AreLeft, AreRuns, HasAnsweredSome, HasReturned, OneRun, WasCut}
 use Rattle.policy_types.specs.declared.entry.Call.TheVariants.{Post}
-use Rattle.life_app.specs.Crashes.{AreAllHeld, AreHeld, HasRun}
-use Rattle.life_app.specs.Headline.{IsFirstFound}
-use Rattle.life_app.specs.Runs.{AreLeft, AreRuns, HasAnsweredSome, HasReturned, OneRun, WasCut}
 use Rattle.life_app.specs.WorkedRun.Calls.{CalledDisk, called, cut_disk, cut_file, called_disk, empty_disk, last_disk, paid_disk, reopening}
 
 abbrev pub issue_turn : Entry

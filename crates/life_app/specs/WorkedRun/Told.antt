@@ -1,21 +1,8 @@
 -- What the laws and the contract conclude, of the worked run and of small values by hand
 use Rattle.std.specs.Prelude.{ℕ, List, None, [], ◌∷◌, ◌++◌, codes, pos}
-use Rattle.life_app.specs.Names.{Dated, IsPicked, Absent, Faulted, Endowment, Policy, Row, Bounds, Opens, hand_issue, hand_premium, premium_turn, Shelving, Done, BadBasis, NoMemory, EndsValue, State, Now, Terminal, ReadsForValues}
+use Rattle.life_app.specs.WorkedRun.Names.{Dated, IsPicked, Absent, Faulted, Endowment, Policy, Row, Bounds, Opens, hand_issue, hand_premium, premium_turn, Shelving, Done, BadBasis, NoMemory, EndsValue, State, Now, Terminal, ReadsForValues, issued, InForce, IsInsured, EndsProject, EndsGenerate, EndsLoad, EndsMode, IsEnclosingRow, IsEnclosingText, IsUnrun, IsWorthBy, WasFaulted, HasBadFile, IsPastTheEnd, NeedBasis, Without, AddsCommands, table_reserves, run_wording, AskForLoad, AskForProject}
 use Rattle.valuing_modes.specs.Worked.Valued.{five_endowments, from_2000, from_2020}
-use Rattle.policy_machine.specs.Rules.{issued}
-use Rattle.policy_types.specs.declared.policy.Status.TheVariants.{InForce}
-use Rattle.policy_value.specs.Rows.{IsInsured}
-use Rattle.valuing_modes.specs.Projecting.{EndsProject}
-use Rattle.trial_load.specs.Generating.{EndsGenerate}
-use Rattle.trial_load.specs.Loading.{EndsLoad}
-use Rattle.life_app.specs.Obeys.{EndsMode}
-use Rattle.life_app.specs.Headline.{IsEnclosingRow, IsEnclosingText, IsUnrun, IsWorthBy, WasFaulted}
-use Rattle.life_app.specs.Needs.{HasBadFile, IsPastTheEnd, NeedBasis, Without}
 use Rattle.life_app.specs.Reasons.{HasReason, IsReasoned}
-use Rattle.life_app.specs.Runs.{AddsCommands}
-use Rattle.life_app.specs.TableReserves.{table_reserves}
-use Rattle.life_app.specs.Texts.{run_wording}
-use Rattle.life_app.specs.Words.{AskForLoad, AskForProject}
 use Rattle.life_app.specs.WorkedRun.Both.{issue_books, looked_filing, saved_filing}
 use Rattle.life_app.specs.WorkedRun.Calls.{called, cut_disk}
 use Rattle.life_app.specs.WorkedRun.Due.{cut_filing, no_input, value_script}

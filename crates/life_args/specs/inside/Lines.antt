@@ -1,10 +1,8 @@
 -- How `clap` reads the words behind a verb, and what private calls answer
 use Rattle.std.specs.Prelude.{◌≡◌, ◌≢◌, ◌==◌, ◌&&◌, ⊤, Bool, true, false, not, List, [], ◌∷◌, ◌++◌, map, bytes_eq, codes, cond, Some, Result, Ok, Err, option_map, unwrap_or}
-use Rattle.std.specs.List.{list_any}
-use Rattle.clap.specs.Words.{App, Rule, Text, fault_of, found_of, matched_of, matches_of, new_app, new_rule, raw_values, rows_of}
+use Rattle.life_args.specs.Names.{list_any, App, Rule, Text, fault_of, found_of, matched_of, matches_of, new_app, new_rule, raw_values, rows_of, Found}
 use Rattle.clap.specs.declared.builder.action.ArgAction.TheVariants.{Append}
 use Rattle.clap.specs.declared.parser.matches.ArgMatches.{ArgMatches}
-use Rattle.clap.specs.declared.parser.matches.Found.{Found}
 use Rattle.life_args.specs.declared.fault.WordsFault.{WordsFault}
 use Rattle.life_args.specs.declared.fault.WordsFault.TheVariants.{Usage, NoMemory}
 use Rattle.life_args.specs.Pieces.{WordPiece, bare, apart, joined, flag, spelled, bare_values, option_values, HasOnly}

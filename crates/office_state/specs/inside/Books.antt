@@ -1,8 +1,7 @@
 -- What is seen of the books
 use Rattle.std.specs.Prelude.{◌≡◌, ℕ, List, filter_map}
 use Rattle.indexmap.specs.IndexMap.{keys}
-use Rattle.office_state.specs.Names.{Command, Policy, balances, id_of, CanSet, IsPlaceIn, kept_of, versions_in, newest_of}
-use Rattle.policy_types.specs.Accounts.{Booking}
+use Rattle.office_state.specs.Names.{Command, Policy, balances, id_of, CanSet, IsPlaceIn, kept_of, versions_in, newest_of, Booking}
 use Rattle.versioned_book.specs.declared.place.KeyPlace.{KeyPlace}
 use Rattle.office_state.specs.declared.books.Books.{Books}
 

@@ -1,7 +1,6 @@
 -- What has to hold of an office's journal and disk from one turn to the next
 use Rattle.std.specs.Prelude.{◌≡◌, ℕ, ◌≤◌, false, List, [], ◌∷◌, ◌++◌}
-use Rattle.office_state.specs.Names.{AllByRecursion, filter_map, Ghosts, Command, Entry, IsValid, IsAccepted, Opening, commands_after, fault_of, StandsFor, disk_of, is_clean, Journal, bodies_of}
-use Rattle.record_codec.specs.Spelling.{spelling_of}
+use Rattle.office_state.specs.Names.{AllByRecursion, filter_map, Ghosts, Command, Entry, IsValid, IsAccepted, Opening, commands_after, fault_of, StandsFor, disk_of, is_clean, Journal, bodies_of, spelling_of}
 use Rattle.office_state.specs.Images.{IsPending}
 
 -- a fault left this body behind the commands' records, and the posting of its command is pending

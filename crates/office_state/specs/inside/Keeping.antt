@@ -1,10 +1,8 @@
 -- The versions and the ledger that are kept of the accepted commands
 use Rattle.std.specs.Prelude.{◌≡◌, ℕ, ◌≤◌, List, [], ◌∷◌, ◌++◌, length}
 use Rattle.std.specs.Coded.{×_prop, Unit-prop}
-use Rattle.office_state.specs.Names.{AllByRecursion, Command, Issue, Premium, Alter, Lapse, Reinstate, Claim, Settle, Mature, PaidUp, Upgrade, Policy, IsValid, balances, ledger_of, IsAccepted, IsAcceptedAfter, upgrade_of, IsBookOf, IsBookOf-prop}
+use Rattle.office_state.specs.Names.{AllByRecursion, Command, Issue, Premium, Alter, Lapse, Reinstate, Claim, Settle, Mature, PaidUp, Upgrade, Policy, IsValid, balances, ledger_of, IsAccepted, IsAcceptedAfter, upgrade_of, IsBookOf, IsBookOf-prop, Term, Whole, Endowment, Limited, most_commands}
 use Rattle.std.proofs.Props.{props}
-use Rattle.policy_types.specs.declared.command.Plan.TheVariants.{Term, Whole, Endowment, Limited}
-use Rattle.policy_types.specs.Limits.{most_commands}
 use Rattle.money_ledgers.specs.declared.ledger.Ledger.{Ledger}
 use Rattle.office_state.specs.versions.Commands.{sets_of}
 use Rattle.versioned_book.specs.declared.book.VersionedBook.{VersionedBook}

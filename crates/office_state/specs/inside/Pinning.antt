@@ -1,7 +1,6 @@
 -- What taking a pin does
 use Rattle.std.specs.Prelude.{◌≡◌, ℕ, ◌<◌, ◌≤◌, List, [], ◌∷◌, ◌++◌, length}
-use Rattle.office_state.specs.Names.{Policy, most_pins}
-use Rattle.policy_types.specs.declared.entry.PinRefusal.{PinRefusal}
+use Rattle.office_state.specs.Names.{Policy, most_pins, PinRefusal}
 use Rattle.policy_types.specs.declared.entry.PinRefusal.TheVariants.{PinsFull}
 use Rattle.office_state.specs.declared.held.Held.{Held}
 use Rattle.office_state.specs.declared.held.PinInfo.{PinInfo}

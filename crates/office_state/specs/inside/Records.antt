@@ -1,7 +1,6 @@
 -- What making a record does to a journal, which may have to be repaired first
 use Rattle.std.specs.Prelude.{◌≡◌, ◌⊎◌, ℕ, false, List, [], ◌∷◌, ◌++◌, Result, OnOk, OnErr}
-use Rattle.office_state.specs.Names.{Ghosts, Leaves, StandsFor, disk_of, is_clean, Journal}
-use Rattle.posting_journal.specs.Files.{IsJournal}
+use Rattle.office_state.specs.Names.{Ghosts, Leaves, StandsFor, disk_of, is_clean, Journal, IsJournal}
 
 -- The journal of these bodies may have the body of an earlier fault behind them, where it isn't clean; after a fault
 -- it may have that one still, or the new one.

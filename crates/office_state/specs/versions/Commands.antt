@@ -1,7 +1,6 @@
 -- The settings that a list of commands makes: each command of which the rules make a policy gives it a new version
 use Rattle.std.specs.Prelude.{ℕ, ◌+◌, List, [], ◌∷◌, ◌++◌, length, Some, None, Option, Ok, Err, Result}
-use Rattle.office_state.specs.Names.{cons_option, Command, Policy, id_of, next, policy_of, Setting}
-use Rattle.policy_types.specs.declared.refusal.Refusal.{Refusal}
+use Rattle.office_state.specs.Names.{cons_option, Command, Policy, id_of, next, policy_of, Setting, Refusal}
 
 -- the policy that a decision makes, as a setting of its number; a refusal makes none
 abbrev pub setting_by : ℕ → ℕ → Result Policy Refusal → Option (Setting Policy)

@@ -1,7 +1,6 @@
 -- What one more command sets, and how many settings there are
 use Rattle.std.specs.Prelude.{◌≡◌, ℕ, ◌+◌, ◌-◌, ◌≤◌, List, [], ◌∷◌, ◌++◌, length, Ok, Err}
-use Rattle.office_state.specs.Names.{filter, Command, Upgrade, Policy, id_of, is_upgrade, next, policy_of, IsAccepted, IsRisingTo, positions, settings_after}
-use Rattle.policy_types.specs.declared.refusal.Refusal.{Refusal}
+use Rattle.office_state.specs.Names.{filter, Command, Upgrade, Policy, id_of, is_upgrade, next, policy_of, IsAccepted, IsRisingTo, positions, settings_after, Refusal}
 use Rattle.office_state.specs.versions.Commands.{sets_of}
 
 -- one more accepted command sets its policy at the next position

@@ -1,9 +1,7 @@
 -- What the worked cases share. The policy is an endowment of 1000.00 for three years at age 0, with an annual premium
 -- of 400.00, issued on 2020-01-01 (day 18262) as number 7001; its anniversaries are the days 18628, 18993 and 19358
 use Rattle.std.specs.Prelude.{◌≡◌, ℕ, List, [], ◌∷◌, ℤ, pos, Some, None}
-use Rattle.policy_machine.specs.Names.{Command, Issue, Premium, Lapse, Claim, Endowment, Term, Policy, Status, InForce, Refusal, Call, Post, Reply, Entry}
-use Rattle.policy_machine.specs.Book.{book}
-use Rattle.policy_machine.specs.History.{Opening, refusal_due}
+use Rattle.policy_machine.specs.Worked.Names.{Command, Issue, Premium, Lapse, Claim, Endowment, Term, Policy, Status, InForce, Refusal, Call, Post, Reply, Entry, book, Opening, refusal_due}
 
 -- after these commands this one is accepted
 abbrev pub Accepts : List Command → Command → Type 0

@@ -1,7 +1,6 @@
 -- Worked cases of claims and their settlement. Where a refusal is due, reasons that come after it in order apply as well
 use Rattle.std.specs.Prelude.{[], ◌∷◌, pos}
-use Rattle.policy_machine.specs.Names.{Claim, Settle, InForce, Lapsed, Claimed, Settled, Unknown, BeforeLast, WrongStatus, TermOver, GraceOver, OverSettled, Accepted, Refused}
-use Rattle.policy_machine.specs.History.{IsLegalAfter}
+use Rattle.policy_machine.specs.Worked.Names.{Claim, Settle, InForce, Lapsed, Claimed, Settled, Unknown, BeforeLast, WrongStatus, TermOver, GraceOver, OverSettled, Accepted, Refused, IsLegalAfter}
 use Rattle.policy_machine.specs.Worked.Cases.{Accepts, Refuses, LeavePolicies, policy_issue, policy_with, premium_on, unpaid, paid_once, paid_up, lapsed_once, claimed, empty_office, posting}
 
 -- after a death on 2020-06-01 the amount is paid out in parts, and no more than is outstanding

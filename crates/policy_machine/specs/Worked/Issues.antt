@@ -1,7 +1,6 @@
 -- Worked cases of issues
 use Rattle.std.specs.Prelude.{[], ◌∷◌, pos}
-use Rattle.policy_machine.specs.Names.{Issue, Term, Whole, Endowment, Limited, InForce, Taken, Accepted, Refused}
-use Rattle.policy_machine.specs.History.{IsLegalAfter}
+use Rattle.policy_machine.specs.Worked.Names.{Issue, Term, Whole, Endowment, Limited, InForce, Taken, Accepted, Refused, IsLegalAfter}
 use Rattle.policy_machine.specs.Worked.Cases.{LeavePolicies, Refuses, policy_issue, term_policy, claimed, empty_office, posting}
 
 -- the policy is accepted as number 1 of the journal, and a second time refused as taken

@@ -1,7 +1,6 @@
 -- Worked cases of lapses and reinstatements. Where a refusal is due, reasons that come after it in order apply as well
 use Rattle.std.specs.Prelude.{[], ◌∷◌, List, pos}
-use Rattle.policy_machine.specs.Names.{Command, Issue, Lapse, Reinstate, Endowment, Limited, InForce, Lapsed, Claimed, Unknown, BeforeLast, WrongStatus, TermOver, NothingDue, NotInArrears, TooLate, WrongAmount, Accepted, Refused}
-use Rattle.policy_machine.specs.History.{IsLegalAfter}
+use Rattle.policy_machine.specs.Worked.Names.{Command, Issue, Lapse, Reinstate, Endowment, Limited, InForce, Lapsed, Claimed, Unknown, BeforeLast, WrongStatus, TermOver, NothingDue, NotInArrears, TooLate, WrongAmount, Accepted, Refused, IsLegalAfter}
 use Rattle.policy_machine.specs.Worked.Cases.{Accepts, Refuses, LeavePolicies, policy_issue, policy_with, premium_on, unpaid, paid_once, paid_up, lapsed_once, claimed, empty_office, posting}
 
 -- with the first premium paid, a lapse is refused on 2021-02-01 and accepted on 2021-02-02; reinstating on 2022-01-01

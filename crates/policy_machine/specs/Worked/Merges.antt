@@ -1,11 +1,8 @@
 -- Worked merges of two clerks' lanes. The first, caller 5, posts the policy and values the book; the second, caller 6,
 -- posts its premium and trims
 use Rattle.std.specs.Prelude.{◌≡◌, List, [], ◌∷◌, pos}
-use Rattle.policy_machine.specs.Names.{InForce, Post, Pin, PinAt, Read, Unpin, TrimCall, Accepted, Pinned, PinRefused, Policies, Unpinned, Floor, Ahead, Trimmed, Entry}
-use Rattle.policy_types.specs.declared.entry.At.TheVariants.{Now, Position}
+use Rattle.policy_machine.specs.Worked.Names.{InForce, Post, Pin, PinAt, Read, Unpin, TrimCall, Accepted, Pinned, PinRefused, Policies, Unpinned, Floor, Ahead, Trimmed, Entry, Now, Position, Lane, IsLegalAfter}
 use Rattle.policy_types.specs.declared.script.Line.TheVariants.{Post as PostLine, Value, Trim}
-use Rattle.policy_types.specs.declared.script.Lane.{Lane}
-use Rattle.policy_machine.specs.History.{IsLegalAfter}
 use Rattle.policy_machine.specs.Merge.{IsMerge, reads_of}
 use Rattle.policy_machine.specs.Worked.Cases.{policy_issue, policy_with, premium_on, empty_office, turn}
 

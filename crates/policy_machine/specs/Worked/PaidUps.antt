@@ -1,9 +1,7 @@
 -- Worked cases of upgrades and of policies that are made paid up. Where a refusal is due, reasons that come after it in
 -- order apply as well
 use Rattle.std.specs.Prelude.{◌≡◌, ℕ, ℤ, List, [], ◌∷◌, ◌++◌, pos, negsuc}
-use Rattle.policy_machine.specs.Names.{Command, Issue, Alter, Lapse, Reinstate, Claim, Mature, PaidUp, Upgrade, Term, Endowment, Policy, Status, Lapsed, Claimed, Matured, Expired, IsPaidUp, Unknown, BeforeLast, WrongStatus, TermOver, NothingDue, GraceOver, NotAReduction, NotMatured, NotUpgraded, Upgraded, Accepted, Refused}
-use Rattle.policy_machine.specs.Book.{upgrade_of}
-use Rattle.policy_machine.specs.History.{IsLegalAfter, opened_on}
+use Rattle.policy_machine.specs.Worked.Names.{Command, Issue, Alter, Lapse, Reinstate, Claim, Mature, PaidUp, Upgrade, Term, Endowment, Policy, Status, Lapsed, Claimed, Matured, Expired, IsPaidUp, Unknown, BeforeLast, WrongStatus, TermOver, NothingDue, GraceOver, NotAReduction, NotMatured, NotUpgraded, Upgraded, Accepted, Refused, upgrade_of, IsLegalAfter, opened_on}
 use Rattle.policy_machine.specs.Worked.Balances.{Books}
 use Rattle.policy_machine.specs.Worked.Cases.{Accepts, Refuses, LeavePolicies, policy_issue, premium_on, paid_once, paid_up, lapsed_once, posting}
 

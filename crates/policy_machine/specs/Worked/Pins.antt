@@ -1,7 +1,6 @@
 -- Worked histories of pins, reads and floors. A pin's number is the place of its turn, counted from 0
 use Rattle.std.specs.Prelude.{List, [], ◌∷◌, ◌++◌, pos}
-use Rattle.policy_machine.specs.Names.{repeat, Command, Issue, Term, Policy, InForce, Pin, PinAt, Read, Unpin, Trim, Accepted, Pinned, PinRefused, Policies, Unpinned, Floor, Ahead, Trimmed, PinsFull, Entry}
-use Rattle.policy_machine.specs.History.{IsDue, IsLegalAfter}
+use Rattle.policy_machine.specs.Worked.Names.{repeat, Command, Issue, Term, Policy, InForce, Pin, PinAt, Read, Unpin, Trim, Accepted, Pinned, PinRefused, Policies, Unpinned, Floor, Ahead, Trimmed, PinsFull, Entry, IsDue, IsLegalAfter}
 use Rattle.policy_machine.specs.Worked.Cases.{policy_issue, policy_with, premium_on, term_policy, empty_office, turn, posting}
 
 -- another policy, and as it is issued

@@ -1,8 +1,6 @@
 -- Worked histories of postings: positions, faults, and what an office can be opened on
 use Rattle.std.specs.Prelude.{◌≡◌, ℕ, ◌-◌, ◌^◌, List, [], ◌∷◌, pos, Some, None, length}
-use Rattle.policy_machine.specs.Names.{Command, Issue, Whole, Refusal, Taken, Unknown, Full, Post, Accepted, Refused, Faulted, Blank}
-use Rattle.policy_machine.specs.Book.{judge}
-use Rattle.policy_machine.specs.History.{IsDue, IsLegalAfter, IsOpening, opened_on, refusal_due}
+use Rattle.policy_machine.specs.Worked.Names.{Command, Issue, Whole, Refusal, Taken, Unknown, Full, Post, Accepted, Refused, Faulted, Blank, judge, IsDue, IsLegalAfter, IsOpening, opened_on, refusal_due}
 use Rattle.policy_machine.specs.Worked.Cases.{policy_issue, premium_on, paid_once, empty_office, posting}
 
 -- positions go on from the commands that the office was opened on

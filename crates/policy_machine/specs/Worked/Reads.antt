@@ -1,8 +1,6 @@
 -- A worked history of reads past the end of a batch: 257 policies are read as 256 and one
 use Rattle.std.specs.Prelude.{ℕ, map, List, [], ◌∷◌, pos}
-use Rattle.policy_machine.specs.Names.{range_with_len, Command, Issue, Term, Policy, Pin, Read, Unpin, Pinned, Policies, Unpinned}
-use Rattle.policy_machine.specs.Rules.{issued}
-use Rattle.policy_machine.specs.History.{IsLegalAfter, opened_on}
+use Rattle.policy_machine.specs.Worked.Names.{range_with_len, Command, Issue, Term, Policy, Pin, Read, Unpin, Pinned, Policies, Unpinned, issued, IsLegalAfter, opened_on}
 use Rattle.policy_machine.specs.Worked.Cases.{turn}
 
 -- the issue of a number, and its policy

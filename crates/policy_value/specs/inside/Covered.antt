@@ -1,7 +1,6 @@
 -- What a policy is covered by, as the program has it at hand.
 use Rattle.std.specs.Prelude.{◌≡◌, ℕ, ◌+◌, List, Some, Ok, slice_get}
-use Rattle.policy_value.specs.Names.{AreRates, HoldsAge, table_along, shape_of, Cover, cover_of, cap_of, CanReserve, Dated}
-use Rattle.policy_types.specs.declared.command.Plan.{Plan}
+use Rattle.policy_value.specs.Names.{AreRates, HoldsAge, table_along, shape_of, Cover, cover_of, cap_of, CanReserve, Dated, Plan}
 use Rattle.policy_value.specs.Caches.{IsRowOf}
 use Rattle.policy_value.specs.declared.covered.Covered.{Covered}
 use Rattle.policy_value.specs.declared.covered.IssueRates.{IssueRates}

@@ -1,7 +1,6 @@
 -- What the steps of the calls do, for the contracts of the steps alone.
 use Rattle.std.specs.Prelude.{◌≡◌, ℕ, ◌≤◌, List, length, Result, IfOk, IfErr, OnOk}
-use Rattle.outside_io.specs.Disks.{Only, Torn, Writes}
-use Rattle.outside_io.specs.declared.disks.Disk.{Ghosts}
+use Rattle.posting_journal.specs.Names.{Only, Torn, Writes, Ghosts}
 use Rattle.posting_journal.specs.Creation.{IsEmpty, IsUnfinished, OpensToBodies}
 use Rattle.posting_journal.specs.Faults.{TellsFailure}
 use Rattle.posting_journal.specs.Files.{IsJournal, IsStaged}

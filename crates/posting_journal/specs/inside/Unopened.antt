@@ -1,7 +1,6 @@
 -- What is known while the records of a file are counted, and where it isn't opened.
 use Rattle.std.specs.Prelude.{◌≡◌, ℕ, ◌<◌, ◌≤◌, List, slice_index, Result, IfErr, OnOk}
-use Rattle.outside_io.specs.Faults.{Rose}
-use Rattle.outside_io.specs.declared.disks.Disk.{Ghosts}
+use Rattle.posting_journal.specs.Names.{Rose, Ghosts}
 use Rattle.posting_journal.specs.Layout.{gate_place}
 use Rattle.posting_journal.specs.Files.{IsClosed}
 use Rattle.posting_journal.specs.Creation.{CannotStand, IsForeign, IsBadAt}

@@ -1,10 +1,6 @@
 -- The command that has given fields
 use Rattle.std.specs.Prelude.{ℕ, ◌==◌, ◌<◌, ◌^◌, if◌then◌else◌, FitsSigned, Option, Some, None, option_map}
-use Rattle.std.specs.Int.{w32}
-use Rattle.policy_types.specs.declared.command.Command.{Command}
-use Rattle.policy_types.specs.declared.command.Command.TheVariants.{Issue, Premium, Alter, Lapse, Reinstate, Claim, Settle, Mature, PaidUp, Upgrade}
-use Rattle.policy_types.specs.declared.command.Plan.{Plan}
-use Rattle.policy_types.specs.declared.command.Plan.TheVariants.{Term, Whole, Endowment, Limited}
+use Rattle.record_codec.specs.Names.{w32, Command, Issue, Premium, Alter, Lapse, Reinstate, Claim, Settle, Mature, PaidUp, Upgrade, Plan, Term, Whole, Endowment, Limited}
 use Rattle.record_codec.specs.declared.fields.RecordFields.{RecordFields}
 
 -- the numbers fit their bytes

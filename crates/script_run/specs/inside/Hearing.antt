@@ -1,12 +1,10 @@
 -- An office that was opened with one end of a ring of moments, and the other end beside it
 use Rattle.std.specs.Prelude.{ℕ}
 use Rattle.std.specs.Global.{Global}
-use Rattle.outside_io.specs.declared.disks.Disk.{Ghosts}
+use Rattle.script_run.specs.Names.{Ghosts, Holding, OfficeOpening}
 use Rattle.rtrb.specs.declared.AnyItems.{AnyItems}
 use Rattle.rtrb.specs.declared.consumer.Consumer.{Consumer}
 use Rattle.moment_ring.specs.Ends.{IsNewRing}
-use Rattle.turn_lock.specs.Passes.{Holding}
-use Rattle.shared_office.specs.Offices.{OfficeOpening}
 use Rattle.shared_office.specs.Starting.{HasStartedOffice}
 
 -- the office was opened with the other end of this one, and nothing went through their ring so far

@@ -1,14 +1,11 @@
 -- How a run ends by what was told of its lines
 use Rattle.std.specs.Prelude.{◌≡◌, ◌⊎◌, ℕ, ◌≤◌, ◌++◌, Option, true, false, List, codes, map, Result, Ok, Err}
-use Rattle.script_run.specs.Names.{Rose, AllByRecursion, AppendsPart, TakenPiece, Ending, Done, WriteFault, DiskFailed, NoRoom, Stream, WroteAll, WroteLine}
+use Rattle.script_run.specs.Names.{Rose, AllByRecursion, AppendsPart, TakenPiece, Ending, Done, WriteFault, DiskFailed, NoRoom, Stream, WroteAll, WroteLine, HasEnded, run_text, told_text, reports_text}
 use Rattle.policy_types.specs.declared.watcher.NoMemory.{NoMemory as Lack}
 use Rattle.policy_types.specs.declared.watcher.Report.{Report}
 use Rattle.lane_runner.specs.declared.transcript.TranscriptLine.{TranscriptLine}
 use Rattle.lane_runner.specs.declared.running.Ran.{Ran}
-use Rattle.lane_runner.specs.Written.{HasEnded}
 use Rattle.lane_runner.specs.Tallies.{any_faulted, any_lacked}
-use Rattle.transcript_text.specs.Told.{run_text, told_text}
-use Rattle.transcript_text.specs.Transcript.{reports_text}
 use Rattle.script_run.specs.Texts.{WroteUpTo}
 
 -- How a run ends whose lines were answered: by what was written of its text, and then by whether the disk failed in one of

@@ -1,7 +1,6 @@
 -- What a pass learns of a pin's turn
 use Rattle.std.specs.Prelude.{ℕ, Ok, Err, Result}
-use Rattle.policy_types.specs.declared.entry.PinRefusal.{PinRefusal}
-use Rattle.office_state.specs.declared.held.Held.{Held}
+use Rattle.shared_office.specs.Names.{PinRefusal, Held}
 use Rattle.office_state.specs.declared.held.PinInfo.{PinInfo}
 
 -- the pin of a caller by what the state told of it, with the place of its turn for its number

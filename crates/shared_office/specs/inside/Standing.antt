@@ -1,11 +1,8 @@
 -- What the shared state was opened on, and the histories for which it stands
 use Rattle.std.specs.Prelude.{◌≡◌, ◌≤◌, List, [], length}
-use Rattle.shared_office.specs.Names.{AllByRecursion, Entry, IsValid, SameOutlet, auditors_of, begun_of, disk_of, opening_of, outlet_of}
+use Rattle.shared_office.specs.Names.{AllByRecursion, Entry, IsValid, SameOutlet, auditors_of, begun_of, disk_of, opening_of, outlet_of, Ghosts, most_commands, WatcherGhosts}
 use Rattle.std.proofs.Common.{subst}
-use Rattle.outside_io.specs.declared.disks.Disk.{Ghosts}
 use Rattle.policy_types.specs.declared.command.Command.{Command}
-use Rattle.policy_types.specs.Limits.{most_commands}
-use Rattle.watcher_set.specs.declared.watching.Watching.{Ghosts as WatcherGhosts}
 use Rattle.office_state.specs.Standing.{StandsFor}
 use Rattle.shared_office.specs.Offices.{IsOfficeHistory, OfficeOpening}
 use Rattle.shared_office.specs.declared.state.SharedState.{SharedState}

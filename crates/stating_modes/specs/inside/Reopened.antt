@@ -1,13 +1,10 @@
 -- A journal and a store on the two disks, once the snapshot is read from them, or why there is none
 use Rattle.std.specs.Prelude.{◌≡◌, IsTrue, List, []}
-use Rattle.stating_modes.specs.Names.{Ghosts, Command, opened_on, disk_of, is_clean, IsSnapshotOf, IsSoundSnapshot, store_disk, Snapshot, IsLeftAlone, IsLeftBy, IsShown, StartCause}
-use Rattle.posting_journal.specs.Opening.{OpensOn}
+use Rattle.stating_modes.specs.Names.{Ghosts, Command, opened_on, disk_of, is_clean, IsSnapshotOf, IsSoundSnapshot, store_disk, Snapshot, IsLeftAlone, IsLeftBy, IsShown, StartCause, OpensOn, Journal, Store}
 use Rattle.posting_journal.specs.Starting.{HasStarted}
-use Rattle.posting_journal.specs.declared.journal.Journal.{Journal}
 use Rattle.checkpoint_store.specs.Starts.{HasLookedAt}
 use Rattle.checkpoint_store.specs.declared.faults.ReopenFault.{ReopenFault}
 use Rattle.checkpoint_store.specs.declared.faults.ReopenFault.TheVariants as fault
-use Rattle.checkpoint_store.specs.declared.store.Store.{Store}
 use Rattle.office_state.specs.declared.faults.StartCause.TheVariants.{DiskFault, BadRecord, NoMemory}
 use Rattle.stating_modes.specs.declared.reopened.Reopened.{Reopened}
 use Rattle.stating_modes.specs.TwoDisks.{AreBothQuiet, AreTrue, HasOneFailed, IsHeldWhereTrue, IsMadeSafe, IsOnlyRead, TwoDisks}

@@ -1,17 +1,11 @@
 -- What reading a journal's records again tells, for one policy
 use Rattle.std.specs.Prelude.{◌≡◌, ℕ, List, [], ◌⊎◌, Err, IsOk, codes}
-use Rattle.stating_modes.specs.Names.{AllByRecursion, Rose, AppendsPart, Ghosts, Command, IsUnfinished, LooksOn, disk_of, StartCause, IsOfTheFile, Opens, OpensToNone, Ending, Done, BadJournal, WriteFault, DiskFault, NoMemory, Stream, WroteAll, WroteLine}
+use Rattle.stating_modes.specs.Names.{AllByRecursion, Rose, AppendsPart, Ghosts, Command, IsUnfinished, LooksOn, disk_of, StartCause, IsOfTheFile, Opens, OpensToNone, Ending, Done, BadJournal, WriteFault, DiskFault, NoMemory, Stream, WroteAll, WroteLine, IsValid, id_of, policy_of, next, Journal, TellsFault, SaysWhy}
 use Rattle.policy_types.specs.declared.command.Command.TheVariants.{Upgrade}
-use Rattle.policy_types.specs.Valid.{IsValid, id_of}
-use Rattle.policy_machine.specs.Book.{policy_of}
-use Rattle.policy_machine.specs.Rules.{next}
-use Rattle.posting_journal.specs.declared.journal.Journal.{Journal}
 use Rattle.journal_replay.specs.Replays.{BodiesHave, HasReplayCause, IsLookedAt, IsQuiet, Stops, bodies_of}
 use Rattle.journal_replay.specs.declared.replaying.ReplayFault.{ReplayFault}
 use Rattle.office_state.specs.declared.faults.StartCause.TheVariants.{DiskFault as FaultyDisk}
-use Rattle.office_state.specs.Opening.{TellsFault}
 use Rattle.office_state.specs.inside.Replays.{as_replay_cause}
-use Rattle.program_endings.specs.Refusals.{SaysWhy}
 use Rattle.stating_modes.specs.declared.rereading.Account.{Account}
 use Rattle.stating_modes.specs.Books.{policy_entries, policy_account}
 

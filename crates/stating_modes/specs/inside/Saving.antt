@@ -1,7 +1,6 @@
 -- How the saving of a snapshot ends, by the store before and after it
 use Rattle.std.specs.Prelude.{◌≡◌, ℕ, List, codes}
-use Rattle.stating_modes.specs.Names.{Rose, AppendsPart, Ghosts, Leaves, CheckpointBytes, IsKeptOrSavedBy, Knows, MightLeave, store_disk, Snapshot, Stream, WroteAll, WroteLine, Ending, Done, WriteFault, DiskFault, NoMemory}
-use Rattle.checkpoint_store.specs.declared.store.Store.{Store}
+use Rattle.stating_modes.specs.Names.{Rose, AppendsPart, Ghosts, Leaves, CheckpointBytes, IsKeptOrSavedBy, Knows, MightLeave, store_disk, Snapshot, Stream, WroteAll, WroteLine, Ending, Done, WriteFault, DiskFault, NoMemory, Store}
 use Rattle.stating_modes.specs.Saved.{checkpoint_text}
 
 -- whether or not the saving succeeded, a crash leaves no checkpoint, or an earlier one, or the new one

@@ -1,17 +1,12 @@
 -- How the parts of `load` end
 use Rattle.std.specs.Prelude.{◌≡◌, ◌⊎◌, true, false, List, [], Result, Ok, Err}
-use Rattle.std.specs.Io.KnownBytes.{Appends}
-use Rattle.std.specs.List.{AllByRecursion}
-use Rattle.trial_load.specs.Names.{Rose, AppendsPart, IsValidPosting, Stream, WroteAll, Ending, Done, WriteFault, DiskFault, NoMemory}
-use Rattle.policy_types.specs.declared.script.Lane.{Lane}
-use Rattle.policy_value.specs.declared.worth.Row.{Row}
+use Rattle.trial_load.specs.Names.{Appends, AllByRecursion, Rose, AppendsPart, IsValidPosting, Stream, WroteAll, Ending, Done, WriteFault, DiskFault, NoMemory, Lane, Row, IsWritableBlock}
 use Rattle.snapshot_value.specs.declared.valuation.Valuation.{Valuation}
 use Rattle.snapshot_value.specs.declared.valuation.ValueFault.{ValueFault}
 use Rattle.snapshot_value.specs.declared.valuation.ValueFault.TheVariants.{Pin, NoMemory as NoValues}
 use Rattle.policy_types.specs.Lanes.{lines_in}
 use Rattle.lane_runner.specs.declared.transcript.TranscriptLine.{TranscriptLine}
 use Rattle.lane_runner.specs.Tallies.{accepted_lines, any_faulted, any_lacked, refused_lines}
-use Rattle.program_endings.specs.Blocks.{IsWritableBlock}
 use Rattle.transcript_text.specs.Lanes.{AreScriptLanes}
 use Rattle.trial_load.specs.Loading.{load_text}
 

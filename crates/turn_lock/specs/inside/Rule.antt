@@ -1,11 +1,9 @@
 -- The lock's rule: what holds of the words, the slot and all seats between any two steps
 use Rattle.std.specs.Prelude.{◌≡◌, ◌≢◌, ℕ, ◌+◌, ◌<◌, ◌≤◌, nat_eq, List, [], ◌∷◌, length, Option, Some, None}
-use Rattle.std.specs.List.{AllByRecursion, Contains, IsDistinct}
+use Rattle.turn_lock.specs.Names.{AllByRecursion, Contains, IsDistinct, State, Entry}
 use mathlib.Core.Option as maybe
 use mathlib.Core.Option.{some, none}
 use lib.ListN.{get_elem?}
-use Rattle.atomic_table.specs.Table.{State}
-use Rattle.policy_types.specs.declared.entry.Entry.{Entry}
 use Rattle.turn_lock.specs.History.{entries_of, StartsWith}
 use Rattle.turn_lock.specs.Passes.{Page, all_turns, all_shares}
 use Rattle.turn_lock.specs.declared.seats.Kept.{Kept}

@@ -1,7 +1,6 @@
 -- What a seat of the lock knows, read out of its view
 use Rattle.std.specs.Prelude.{◌≡◌, ℕ, ◌+◌, ◌-◌, ◌/◌, ◌<◌, ◌≤◌, max, nat_eq, nat_lt, if◌then◌else◌, List, [], ◌∷◌, ◌++◌, length, map, Some, None}
-use Rattle.std.specs.List.{AllByRecursion, IsDistinct}
-use Rattle.policy_types.specs.declared.entry.Entry.{Entry}
+use Rattle.turn_lock.specs.Names.{AllByRecursion, IsDistinct, Entry}
 use Rattle.turn_lock.specs.History.{entries_of, longer}
 use Rattle.turn_lock.specs.Passes.{Page, all_turns, all_shares}
 use Rattle.turn_lock.specs.declared.seats.View.{View}

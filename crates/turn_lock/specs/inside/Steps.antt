@@ -1,7 +1,6 @@
 -- What each kind of step tells its seat
 use Rattle.std.specs.Prelude.{◌≡◌, ◌≢◌, ℕ, ◌<◌, ◌≤◌, List, [], ◌∷◌, length, Option, Some}
-use Rattle.atomic_table.specs.Table.{Me, Step}
-use Rattle.policy_types.specs.declared.entry.Entry.{Entry}
+use Rattle.turn_lock.specs.Names.{Me, Step, Entry}
 use Rattle.turn_lock.specs.History.{StartsWith}
 use Rattle.turn_lock.specs.Passes.{all_turns}
 use Rattle.turn_lock.specs.declared.seats.Kept.{Kept}

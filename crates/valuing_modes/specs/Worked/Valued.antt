@@ -1,14 +1,13 @@
 -- A worked valuation of five policies, put down by hand. Day 10956 is 1999-12-31, 18262 is 2020-01-01,
 -- 18597 is 2020-12-01 and 18628 is 2021-01-01
 use Rattle.std.specs.Prelude.{◌≡◌, ◌++◌, ℕ, true, List, [], ◌∷◌, ℤ, pos, codes, replicate}
-use Rattle.valuing_modes.specs.Names.{Command, Now, Dated}
+use Rattle.valuing_modes.specs.Names.{Command, Now, Dated, Terminal}
 use Rattle.policy_types.specs.declared.command.Command.TheVariants.{Issue, Premium, PaidUp, Upgrade}
 use Rattle.policy_types.specs.declared.command.Plan.TheVariants.{Endowment}
 use Rattle.rate_table.specs.Rates.{Rates}
 use Rattle.select_rates.specs.declared.any.AnyTable.TheVariants.{Aggregate}
 use Rattle.present_value.specs.Premium.{cap_shape}
 use Rattle.present_value.specs.Worked.{five_ages}
-use Rattle.policy_value.specs.declared.worth.Measure.TheVariants.{Terminal}
 use Rattle.valuing_modes.specs.Valuing.{IsValuation}
 
 -- from 2000-01-01 on the rates 0.1, 0.2, 0.25, 0.5 and 1 of the ages 0 to 4, without interest

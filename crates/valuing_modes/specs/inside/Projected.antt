@@ -1,12 +1,6 @@
 -- How the parts of `project` end
 use Rattle.std.specs.Prelude.{ℕ, ◌≤◌, ℤ, List, codes, length, Result, Ok, Err}
-use Rattle.std.specs.List.{All}
-use Rattle.outside_io.specs.Faults.{Rose}
-use Rattle.outside_io.specs.Streams.{AppendsPart}
-use Rattle.valuing_modes.specs.Names.{IsTermDay, Command, Dated, Stream, WroteAll, WroteLine, Ending, Done, NoMemory, WriteFault}
-use Rattle.snapshot_value.specs.declared.valuation.ValueFault.{ValueFault}
-use Rattle.cash_projection.specs.Text.{IsTellable, projection_text}
-use Rattle.cash_projection.specs.declared.printing.Projection.{Projection}
+use Rattle.valuing_modes.specs.Names.{All, Rose, AppendsPart, IsTermDay, Command, Dated, Stream, WroteAll, WroteLine, Ending, Done, NoMemory, WriteFault, ValueFault, IsTellable, projection_text, Projection}
 use Rattle.valuing_modes.specs.Projecting.{IsProjectionText}
 
 -- it can be printed

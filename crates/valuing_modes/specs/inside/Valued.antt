@@ -1,14 +1,8 @@
 -- How the parts of `value` end
 use Rattle.std.specs.Prelude.{ℕ, ℤ, List, ◌++◌, codes, decimal, Result, Ok, Err}
-use Rattle.outside_io.specs.Faults.{Rose}
-use Rattle.outside_io.specs.Streams.{AppendsPart}
-use Rattle.valuing_modes.specs.Names.{Command, Dated, Stream, WroteAll, WroteLine, Ending, Ahead, Done, NoMemory, WriteFault}
-use Rattle.policy_types.specs.declared.entry.At.{At}
+use Rattle.valuing_modes.specs.Names.{Rose, AppendsPart, Command, Dated, Stream, WroteAll, WroteLine, Ending, Ahead, Done, NoMemory, WriteFault, At, Measure, block_text, ValueFault}
 use Rattle.policy_types.specs.declared.entry.PinRefusal.TheVariants.{Ahead as PastTheEnd}
-use Rattle.policy_value.specs.declared.worth.Measure.{Measure}
-use Rattle.report_text.specs.Block.{block_text}
 use Rattle.snapshot_value.specs.declared.valuation.Valuation.{Valuation}
-use Rattle.snapshot_value.specs.declared.valuation.ValueFault.{ValueFault}
 use Rattle.snapshot_value.specs.declared.valuation.ValueFault.TheVariants.{Pin}
 use Rattle.valuing_modes.specs.Valuing.{IsBeyond, IsValuation}
 

@@ -1,7 +1,6 @@
 -- What the calls of one auditor do at its place
 use Rattle.std.specs.Prelude.{◌≡◌, ℕ, ◌+◌, ◌<◌, ◌≤◌, true, false, List, [], ◌∷◌, ◌++◌, length}
-use Rattle.watcher_set.specs.Names.{Command, Report, most_commands}
-use Rattle.policy_types.specs.declared.watcher.Watcher.{Ghosts}
+use Rattle.watcher_set.specs.Names.{Command, Report, most_commands, Ghosts}
 use Rattle.watcher_set.specs.declared.place.Place.{Place}
 use Rattle.watcher_set.specs.declared.place.Place.TheVariants.{Listening, Reported}
 

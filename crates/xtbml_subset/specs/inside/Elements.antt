@@ -1,7 +1,6 @@
 -- The elements that a reader finds, in order.
 use Rattle.std.specs.Prelude.{ℕ, zero, suc, ◌+◌, ◌-◌, Bool, true, false, if◌then◌else◌, ◌==◌, ◌&&◌, List, [], ◌∷◌, ◌++◌, length, Option, None, Some}
-use Rattle.std.specs.Option.{option_map_or}
-use Rattle.std.specs.Str.{bytes_eq}
+use Rattle.xtbml_subset.specs.Names.{option_map_or, bytes_eq}
 use Rattle.xtbml_subset.specs.declared.class.Class.TheVariants.{Text}
 use Rattle.xtbml_subset.specs.Pieces.{Tag, Piece, byte, comment, declaration, start, whole, finish}
 use Rattle.xtbml_subset.specs.inside.Reading.{byte_at, piece_at}
