@@ -26,9 +26,9 @@ LIMITS = {
     "docs/AUDIT.md": 2700,
     "docs/OPERATIONS.md": 2650,
     "docs/FORMATS.md": 6150,
-    "docs/ARCHITECTURE.md": 5190,
+    "docs/ARCHITECTURE.md": 5200,
     "docs/PROOF.md": 8220,
-    "docs/DECISIONS.md": 4530,
+    "docs/DECISIONS.md": 4620,
     "docs/FIGURES.md": 1860,
 }
 MOST_IN_A_SENTENCE = 35
