@@ -22,7 +22,7 @@ loop-done-preserved g c =
     let room : 48 * many ≤ length c.fill.new.piece = omega (arith, c.min-many.ensures, c.fill.array_long) in
     record {
       within = within;
-      count = c.in_ok-write_behind.ensures.disk.cause.succeeded ∙ was.count;
+      count = c.in_ok-write_behind.ensures.disk.disk.succeeded ∙ was.count;
       honesty = λ honest. was.honesty (c.write_behind.ensures.disk.honesty honest);
       long = λ honest.
           let before = was.long (c.write_behind.ensures.disk.honesty honest) in
