@@ -10,6 +10,7 @@ use std::alloc::{AllocError, Global};
 use std::sync::Wait;
 use std::sync::atomic::{AtomicBool, Ordering};
 use std::thread::{Threads, join, yield_now};
+use test_rows::assert_rows;
 use watcher_set::{NoWatchers, Watching};
 
 // The numbers of the policies that a journal's records issue. The records are 65 bytes long, stand behind 18 others,
@@ -62,12 +63,8 @@ fn each_callers_postings_in_its_order(rt: HostRuntime) -> Result<(), AllocError>
         assert_eq!(rt; disk.bytes().len(), bytes, "{name}");
         let numbers = numbers(alloc, disk.bytes())?;
         assert_eq!(rt; numbers.len(), postings, "{name}");
-        for caller in 0..callers {
-            assert!(rt;
-                stand_in_order(numbers.as_slice(), caller, policies),
-                "{name}"
-            );
-        }
+        assert_rows!(rt; caller in 0..callers =>
+            stand_in_order(numbers.as_slice(), caller, policies); "{name}: caller {caller}");
     }
     Ok(())
 }
@@ -136,9 +133,7 @@ fn one_put_off_posts_behind_all_others(rt: HostRuntime) -> Result<(), AllocError
     let (disk, _, _, _) = close(office, pass);
     let numbers = numbers(alloc, disk.bytes())?;
     assert_eq!(rt; numbers.len(), 351);
-    for caller in 0..7 {
-        assert!(rt; stand_in_order(numbers.as_slice(), caller, 50));
-    }
+    assert_rows!(rt; caller in 0..7 => stand_in_order(numbers.as_slice(), caller, 50); "caller {caller}");
     assert_eq!(rt; numbers[350], 7001);
     Ok(())
 }
