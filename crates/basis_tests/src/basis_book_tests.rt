@@ -8,6 +8,7 @@ use rate_table::RateTable;
 use select_rates::AnyTable;
 use std::alloc::Global;
 use std::test::Fail;
+use test_rows::assert_rows;
 
 fn table(alloc: Global, first_age: u8) -> Result<AnyTable, Fail> {
     let rates = [500_000_000, 1_000_000_000].to_vec(alloc)?;
@@ -85,9 +86,7 @@ fn is_read(alloc: Global, bytes: &[u8], expected: Result<usize, BasisFault>) -> 
 
 #[test]
 fn files(rt: HostRuntime) {
-    for (bytes, expected) in FILES {
-        assert!(rt; is_read(rt.alloc(), bytes, *expected), "{bytes:?}");
-    }
+    assert_rows!(rt; (bytes, expected) in FILES => is_read(rt.alloc(), bytes, *expected); "{bytes:?}");
 }
 
 // Whether so many letters are a name.
@@ -205,9 +204,7 @@ fn picked(basis: &Basis, issued: i32) -> Option<(u16, Option<u8>, u16)> {
 #[test]
 fn picks(rt: HostRuntime) -> Result<(), Fail> {
     let basis = basis(rt.alloc())?;
-    for (issued, expected) in PICKED {
-        assert!(rt; picked(&basis, *issued) == *expected, "{issued}");
-    }
+    assert_rows!(rt; (issued, expected) in PICKED => picked(&basis, *issued), *expected; "{issued}");
     Ok(())
 }
 

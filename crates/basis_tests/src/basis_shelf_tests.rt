@@ -5,6 +5,7 @@ use select_rates::AnyTable;
 use std::alloc::Global;
 use std::collections::BTreeMap;
 use std::test::Fail;
+use test_rows::assert_rows;
 
 const BASIS: &str = "basis.csv";
 
@@ -149,10 +150,10 @@ fn is_told<H: Shelf>(alloc: Global, shelf: &mut H, expected: &str) -> Result<boo
 
 #[test]
 fn first_bad_files(rt: HostRuntime) -> Result<(), Fail> {
-    for (files, expected) in SHELVES {
+    assert_rows!(rt; (files, expected) in SHELVES => {
         let mut shelf = shelf(rt.alloc(), files, 0)?;
-        assert!(rt; is_told(rt.alloc(), &mut shelf, expected)?, "{expected}");
-    }
+        is_told(rt.alloc(), &mut shelf, expected)?
+    }; "{expected}");
     Ok(())
 }
 
@@ -207,9 +208,7 @@ fn thousand_lines(alloc: Global, end: &[u8]) -> Result<Vec<u8>, Fail> {
 #[test]
 fn files_at_their_limits(rt: HostRuntime) -> Result<(), Fail> {
     let alloc = rt.alloc();
-    for (row, long) in LONG_FILES.iter().enumerate() {
-        assert!(rt; holds(alloc, long)?, "row {row}");
-    }
+    assert_rows!(rt; (row, long) in LONG_FILES.iter().enumerate() => holds(alloc, long)?; "row {row}");
     let rows = thousand_lines(alloc, b"")?;
     assert!(rt; is_told_of(alloc, &rows, b"", "badbasis,basis.csv,1,badrow\n")?);
     let rows = thousand_lines(alloc, b"x")?;
@@ -235,14 +234,10 @@ const FETCHES: &[(u64, &str, u64)] = &[
 
 #[test]
 fn failing_fetches(rt: HostRuntime) -> Result<(), Fail> {
-    for (failing, expected, faults) in FETCHES {
+    assert_rows!(rt; (failing, expected, faults) in FETCHES => {
         let mut shelf = shelf(rt.alloc(), WHOLE, *failing)?;
-        assert!(rt;
-            is_told(rt.alloc(), &mut shelf, expected)?,
-            "fetch {failing}"
-        );
-        assert!(rt; shelf.faults() == *faults, "fetch {failing}");
-    }
+        is_told(rt.alloc(), &mut shelf, expected)? && shelf.faults() == *faults
+    }; "fetch {failing}");
     Ok(())
 }
 
@@ -284,8 +279,6 @@ fn basis(alloc: Global) -> Result<Basis, Fail> {
 #[test]
 fn picks(rt: HostRuntime) -> Result<(), Fail> {
     let basis = basis(rt.alloc())?;
-    for (issued, expected) in PICKED {
-        assert!(rt; picked(&basis, *issued) == *expected, "{issued}");
-    }
+    assert_rows!(rt; (issued, expected) in PICKED => picked(&basis, *issued), *expected; "{issued}");
     Ok(())
 }

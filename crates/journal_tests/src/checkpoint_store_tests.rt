@@ -9,6 +9,7 @@ use policy_types::{Command, Plan, Policy, Status};
 use posting_journal::DiskFault;
 use std::alloc::{AllocError, Global};
 use std::test::Fail;
+use test_rows::assert_rows;
 
 // LIFECHKP, 1, 48 and four zeros; position 4, no upgrade, one policy; 0.00, -400.00, 1000.00 and -600.00; three zeros.
 const CLAIMED_FRONT: &[u8] =
@@ -74,13 +75,11 @@ fn a_snapshot_is_spelled(rt: HostRuntime) -> Result<(), Fail> {
     let snapshot = snapshot_of(alloc, &SETTLED[..4])?;
     assert!(rt; snapshot.position == 4 && snapshot.book.as_slice() == [CLAIMED].as_slice());
     let wanted = file_of(alloc, &[CLAIMED_FRONT, CLAIMED_POLICY])?;
-    for before in [&[] as &[u8], &[0], &[7; 40], &[1; 40]] {
-        let (answer, disk) = saved(
-            MemoryDisk::new(alloc, Vec::from_slice(alloc, before)?, Vec::new(alloc)),
-            &snapshot,
-        );
-        assert!(rt; answer == Ok(()) && disk.bytes() == wanted.as_slice());
-    }
+    assert_rows!(rt; before in [&[] as &[u8], &[0], &[7; 40], &[1; 40]] => {
+        let disk = MemoryDisk::new(alloc, Vec::from_slice(alloc, before)?, Vec::new(alloc));
+        let (answer, disk) = saved(disk, &snapshot);
+        answer == Ok(()) && disk.bytes() == wanted.as_slice()
+    }; "over {before:?}");
     Ok(())
 }
 
@@ -158,18 +157,14 @@ fn a_fault_or_a_crash_leaves_the_old_or_the_new(rt: HostRuntime) -> Result<(), F
     let new = Vec::from_slice(alloc, disk.bytes())?;
     assert!(rt; new.len() == 160);
     assert!(rt; leaves_only(alloc, &disk, old.as_slice(), new.as_slice())?);
-    for call in 1..11_u64 {
+    assert_rows!(rt; call in 1..11_u64 => {
         let failing = Vec::from_slice(alloc, &[call])?;
-        let (answer, disk) = saved(
-            MemoryDisk::new(alloc, Vec::from_slice(alloc, old.as_slice())?, failing),
-            &snapshot,
-        );
-        assert!(rt; answer == Err(1) && disk.faults() == 1, "call {call}");
-        assert!(rt;
-            leaves_only(alloc, &disk, old.as_slice(), new.as_slice())?,
-            "call {call}"
-        );
-    }
+        let disk = MemoryDisk::new(alloc, Vec::from_slice(alloc, old.as_slice())?, failing);
+        let (answer, disk) = saved(disk, &snapshot);
+        answer == Err(1)
+            && disk.faults() == 1
+            && leaves_only(alloc, &disk, old.as_slice(), new.as_slice())?
+    }; "call {call}");
     Ok(())
 }
 
@@ -179,21 +174,18 @@ fn a_save_after_a_fault_is_whole(rt: HostRuntime) -> Result<(), Fail> {
     let alloc = rt.alloc();
     let snapshot = snapshot_of(alloc, &SETTLED[..4])?;
     let wanted = file_of(alloc, &[CLAIMED_FRONT, CLAIMED_POLICY])?;
-    for call in 4..11_u64 {
+    assert_rows!(rt; call in 4..11_u64 => {
         let failing = Vec::from_slice(alloc, &[call])?;
         let before = file_of(alloc, &[CLAIMED_FRONT, CLAIMED_POLICY])?;
         let Ok(mut store) = Store::start(MemoryDisk::new(alloc, before, failing)) else {
             return Err(Fail::new("not started"));
         };
-        assert!(rt; store.save(&snapshot).is_err(), "call {call}");
-        assert!(rt; store.save(&snapshot).is_ok(), "call {call}");
+        let saves = (store.save(&snapshot).is_ok(), store.save(&snapshot).is_ok());
         let disk = store.release();
-        assert!(rt; disk.bytes() == wanted.as_slice(), "call {call}");
-        assert!(rt;
-            leaves_only(alloc, &disk, wanted.as_slice(), wanted.as_slice())?,
-            "call {call}"
-        );
-    }
+        saves == (false, true)
+            && disk.bytes() == wanted.as_slice()
+            && leaves_only(alloc, &disk, wanted.as_slice(), wanted.as_slice())?
+    }; "call {call}");
     Ok(())
 }
 
@@ -203,12 +195,10 @@ fn a_closed_gate_is_left(rt: HostRuntime) -> Result<(), Fail> {
     let alloc = rt.alloc();
     let snapshot = snapshot_of(alloc, &SETTLED[..4])?;
     let cases: [(&[u8], u32); 3] = [(&[0], 8), (&[1], 10), (&[], 9)];
-    for (before, calls) in cases {
-        let (answer, disk) = saved(
-            MemoryDisk::new(alloc, Vec::from_slice(alloc, before)?, Vec::new(alloc)),
-            &snapshot,
-        );
-        assert!(rt; answer == Ok(()) && disk.calls() == calls);
-    }
+    assert_rows!(rt; (before, calls) in cases => {
+        let disk = MemoryDisk::new(alloc, Vec::from_slice(alloc, before)?, Vec::new(alloc));
+        let (answer, disk) = saved(disk, &snapshot);
+        answer == Ok(()) && disk.calls() == calls
+    }; "over {before:?}");
     Ok(())
 }

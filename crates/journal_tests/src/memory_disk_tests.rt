@@ -3,6 +3,7 @@ use memory_disk::*;
 use outside_io::{Disk, Failed};
 use std::alloc::Global;
 use std::test::Fail;
+use test_rows::assert_rows;
 
 // A disk that a thread can take.
 fn ask_length<D: Disk + Send>(disk: &mut D) -> Result<u64, Failed> {
@@ -58,10 +59,7 @@ fn images_of_each_moment(rt: HostRuntime) -> Result<(), Fail> {
         "half of what failed is read"
     );
     assert!(rt; (disk.calls(), disk.made().len()) == (6, 6));
-    for case in CASES {
-        let (moment, keep, _, _) = case;
-        assert!(rt; holds(alloc, &disk, case)?, "{keep} after {moment} calls");
-    }
+    assert_rows!(rt; case in CASES => holds(alloc, &disk, case)?; "{} after {} calls", case.1, case.0);
     assert!(rt; ask_length(&mut disk) == Ok(10));
     Ok(())
 }

@@ -11,6 +11,7 @@ use std::io::pipe;
 use std::os::unix::fs::symlink;
 use std::process::Abort;
 use std::test::Fail;
+use test_rows::assert_rows;
 
 const TEXT: &[u8] = b"three words here";
 
@@ -24,14 +25,13 @@ fn devices_in_memory(rt: HostRuntime) -> Result<(), Fail> {
         (2, 16, Some(ReadAllFault::ReadFault)),
         (2, 15, Some(ReadAllFault::TooLong)),
     ];
-    for (failing, limit, fault) in cases {
+    assert_rows!(rt; (failing, limit, fault) in cases => {
         let mut source = BytesSource::new(TEXT.to_vec(alloc)?, vec![in alloc; failing]?);
-        let right = match read_all(alloc, &mut source, limit) {
+        match read_all(alloc, &mut source, limit) {
             Ok(bytes) => fault.is_none() && bytes.as_slice() == TEXT,
             Err(e) => fault == Some(e),
-        };
-        assert!(rt; right, "call {failing} fails");
-    }
+        }
+    }; "call {failing} fails, {limit} bytes");
     let mut sink = BytesSink::<MemoryDisk>::new(alloc, vec![in alloc; 2]?);
     let first = write_all(&mut sink, b"one ");
     let second = write_all(&mut sink, b"two ");

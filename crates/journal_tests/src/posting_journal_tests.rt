@@ -4,6 +4,7 @@ use outside_io::Disk;
 use posting_journal::*;
 use std::alloc::{AllocError, Global};
 use std::test::Fail;
+use test_rows::assert_rows;
 
 // LIFEJRNL, 1, 64 and four zeros.
 const HEAD: [u8; 16] = [
@@ -120,9 +121,7 @@ const CASES: &[Case] = &[
 
 #[test]
 fn files_are_opened_or_refused(rt: HostRuntime) -> Result<(), AllocError> {
-    for (k, case) in CASES.iter().enumerate() {
-        assert!(rt; holds(rt.alloc(), case)?, "case {k}");
-    }
+    assert_rows!(rt; (k, case) in CASES.iter().enumerate() => holds(rt.alloc(), case)?; "case {k}");
     Ok(())
 }
 
@@ -258,16 +257,13 @@ fn goes_on(disk: MemoryDisk, clean: bool) -> (bool, MemoryDisk) {
 #[test]
 fn faults_leave_the_journal_clean_or_to_repair(rt: HostRuntime) -> Result<(), Fail> {
     let alloc = rt.alloc();
-    for (failing, clean) in [(5, true), (6, true), (7, false), (8, false)] {
+    let want = file_of(alloc, &[&[1], &HEAD, &[1], &[9; 64], &[0]])?;
+    assert_rows!(rt; (failing, clean) in [(5, true), (6, true), (7, false), (8, false)] => {
         let bytes = file_of(alloc, NO_RECORD)?;
-        let (gone_on, disk) = goes_on(
-            MemoryDisk::new(alloc, bytes, vec![in alloc; failing]?),
-            clean,
-        );
-        assert!(rt; gone_on, "call {failing}");
-        let want = file_of(alloc, &[&[1], &HEAD, &[1], &[9; 64], &[0]])?;
-        assert!(rt; disk.bytes() == want.as_slice(), "call {failing}");
-    }
+        let disk = MemoryDisk::new(alloc, bytes, vec![in alloc; failing]?);
+        let (gone_on, disk) = goes_on(disk, clean);
+        gone_on && disk.bytes() == want.as_slice()
+    }; "call {failing}");
     Ok(())
 }
 
@@ -323,15 +319,10 @@ fn records_are_read_by_pieces(rt: HostRuntime) -> Result<(), Fail> {
         return Err(Fail::new("not opened"));
     };
     assert!(rt; journal.count() == 2100);
-    for n in [0, 1, 1007, 1008, 2015, 2016, 2099] {
-        assert!(rt; numbers_at(&mut journal, n) == Some((n, n)), "record {n}");
-    }
-    for (first, many, last) in [(0, 1008, 1007), (1008, 1008, 2015), (2016, 84, 2099)] {
-        assert!(rt;
-            last_in_piece(&mut journal, first, many) == Some(last),
-            "from {first}"
-        );
-    }
+    assert_rows!(rt; n in [0, 1, 1007, 1008, 2015, 2016, 2099] =>
+        numbers_at(&mut journal, n), Some((n, n)); "record {n}");
+    assert_rows!(rt; (first, many, last) in [(0, 1008, 1007), (1008, 1008, 2015), (2016, 84, 2099)] =>
+        last_in_piece(&mut journal, first, many), Some(last); "from {first}");
     let disk = journal.release();
     // sync, length, front, three pieces of gates; two reads for each record, one for each piece
     assert!(rt; disk.calls() == 6 + 2 * 7 + 3);
@@ -364,8 +355,6 @@ fn is_answered(alloc: Global, long: &Long) -> Result<bool, AllocError> {
 
 #[test]
 fn long_files_are_opened_or_refused(rt: HostRuntime) -> Result<(), AllocError> {
-    for (row, long) in LONG.iter().enumerate() {
-        assert!(rt; is_answered(rt.alloc(), long)?, "row {row}");
-    }
+    assert_rows!(rt; (row, long) in LONG.iter().enumerate() => is_answered(rt.alloc(), long)?; "row {row}");
     Ok(())
 }

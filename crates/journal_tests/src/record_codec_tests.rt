@@ -1,5 +1,6 @@
 use policy_types::{Command, Plan};
 use record_codec::{decode, encode};
+use test_rows::assert_rows;
 
 // A body whose last 36 bytes are 0.
 fn body_of(front: &[u8; 28]) -> [u8; 64] {
@@ -148,9 +149,8 @@ fn tells_change(command: Command, body: [u8; 64], at: usize) -> bool {
 
 #[test]
 fn commands_are_spelled(rt: HostRuntime) {
-    for (row, (command, front)) in SPELLED.iter().enumerate() {
-        assert!(rt; is_spelled(*command, front), "row {row}");
-    }
+    assert_rows!(rt; (row, (command, front)) in SPELLED.iter().enumerate() =>
+        is_spelled(*command, front); "row {row}");
 }
 
 // Unknown kinds and plans, fields out of their limits, and fields that the kind doesn't have.
@@ -200,7 +200,5 @@ const NO_COMMANDS: &[&[u8; 28]] = &[
 
 #[test]
 fn other_bodies_are_none(rt: HostRuntime) {
-    for front in NO_COMMANDS {
-        assert!(rt; decode(&body_of(front)).is_none(), "front {front:?}");
-    }
+    assert_rows!(rt; front in NO_COMMANDS => decode(&body_of(front)).is_none(); "front {front:?}");
 }

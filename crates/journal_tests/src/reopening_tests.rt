@@ -13,6 +13,7 @@ use std::alloc::{AllocError, Global};
 use std::marker::Brand;
 use std::sync::ledger::{Blank, Ledger as StepLedger};
 use std::test::Fail;
+use test_rows::assert_rows;
 
 // LIFEJRNL, 1, 64 and four zeros, behind byte 0.
 const JOURNAL_HEAD: &[u8] = b"\x01\x4c\x49\x46\x45\x4a\x52\x4e\x4c\x00\x01\x00\x40\x00\x00\x00\x00";
@@ -300,9 +301,7 @@ fn what_is_no_checkpoint_is_not_taken(rt: HostRuntime) -> Result<(), Fail> {
         checkpoint(alloc, 1, 4, &CLAIMED_BALANCES, &[&broken])?,
         checkpoint(alloc, 1, 4, &CLAIMED_BALANCES, &[&filled])?,
     ];
-    for file in files {
-        assert!(rt; is_reopened_after(alloc, file.as_slice(), 5)?);
-    }
+    assert_rows!(rt; file in files => is_reopened_after(alloc, file.as_slice(), 5)?; "{:?}", file.as_slice());
     Ok(())
 }
 
@@ -310,15 +309,13 @@ fn what_is_no_checkpoint_is_not_taken(rt: HostRuntime) -> Result<(), Fail> {
 #[test]
 fn a_balance_out_of_bounds_is_not_taken(rt: HostRuntime) -> Result<(), Fail> {
     let alloc = rt.alloc();
-    for balance in [160_000_000_001_i64, -160_000_000_001] {
-        for account in 0..4_usize {
-            let mut balances = CLAIMED_BALANCES;
-            let at = 8 * account;
-            balances[at..at + 8].copy_from_slice(&balance.to_be_bytes());
-            let file = checkpoint(alloc, 1, 4, &balances, &[&CLAIMED_POLICY])?;
-            assert!(rt; is_reopened_after(alloc, file.as_slice(), 5)?);
-        }
-    }
+    assert_rows!(rt; balance in [160_000_000_001_i64, -160_000_000_001], account in 0..4_usize => {
+        let mut balances = CLAIMED_BALANCES;
+        let at = 8 * account;
+        balances[at..at + 8].copy_from_slice(&balance.to_be_bytes());
+        let file = checkpoint(alloc, 1, 4, &balances, &[&CLAIMED_POLICY])?;
+        is_reopened_after(alloc, file.as_slice(), 5)?
+    }; "{balance} in account {account}");
     Ok(())
 }
 
@@ -354,14 +351,15 @@ fn records_from_the_start_on_are_tested(rt: HostRuntime) -> Result<(), Fail> {
     let file = journal_of(alloc, &refused, NONE)?;
     let stray = journal_of(alloc, &SETTLED, 1)?;
     let none: &[u8] = &[];
-    for (second, bytes, n) in [
+    let cases = [
         (four.as_slice(), file.as_slice(), 4),
         (none, file.as_slice(), 4),
         (none, stray.as_slice(), 1),
-    ] {
+    ];
+    assert_rows!(rt; (second, bytes, n) in cases => {
         let (second, first) = (disk_of(alloc, second, &[])?, disk_of(alloc, bytes, &[])?);
-        assert!(rt; is_bad_record(fault_of(alloc, second, first), n));
-    }
+        is_bad_record(fault_of(alloc, second, first), n)
+    }; "record {n} behind {} bytes", second.len());
     let second = disk_of(alloc, four.as_slice(), &[])?;
     let first = disk_of(alloc, stray.as_slice(), &[])?;
     assert!(rt; fault_of(alloc, second, first).is_none());
@@ -375,14 +373,11 @@ fn a_fault_of_either_disk_is_told(rt: HostRuntime) -> Result<(), Fail> {
     let four = checkpoint_at_four(alloc)?;
     let file = journal_of(alloc, &SETTLED, NONE)?;
     let before = calls_of_start(disk_of(alloc, file.as_slice(), &[])?) as u64;
-    for call in 4..7_u64 {
+    assert_rows!(rt; call in 4..7_u64 => {
         let second = disk_of(alloc, four.as_slice(), &[call])?;
         let first = disk_of(alloc, file.as_slice(), &[])?;
-        assert!(rt;
-            is_first_fault(fault_of(alloc, second, first)),
-            "call {call}"
-        );
-    }
+        is_first_fault(fault_of(alloc, second, first))
+    }; "call {call}");
     let second = disk_of(alloc, four.as_slice(), &[])?;
     let first = disk_of(alloc, file.as_slice(), &[before.saturating_add(1)])?;
     assert!(rt; is_first_fault(fault_of(alloc, second, first)));

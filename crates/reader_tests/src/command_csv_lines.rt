@@ -5,6 +5,7 @@ use command_csv::read_script;
 use policy_types::{At, Command, Line, Plan};
 use std::alloc::Global;
 use std::test::Fail;
+use test_rows::assert_rows;
 
 const MOST_BYTES: usize = 16_777_216;
 
@@ -135,10 +136,7 @@ const DEALT: &[(&[u8], &[u32])] = &[
 
 #[test]
 fn lanes_are_dealt_out(rt: HostRuntime) -> Result<(), Fail> {
-    for (script, want) in DEALT {
-        assert!(rt; script.len() <= MOST_BYTES);
-        let dealt = dealt(rt.alloc(), script)?;
-        assert!(rt; dealt.as_slice() == *want, "{script:?}");
-    }
+    assert_rows!(rt; (script, want) in DEALT =>
+        script.len() <= MOST_BYTES && dealt(rt.alloc(), script)?.as_slice() == *want; "{script:?}");
     Ok(())
 }

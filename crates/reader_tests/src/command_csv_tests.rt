@@ -3,8 +3,10 @@ ghost use Rattle.std.specs.Prelude.{◌≤◌, length};
 
 use command_csv::{ScriptFault, read_script};
 use std::alloc::Global;
+use std::io::Eprint;
 use std::process::Abort;
 use std::test::Fail;
+use test_rows::assert_rows;
 
 const MOST_BYTES: usize = 16_777_216;
 
@@ -28,11 +30,9 @@ fn answer(alloc: Global, script: &[u8]) -> Result<(u64, u64), Fail>
 // A script, and the number of its lines as row 0, or the bad row and field.
 type Row = (&'static [u8], u64, u64);
 
-fn answers(rt: &impl Abort, alloc: Global, rows: &[Row]) -> Result<(), Fail> {
-    for (script, row, field) in rows {
-        assert!(rt; script.len() <= MOST_BYTES);
-        assert!(rt; answer(alloc, script)? == (*row, *field), "{script:?}");
-    }
+fn answers(rt: &(impl Abort + Eprint), alloc: Global, rows: &[Row]) -> Result<(), Fail> {
+    assert_rows!(rt; (script, row, field) in rows =>
+        script.len() <= MOST_BYTES && answer(alloc, script)? == (*row, *field); "{script:?}");
     Ok(())
 }
 
@@ -248,11 +248,10 @@ const VALUATIONS: &[Repeated] = &[
 #[test]
 fn valuations_are_few(rt: HostRuntime) -> Result<(), Fail> {
     let alloc = rt.alloc();
-    for (count, piece, end, row, field) in VALUATIONS {
+    assert_rows!(rt; (count, piece, end, row, field) in VALUATIONS => {
         let script = repeated(alloc, *count, piece, end)?;
-        assert!(rt; script.len() <= MOST_BYTES);
-        assert!(rt; answer(alloc, &script)? == (*row, *field), "{script:?}");
-    }
+        script.len() <= MOST_BYTES && answer(alloc, &script)? == (*row, *field)
+    }; "{count} of {piece:?}, then {end:?}");
     Ok(())
 }
 
@@ -320,10 +319,9 @@ fn long_scripts(rt: HostRuntime) -> Result<(), Fail> {
             (2, 2),
         ),
     ];
-    for (name, front, piece, want) in cases {
+    assert_rows!(rt; (name, front, piece, want) in cases => {
         let script = long_script(alloc, 1_048_576, front, piece)?;
-        assert!(rt; script.len() <= MOST_BYTES);
-        assert_eq!(rt; answer(alloc, &script)?, want, "{name}");
-    }
+        script.len() <= MOST_BYTES && answer(alloc, &script)? == want
+    }; "{name}");
     Ok(())
 }

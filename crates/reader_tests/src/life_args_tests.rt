@@ -3,6 +3,7 @@ use policy_types::At;
 use policy_value::Measure;
 use std::alloc::Global;
 use std::test::Fail;
+use test_rows::assert_rows;
 
 /// The words of a line, which stand between spaces. `''` is the empty word.
 fn words_of(alloc: Global, line: &str) -> Result<Vec<String>, Fail> {
@@ -102,9 +103,6 @@ const FORMS: &[(&str, &str)] = &[
 
 #[test]
 fn forms(rt: HostRuntime) -> Result<(), Fail> {
-    for (line, mode) in FORMS {
-        let found = asked(rt.alloc(), line)?;
-        assert!(rt; found.as_str() == *mode, "{line}");
-    }
+    assert_rows!(rt; (line, mode) in FORMS => asked(rt.alloc(), line)?.as_str() == *mode; "{line}");
     Ok(())
 }

@@ -10,8 +10,8 @@ use basis_book::Basis;
 use cash_projection::{Paths, Year, Years, tally_policies};
 use policy_types::{Command, NoMemory, Plan, Policy, Status};
 use std::alloc::Global;
-use std::process::Abort;
 use std::test::Fail;
+use test_rows::assert_rows;
 
 /// Whether an issue may make the policy.
 pub fn is_of_issue(policy: &Policy) -> bool
@@ -227,18 +227,10 @@ fn holds(alloc: Global, row: &Projected) -> Result<bool, Fail> {
     Ok(unvalued == row.unvalued && are_bounded(years.as_slice(), row.expected))
 }
 
-fn all_hold(rt: &impl Abort, alloc: Global, rows: &[Projected]) -> Result<(), Fail> {
-    for row in rows {
-        let name = row.name;
-        assert!(rt; holds(alloc, row)?, "{name}");
-    }
-    Ok(())
-}
-
 #[test]
 fn years_of_one_policy(rt: HostRuntime) -> Result<(), Fail> {
-    all_hold(&rt, rt.alloc(), PROJECTED)?;
-    all_hold(&rt, rt.alloc(), WITHOUT_CASH)
+    assert_rows!(rt; rows in [PROJECTED, WITHOUT_CASH], row in rows => holds(rt.alloc(), row)?; "{}", row.name);
+    Ok(())
 }
 
 const FIRST: Policy = Policy {

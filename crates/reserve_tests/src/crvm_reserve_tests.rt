@@ -2,7 +2,6 @@ use crvm_reserve::{basis_premium, reserve_bounds};
 use present_value::columns;
 use rate_table::{RateTable, Shape};
 use std::alloc::{AllocError, Global};
-use std::process::Abort;
 use std::test::Fail;
 
 /// The tables of the cases.
@@ -19,6 +18,7 @@ pub(crate) enum Rates {
 }
 
 use Rates::{G, Q, Steep, Survived};
+use test_rows::assert_rows;
 
 const Q_RATES: [u32; 5] = [
     100_000_000,
@@ -215,22 +215,17 @@ fn bounds(table: &RateTable, shape: &Shape, bp: u16, amount: u64, t: u8) -> Opti
     Some(reserve_bounds(&columns, &premium, amount, t))
 }
 
-fn expect_all(rt: &impl Abort, alloc: Global, cases: &[Case]) -> Result<(), AllocError> {
-    for case in cases {
-        let (table, age, n, h, matures, bp, amount, t, low, high) = *case;
-        let shape = Shape { age, n, h, matures };
-        let found = match table_of(alloc, table)? {
-            Some(table) => bounds(&table, &shape, bp, amount, t),
-            None => None,
-        };
-        assert_eq!(rt; found, Some((low, high)));
-    }
-    Ok(())
+fn found(alloc: Global, case: &Case) -> Result<Option<(u64, u64)>, AllocError> {
+    let (table, age, n, h, matures, bp, amount, t, _, _) = *case;
+    let Some(table) = table_of(alloc, table)? else {
+        return Ok(None);
+    };
+    Ok(bounds(&table, &Shape { age, n, h, matures }, bp, amount, t))
 }
 
 #[test]
 fn reserves_by_hand_and_at_random(rt: HostRuntime) -> Result<(), Fail> {
-    expect_all(&rt, rt.alloc(), BY_HAND)?;
-    expect_all(&rt, rt.alloc(), DRAWN)?;
+    assert_rows!(rt; cases in [BY_HAND, DRAWN], (row, case) in cases.iter().enumerate() =>
+        found(rt.alloc(), case)?, Some((case.8, case.9)); "row {row} of {}", cases.len());
     Ok(())
 }

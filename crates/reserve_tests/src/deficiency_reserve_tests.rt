@@ -6,8 +6,8 @@ use deficiency_reserve::{Adequacy, adequacy, minimum_bounds};
 use present_value::columns;
 use rate_table::{RateTable, Shape};
 use std::alloc::{AllocError, Global};
-use std::process::Abort;
 use std::test::Fail;
+use test_rows::assert_rows;
 
 /// Table, age, years of cover, years of premiums, whether it matures, basis points.
 type Plan = (Rates, u8, u8, u8, bool, u16);
@@ -313,39 +313,20 @@ fn minimum(table: &RateTable, plan: Plan, policy: (u64, u64, u8)) -> Option<(u64
     Some((low, high, adequacy(premium.lo, premium.hi, amount, charged)))
 }
 
-fn expect_all(
-    rt: &impl Abort,
-    alloc: Global,
-    plan: Plan,
-    points: &[Point],
-) -> Result<(), AllocError> {
-    let Some(table) = table_of(alloc, plan.0)? else {
-        assert!(rt; false);
-        return Ok(());
-    };
-    for point in points {
-        let (amount, charged, t, low, high, test) = *point;
-        let found = minimum(&table, plan, (amount, charged, t));
-        assert_eq!(rt; found, Some((low, high, test)));
-    }
-    Ok(())
-}
+type Minimum = (u64, u64, Adequacy);
 
-fn expect_plans(
-    rt: &impl Abort,
-    alloc: Global,
-    plans: &[(Plan, &[Point])],
-) -> Result<(), AllocError> {
-    for (plan, points) in plans {
-        expect_all(rt, alloc, *plan, points)?;
-    }
-    Ok(())
+fn found(alloc: Global, plan: Plan, policy: (u64, u64, u8)) -> Result<Option<Minimum>, AllocError> {
+    let Some(table) = table_of(alloc, plan.0)? else {
+        return Ok(None);
+    };
+    Ok(minimum(&table, plan, policy))
 }
 
 #[test]
 fn minimums_by_hand_and_at_random(rt: HostRuntime) -> Result<(), Fail> {
-    expect_plans(&rt, rt.alloc(), BY_HAND)?;
-    expect_plans(&rt, rt.alloc(), DRAWN)?;
-    expect_plans(&rt, rt.alloc(), CLOSE_BY_SEARCH)?;
+    assert_rows!(rt; plans in [BY_HAND, DRAWN, CLOSE_BY_SEARCH], (plan, points) in plans, point in *points => {
+        let (amount, charged, t, low, high, test) = *point;
+        found(rt.alloc(), *plan, (amount, charged, t))? == Some((low, high, test))
+    }; "age {}, point {point:?}", plan.1);
     Ok(())
 }

@@ -4,6 +4,7 @@ use policy_types::Plan;
 use rate_table::{RateTable, Shape};
 use std::alloc::Global;
 use std::test::Fail;
+use test_rows::assert_rows;
 
 const RATES: &[u32] = &[
     100_000_000,
@@ -52,8 +53,6 @@ fn holds(case: Case, table: &RateTable) -> bool {
 #[test]
 fn shapes_and_faults(rt: HostRuntime) -> Result<(), Fail> {
     let table = table(rt.alloc())?;
-    for (number, case) in CASES.iter().enumerate() {
-        assert!(rt; holds(*case, &table), "case {number}");
-    }
+    assert_rows!(rt; (number, case) in CASES.iter().enumerate() => holds(*case, &table); "case {number}");
     Ok(())
 }

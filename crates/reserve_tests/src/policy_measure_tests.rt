@@ -237,6 +237,5 @@ const DEFICIENCIES: &[Case] = &[
 
 #[test]
 fn mean_and_deficiency(rt: HostRuntime) -> Result<(), Fail> {
-    all_hold(&rt, rt.alloc(), MEANS)?;
-    all_hold(&rt, rt.alloc(), DEFICIENCIES)
+    all_hold(&rt, rt.alloc(), &[MEANS, DEFICIENCIES])
 }

@@ -9,8 +9,10 @@ use basis_book::Basis;
 use policy_types::{Command, Plan, Policy, Status};
 use policy_value::{Adequacy, ColumnCache, Measure, NotValued, Row, Worth, row};
 use std::alloc::Global;
+use std::io::Eprint;
 use std::process::Abort;
 use std::test::Fail;
+use test_rows::assert_rows;
 
 /// 2020-01-01, on which all the policies are issued.
 pub const ISSUED: i32 = 18_262;
@@ -162,10 +164,7 @@ fn holds(alloc: Global, case: &Case) -> Result<bool, Fail> {
     Ok(found(alloc, case)? == expected)
 }
 
-pub fn all_hold(rt: &impl Abort, alloc: Global, cases: &[Case]) -> Result<(), Fail> {
-    for case in cases {
-        let (name, on) = (case.name, case.on);
-        assert!(rt; holds(alloc, case)?, "{name} on {on}");
-    }
+pub fn all_hold(rt: &(impl Abort + Eprint), alloc: Global, tables: &[&[Case]]) -> Result<(), Fail> {
+    assert_rows!(rt; cases in tables, case in *cases => holds(alloc, case)?; "{} on {}", case.name, case.on);
     Ok(())
 }

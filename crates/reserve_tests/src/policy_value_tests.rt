@@ -232,6 +232,5 @@ const PAID_UP_RESERVES: &[Case] = &[
 
 #[test]
 fn reserves(rt: HostRuntime) -> Result<(), Fail> {
-    all_hold(&rt, rt.alloc(), RESERVES)?;
-    all_hold(&rt, rt.alloc(), PAID_UP_RESERVES)
+    all_hold(&rt, rt.alloc(), &[RESERVES, PAID_UP_RESERVES])
 }

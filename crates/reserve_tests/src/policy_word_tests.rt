@@ -240,6 +240,5 @@ const NOTHING_INSURED: &[Case] = &[
 
 #[test]
 fn words_and_nothing(rt: HostRuntime) -> Result<(), Fail> {
-    all_hold(&rt, rt.alloc(), WORDS)?;
-    all_hold(&rt, rt.alloc(), NOTHING_INSURED)
+    all_hold(&rt, rt.alloc(), &[WORDS, NOTHING_INSURED])
 }

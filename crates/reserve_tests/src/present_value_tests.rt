@@ -3,6 +3,7 @@ use present_value::{Columns, Pair, columns};
 use rate_table::Shape;
 use std::alloc::{AllocError, Global};
 use std::test::Fail;
+use test_rows::assert_rows;
 
 /// The columns of a shape by a table of five ages, with the rates 0.1, 0.2, 0.25, 0.5 and 1.
 fn values(alloc: Global, shape: &Shape, bp: u16) -> Result<Option<Columns>, AllocError> {
@@ -92,8 +93,6 @@ fn holds(alloc: Global, case: &Case) -> Result<bool, AllocError> {
 
 #[test]
 fn values_by_year(rt: HostRuntime) -> Result<(), Fail> {
-    for (number, case) in CASES.iter().enumerate() {
-        assert!(rt; holds(rt.alloc(), case)?, "case {number}");
-    }
+    assert_rows!(rt; (at, case) in CASES.iter().enumerate() => holds(rt.alloc(), case)?; "case {at}");
     Ok(())
 }

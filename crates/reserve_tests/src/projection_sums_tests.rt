@@ -10,6 +10,7 @@ use cash_projection::Year;
 use policy_types::{Plan, Policy, Status};
 use std::alloc::Global;
 use std::test::Fail;
+use test_rows::assert_rows;
 
 /// Whether issues may make the policies.
 fn are_of_issue(policies: &[Policy]) -> bool
@@ -142,9 +143,6 @@ fn holds(alloc: Global, sum: &Sum) -> Result<bool, Fail> {
 
 #[test]
 fn years_of_many_policies(rt: HostRuntime) -> Result<(), Fail> {
-    for sum in SUMS {
-        let name = sum.name;
-        assert!(rt; holds(rt.alloc(), sum)?, "{name}");
-    }
+    assert_rows!(rt; sum in SUMS => holds(rt.alloc(), sum)?; "{}", sum.name);
     Ok(())
 }

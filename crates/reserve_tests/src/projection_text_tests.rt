@@ -7,6 +7,7 @@ use cash_projection::{Projection, Year, Years, print_projection};
 use present_value::Pair;
 use std::alloc::Global;
 use std::test::Fail;
+use test_rows::assert_rows;
 
 /// 10^17 cents, the greatest bound that is printed.
 const GREATEST: u64 = 100_000_000_000_000_000;
@@ -139,8 +140,6 @@ fn holds(alloc: Global, told: &Told) -> Result<bool, Fail> {
 
 #[test]
 fn projections_as_text(rt: HostRuntime) -> Result<(), Fail> {
-    for (row, told) in TOLD.iter().enumerate() {
-        assert!(rt; holds(rt.alloc(), told)?, "row {row}");
-    }
+    assert_rows!(rt; (row, told) in TOLD.iter().enumerate() => holds(rt.alloc(), told)?; "row {row}");
     Ok(())
 }

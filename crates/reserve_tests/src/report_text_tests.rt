@@ -13,6 +13,7 @@ use report_text::{TextParts, Totals, print_block, print_parts, print_row, print_
 use std::alloc::Global;
 use std::test::Fail;
 use std::thread::Threads;
+use test_rows::assert_rows;
 
 /// 2021-01-01, in days since 1970-01-01.
 const ON: i32 = 18_628;
@@ -172,9 +173,7 @@ fn is_printed(alloc: Global, told: Told, text: &str) -> Result<bool, Fail> {
 
 #[test]
 fn rows(rt: HostRuntime) -> Result<(), Fail> {
-    for (told, text) in ROWS {
-        assert!(rt; is_printed(rt.alloc(), *told, text)?, "{text}");
-    }
+    assert_rows!(rt; (told, text) in ROWS => is_printed(rt.alloc(), *told, text)?; "{text}");
     Ok(())
 }
 
@@ -272,12 +271,8 @@ fn is_total(
 
 #[test]
 fn totals(rt: HostRuntime) -> Result<(), Fail> {
-    for (count, told, measure, text) in TOTALS {
-        assert!(rt;
-            is_total(rt.alloc(), *count, *told, *measure, text)?,
-            "{text}"
-        );
-    }
+    assert_rows!(rt; (count, told, measure, text) in TOTALS =>
+        is_total(rt.alloc(), *count, *told, *measure, text)?; "{text}");
     Ok(())
 }
 
@@ -395,9 +390,8 @@ fn is_block(alloc: Global, valued: &Valued) -> Result<bool, Fail> {
 
 #[test]
 fn blocks(rt: HostRuntime) -> Result<(), Fail> {
-    for (number, valued) in BLOCKS.iter().enumerate() {
-        assert!(rt; is_block(rt.alloc(), valued)?, "block {number}");
-    }
+    assert_rows!(rt; (number, valued) in BLOCKS.iter().enumerate() =>
+        is_block(rt.alloc(), valued)?; "block {number}");
     Ok(())
 }
 
@@ -475,8 +469,7 @@ fn is_shared<R: Threads + Sync>(
 
 #[test]
 fn blocks_by_any_number_of_workers(rt: HostRuntime) -> Result<(), Fail> {
-    for (number, case) in SHARED.iter().enumerate() {
-        assert!(rt; is_shared(&rt, rt.alloc(), *case)?, "block {number}");
-    }
+    assert_rows!(rt; (number, case) in SHARED.iter().enumerate() =>
+        is_shared(&rt, rt.alloc(), *case)?; "block {number}");
     Ok(())
 }

@@ -230,5 +230,5 @@ const SELECTED: &[Case] = &[
 
 #[test]
 fn rows_by_age_at_issue(rt: HostRuntime) -> Result<(), Fail> {
-    all_hold(&rt, rt.alloc(), SELECTED)
+    all_hold(&rt, rt.alloc(), &[SELECTED])
 }

@@ -1,6 +1,7 @@
 use decimal_text::{LONGEST_TEXT, RateFault, read_rate};
 use std::alloc::Global;
 use std::test::Fail;
+use test_rows::assert_rows;
 
 const SPELLINGS: &[(&[u8], Result<u32, RateFault>)] = &[
     (b"0.00042", Ok(420_000)),
@@ -46,9 +47,7 @@ fn is_read(text: &[u8], expected: Result<u32, RateFault>) -> bool {
 
 #[test]
 fn spellings_and_their_rates(rt: HostRuntime) {
-    for (text, expected) in SPELLINGS {
-        assert!(rt; is_read(text, *expected), "{text:?}");
-    }
+    assert_rows!(rt; (text, expected) in SPELLINGS => is_read(text, *expected); "{text:?}");
 }
 
 // A text of zeros but for its first and its last byte.
@@ -71,9 +70,9 @@ const LONGEST_TEXTS: &[(u8, u8, Result<u32, RateFault>)] = &[
 
 #[test]
 fn the_longest_texts(rt: HostRuntime) -> Result<(), Fail> {
-    for (first, last, expected) in LONGEST_TEXTS {
+    assert_rows!(rt; (first, last, expected) in LONGEST_TEXTS => {
         let text = longest_text(rt.alloc(), *first, *last)?;
-        assert!(rt; text.len() == LONGEST_TEXT && is_read(&text, *expected));
-    }
+        text.len() == LONGEST_TEXT && is_read(&text, *expected)
+    }; "from {first} to {last}");
     Ok(())
 }

@@ -1,6 +1,7 @@
 use rate_table::{RateTable, RatesFault};
 use std::alloc::{AllocError, Global};
 use std::test::Fail;
+use test_rows::assert_rows;
 
 /// The fault of a list of rates, and of a table its first and last age.
 fn ages(
@@ -40,12 +41,8 @@ const LISTS: &[List] = &[
 
 #[test]
 fn lists_of_rates(rt: HostRuntime) -> Result<(), Fail> {
-    for (row, (first_age, rates, expected)) in LISTS.iter().enumerate() {
-        assert!(rt;
-            ages(rt.alloc(), *first_age, rates)? == *expected,
-            "row {row}"
-        );
-    }
+    assert_rows!(rt; (first_age, rates, expected) in LISTS =>
+        ages(rt.alloc(), *first_age, rates)?, *expected; "{rates:?} from {first_age}");
     Ok(())
 }
 

@@ -7,6 +7,7 @@ use rate_table::RateTable;
 use select_rates::{AnyTable, SelectRows, SelectTable, select_rates_that_make_tables};
 use std::alloc::Global;
 use std::test::Fail;
+use test_rows::assert_rows;
 
 /// Rates by age, in units of 10^-9.
 const TABLE_Q: &[u32] = &[
@@ -98,21 +99,11 @@ fn along(table: &AnyTable, age: u8) -> Option<(u8, &[u32])> {
 #[test]
 fn tables_of_issue_ages(rt: HostRuntime) -> Result<(), Fail> {
     let early = early(rt.alloc())?;
-    for (age, first_age, rates) in EARLY {
-        assert_eq!(rt;
-            along(&early, *age),
-            Some((*first_age, *rates)),
-            "issue age {age}"
-        );
-    }
+    assert_rows!(rt; (age, first_age, rates) in EARLY =>
+        along(&early, *age), Some((*first_age, *rates)); "issue age {age}");
     let late = late(rt.alloc())?;
-    for (age, first_age, rates) in LATE {
-        assert_eq!(rt;
-            along(&late, *age),
-            Some((*first_age, *rates)),
-            "issue age {age}"
-        );
-    }
+    assert_rows!(rt; (age, first_age, rates) in LATE =>
+        along(&late, *age), Some((*first_age, *rates)); "issue age {age}");
     assert_eq!(rt; along(&late, 2), None);
     assert_eq!(rt; along(&late, 0), None);
     Ok(())
@@ -121,8 +112,6 @@ fn tables_of_issue_ages(rt: HostRuntime) -> Result<(), Fail> {
 #[test]
 fn an_aggregate_table_holds_for_each_issue_age(rt: HostRuntime) -> Result<(), Fail> {
     let table = AnyTable::Aggregate(ultimate(rt.alloc())?);
-    for age in [0, 4, 5, 255] {
-        assert_eq!(rt; along(&table, age), Some((0, TABLE_Q)), "issue age {age}");
-    }
+    assert_rows!(rt; age in [0, 4, 5, 255] => along(&table, age), Some((0, TABLE_Q)); "issue age {age}");
     Ok(())
 }

@@ -3,6 +3,7 @@
 
 use crate::select_table_tests::{TWO_AGES, ULTIMATE, fault_of, file_of};
 use std::test::Fail;
+use test_rows::assert_rows;
 use xtbml_subset::*;
 
 /// The first table of a file, what stands behind it, the place of the fault in the file, and the fault.
@@ -325,13 +326,7 @@ const FAULTS: &[(&[u8], &[u8], u32, TableKind)] = &[
 
 #[test]
 fn faults_of_select_tables_have_their_places(rt: HostRuntime) -> Result<(), Fail> {
-    for (first, second, at, kind) in FAULTS {
-        let file = file_of(rt.alloc(), *first, *second)?;
-        assert_eq!(rt;
-            fault_of(rt.alloc(), &file),
-            Some((*at, *kind)),
-            "place {at}"
-        );
-    }
+    assert_rows!(rt; (row, (first, second, at, kind)) in FAULTS.iter().enumerate() =>
+        fault_of(rt.alloc(), &file_of(rt.alloc(), *first, *second)?), Some((*at, *kind)); "row {row}");
     Ok(())
 }

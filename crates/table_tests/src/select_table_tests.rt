@@ -3,6 +3,7 @@
 use select_rates::AnyTable;
 use std::alloc::Global;
 use std::test::Fail;
+use test_rows::assert_rows;
 use xtbml_subset::*;
 
 /// The longest file that is read, in bytes.
@@ -96,20 +97,19 @@ fn along(table: &AnyTable, age: u8) -> Option<(u8, &[u32])> {
     Some((table.first_age(), table.rates_from(table.first_age())))
 }
 
+fn is_along(alloc: Global, file: &[u8], age: u8, wanted: (u8, &[u32])) -> bool {
+    match any_of(alloc, file) {
+        Ok(table) => along(&table, age) == Some(wanted),
+        Err(_) => false,
+    }
+}
+
 #[test]
 fn each_layout_is_read(rt: HostRuntime) -> Result<(), Fail> {
-    for layout in LAYOUTS {
+    assert_rows!(rt; (row, layout) in LAYOUTS.iter().enumerate(), (age, first_age, rates) in RATES => {
         let file = file_of(rt.alloc(), *layout, ULTIMATE)?;
-        assert!(rt; is_select(rt.alloc(), &file));
-        let table = any_of(rt.alloc(), &file)?;
-        for (age, first_age, rates) in RATES {
-            assert_eq!(rt;
-                along(&table, *age),
-                Some((*first_age, *rates)),
-                "issue age {age}"
-            );
-        }
-    }
+        is_along(rt.alloc(), &file, *age, (*first_age, *rates)) && is_select(rt.alloc(), &file)
+    }; "layout {row}, issue age {age}");
     Ok(())
 }
 
@@ -124,14 +124,10 @@ const BY_AGE: &[u32] = &[500_000_000, 1_000_000_000];
 
 #[test]
 fn tables_by_age_alone_are_read_as_before(rt: HostRuntime) -> Result<(), Fail> {
-    for first in AGGREGATE {
+    assert_rows!(rt; (row, first) in AGGREGATE.iter().enumerate(), age in [0, 3, 5] => {
         let file = file_of(rt.alloc(), *first, b"<Table><Values/></Table>")?;
-        assert!(rt; !is_select(rt.alloc(), &file));
-        let table = any_of(rt.alloc(), &file)?;
-        for age in [0, 3, 5] {
-            assert_eq!(rt; along(&table, age), Some((3, BY_AGE)));
-        }
-    }
+        is_along(rt.alloc(), &file, age, (3, BY_AGE)) && !is_select(rt.alloc(), &file)
+    }; "table {row}, issue age {age}");
     Ok(())
 }
 
@@ -199,8 +195,7 @@ fn the_longest_select_file_is_read(rt: HostRuntime) -> Result<(), Fail> {
     file.extend_from_slice(end)?;
     assert_eq!(rt; file.len(), LONGEST);
     let table = any_of(rt.alloc(), &file)?;
-    for (age, first_age, rates) in RATES {
-        assert_eq!(rt; along(&table, *age), Some((*first_age, *rates)));
-    }
+    assert_rows!(rt; (age, first_age, rates) in RATES =>
+        along(&table, *age), Some((*first_age, *rates)); "issue age {age}");
     Ok(())
 }

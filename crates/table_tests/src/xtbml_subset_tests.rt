@@ -3,6 +3,7 @@
 use rate_table::RateTable;
 use std::alloc::Global;
 use std::test::Fail;
+use test_rows::assert_rows;
 use xtbml_subset::*;
 
 /// A file, and its fault with its place.
@@ -153,9 +154,8 @@ fn fault_of(alloc: Global, bytes: &[u8]) -> Option<(u32, TableKind)> {
 
 #[test]
 fn faults_have_their_places(rt: HostRuntime) {
-    for (bytes, at, kind) in FAULTS {
-        assert_eq!(rt; fault_of(rt.alloc(), *bytes), Some((*at, *kind)));
-    }
+    assert_rows!(rt; (row, (bytes, at, kind)) in FAULTS.iter().enumerate() =>
+        fault_of(rt.alloc(), *bytes), Some((*at, *kind)); "row {row}");
 }
 
 #[test]
@@ -188,12 +188,8 @@ fn tables_are_read(rt: HostRuntime) -> Result<(), Fail> {
 #[test]
 fn documents_cut_short(rt: HostRuntime) {
     assert_eq!(rt; CUT.len(), PLACES.len());
-    for (count, place) in PLACES.iter().enumerate() {
-        assert_eq!(rt;
-            fault_of(rt.alloc(), &CUT[..count]),
-            Some((*place, TableKind::NotDocument))
-        );
-    }
+    assert_rows!(rt; (count, place) in PLACES.iter().enumerate() =>
+        fault_of(rt.alloc(), &CUT[..count]), Some((*place, TableKind::NotDocument)); "{count} bytes");
     assert_eq!(rt; fault_of(rt.alloc(), CUT), Some((13, TableKind::NoTable)));
 }
 
@@ -255,21 +251,21 @@ const RATES: &[(&[u8], Option<u32>)] = &[
     (b"0.9999999999", None),
 ];
 
+fn is_read_so(alloc: Global, rate: &[u8], units: Option<u32>) -> Result<bool, Fail> {
+    let mut file = table_at(alloc, rate)?;
+    file.extend_from_slice(b"</Axis></Values></Table></XTbML>")?;
+    let Some(units) = units else {
+        return Ok(fault_of(alloc, &file) == Some((28, TableKind::BadRate)));
+    };
+    let Ok(table) = table_of(alloc, &file) else {
+        return Ok(false);
+    };
+    let of_units = (0..131u8).filter(|age| table.rate(*age) == Some(units));
+    Ok(table.last_age() == 130 && of_units.count() == 131)
+}
+
 #[test]
 fn rates_at_their_limits(rt: HostRuntime) -> Result<(), Fail> {
-    for (rate, units) in RATES {
-        let mut file = table_at(rt.alloc(), *rate)?;
-        file.extend_from_slice(b"</Axis></Values></Table></XTbML>")?;
-        match *units {
-            Some(units) => {
-                let table = table_of(rt.alloc(), &file)?;
-                assert_eq!(rt; table.last_age(), 130);
-                for age in 0..131u8 {
-                    assert_eq!(rt; table.rate(age), Some(units));
-                }
-            }
-            None => assert_eq!(rt; fault_of(rt.alloc(), &file), Some((28, TableKind::BadRate))),
-        }
-    }
+    assert_rows!(rt; (rate, units) in RATES => is_read_so(rt.alloc(), *rate, *units)?; "{rate:?}");
     Ok(())
 }

@@ -5,6 +5,7 @@ use std::alloc::{AllocError, Global};
 use std::sync::atomic::{AtomicU32, Ordering};
 use std::test::Fail;
 use std::thread::{Threads, yield_now};
+use test_rows::assert_rows;
 
 /// The items of a part, which a worker takes at once.
 const ITEMS_IN_PART: usize = 512;
@@ -164,11 +165,11 @@ fn the_squares_stand_in_order(rt: HostRuntime) -> Result<(), Fail> {
     let items = numbers(alloc, 1_025)?;
     let mut pieces = [Squares { done: 0 }; 3];
     let made = all_squared(&rt, alloc, &mut pieces, &items, 1);
-    assert!(rt; made.is_ok_and(|values| are_squares(values.as_slice())));
+    assert!(rt; made.is_ok_and(|values| are_squares(values.as_slice(), 1_025)));
     let mut filled: Vec<u64> = Vec::new(alloc);
     filled.resize(items.len(), 7)?;
     fill_squared(&rt, &mut pieces, &items, filled.as_mut_slice());
-    assert!(rt; are_squares(filled.as_slice()));
+    assert!(rt; are_squares(filled.as_slice(), 1_025));
     let mut added: Vec<u64> = Vec::new(alloc);
     added.push(7)?;
     assert_eq!(rt;
@@ -178,25 +179,25 @@ fn the_squares_stand_in_order(rt: HostRuntime) -> Result<(), Fail> {
     let Some((first, rest)) = added.as_slice().split_first() else {
         return Err("values".into());
     };
-    assert!(rt; *first == 7 && are_squares(rest));
+    assert!(rt; *first == 7 && are_squares(rest, 1_025));
     Ok(())
 }
 
-// Whether these are the squares of 0 to 1,024.
-fn are_squares(values: &[u64]) -> bool {
-    for (value, item) in values.iter().zip(0_u64..1_025) {
+// Whether these are the squares of the first so many numbers, of 8,192 at most.
+fn are_squares(values: &[u64], many: usize) -> bool {
+    for (value, item) in values.iter().zip(0_u64..8_192) {
         if *value != item.wrapping_mul(item) {
             return false;
         }
     }
-    values.len() == 1_025
+    values.len() == many && many <= 8_192
 }
 
 // Workers, items and items of a part: each item is gone through once, and by no more workers than there are parts.
 #[test]
 fn each_part_is_taken_once(rt: HostRuntime) -> Result<(), Fail> {
     let alloc = rt.alloc();
-    for (workers, many, part) in [
+    let cases = [
         (1_usize, 5_u32, 1_usize),
         (3, 0, 1),
         (3, 2, 1),
@@ -204,47 +205,43 @@ fn each_part_is_taken_once(rt: HostRuntime) -> Result<(), Fail> {
         (8, 1_025, 512),
         (2, 1_025, 512),
         (3, 7, usize::MAX),
-    ] {
+    ];
+    assert_rows!(rt; (workers, many, part) in cases => {
         let items = numbers(alloc, many)?;
         let mut pieces = [Squares { done: 0 }; 8];
         let all = &mut pieces[..workers.clamp(1, 8)];
         let part = part.max(1);
         let made = all_squared(&rt, alloc, all, &items, part);
-        assert!(rt;
-            made.is_ok_and(|values| values.len() == items.len()),
-            "{workers} workers"
-        );
-        let parts = items.len().div_ceil(part).max(1);
-        let mut done = 0_u64;
-        for (piece, number) in pieces.iter().zip(0_usize..8) {
-            done = done.saturating_add(piece.done);
-            assert!(rt;
-                number < parts || piece.done == 0,
-                "{number} of {workers} at {parts}"
-            );
-        }
-        assert_eq!(rt; done, u64::from(many), "{workers} workers");
-    }
+        made.is_ok_and(|values| values.len() == items.len())
+            && are_done(&pieces, items.len().div_ceil(part).max(1), many)
+    }; "{workers} workers, {many} items, parts of {part}");
     Ok(())
+}
+
+// Whether the workers have done so many items together, and none behind the first so many of them any.
+fn are_done(pieces: &[Squares], workers: usize, many: u32) -> bool {
+    let mut done = 0_u64;
+    for (piece, number) in pieces.iter().zip(0_usize..8) {
+        done = done.saturating_add(piece.done);
+        if number >= workers && piece.done > 0 {
+            return false;
+        }
+    }
+    done == u64::from(many)
 }
 
 // Each waits at its first item until all are at theirs.
 #[test]
 fn all_workers_are_at_work_at_the_same_time(rt: HostRuntime) -> Result<(), Fail> {
     let alloc = rt.alloc();
-    for workers in [2_u32, 3, 8] {
+    assert_rows!(rt; workers in [2_u32, 3, 8] => {
         let items = numbers(alloc, workers.wrapping_mul(512))?;
         let until = [workers; 8];
         let until = &until[..(workers as usize).clamp(1, 8)];
         let missed = AtomicU32::new(0);
-        let squared = squared_by_held(&rt, alloc, until, items.as_slice(), &missed);
-        let values = squared.expect(&rt, "there is memory");
-        assert_eq!(rt; missed.load(Ordering::SeqCst), 0, "{workers} workers");
-        assert_eq!(rt; values.len(), items.len(), "{workers} workers");
-        for (value, item) in values.iter().zip(0_u64..4_096) {
-            assert_eq!(rt; *value, item.wrapping_mul(item), "{workers} workers");
-        }
-    }
+        let values = squared_by_held(&rt, alloc, until, items.as_slice(), &missed)?;
+        missed.load(Ordering::SeqCst) == 0 && are_squares(values.as_slice(), items.len())
+    }; "{workers} workers");
     Ok(())
 }
 
@@ -255,18 +252,14 @@ fn a_worker_that_is_held_up_leaves_the_other_parts_to_the_others(
 ) -> Result<(), Fail> {
     let alloc = rt.alloc();
     let items = numbers(alloc, 5_120)?;
-    for (workers, held) in [(2_usize, 0_usize), (2, 1), (3, 0), (3, 1), (3, 2), (8, 5)] {
+    let cases = [(2_usize, 0_usize), (2, 1), (3, 0), (3, 1), (3, 2), (8, 5)];
+    assert_rows!(rt; (workers, held) in cases => {
         let mut until = [0_u32; 8];
         until[held.min(7)] = 4_609;
         let until = &until[..workers.clamp(1, 8)];
         let missed = AtomicU32::new(0);
-        let squared = squared_by_held(&rt, alloc, until, items.as_slice(), &missed);
-        let values = squared.expect(&rt, "there is memory");
-        assert_eq!(rt; missed.load(Ordering::SeqCst), 0, "{held} of {workers}");
-        assert_eq!(rt; values.len(), items.len(), "{held} of {workers}");
-        for (value, item) in values.iter().zip(0_u64..5_120) {
-            assert_eq!(rt; *value, item.wrapping_mul(item), "{held} of {workers}");
-        }
-    }
+        let values = squared_by_held(&rt, alloc, until, items.as_slice(), &missed)?;
+        missed.load(Ordering::SeqCst) == 0 && are_squares(values.as_slice(), items.len())
+    }; "{held} of {workers}");
     Ok(())
 }
