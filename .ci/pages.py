@@ -28,7 +28,7 @@ LIMITS = {
     "docs/FORMATS.md": 6150,
     "docs/ARCHITECTURE.md": 5200,
     "docs/PROOF.md": 8220,
-    "docs/DECISIONS.md": 4620,
+    "docs/DECISIONS.md": 4640,
     "docs/FIGURES.md": 1860,
 }
 MOST_IN_A_SENTENCE = 35
