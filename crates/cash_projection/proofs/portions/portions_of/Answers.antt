@@ -6,7 +6,7 @@ use Rattle.cash_projection.proofs.portions.portions_of.Goals as goal
 pub loop-rest-preserved : goal.loop-rest-preserved
 loop-rest-preserved c =
     portion_cut c.args.policies.now c.loop-rest.portions.items c.push.new.self.items _ c.loop-rest.rest.now c.split_at.result.1.now c.loop-rest.invariant
-    (search rules) (ap₂ ◌++◌ c.split_at.ensures.front c.split_at.ensures.back ∙ take-append-drop _ c.loop-rest.rest.now)
+    c.in_ok-push.ensures.items (ap₂ ◌++◌ c.split_at.ensures.front c.split_at.ensures.back ∙ take-append-drop _ c.loop-rest.rest.now)
 
 pub returns : goal.returns
 returns c =
