@@ -27,9 +27,9 @@ LIMITS = {
     "docs/OPERATIONS.md": 2650,
     "docs/FORMATS.md": 6150,
     "docs/ARCHITECTURE.md": 5200,
-    "docs/PROOF.md": 8220,
+    "docs/PROOF.md": 8240,
     "docs/DECISIONS.md": 4640,
-    "docs/FIGURES.md": 1860,
+    "docs/FIGURES.md": 1990,
 }
 MOST_IN_A_SENTENCE = 35
 MOST_IN_A_CELL = 30
