@@ -74,7 +74,7 @@ a_lower_total_rounded_up        cash_projection/lower_total_rounded_up
 bounds_swapped_in_one_column    cash_projection/bounds_of_maturities_swapped
 projected_from_the_next_year    cash_projection/projected_from_the_next_year
 a_lapsed_policy_counted         cash_projection/lapsed_policies_counted
-a_last_portion_dropped          cash_projection/last_portion_dropped
+a_last_portion_dropped          cash_projection/last_part_of_a_room_left_out
 years_numbered_from_1           cash_projection/years_numbered_from_1
 a_made-up_fault_of_the_output   valuing_modes/made_up_write_fault
 the_closed_gate_always_first    checkpoint_store/closed_gate_always_written_first
