@@ -55,7 +55,8 @@ has_threads 2 2
 has_threads 64 4
 begin_with_book 65537
 has_threads 1 0
-has_threads 2 3
+# the one policy behind the first 65,536 is a part, which takes no worker more
+has_threads 2 2
 has_threads 3 4
 has_threads 64 14
 begin_with_book 139264
