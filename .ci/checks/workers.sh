@@ -62,12 +62,12 @@ begin_with_book 139264
 has_threads 4 9
 has_threads 64 45
 
-# a projection goes over all that was read at once
+# a projection goes over 131,072 at once, and then over the rest
 ask project 2020-12-31 40
 [ "$(grep -c '^year,' alone)" -eq 40 ] || complain "there aren't 40 years"
 has_threads 1 0
-has_threads 4 3
-has_threads 64 16
+has_threads 4 6
+has_threads 64 32
 
 # the lanes of a script, each of which issues a policy; the thread that reads the script runs one of them, and the writer of
 # the transcript has one
