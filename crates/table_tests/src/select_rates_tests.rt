@@ -100,10 +100,10 @@ fn along(table: &AnyTable, age: u8) -> Option<(u8, &[u32])> {
 fn tables_of_issue_ages(rt: HostRuntime) -> Result<(), Fail> {
     let early = early(rt.alloc())?;
     assert_rows!(rt; (age, first_age, rates) in EARLY =>
-        along(&early, *age), Some((*first_age, *rates)); "issue age {age}");
+        along(&early, *age) == Some((*first_age, *rates)); "issue age {age}");
     let late = late(rt.alloc())?;
     assert_rows!(rt; (age, first_age, rates) in LATE =>
-        along(&late, *age), Some((*first_age, *rates)); "issue age {age}");
+        along(&late, *age) == Some((*first_age, *rates)); "issue age {age}");
     assert_eq!(rt; along(&late, 2), None);
     assert_eq!(rt; along(&late, 0), None);
     Ok(())

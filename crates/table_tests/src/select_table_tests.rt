@@ -196,6 +196,6 @@ fn the_longest_select_file_is_read(rt: HostRuntime) -> Result<(), Fail> {
     assert_eq!(rt; file.len(), LONGEST);
     let table = any_of(rt.alloc(), &file)?;
     assert_rows!(rt; (age, first_age, rates) in RATES =>
-        along(&table, *age), Some((*first_age, *rates)); "issue age {age}");
+        along(&table, *age) == Some((*first_age, *rates)); "issue age {age}");
     Ok(())
 }
