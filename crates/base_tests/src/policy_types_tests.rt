@@ -1,5 +1,4 @@
 use policy_types::{Command, Line, Lines, Plan};
-use test_rows::assert_rows;
 
 struct Limit {
     command: Command,
@@ -156,8 +155,9 @@ const LIMITS: &[Limit] = &[
 
 #[test]
 fn limits_of_an_issue(rt: HostRuntime) {
-    assert_rows!(rt; (row, limit) in LIMITS.iter().enumerate() =>
-        limit.command.is_valid(), limit.valid; "row {row}");
+    for (row, limit) in LIMITS.iter().enumerate() {
+        assert_eq!(rt; limit.command.is_valid(), limit.valid, "row {row}");
+    }
 }
 
 // A list of lines gives back the vector that it was made of.

@@ -2,7 +2,6 @@ use money_ledgers::Ledger;
 use policy_types::{Command, Plan, Policy, Status};
 use statements::{balance, print_entry, statement};
 use std::alloc::Global;
-use test_rows::assert_rows;
 
 const ISSUE: Command = Command::Issue {
     id: 7001,
@@ -106,8 +105,9 @@ fn is_printed(alloc: Global, position: u32, command: &Command, text: &str) -> bo
 
 #[test]
 fn entries(rt: HostRuntime) {
-    assert_rows!(rt; (position, command, text) in ENTRIES =>
-        is_printed(rt.alloc(), *position, command, text); "{text}");
+    for (position, command, text) in ENTRIES {
+        assert!(rt; is_printed(rt.alloc(), *position, command, text), "{text}");
+    }
 }
 
 // A plan, a status and premiums paid, and the line of a policy with no entries.
@@ -179,8 +179,10 @@ fn is_stated(alloc: Global, policy: &Policy, text: &str) -> bool {
 
 #[test]
 fn policies(rt: HostRuntime) {
-    assert_rows!(rt; (plan, status, paid, text) in POLICIES =>
-        is_stated(rt.alloc(), &policy(*plan, *status, *paid), text); "{text}");
+    for (plan, status, paid, text) in POLICIES {
+        let policy = policy(*plan, *status, *paid);
+        assert!(rt; is_stated(rt.alloc(), &policy, text), "{text}");
+    }
 }
 
 const PREMIUM: Command = Command::Premium {
@@ -252,6 +254,7 @@ fn is_balance(alloc: Global, ledger: &Ledger, count: u32, text: &str) -> bool {
 
 #[test]
 fn balances(rt: HostRuntime) {
-    assert_rows!(rt; (ledger, count, text) in BALANCES =>
-        is_balance(rt.alloc(), ledger, *count, text); "{text}");
+    for (ledger, count, text) in BALANCES {
+        assert!(rt; is_balance(rt.alloc(), ledger, *count, text), "{text}");
+    }
 }

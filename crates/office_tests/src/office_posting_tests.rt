@@ -6,7 +6,6 @@ use money_ledgers::Ledger;
 use office_state::Answer;
 use policy_types::{Command, Plan, Policy, Refusal, Status};
 use std::alloc::{AllocError, Global};
-use test_rows::assert_rows;
 
 const ISSUED: Command = Command::Issue {
     id: 7001,
@@ -293,7 +292,9 @@ fn stands(alloc: Global, row: &Row) -> Result<bool, AllocError> {
 
 #[test]
 fn rows_of_postings(rt: HostRuntime) -> Result<(), AllocError> {
-    assert_rows!(rt; (number, row) in ROWS.iter().enumerate() => stands(rt.alloc(), row)?; "row {number}");
+    for (number, row) in ROWS.iter().enumerate() {
+        assert!(rt; stands(rt.alloc(), row)?, "row {number}");
+    }
     Ok(())
 }
 
