@@ -29,7 +29,7 @@ LIMITS = {
     "docs/ARCHITECTURE.md": 5200,
     "docs/PROOF.md": 8240,
     "docs/DECISIONS.md": 4640,
-    "docs/FIGURES.md": 2180,
+    "docs/FIGURES.md": 2230,
 }
 MOST_IN_A_SENTENCE = 35
 MOST_IN_A_CELL = 30

@@ -7,6 +7,7 @@ use policy_types::{Command, Plan};
 use posting_journal::Journal;
 use record_codec::encode;
 use std::alloc::{AllocError, Global};
+use test_rows::assert_rows;
 
 const ISSUED: Command = Command::Issue {
     id: 7001,
@@ -185,9 +186,8 @@ fn is_refused(
 // Journals whose records aren't all of accepted commands.
 #[test]
 fn records_that_are_refused(rt: HostRuntime) -> Result<(), AllocError> {
-    for (commands, cause) in REFUSED {
-        assert!(rt; is_refused(rt.alloc(), commands, false, *cause)?);
-    }
+    assert_rows!(rt; (row, (commands, cause)) in REFUSED.iter().enumerate() =>
+        is_refused(rt.alloc(), commands, false, *cause)?; "row {row}");
     assert!(rt; is_refused(rt.alloc(), &[ISSUED], true, StartCause::BadRecord(1))?);
     Ok(())
 }
@@ -195,12 +195,9 @@ fn records_that_are_refused(rt: HostRuntime) -> Result<(), AllocError> {
 // A disk that fails while an office is opened.
 #[test]
 fn openings_that_fault(rt: HostRuntime) -> Result<(), AllocError> {
-    for call in 1..10u64 {
+    assert_rows!(rt; call in 1..10u64 => {
         let opened = office_on(rt.alloc(), &[], &[call])?;
-        assert!(rt;
-            matches!(opened, Err(StartCause::DiskFault(1))),
-            "call {call}"
-        );
-    }
+        matches!(opened, Err(StartCause::DiskFault(1)))
+    }; "call {call}");
     Ok(())
 }

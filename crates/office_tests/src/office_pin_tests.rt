@@ -4,6 +4,7 @@ use crate::policies::{NEW_YEAR, issue, premium};
 use office_state::{Answer, PinInfo, PolicyBatch};
 use policy_types::{Command, PinRefusal, Plan, Refusal, Status};
 use std::alloc::{AllocError, Global};
+use test_rows::assert_rows;
 use watcher_set::NoWatchers;
 
 // A call of one caller that concerns pins, and its answer.
@@ -342,9 +343,8 @@ fn batches_of_many_policies(rt: HostRuntime) -> Result<(), AllocError> {
     }
     assert!(rt; pins_so(&mut desk, Pinning::Now(pinned(300, 300, 300))));
     assert!(rt; pins_so(&mut desk, Pinning::At(299, pinned(301, 299, 299))));
-    for (pin, first, policies, ids) in BATCHES {
-        assert!(rt; reads(&mut desk, *pin, *first, &mut batch));
-        assert!(rt; holds(&batch, *policies, *ids));
-    }
+    assert_rows!(rt; (pin, first, policies, ids) in BATCHES =>
+        reads(&mut desk, *pin, *first, &mut batch) && holds(&batch, *policies, *ids);
+        "from {first} by the pin {pin}");
     Ok(())
 }

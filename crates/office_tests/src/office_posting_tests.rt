@@ -6,6 +6,7 @@ use money_ledgers::Ledger;
 use office_state::Answer;
 use policy_types::{Command, Plan, Policy, Refusal, Status};
 use std::alloc::{AllocError, Global};
+use test_rows::assert_rows;
 
 const ISSUED: Command = Command::Issue {
     id: 7001,
@@ -292,9 +293,7 @@ fn stands(alloc: Global, row: &Row) -> Result<bool, AllocError> {
 
 #[test]
 fn rows_of_postings(rt: HostRuntime) -> Result<(), AllocError> {
-    for (number, row) in ROWS.iter().enumerate() {
-        assert!(rt; stands(rt.alloc(), row)?, "row {number}");
-    }
+    assert_rows!(rt; (number, row) in ROWS.iter().enumerate() => stands(rt.alloc(), row)?; "row {number}");
     Ok(())
 }
 

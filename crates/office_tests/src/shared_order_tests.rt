@@ -10,6 +10,7 @@ use std::alloc::{AllocError, Global};
 use std::sync::Wait;
 use std::sync::atomic::{AtomicBool, Ordering};
 use std::thread::{Threads, join, yield_now};
+use test_rows::assert_rows;
 use watcher_set::{NoWatchers, Watching};
 
 // The numbers of the policies that a journal's records issue. The records are 65 bytes long, stand behind 18 others,
@@ -41,6 +42,15 @@ fn stand_in_order(numbers: &[u32], caller: u16, policies: u16) -> bool {
     next == last.saturating_add(1)
 }
 
+fn all_stand_in_order(numbers: &[u32], callers: u16, policies: u16) -> bool {
+    for caller in 0..callers {
+        if !stand_in_order(numbers, caller, policies) {
+            return false;
+        }
+    }
+    true
+}
+
 #[test]
 fn each_callers_postings_in_its_order(rt: HostRuntime) -> Result<(), AllocError> {
     let alloc = rt.alloc();
@@ -49,7 +59,7 @@ fn each_callers_postings_in_its_order(rt: HostRuntime) -> Result<(), AllocError>
         ("eight callers with a thousand each", 8, 1000, 520_018),
         ("more callers than processors", 32, 50, 104_018),
     ];
-    for (name, callers, policies, bytes) in cases {
+    assert_rows!(rt; (name, callers, policies, bytes) in cases => {
         let postings = usize::from(callers) * usize::from(policies);
         let empty = MemoryDisk::new(alloc, Vec::new(alloc), Vec::new(alloc));
         let Ok((office, pass)) = Office::start(alloc, empty, NoWatchers) else {
@@ -57,18 +67,13 @@ fn each_callers_postings_in_its_order(rt: HostRuntime) -> Result<(), AllocError>
         };
         let pass = callers_issue(&rt, &office, pass, 0, callers, policies);
         let (disk, ledger, reports, _) = close(office, pass);
-        assert_eq!(rt; ledger.cash, 0, "{name}");
-        assert!(rt; reports.as_slice().is_empty(), "{name}");
-        assert_eq!(rt; disk.bytes().len(), bytes, "{name}");
         let numbers = numbers(alloc, disk.bytes())?;
-        assert_eq!(rt; numbers.len(), postings, "{name}");
-        for caller in 0..callers {
-            assert!(rt;
-                stand_in_order(numbers.as_slice(), caller, policies),
-                "{name}"
-            );
-        }
-    }
+        ledger.cash == 0
+            && reports.as_slice().is_empty()
+            && disk.bytes().len() == bytes
+            && numbers.len() == postings
+            && all_stand_in_order(numbers.as_slice(), callers, policies)
+    }; "{name}");
     Ok(())
 }
 
@@ -136,9 +141,7 @@ fn one_put_off_posts_behind_all_others(rt: HostRuntime) -> Result<(), AllocError
     let (disk, _, _, _) = close(office, pass);
     let numbers = numbers(alloc, disk.bytes())?;
     assert_eq!(rt; numbers.len(), 351);
-    for caller in 0..7 {
-        assert!(rt; stand_in_order(numbers.as_slice(), caller, 50));
-    }
+    assert_rows!(rt; caller in 0..7 => stand_in_order(numbers.as_slice(), caller, 50); "caller {caller}");
     assert_eq!(rt; numbers[350], 7001);
     Ok(())
 }

@@ -9,6 +9,7 @@ use std::sync::Wait;
 use std::sync::atomic::{AtomicBool, Ordering};
 use std::test::Fail;
 use std::thread::{Threads, join, yield_now};
+use test_rows::assert_rows;
 use turn_lock::{Pass, Stands, Turn, Turned, Turnstile};
 
 // What the counter began with. No value of it is made.
@@ -153,10 +154,8 @@ fn every_turn_sees_all_before_it(rt: HostRuntime) -> Result<(), Fail> {
         ("more callers than processors", 32, 100, 0),
         ("callers that wait while one works", 6, 5, 5000),
     ];
-    for (name, callers, turns, yields) in cases {
-        let counted = count(&rt, rt.alloc(), callers, turns, yields);
-        assert_eq!(rt; counted, Some((callers * turns, 0)), "{name}");
-    }
+    assert_rows!(rt; (name, callers, turns, yields) in cases =>
+        count(&rt, rt.alloc(), callers, turns, yields), Some((callers * turns, 0)); "{name}");
     Ok(())
 }
 

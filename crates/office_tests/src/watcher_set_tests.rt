@@ -7,6 +7,7 @@ use policy_types::{Attention, Command, NoMemory, Report, Watcher};
 use std::process::Abort;
 use std::sync::Arc;
 use std::test::Fail;
+use test_rows::assert_rows;
 use watcher_set::{
     CountWatcher, MOST_WATCHERS, NoWatchers, PremiumWatcher, Reports, Watchers, Watching,
 };
@@ -139,31 +140,16 @@ fn counts_and_premiums(rt: HostRuntime) -> Result<(), Fail> {
         Command::Claim { id, day },
         Command::Settle { id, day, amount: 7 },
     ];
-    for (count, premiums) in [
-        (0, 0),
-        (1, 0),
-        (2, 40_000),
-        (3, 40_000),
-        (4, 120_000),
-        (6, 120_000),
-    ] {
+    assert_rows!(rt; (count, premiums) in [(0, 0), (1, 0), (2, 40_000), (3, 40_000), (4, 120_000), (6, 120_000)] => {
         let mut boxes: Vec<Box<dyn Watcher + Send>> = Vec::new(alloc);
         boxes.push(Box::new(alloc, CountWatcher::new(4_000_000))?)?;
         boxes.push(Box::new(alloc, PremiumWatcher::new())?)?;
         let reports = told(&rt, Watchers::new(boxes), &commands[..count], &token, &[])?;
         let seen = count as u32;
-        let expected = [
-            Report {
-                seen,
-                tally: count as u64,
-            },
-            Report {
-                seen,
-                tally: premiums,
-            },
-        ];
-        assert_eq!(rt; reports.as_slice(), expected.as_slice());
-    }
+        let counted = Report { seen, tally: count as u64 };
+        let paid = Report { seen, tally: premiums };
+        reports.as_slice() == [counted, paid].as_slice()
+    }; "{count} commands");
     Ok(())
 }
 
@@ -185,15 +171,9 @@ fn none_and_sixteen(rt: HostRuntime) -> Result<(), Fail> {
     assert!(rt; boxes.len() == MOST_WATCHERS && are_fresh(&boxes));
     let reports = told(&rt, Watchers::new(boxes), &commands, &token, &[])?;
     assert_eq!(rt; reports.as_slice().len(), 16);
-    for (place, report) in reports.as_slice().iter().enumerate() {
+    assert_rows!(rt; (place, report) in reports.as_slice().iter().enumerate() => {
         let seen = if place < 3 { place as u32 + 1 } else { 3 };
-        assert_eq!(rt;
-            *report,
-            Report {
-                seen,
-                tally: seen as u64
-            }
-        );
-    }
+        *report == Report { seen, tally: seen as u64 }
+    }; "auditor {place}");
     Ok(())
 }
