@@ -1,4 +1,5 @@
 use life_dates::{anniversary, completed, parse_day, print_day};
+use test_rows::assert_rows;
 
 type Day = (&'static [u8], i32);
 
@@ -35,18 +36,10 @@ fn is_printed(day: i32, text: &[u8]) -> bool {
 
 #[test]
 fn days_read_and_print(rt: HostRuntime) {
-    for (text, day) in DAYS {
-        assert!(rt;
-            parse_day(text) == Some(*day) && is_printed(*day, text),
-            "on day {day}"
-        );
-    }
-    for (text, day) in LATER_DAYS {
-        assert!(rt;
-            parse_day(text).is_none() && is_printed(*day, text),
-            "on day {day}"
-        );
-    }
+    assert_rows!(rt; (text, day) in DAYS =>
+        parse_day(text) == Some(*day) && is_printed(*day, text); "on day {day}");
+    assert_rows!(rt; (text, day) in LATER_DAYS =>
+        parse_day(text).is_none() && is_printed(*day, text); "on day {day}");
 }
 
 #[test]
@@ -90,9 +83,7 @@ const NO_DAYS: &[&[u8]] = &[
 
 #[test]
 fn other_texts_are_no_days(rt: HostRuntime) {
-    for text in NO_DAYS {
-        assert!(rt; parse_day(text).is_none(), "{text:?}");
-    }
+    assert_rows!(rt; text in NO_DAYS => parse_day(text).is_none(); "{text:?}");
 }
 
 // The day of an issue, so many years, and the anniversary by Python's calendar.
@@ -140,10 +131,8 @@ fn are_completed(issued: i32, on: i32, years: u8) -> bool {
 
 #[test]
 fn years_pass(rt: HostRuntime) {
-    for (issued, t, day) in ANNIVERSARIES {
-        assert!(rt; passes(*issued, *t, *day), "{issued} and {t} years");
-    }
-    for (issued, on, years) in COMPLETED {
-        assert!(rt; are_completed(*issued, *on, *years), "{issued} to {on}");
-    }
+    assert_rows!(rt; (issued, t, day) in ANNIVERSARIES =>
+        passes(*issued, *t, *day); "{issued} and {t} years");
+    assert_rows!(rt; (issued, on, years) in COMPLETED =>
+        are_completed(*issued, *on, *years); "{issued} to {on}");
 }

@@ -1,6 +1,7 @@
 use load_maker::{make_lanes, make_script};
 use policy_types::{Command, Line};
 use std::alloc::Global;
+use test_rows::assert_rows;
 
 // The greatest seed, with policies of three plans that are dealt out to three lanes.
 const FIVE_POLICIES: &str = "1,issue,1,2001-04-01,whole,68,0,966000.00,19320.00\n\
@@ -43,9 +44,8 @@ fn is_made(alloc: Global, seed: u32, count: u32, lanes: u8, text: &str) -> bool 
 
 #[test]
 fn scripts(rt: HostRuntime) {
-    for (seed, count, lanes, text) in SCRIPTS {
-        assert!(rt; is_made(rt.alloc(), *seed, *count, *lanes, text), "{text}");
-    }
+    assert_rows!(rt; (seed, count, lanes, text) in SCRIPTS =>
+        is_made(rt.alloc(), *seed, *count, *lanes, text); "{text}");
 }
 
 // The longest script, by its length and its last rows.
@@ -68,9 +68,7 @@ fn most_lanes(rt: HostRuntime) {
     };
     let lanes = script.as_slice();
     assert_eq!(rt; lanes.len(), 8);
-    for lane in lanes {
-        assert_eq!(rt; lane.lines.as_slice().len(), 25_000);
-    }
+    assert_rows!(rt; lane in lanes => lane.lines.as_slice().len(), 25_000; "lane {}", lane.number);
     let Some(last) = lanes.last() else {
         panic!(rt; "no lanes");
     };

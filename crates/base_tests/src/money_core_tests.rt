@@ -1,4 +1,5 @@
 use money_core::*;
+use test_rows::assert_rows;
 
 const AMOUNTS: &[(i64, &str)] = &[
     (i64::MIN, "-92233720368547758.08"),
@@ -26,9 +27,7 @@ fn is_printed(cents: i64, text: &str) -> bool {
 
 #[test]
 fn amounts_are_read_and_printed_back(rt: HostRuntime) {
-    for (cents, text) in AMOUNTS {
-        assert!(rt; is_printed(*cents, text), "at {cents}");
-    }
+    assert_rows!(rt; (cents, text) in AMOUNTS => is_printed(*cents, text); "at {cents}");
 }
 
 const MOST: u64 = 10_000_000_000;
@@ -59,9 +58,7 @@ const OTHER_FORMS: &[&str] = &[
 
 #[test]
 fn other_forms_are_refused(rt: HostRuntime) {
-    for text in OTHER_FORMS {
-        assert!(rt; parse_cents(text.as_bytes(), MOST).is_none(), "at {text}");
-    }
+    assert_rows!(rt; text in OTHER_FORMS => parse_cents(text.as_bytes(), MOST).is_none(); "at {text}");
     assert!(rt; parse_cents(b"100000000.00", MOST) == Some(MOST));
     assert!(rt; parse_cents(b"184467440737095516.15", u64::MAX) == Some(u64::MAX));
 }
@@ -83,11 +80,7 @@ const NUMBERS: &[(&str, Option<u64>)] = &[
 
 #[test]
 fn whole_numbers_are_read(rt: HostRuntime) {
-    for (text, number) in NUMBERS {
-        assert!(rt;
-            parse_number(text.as_bytes(), 4_000_000) == *number,
-            "at {text}"
-        );
-    }
+    assert_rows!(rt; (text, number) in NUMBERS =>
+        parse_number(text.as_bytes(), 4_000_000), *number; "at {text}");
     assert!(rt; parse_number(b"18446744073709551615", u64::MAX) == Some(u64::MAX));
 }

@@ -3,13 +3,14 @@ ghost use Rattle.policy_machine.specs.Rules.{IsSound};
 ghost use Rattle.std.specs.Prelude.{IfOk, IfSome};
 
 use crate::paid_up_rows::PAID_UP_ROWS;
-use crate::policy_machine_rows::{ROWS, Row, State, Step};
+use crate::policy_machine_rows::{ROWS, State, Step};
 use Plan::{Endowment, Limited};
 use Status::InForce;
 use Step::{Alter, Claim, Issue, Lapse, Mature, Pay, Reduce, Reinstate, Settle};
 use policy_machine::{decide, judge, upgrade_place};
 use policy_types::{Command, Plan, Policy, Refusal, Status};
 use std::process::Abort;
+use test_rows::assert_rows;
 
 fn command(step: Step) -> Command {
     let id = 7001;
@@ -85,21 +86,14 @@ fn after(rt: &impl Abort, steps: &[Step]) -> Option<Policy>
     policy
 }
 
-fn answers(rt: &impl Abort, rows: &[Row]) {
-    for row in rows {
-        let (name, before, step, wanted) = *row;
-        let found = match answer(rt, after(rt, before), command(step)) {
-            Ok(policy) => Ok(state(policy)),
-            Err(refusal) => Err(refusal),
-        };
-        assert_eq!(rt; found, wanted, "{name}");
-    }
+fn found(rt: &impl Abort, before: &[Step], step: Step) -> Result<State, Refusal> {
+    Ok(state(answer(rt, after(rt, before), command(step))?))
 }
 
 #[test]
 fn each_command_is_answered_by_the_rules(rt: HostRuntime) {
-    answers(&rt, ROWS);
-    answers(&rt, PAID_UP_ROWS);
+    assert_rows!(rt; rows in [ROWS, PAID_UP_ROWS], (name, before, step, wanted) in rows =>
+        found(&rt, before, *step), *wanted; "{name}");
 }
 
 const REDUCE: Command = Command::PaidUp {
@@ -126,9 +120,7 @@ fn is_judged(judged: &Judged) -> bool {
 // What waits for an upgrade, and that it comes once; its place is counted from 1.
 #[test]
 fn commands_are_judged_by_the_place_of_the_upgrade(rt: HostRuntime) {
-    for (row, judged) in JUDGED.iter().enumerate() {
-        assert!(rt; is_judged(judged), "row {row}");
-    }
+    assert_rows!(rt; (row, judged) in JUDGED.iter().enumerate() => is_judged(judged); "row {row}");
     assert_eq!(rt; upgrade_place(0, 2, &REDUCE), 0);
     assert_eq!(rt; upgrade_place(0, 2, &Command::Upgrade), 3);
     assert_eq!(rt; upgrade_place(3, 9, &Command::Upgrade), 3);

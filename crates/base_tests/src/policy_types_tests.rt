@@ -1,4 +1,5 @@
 use policy_types::{Command, Line, Lines, Plan};
+use test_rows::assert_rows;
 
 struct Limit {
     command: Command,
@@ -155,9 +156,8 @@ const LIMITS: &[Limit] = &[
 
 #[test]
 fn limits_of_an_issue(rt: HostRuntime) {
-    for (row, limit) in LIMITS.iter().enumerate() {
-        assert_eq!(rt; limit.command.is_valid(), limit.valid, "row {row}");
-    }
+    assert_rows!(rt; (row, limit) in LIMITS.iter().enumerate() =>
+        limit.command.is_valid(), limit.valid; "row {row}");
 }
 
 // A list of lines gives back the vector that it was made of.

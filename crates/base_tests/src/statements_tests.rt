@@ -2,6 +2,7 @@ use money_ledgers::Ledger;
 use policy_types::{Command, Plan, Policy, Status};
 use statements::{balance, print_entry, statement};
 use std::alloc::Global;
+use test_rows::assert_rows;
 
 const ISSUE: Command = Command::Issue {
     id: 7001,
@@ -105,9 +106,8 @@ fn is_printed(alloc: Global, position: u32, command: &Command, text: &str) -> bo
 
 #[test]
 fn entries(rt: HostRuntime) {
-    for (position, command, text) in ENTRIES {
-        assert!(rt; is_printed(rt.alloc(), *position, command, text), "{text}");
-    }
+    assert_rows!(rt; (position, command, text) in ENTRIES =>
+        is_printed(rt.alloc(), *position, command, text); "{text}");
 }
 
 // A plan, a status and premiums paid, and the line of a policy with no entries.
@@ -179,10 +179,8 @@ fn is_stated(alloc: Global, policy: &Policy, text: &str) -> bool {
 
 #[test]
 fn policies(rt: HostRuntime) {
-    for (plan, status, paid, text) in POLICIES {
-        let policy = policy(*plan, *status, *paid);
-        assert!(rt; is_stated(rt.alloc(), &policy, text), "{text}");
-    }
+    assert_rows!(rt; (plan, status, paid, text) in POLICIES =>
+        is_stated(rt.alloc(), &policy(*plan, *status, *paid), text); "{text}");
 }
 
 const PREMIUM: Command = Command::Premium {
@@ -254,7 +252,6 @@ fn is_balance(alloc: Global, ledger: &Ledger, count: u32, text: &str) -> bool {
 
 #[test]
 fn balances(rt: HostRuntime) {
-    for (ledger, count, text) in BALANCES {
-        assert!(rt; is_balance(rt.alloc(), ledger, *count, text), "{text}");
-    }
+    assert_rows!(rt; (ledger, count, text) in BALANCES =>
+        is_balance(rt.alloc(), ledger, *count, text); "{text}");
 }

@@ -4,10 +4,12 @@ ghost use Rattle.versioned_book.specs.Settings.{Setting, keys_of, until};
 
 use outside_io::Steps;
 use std::alloc::{AllocError, Global};
+use std::io::Eprint;
 use std::marker::Brand;
 use std::process::Abort;
 use std::sync::ledger::{Blank, Ledger};
 use std::test::Fail;
+use test_rows::assert_rows;
 use versioned_book::VersionedBook;
 
 // One setting, for which room is made first.
@@ -52,7 +54,11 @@ fn a_book_against_a_list(rt: HostRuntime) -> Result<(), Fail> {
     read_script::<_, Brand>(&rt, alloc, Blank::new(1))
 }
 
-fn read_script<R: Abort, L: Ledger>(rt: &R, alloc: Global, blank: Blank) -> Result<(), Fail>
+fn read_script<R: Abort + Eprint, L: Ledger>(
+    rt: &R,
+    alloc: Global,
+    blank: Blank,
+) -> Result<(), Fail>
     requires name { blank.name ≡ L.name }
     requires parts { blank.parts ≡ L.parts }
     requires some { 0 < L.parts }
@@ -72,12 +78,10 @@ fn read_script<R: Abort, L: Ledger>(rt: &R, alloc: Global, blank: Blank) -> Resu
         Some(71),
         Some(72),
     ];
-    for (p, expected) in (0..7u32).zip(all) {
-        assert_eq!(rt; value(&book, 0, p, &mut steps), expected, "of 7 at {p}");
-    }
-    for (p, keys) in (0..7u32).zip([0, 1, 1, 2, 2, 2, 2]) {
-        assert_eq!(rt; book.count_at(p), keys, "keys at {p}");
-    }
+    assert_rows!(rt; (p, expected) in (0..7u32).zip(all) =>
+        value(&book, 0, p, &mut steps), expected; "of 7 at {p}");
+    assert_rows!(rt; (p, keys) in (0..7u32).zip([0, 1, 1, 2, 2, 2, 2]) =>
+        book.count_at(p), keys; "keys at {p}");
     assert_eq!(rt; book.kept(), 4);
     book.trim(5);
     assert_eq!(rt; book.kept(), 3);
