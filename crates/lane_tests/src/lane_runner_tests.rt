@@ -8,6 +8,7 @@ use outside_io::OpenGate;
 use policy_types::{At, Command, Lane, Line, Lines, PinRefusal, Plan, Report, Watcher};
 use std::alloc::{AllocError, Global};
 use std::test::Fail;
+use test_rows::assert_rows;
 use watcher_set::{CountWatcher, PremiumWatcher, Watchers};
 
 /// A lane of these lines.
@@ -142,9 +143,8 @@ fn eight_busy_lanes(rt: HostRuntime) -> Result<(), Fail> {
     let lines = run.lines.as_slice();
     assert_eq!(rt; lines.len(), 8 * 202);
     assert!(rt; are_as_one(lines));
-    for number in 1..=8u8 {
-        assert_eq!(rt; count_issues(lines, number, u32::from(number) * 1_000), 200);
-    }
+    assert_rows!(rt; number in 1..=8u8 =>
+        count_issues(lines, number, u32::from(number) * 1_000), 200; "lane {number}");
     Ok(())
 }
 
