@@ -3,5 +3,5 @@
 # are told; `bench/wrong_bodies.py --stale` and `bench/twins.py --stale` try them, with the kit.
 cd "$(dirname "$0")/../.." || exit 2
 # so many are left to be tried
-most=20
+most=1
 exec python3 bench/evidence.py --most "$most"
