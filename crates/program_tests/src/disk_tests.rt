@@ -4,6 +4,7 @@ use memory_disk::DiskCall;
 use std::alloc::{AllocError, Global};
 use std::sync::Wait;
 use std::thread::Threads;
+use test_rows::assert_rows;
 
 const SIX: &str = "1,issue,1,2020-01-01,endowment,0,3,1000.00,400.00\n\
     1,issue,2,2020-01-01,endowment,0,3,1000.00,400.00\n\
@@ -180,8 +181,7 @@ fn calls_are<R: Threads + Wait + Sync>(
 
 #[test]
 fn no_call_is_made_beyond_those_of_the_journal(rt: HostRuntime) -> Result<(), AllocError> {
-    for (row, case) in CALLS.iter().enumerate() {
-        assert!(rt; calls_are(&rt, rt.alloc(), case)?, "row {row}");
-    }
+    assert_rows!(rt; (row, case) in CALLS.iter().enumerate() =>
+        calls_are(&rt, rt.alloc(), case)?; "row {row}");
     Ok(())
 }

@@ -5,6 +5,7 @@ use std::alloc::{AllocError, Global};
 use std::sync::Wait;
 use std::test::Fail;
 use std::thread::Threads;
+use test_rows::assert_rows;
 
 const SIX: &str = "1,issue,1,2020-01-01,endowment,0,3,1000.00,400.00\n\
     1,issue,2,2020-01-01,endowment,0,3,1000.00,400.00\n\
@@ -123,13 +124,9 @@ fn holds<R: Threads + Wait + Sync>(
 #[test]
 fn each_failing_call_is_answered(rt: HostRuntime) -> Result<(), AllocError> {
     let alloc = rt.alloc();
-    for call in 1..=u64::from(ALL_CALLS) {
-        assert!(rt; holds(&rt, alloc, &[call])?, "call {call}");
-        assert!(rt;
-            holds(&rt, alloc, &[call, call + 1])?,
-            "calls from {call} on"
-        );
-    }
+    assert_rows!(rt; call in 1..=u64::from(ALL_CALLS) => holds(&rt, alloc, &[call])?; "call {call}");
+    assert_rows!(rt; call in 1..=u64::from(ALL_CALLS) =>
+        holds(&rt, alloc, &[call, call + 1])?; "calls from {call} on");
     Ok(())
 }
 
@@ -139,30 +136,20 @@ fn each_crash_leaves_what_was_acknowledged(rt: HostRuntime) -> Result<(), Fail> 
     let alloc = rt.alloc();
     let ran = run_on(&rt, alloc, SIX, disk_of(alloc, &[], &[])?)?;
     assert!(rt; ran.disk.calls() == ALL_CALLS);
-    for moment in 0..=ALL_CALLS {
-        let acknowledged = (moment.saturating_sub(CREATION_CALLS) / POSTING_CALLS) as usize;
-        for keep in [0, 1, 2] {
-            let image = ran
-                .disk
-                .image(alloc, moment, keep)
-                .map_err(|_| "no memory")?;
-            assert!(rt;
-                opens_to(&rt, alloc, &image, acknowledged)?,
-                "call {moment}, {keep} writes"
-            );
-        }
-        for reached in [1, 16, 17, 32, 64] {
-            let image = ran
-                .disk
-                .torn_image(alloc, moment, reached)
-                .map_err(|_| "no memory")?;
-            assert!(rt;
-                opens_to(&rt, alloc, &image, acknowledged)?,
-                "call {moment}, {reached} bytes"
-            );
-        }
-    }
+    assert_rows!(rt; moment in 0..=ALL_CALLS, keep in [0, 1, 2] => {
+        let image = ran.disk.image(alloc, moment, keep).map_err(|_| "no memory")?;
+        opens_to(&rt, alloc, &image, acknowledged(moment))?
+    }; "call {moment}, {keep} writes");
+    assert_rows!(rt; moment in 0..=ALL_CALLS, reached in [1, 16, 17, 32, 64] => {
+        let image = ran.disk.torn_image(alloc, moment, reached).map_err(|_| "no memory")?;
+        opens_to(&rt, alloc, &image, acknowledged(moment))?
+    }; "call {moment}, {reached} bytes");
     Ok(())
+}
+
+// How many of the six are answered by then.
+fn acknowledged(moment: u32) -> usize {
+    (moment.saturating_sub(CREATION_CALLS) / POSTING_CALLS) as usize
 }
 
 // Whether a file opens to so many of the six, or to one more.

@@ -5,6 +5,7 @@ use outside_io::{FetchFault, MapShelf, OpenGate, Shelf};
 use std::alloc::{AllocError, Global};
 use std::sync::Wait;
 use std::thread::Threads;
+use test_rows::assert_rows;
 
 // A shelf with no memory at its call of this number, counted from 1.
 #[derive(Drop)]
@@ -91,13 +92,13 @@ fn run_full<R: Threads + Wait + Sync>(
 // The basis file is the first call of the shelf, and its table the second.
 #[test]
 fn without_memory_for_the_basis(rt: HostRuntime) -> Result<(), AllocError> {
-    for case in CASES {
-        for full in [1, 2] {
-            let ran = run_full(&rt, rt.alloc(), case.words, full)?;
-            assert!(rt; ran.wrote(9, "nomemory\n") && ran.disk.calls() == 0);
+    assert_rows!(rt; (row, case) in CASES.iter().enumerate(), full in [1, 2, 3] => {
+        let ran = run_full(&rt, rt.alloc(), case.words, full)?;
+        if full == 3 {
+            ran.wrote(0, case.written)
+        } else {
+            ran.wrote(9, "nomemory\n") && ran.disk.calls() == 0
         }
-        let ran = run_full(&rt, rt.alloc(), case.words, 3)?;
-        assert!(rt; ran.wrote(0, case.written));
-    }
+    }; "row {row}, call {full}");
     Ok(())
 }

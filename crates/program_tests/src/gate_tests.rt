@@ -4,6 +4,7 @@ use crate::devices::{disk_of, run_gated, run_on};
 use crate::gates::{Between, Held, Together};
 use std::alloc::{AllocError, Global};
 use std::sync::atomic::{AtomicU32, Ordering};
+use test_rows::assert_rows;
 
 // The lines of this lane.
 fn lines_of(alloc: Global, text: &[u8], lane: u8) -> Result<Vec<u8>, AllocError> {
@@ -108,12 +109,8 @@ fn eight_lanes_at_once(rt: HostRuntime) -> Result<(), AllocError> {
     let text = ran.output.bytes();
     assert!(rt; ran.status == 0 && ran.disk.bytes().len() == 18 + 8 * 65);
     assert!(rt; text.len() == 8 * LINE);
-    for lane in b"12345678" {
-        assert!(rt; lines_of(alloc, text, *lane)?.len() == LINE);
-    }
-    for position in b"12345678" {
-        assert!(rt; lane_at(text, *position) != 0);
-    }
+    assert_rows!(rt; lane in b"12345678" => lines_of(alloc, text, *lane)?.len(), LINE; "lane {lane}");
+    assert_rows!(rt; position in b"12345678" => lane_at(text, *position) != 0; "position {position}");
     assert_eq!(rt; gate.missed.load(Ordering::SeqCst), 0);
     Ok(())
 }

@@ -8,6 +8,7 @@ use std::alloc::{AllocError, Global};
 use std::sync::Wait;
 use std::test::Fail;
 use std::thread::Threads;
+use test_rows::assert_rows;
 
 // Lines of which most are refused where they stand.
 const LINES: [&str; 20] = [
@@ -140,10 +141,7 @@ fn a_crash_of_either_disk_is_stated_alike(rt: HostRuntime) -> Result<(), Fail> {
     let journals = images_of(alloc, &last.disk)?;
     let kept = images_of(alloc, &last.second)?;
     assert!(rt; journals.len() > 20 && kept.len() > 10);
-    for journal in journals.iter() {
-        for file in kept.iter() {
-            assert!(rt; is_stated_alike(&rt, alloc, journal.as_slice(), file.as_slice())?);
-        }
-    }
+    assert_rows!(rt; (at, journal) in journals.iter().enumerate(), (row, file) in kept.iter().enumerate() =>
+        is_stated_alike(&rt, alloc, journal.as_slice(), file.as_slice())?; "images {at} and {row}");
     Ok(())
 }

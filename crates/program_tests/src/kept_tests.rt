@@ -6,6 +6,7 @@ use memory_disk::{DiskCall, MemoryDisk};
 use std::alloc::{AllocError, Global};
 use std::sync::Wait;
 use std::thread::Threads;
+use test_rows::assert_rows;
 
 const CLAIMED: &str = "1,issue,7001,2020-01-01,endowment,0,3,1000.00,400.00\n\
     1,premium,7001,2020-01-01,400.00\n1,claim,7001,2020-06-01\n1,settle,7001,2020-07-01,400.00\n";
@@ -60,20 +61,14 @@ fn a_checkpoint_is_made_and_used(rt: HostRuntime) -> Result<(), AllocError> {
     if let Some(gate) = closed.as_mut_slice().first_mut() {
         *gate = 0;
     }
-    for (file, bodies) in [(CHECKPOINT, 1), (closed.as_slice(), 5), (&[], 5)] {
-        let disk = disk_of(alloc, ran.disk.bytes(), &[])?;
-        let stated = keep(
-            &rt,
-            alloc,
-            &["state"],
-            "7",
-            disk,
-            disk_of(alloc, file, &[])?,
-        )?;
-        assert!(rt; stated.wrote(0, SETTLED_BOOKS));
-        assert!(rt; read_last(&stated.disk, bodies), "{bodies} bodies");
-        assert!(rt; is_only_read(&stated.second) && stated.second.bytes() == file);
-    }
+    assert_rows!(rt; (file, bodies) in [(CHECKPOINT, 1), (closed.as_slice(), 5), (&[], 5)] => {
+        let (disk, second) = (disk_of(alloc, ran.disk.bytes(), &[])?, disk_of(alloc, file, &[])?);
+        let stated = keep(&rt, alloc, &["state"], "7", disk, second)?;
+        stated.wrote(0, SETTLED_BOOKS)
+            && read_last(&stated.disk, bodies)
+            && is_only_read(&stated.second)
+            && stated.second.bytes() == file
+    }; "{bodies} bodies, {} bytes", file.len());
     Ok(())
 }
 
@@ -157,14 +152,9 @@ fn is_untouched<R: Threads + Wait + Sync>(
 
 #[test]
 fn no_other_mode_touches_the_second_disk(rt: HostRuntime) -> Result<(), AllocError> {
-    for (row, other) in OTHERS.iter().enumerate() {
-        for (file, failing) in [(CHECKPOINT, 1_u64), (&[], 1), (CHECKPOINT, 0)] {
-            assert!(rt;
-                is_untouched(&rt, rt.alloc(), other, file, failing)?,
-                "row {row}"
-            );
-        }
-    }
+    let seconds: [(&[u8], u64); 3] = [(CHECKPOINT, 1), (&[], 1), (CHECKPOINT, 0)];
+    assert_rows!(rt; (row, other) in OTHERS.iter().enumerate(), (file, failing) in seconds =>
+        is_untouched(&rt, rt.alloc(), other, file, failing)?; "row {row}, {} bytes", file.len());
     Ok(())
 }
 
@@ -175,14 +165,13 @@ const BOTH: [&str; 2] = ["state", "checkpoint"];
 #[test]
 fn an_output_that_fails(rt: HostRuntime) -> Result<(), AllocError> {
     let alloc = rt.alloc();
-    for word in BOTH {
+    assert_rows!(rt; word in BOTH => {
         let journal = journal_of(&rt, alloc, CLAIMED)?;
         let second = disk_of(alloc, &[], &[])?;
         let ended = keep_beside(&rt, alloc, &[word], "", &[1], journal, second)?;
-        assert!(rt; ended.wrote(7, ""));
         let is_made = ended.second.bytes() == CHECKPOINT;
-        assert!(rt; is_made == (word == "checkpoint"));
-    }
+        ended.wrote(7, "") && is_made == (word == "checkpoint")
+    }; "{word}");
     Ok(())
 }
 
@@ -208,18 +197,12 @@ fn each_failing_call_of_either_disk_is_answered(rt: HostRuntime) -> Result<(), A
     for word in BOTH {
         for kept in [CHECKPOINT, &[]] {
             let (firsts, seconds) = calls_of(&rt, alloc, word, journal.bytes(), kept)?;
-            for call in 1..=u64::from(firsts.max(seconds)) {
+            assert_rows!(rt; call in 1..=u64::from(firsts.max(seconds)) => {
                 let first = call <= u64::from(firsts);
                 let second = call <= u64::from(seconds);
-                assert!(rt;
-                    is_answered(&rt, alloc, word, journal.bytes(), kept, (call, 0), first)?,
-                    "{word}, call {call}"
-                );
-                assert!(rt;
-                    is_answered(&rt, alloc, word, journal.bytes(), kept, (0, call), second)?,
-                    "{word}, call {call}"
-                );
-            }
+                is_answered(&rt, alloc, word, journal.bytes(), kept, (call, 0), first)?
+                    && is_answered(&rt, alloc, word, journal.bytes(), kept, (0, call), second)?
+            }; "{word}, call {call}");
         }
     }
     Ok(())

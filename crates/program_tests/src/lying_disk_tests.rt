@@ -6,6 +6,7 @@ use outside_io::{BytesSink, BytesSource, OpenGate};
 use std::alloc::{AllocError, Global};
 use std::sync::Wait;
 use std::thread::Threads;
+use test_rows::assert_rows;
 
 const ISSUE: &str = "1,issue,7001,2020-01-01,endowment,0,3,1000.00,400.00\n";
 
@@ -90,8 +91,6 @@ fn is_told<R: Threads + Wait + Sync>(rt: &R, alloc: Global, lie: &Lie) -> Result
 
 #[test]
 fn what_a_lying_disk_gave_is_answered(rt: HostRuntime) -> Result<(), AllocError> {
-    for (row, lie) in LIES.iter().enumerate() {
-        assert!(rt; is_told(&rt, rt.alloc(), lie)?, "row {row}");
-    }
+    assert_rows!(rt; (row, lie) in LIES.iter().enumerate() => is_told(&rt, rt.alloc(), lie)?; "row {row}");
     Ok(())
 }

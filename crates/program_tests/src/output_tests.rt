@@ -5,6 +5,7 @@ use outside_io::OpenGate;
 use std::alloc::{AllocError, Global};
 use std::sync::Wait;
 use std::thread::Threads;
+use test_rows::assert_rows;
 
 const THREE: &str = "1,issue,1,2020-01-01,endowment,0,3,1000.00,400.00\n\
     1,issue,2,2020-01-01,endowment,0,3,1000.00,400.00\n\
@@ -53,10 +54,7 @@ fn leaves_a_front(ran: &Finished) -> bool {
 #[test]
 fn each_failing_write_leaves_a_front(rt: HostRuntime) -> Result<(), AllocError> {
     let alloc = rt.alloc();
-    for write in 1..=4u64 {
-        let ran = disturbed(&rt, alloc, write)?;
-        assert!(rt; leaves_a_front(&ran), "write {write}");
-    }
+    assert_rows!(rt; write in 1..=4u64 => leaves_a_front(&disturbed(&rt, alloc, write)?); "write {write}");
     // the first write is always made
     assert!(rt; disturbed(&rt, alloc, 1)?.status == 7);
     Ok(())

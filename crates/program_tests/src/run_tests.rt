@@ -3,6 +3,7 @@
 use crate::cases::{Case, Failing, File, holds};
 use crate::devices::{BASIS, FLAT};
 use std::alloc::AllocError;
+use test_rows::assert_rows;
 
 const POLICY: &str = "1,issue,7001,2020-01-01,endowment,0,3,1000.00,400.00\n";
 
@@ -684,12 +685,7 @@ const DEVICES: &[Case] = &[
 
 #[test]
 fn calls_end_as_they_must(rt: HostRuntime) -> Result<(), AllocError> {
-    for table in [RUNS, FILES, DEVICES] {
-        for (row, case) in table.iter().enumerate() {
-            for failing in case.failing {
-                assert!(rt; holds(&rt, rt.alloc(), case, *failing)?, "row {row}");
-            }
-        }
-    }
+    assert_rows!(rt; cases in [RUNS, FILES, DEVICES], (row, case) in cases.iter().enumerate(), failing in case.failing =>
+        holds(&rt, rt.alloc(), case, *failing)?; "row {row} of {}", cases.len());
     Ok(())
 }

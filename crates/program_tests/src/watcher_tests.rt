@@ -9,6 +9,7 @@ use std::snapshot::Snapshot;
 use std::sync::atomic::{AtomicU32, Ordering};
 use std::sync::{Arc, Wait};
 use std::thread::Threads;
+use test_rows::assert_rows;
 use watcher_set::{CountWatcher, TightWatcher};
 
 const TWO: &str = "1,issue,1,2020-01-01,endowment,0,3,1000.00,400.00\n\
@@ -88,10 +89,8 @@ fn run_audited<R: Threads + Wait + Sync>(
 
 #[test]
 fn auditors_report_what_was_accepted(rt: HostRuntime) -> Result<(), AllocError> {
-    for (row, case) in AUDITED.iter().enumerate() {
-        let ran = run_audited(&rt, rt.alloc(), case)?;
-        assert!(rt; ran.wrote(case.status, case.written), "row {row}");
-    }
+    assert_rows!(rt; (row, case) in AUDITED.iter().enumerate() =>
+        run_audited(&rt, rt.alloc(), case)?.wrote(case.status, case.written); "row {row}");
     Ok(())
 }
 
@@ -262,12 +261,11 @@ fn run_visited<R: Threads + Wait + Sync>(
 // Each is dropped once: where it is done, at the end of a run, where the journal is refused, and where nothing is run.
 #[test]
 fn each_auditor_is_dropped_once(rt: HostRuntime) -> Result<(), AllocError> {
-    for (row, case) in DROPPINGS.iter().enumerate() {
+    assert_rows!(rt; (row, case) in DROPPINGS.iter().enumerate() => {
         let visit = Visit::new(rt.alloc())?;
         let ran = run_visited(&rt, rt.alloc(), case, &visit)?;
-        assert!(rt; ran.status == case.status, "row {row}");
-        assert!(rt; visit.told() == (1, 1, case.heard), "row {row}");
-    }
+        ran.status == case.status && visit.told() == (1, 1, case.heard)
+    }; "row {row}");
     Ok(())
 }
 
@@ -364,11 +362,10 @@ fn run_counted<R: Threads + Wait + Sync>(
 #[test]
 fn auditors_are_called_by_a_run_alone(rt: HostRuntime) -> Result<(), AllocError> {
     let alloc = rt.alloc();
-    for (row, case) in CALLINGS.iter().enumerate() {
+    assert_rows!(rt; (row, case) in CALLINGS.iter().enumerate() => {
         let calls = Arc::new(alloc, AtomicU32::new(0))?;
         let _ = run_counted(&rt, alloc, case, calls.clone()?)?;
-        assert!(rt; calls.load(Ordering::SeqCst) == case.calls, "row {row}");
-        assert!(rt; Arc::strong_count(&calls) == 1);
-    }
+        calls.load(Ordering::SeqCst) == case.calls && Arc::strong_count(&calls) == 1
+    }; "row {row}");
     Ok(())
 }
