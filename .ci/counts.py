@@ -14,14 +14,14 @@ from public_clauses import Public, all_public
 
 PAGE = known.TOP / "docs" / "PROOF.md"
 HEAD = "| what | definitions | files | lines | words |\n|---|---|---|---|---|\n"
-GIVEN = ["life_app.specs.Texts.run_wording", "life_app.specs.TableReserves.table_reserves"]
+GIVEN = ["transcript_text.specs.Transcript.run_wording", "life_app.specs.TableReserves.table_reserves"]
 COUNTED: tuple[tuple[str, list[str]], ...] = (
     ("the headline, whatever its texts and reserves are", ["life_app.specs.Headline.IsPromised"]),
-    ("its two cases, with the program's texts and reserves", ["life_app.specs.Headline.IsPromised",
+    ("the same with the program's texts and reserves", ["life_app.specs.Headline.IsPromised", *GIVEN]),
+    ("so, and the line of a run without a transcript", ["life_app.specs.Headline.IsPromised",
      "life_app.specs.Headline.IsUnrun", *GIVEN]),
-    ("the same over a disk as it was found", ["life_app.specs.Headline.IsPromisedFromStart", *GIVEN]),
-    ("the contract of `life`", ["life_app/src/program.rt"]),
-    ("the contracts of `life` and `life_kept`", ["life_app/src/program.rt", "life_app/src/kept.rt"]),
+    ("what `run_shipped` promises", ["life_cli.specs.ShippedRun.IsShipped"]),
+    ("the contract of `run_shipped`", ["life_cli/src/shipped.rt"]),
     ("all public clauses of `life_app` and `life_cli`", []),
 )
 

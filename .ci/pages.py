@@ -26,9 +26,9 @@ LIMITS = {
     "docs/AUDIT.md": 2700,
     "docs/OPERATIONS.md": 2650,
     "docs/FORMATS.md": 6150,
-    "docs/ARCHITECTURE.md": 5200,
-    "docs/PROOF.md": 8240,
-    "docs/DECISIONS.md": 4640,
+    "docs/ARCHITECTURE.md": 5240,
+    "docs/PROOF.md": 8380,
+    "docs/DECISIONS.md": 4760,
     "docs/FIGURES.md": 2230,
 }
 MOST_IN_A_SENTENCE = 35

@@ -41,7 +41,6 @@ EXCEPTIONS = {
     "The devices of a contract, as one value.": """
         program_endings.specs.Writing.between program_endings.specs.Writing.input_between
         program_endings.specs.Writing.shelf_between""",
-    "Says nothing.": "program_endings.specs.Replies.AreAny",
 }
 
 # Conditional, by the reason: which hypotheses, and the cases that stand under them.

@@ -12,7 +12,7 @@ import sys
 FUNCTION = re.compile(r'<h3 id="[^"]*"><code>([^<]*)</code></h3>\n<p class="place">([^<:]*):(\d+)</p>')
 DEFINITION = re.compile(r'<span class="name">([^<]*)</span>(?:(?!</p>).)* <span class="place">([^<:]*):(\d+)</span></p>', re.S)
 # fewer than these, and the pages were made of something else
-LEAST = {"functions": 350, "definitions": 1200}
+LEAST = {"functions": 350, "definitions": 1000}
 
 
 def places_in(page: str) -> list[tuple[str, str, str, int]]:

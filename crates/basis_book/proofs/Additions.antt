@@ -1,11 +1,11 @@
 -- One more row.
-use Rattle.basis_book.proofs.Names.{◌≡◌, ℕ, suc, ◌+◌, ◌-◌, ◌≤◌, ◌<ℤ◌, ◌≤ℤ◌, ℤ, Bool, true, false, List, [], ◌∷◌, ◌++◌, length, Option, Some, None, is_some, Result, Ok, Err, is_ok, OnOk, All, MatchBool, refl, sym, ap, ◌∙◌, subst, arith, BasisRow, TooManyRows, BadBasisRow, NotRising, NoMemory, All-nil, All-cons, AreBounded, IsRow, DaysRise, IsAfter, Falls, AreRows, StopsAt, IsFirstFall, IsRowsFault}
+use Rattle.basis_book.proofs.Names.{◌≡◌, ℕ, suc, ◌+◌, ◌-◌, ◌≤◌, ◌<ℤ◌, ◌≤ℤ◌, ℤ, Bool, true, false, List, [], ◌∷◌, ◌++◌, length, Option, Some, None, is_some, Result, Ok, Err, is_ok, OnOk, All, MatchBool, refl, sym, ap, ◌∙◌, subst, arith, ints, BasisRow, TooManyRows, BadBasisRow, NotRising, NoMemory, All-nil, All-cons, AreBounded, IsRow, DaysRise, IsAfter, Falls, AreRows, StopsAt, IsRowsFault}
 use Rattle.std.specs.List.{AllZip, slice_get}
 use Rattle.std.specs.Int.Signed.{lt_z, lt_z_yes, lt_z_no}
 use Rattle.std.proofs.lemmas.List.{length_push, append_assoc}
 use Rattle.basis_book.specs.declared.fault.BasisFault.{BasisFault}
 
-DaysRise-push : (rows : List BasisRow) (row : BasisRow) → DaysRise rows → IsAfter rows row.from_day → DaysRise (rows ++ row ∷ [])
+pub DaysRise-push : (rows : List BasisRow) (row : BasisRow) → DaysRise rows → IsAfter rows row.from_day → DaysRise (rows ++ row ∷ [])
 DaysRise-push [] row h a = tt
 DaysRise-push (r ∷ []) row h a = (a, tt)
 DaysRise-push (r ∷ next ∷ rows) row h a = (h.0, DaysRise-push (next ∷ rows) row h.1 a)
@@ -20,26 +20,61 @@ pub AreRows-push : (rows : List (List (List ℕ))) (found : List BasisRow) (fiel
     → AreRows (rows ++ fields ∷ []) (found ++ row ∷ [])
 AreRows-push rows found fields row h k a = record { each = AllZip_push IsRow rows found fields row h.each k; rise = DaysRise-push found row h.rise a }
 
-stops_here : (rows : List (List (List ℕ))) (found : List BasisRow) (fields : List (List ℕ)) (n : ℕ) → AreRows rows found → n ≡ length rows + 1 → StopsAt (rows ++ fields ∷ []) n found fields
-stops_here rows found fields n h e = record { good = rows; rest = []; split = refl; number = e; right = h }
+pub rises_after : (before : List BasisRow) (row : BasisRow) (after : List BasisRow) → DaysRise (before ++ row ∷ after) → IsAfter before row.from_day
+rises_after [] row after h = tt
+rises_after (b ∷ []) row after h = h.0
+rises_after (b ∷ next ∷ before) row after h = rises_after (next ∷ before) row after h.1
+
+after_the_last : (before : List BasisRow) (last : BasisRow) (day : ℤ) → IsAfter (before ++ last ∷ []) day → last.from_day <ℤ day
+after_the_last [] last day h = h
+after_the_last (b ∷ []) last day h = h
+after_the_last (b ∷ next ∷ before) last day h = after_the_last (next ∷ before) last day h
+
+not_both : (rows : List BasisRow) (day : ℤ) → IsAfter rows day → Falls rows day → ⊥
+not_both rows day a f =
+    let later : f.last.from_day <ℤ day = after_the_last f.before f.last day (subst (λ xs. IsAfter xs day) f.split a) in
+    let earlier = f.falls in
+    omega (arith, ints)
+
+-- where the day of a row falls, the days don't rise
+pub no_rise : (rows : List BasisRow) (row : BasisRow) → Falls rows row.from_day → DaysRise (rows ++ row ∷ []) → ⊥
+no_rise rows row f rise = not_both rows row.from_day (rises_after rows row [] rise) f
 
 pub falls_here : (rows : List (List (List ℕ))) (found : List BasisRow) (fields : List (List ℕ)) (row : BasisRow) (n : ℕ) → AreRows rows found → n ≡ length rows + 1 → n ≤ 1000
-    → IsRow fields row → Falls found row.from_day → (length (rows ++ fields ∷ []) ≤ 1000) × IsFirstFall (rows ++ fields ∷ []) n
-falls_here rows found fields row n h e most k f =
-    (omega (arith, length_push rows fields), record { before = found; fields = fields; row = row; stops = stops_here rows found fields n h e; is_row = k; falls = f })
+    → IsRow fields row → Falls found row.from_day → IsRowsFault (rows ++ fields ∷ []) (NotRising n)
+falls_here rows found fields row n h e most k f = (
+  omega (arith, length_push rows fields),
+  record {
+    before = found;
+    fields = fields;
+    good = rows;
+    rest = [];
+    split = refl;
+    number = e;
+    right = h;
+    wrong = (row, k, no_rise found row f);
+  },
+)
 
 -- a fault that was found stays the first, whatever row follows
-StopsAt-more : (rows : List (List (List ℕ))) (n : ℕ) (before : List BasisRow) (fields next : List (List ℕ)) → StopsAt rows n before fields → StopsAt (rows ++ next ∷ []) n before fields
-StopsAt-more rows n before fields next h =
-    record { good = h.good; rest = h.rest ++ next ∷ []; split = ap (λ xs. xs ++ next ∷ []) h.split ∙ append_assoc h.good (fields ∷ h.rest) (next ∷ []); number = h.number; right = h.right }
+StopsAt-more : (rows : List (List (List ℕ))) (n : ℕ) (IsWrong : List BasisRow → List (List ℕ) → Type 0) (next : List (List ℕ)) → StopsAt rows n IsWrong → StopsAt (rows ++ next ∷ []) n IsWrong
+StopsAt-more rows n IsWrong next h = record {
+  before = h.before;
+  fields = h.fields;
+  good = h.good;
+  rest = h.rest ++ next ∷ [];
+  split = ap (λ xs. xs ++ next ∷ []) h.split ∙ append_assoc h.good (h.fields ∷ h.rest) (next ∷ []);
+  number = h.number;
+  right = h.right;
+  wrong = h.wrong;
+}
 
 pub IsFault-more : (rows : List (List (List ℕ))) (next : List (List ℕ)) (fault : BasisFault) → length (rows ++ next ∷ []) ≤ 1000 → IsRowsFault rows fault → IsRowsFault (rows ++ next ∷ []) fault
 IsFault-more rows next TooManyRows few h = absurd (omega (arith, length_push rows next))
-IsFault-more rows next (BadBasisRow n) few h =
-    let b = h.1 in (few, record { before = b.before; fields = b.fields; stops = StopsAt-more rows n b.before b.fields next b.stops; bad = b.bad })
+IsFault-more rows next (BadBasisRow n) few h = (few, StopsAt-more rows n (λ before fields. (row : BasisRow) → IsRow fields row → ⊥) next h.1)
 IsFault-more rows next (NotRising n) few h =
-    let b = h.1 in (few, record { before = b.before; fields = b.fields; row = b.row; stops = StopsAt-more rows n b.before b.fields next b.stops; is_row = b.is_row; falls = b.falls })
-IsFault-more rows next NoMemory few h = tt
+    (few, StopsAt-more rows n (λ before fields. (row : BasisRow) × IsRow fields row × (DaysRise (before ++ row ∷ []) → ⊥)) next h.1)
+IsFault-more rows next (NoMemory lack) few h = tt
 
 -- the last of a list ends it
 pub ends_with : {X : Type 0} (xs : List X) (x : X) → Some x ≡ slice_get xs (length xs - 1) → (before : List X) × (xs ≡ before ++ x ∷ [])

@@ -1,5 +1,6 @@
 -- A basis file has one answer at most.
-use Rattle.basis_book.proofs.Names.{◌≡◌, ℕ, ◌+◌, ◌<◌, ◌≤◌, ◌⊎◌, inl, inr, ◌<ℤ◌, ℤ, List, [], ◌∷◌, ◌++◌, length, Some, None, Result, Ok, Err, IfOk, IfErr, refl, sym, ap, ◌∙◌, subst, arith, ints, AreRecords, Reached, default_config, strip_bom, BasisRow, TooManyRows, BadBasisRow, NotRising, NoMemory, IsPoints, IsRow, DaysRise, IsAfter, Falls, AreRows, StopsAt, IsFirstBad, IsFirstFall, IsRowsFault}
+use Rattle.std.specs.Prelude.{pos}
+use Rattle.basis_book.proofs.Names.{◌≡◌, ℕ, ◌+◌, ◌<◌, ◌≤◌, ◌⊎◌, inl, inr, ℤ, List, [], ◌∷◌, ◌++◌, length, Some, None, Result, Ok, Err, IfOk, IfErr, refl, sym, ap, ◌∙◌, subst, arith, AreRecords, Reached, default_config, strip_bom, BasisRow, TooManyRows, BadBasisRow, NotRising, NoMemory, IsPoints, IsRow, DaysRise, IsAfter, AreRows, StopsAt, IsRowsFault}
 use Rattle.std.specs.List.{AllZip}
 use Rattle.csv.specs.Machine.{Read, next_record}
 use Rattle.csv.specs.declared.parser.Config.{Config}
@@ -9,6 +10,7 @@ use Rattle.life_dates.specs.Calendar.{Date, IsDay, IsDate, day_number, days_in_m
 use Rattle.life_dates.specs.DayText.{IsDayText}
 use Rattle.life_dates.proofs.TextLemmas.{read_exact}
 use Rattle.basis_book.specs.declared.fault.BasisFault.{BasisFault}
+use Rattle.basis_book.proofs.Additions.{DaysRise-push, rises_after}
 use Rattle.basis_book.proofs.ListCuts.{compare_cuts}
 use Rattle.basis_book.specs.File.{HasRows, IsBasisFile, IsFileFault, IsBookAnswer, GivesBook}
 
@@ -32,7 +34,7 @@ one_file bytes a b h k = one_reached default_config st.StartRecord (strip_bom by
 some_day : (a b : ℤ) → Some a ≡ Some b → a ≡ b
 some_day a b e = cc
 
-month_length : (y m : ℕ) → days_in_month y m ≤ 31
+month_length : (y m : ℕ) → days_in_month (pos y) m ≤ 31
 month_length y m = grind arith
 
 small_day : (date : Date) → IsDate date → date.day < 100
@@ -86,25 +88,15 @@ cut_at (g ∷ good) fields rest (x ∷ xs) h =
     let c = cut_at good fields rest xs h.1 in
     record { before = x ∷ c.before; row = c.row; after = c.after; split = ap (λ t. x ∷ t) c.split; right = (h.0, c.right); is_row = c.is_row }
 
-rises_after : (before : List BasisRow) (row : BasisRow) (after : List BasisRow) → DaysRise (before ++ row ∷ after) → IsAfter before row.from_day
-rises_after [] row after h = tt
-rises_after (b ∷ []) row after h = h.0
-rises_after (b ∷ next ∷ before) row after h = rises_after (next ∷ before) row after h.1
-
-after_the_last : (before : List BasisRow) (last : BasisRow) (day : ℤ) → IsAfter (before ++ last ∷ []) day → last.from_day <ℤ day
-after_the_last [] last day h = h
-after_the_last (b ∷ []) last day h = h
-after_the_last (b ∷ next ∷ before) last day h = after_the_last (next ∷ before) last day h
-
-not_both : (rows : List BasisRow) (day : ℤ) → IsAfter rows day → Falls rows day → ⊥
-not_both rows day a f =
-    let later : f.last.from_day <ℤ day = after_the_last f.before f.last day (subst (λ xs. IsAfter xs day) f.split a) in
-    let earlier = f.falls in
-    omega (arith, ints)
-
 -- what is wrong with a row behind right ones
+abbrev IsBad : List BasisRow → List (List ℕ) → Type 0
+IsBad before fields = (row : BasisRow) → IsRow fields row → ⊥
+
+abbrev IsFall : List BasisRow → List (List ℕ) → Type 0
+IsFall before fields = (row : BasisRow) × IsRow fields row × (DaysRise (before ++ row ∷ []) → ⊥)
+
 abbrev IsWrong : List BasisRow → List (List ℕ) → Type 0
-IsWrong before fields = ((row : BasisRow) → IsRow fields row → ⊥) ⊎ ((row : BasisRow) × IsRow fields row × Falls before row.from_day)
+IsWrong before fields = IsBad before fields ⊎ IsFall before fields
 
 -- no row of right rows is wrong
 right_not_wrong : (good : List (List (List ℕ))) (fields : List (List ℕ)) (rest : List (List (List ℕ))) (before found : List BasisRow)
@@ -117,68 +109,63 @@ right_not_wrong good fields rest before found h k wrong =
       | inl bad ↦ bad c.row c.is_row
       | inr fall ↦
           let row : c.row ≡ fall.0 = one_row fields c.row fall.0 c.is_row fall.1 in
-          not_both before fall.0.from_day (subst (λ (r : BasisRow). IsAfter before r.from_day) row (subst (λ xs. IsAfter xs c.row.from_day) same after)) fall.2
+          fall.2 (DaysRise-push before fall.0 k.rise (subst (λ (r : BasisRow). IsAfter before r.from_day) row (subst (λ xs. IsAfter xs c.row.from_day) same after)))
     ]
 
 -- two wrong rows behind right ones are one row
-one_stop : (rows : List (List (List ℕ))) (n m : ℕ) (a b : List BasisRow) (f e : List (List ℕ)) → StopsAt rows n a f → StopsAt rows m b e → IsWrong a f → IsWrong b e
-    → (n ≡ m) × ((f ≡ e) × (a ≡ b))
-one_stop rows n m a b f e h k w v =
-    elim (compare_cuts h.good f h.rest k.good e k.rest (sym h.split ∙ k.split)) [
+one_stop : (rows : List (List (List ℕ))) (n m : ℕ) (W V : List BasisRow → List (List ℕ) → Type 0) (h : StopsAt rows n W) (k : StopsAt rows m V)
+    → IsWrong h.before h.fields → IsWrong k.before k.fields → (n ≡ m) × ((h.fields ≡ k.fields) × (h.before ≡ k.before))
+one_stop rows n m W V h k w v =
+    elim (compare_cuts h.good h.fields h.rest k.good k.fields k.rest (sym h.split ∙ k.split)) [
       | inl same ↦
           let good = same.0 in
-          (h.number ∙ ap (λ xs. length xs + 1) good ∙ sym k.number, (same.1, one_list k.good a b (subst (λ xs. AllZip IsRow xs a) good h.right.each) k.right.each))
+          (h.number ∙ ap (λ xs. length xs + 1) good ∙ sym k.number, (same.1, one_list k.good h.before k.before (subst (λ xs. AllZip IsRow xs h.before) good h.right.each) k.right.each))
       | inr other ↦ absurd (elim other [
-        | inl t ↦ right_not_wrong h.good f t.0 a b (subst (λ xs. AreRows xs b) t.1 k.right) h.right w
-        | inr t ↦ right_not_wrong k.good e t.0 b a (subst (λ xs. AreRows xs a) t.1 h.right) k.right v
+        | inl t ↦ right_not_wrong h.good h.fields t.0 h.before k.before (subst (λ xs. AreRows xs k.before) t.1 k.right) h.right w
+        | inr t ↦ right_not_wrong k.good k.fields t.0 k.before h.before (subst (λ xs. AreRows xs h.before) t.1 h.right) k.right v
       ])
     ]
 
-bad_is_wrong : (rows : List (List (List ℕ))) (n : ℕ) (h : IsFirstBad rows n) → IsWrong h.before h.fields
-bad_is_wrong rows n h = inl h.bad
+no_wrong : (rows : List (List (List ℕ))) (n : ℕ) (W : List BasisRow → List (List ℕ) → Type 0) (found : List BasisRow) (s : StopsAt rows n W) → AreRows rows found → IsWrong s.before s.fields → ⊥
+no_wrong rows n W found s h w = right_not_wrong s.good s.fields s.rest s.before found (subst (λ xs. AreRows xs found) s.split h) s.right w
 
-fall_is_wrong : (rows : List (List (List ℕ))) (n : ℕ) (h : IsFirstFall rows n) → IsWrong h.before h.fields
-fall_is_wrong rows n h = inr (h.row, h.is_row, h.falls)
-
-no_wrong : (rows : List (List (List ℕ))) (n : ℕ) (found before : List BasisRow) (fields : List (List ℕ)) → AreRows rows found → StopsAt rows n before fields → IsWrong before fields → ⊥
-no_wrong rows n found before fields h s w = right_not_wrong s.good fields s.rest before found (subst (λ xs. AreRows xs found) s.split h) s.right w
-
-bad_or_fall : (rows : List (List (List ℕ))) (n m : ℕ) → IsFirstBad rows n → IsFirstFall rows m → ⊥
+bad_or_fall : (rows : List (List (List ℕ))) (n m : ℕ) → StopsAt rows n IsBad → StopsAt rows m IsFall → ⊥
 bad_or_fall rows n m h k =
-    let same = one_stop rows n m h.before k.before h.fields k.fields h.stops k.stops (bad_is_wrong rows n h) (fall_is_wrong rows m k) in
-    h.bad k.row (subst (λ f. IsRow f k.row) (sym same.1.0) k.is_row)
+    let same = one_stop rows n m IsBad IsFall h k (inl h.wrong) (inr k.wrong) in
+    let fall = k.wrong in
+    h.wrong fall.0 (subst (λ f. IsRow f fall.0) (sym same.1.0) fall.1)
 
 -- the fault of rows, but for memory
 abbrev IsGiven : BasisFault → Type 0
-IsGiven NoMemory = ⊥
+IsGiven (NoMemory lack) = ⊥
 IsGiven _ = Unit {0}
 
 one_fault : (rows : List (List (List ℕ))) (f g : BasisFault) → IsGiven f → IsGiven g → IsRowsFault rows f → IsRowsFault rows g → f ≡ g
-one_fault rows NoMemory g x y h k = absurd x
-one_fault rows TooManyRows NoMemory x y h k = absurd y
+one_fault rows (NoMemory lack) g x y h k = absurd x
+one_fault rows TooManyRows (NoMemory lack) x y h k = absurd y
 one_fault rows TooManyRows TooManyRows x y h k = refl
 one_fault rows TooManyRows (BadBasisRow m) x y h k = absurd (omega (arith, h, k.0))
 one_fault rows TooManyRows (NotRising m) x y h k = absurd (omega (arith, h, k.0))
-one_fault rows (BadBasisRow n) NoMemory x y h k = absurd y
+one_fault rows (BadBasisRow n) (NoMemory lack) x y h k = absurd y
 one_fault rows (BadBasisRow n) TooManyRows x y h k = absurd (omega (arith, h.0, k))
 one_fault rows (BadBasisRow n) (BadBasisRow m) x y h k =
-    ap (λ (i : ℕ). BadBasisRow i) (one_stop rows n m h.1.before k.1.before h.1.fields k.1.fields h.1.stops k.1.stops (bad_is_wrong rows n h.1) (bad_is_wrong rows m k.1)).0
+    ap (λ (i : ℕ). BadBasisRow i) (one_stop rows n m IsBad IsBad h.1 k.1 (inl h.1.wrong) (inl k.1.wrong)).0
 one_fault rows (BadBasisRow n) (NotRising m) x y h k = absurd (bad_or_fall rows n m h.1 k.1)
-one_fault rows (NotRising n) NoMemory x y h k = absurd y
+one_fault rows (NotRising n) (NoMemory lack) x y h k = absurd y
 one_fault rows (NotRising n) TooManyRows x y h k = absurd (omega (arith, h.0, k))
 one_fault rows (NotRising n) (BadBasisRow m) x y h k = absurd (bad_or_fall rows m n k.1 h.1)
 one_fault rows (NotRising n) (NotRising m) x y h k =
-    ap (λ (i : ℕ). NotRising i) (one_stop rows n m h.1.before k.1.before h.1.fields k.1.fields h.1.stops k.1.stops (fall_is_wrong rows n h.1) (fall_is_wrong rows m k.1)).0
+    ap (λ (i : ℕ). NotRising i) (one_stop rows n m IsFall IsFall h.1 k.1 (inr h.1.wrong) (inr k.1.wrong)).0
 
 right_or_fault : (rows : List (List (List ℕ))) (found : List BasisRow) (f : BasisFault) → IsGiven f → length rows ≤ 1000 → AreRows rows found → IsRowsFault rows f → ⊥
-right_or_fault rows found NoMemory x few h k = x
+right_or_fault rows found (NoMemory lack) x few h k = x
 right_or_fault rows found TooManyRows x few h k = omega (arith, k)
-right_or_fault rows found (BadBasisRow n) x few h k = no_wrong rows n found k.1.before k.1.fields h k.1.stops (bad_is_wrong rows n k.1)
-right_or_fault rows found (NotRising n) x few h k = no_wrong rows n found k.1.before k.1.fields h k.1.stops (fall_is_wrong rows n k.1)
+right_or_fault rows found (BadBasisRow n) x few h k = no_wrong rows n IsBad found k.1 h (inl k.1.wrong)
+right_or_fault rows found (NotRising n) x few h k = no_wrong rows n IsFall found k.1 h (inr k.1.wrong)
 
 -- a fault that is given, as it is stated of a file
 of_file : (bytes : List ℕ) (f : BasisFault) → IsGiven f → IsFileFault bytes f → (rows : List (List (List ℕ))) × HasRows bytes rows × IsRowsFault rows f
-of_file bytes NoMemory x h = absurd x
+of_file bytes (NoMemory lack) x h = absurd x
 of_file bytes TooManyRows x h = h
 of_file bytes (BadBasisRow n) x h = h
 of_file bytes (NotRising n) x h = h
@@ -203,14 +190,14 @@ not_right_and_wrong bytes found f x h k =
 -- a file has one answer
 gives_found : (bytes : List ℕ) (found : List BasisRow) (r : Result (List BasisRow) BasisFault) → IsBasisFile bytes found → IfOk r (IsBasisFile bytes) → IfErr r (IsFileFault bytes) → GivesBook r (Ok found)
 gives_found bytes found (Ok x) h ok err = ap (λ (y : List BasisRow). Ok y) (same_rows bytes found x h ok)
-gives_found bytes found (Err NoMemory) h ok err = tt
+gives_found bytes found (Err (NoMemory lack)) h ok err = tt
 gives_found bytes found (Err TooManyRows) h ok err = absurd (not_right_and_wrong bytes found TooManyRows tt h err)
 gives_found bytes found (Err (BadBasisRow n)) h ok err = absurd (not_right_and_wrong bytes found (BadBasisRow n) tt h err)
 gives_found bytes found (Err (NotRising n)) h ok err = absurd (not_right_and_wrong bytes found (NotRising n) tt h err)
 
 gives_fault : (bytes : List ℕ) (f : BasisFault) (r : Result (List BasisRow) BasisFault) → IsGiven f → IsFileFault bytes f → IfOk r (IsBasisFile bytes) → IfErr r (IsFileFault bytes) → GivesBook r (Err f)
 gives_fault bytes f (Ok x) g h ok err = absurd (not_right_and_wrong bytes x f g ok h)
-gives_fault bytes f (Err NoMemory) g h ok err = tt
+gives_fault bytes f (Err (NoMemory lack)) g h ok err = tt
 gives_fault bytes f (Err TooManyRows) g h ok err = ap (λ (y : BasisFault). Err y) (same_fault bytes f TooManyRows g tt h err)
 gives_fault bytes f (Err (BadBasisRow n)) g h ok err = ap (λ (y : BasisFault). Err y) (same_fault bytes f (BadBasisRow n) g tt h err)
 gives_fault bytes f (Err (NotRising n)) g h ok err = ap (λ (y : BasisFault). Err y) (same_fault bytes f (NotRising n) g tt h err)
@@ -218,7 +205,7 @@ gives_fault bytes f (Err (NotRising n)) g h ok err = ap (λ (y : BasisFault). Er
 pub gives_due : (bytes : List ℕ) (r : Result (List BasisRow) BasisFault) → IfOk r (IsBasisFile bytes) → IfErr r (IsFileFault bytes)
     → (answer : Result (List BasisRow) BasisFault) → IsBookAnswer bytes answer → GivesBook r answer
 gives_due bytes r ok err (Ok found) h = gives_found bytes found r h ok err
-gives_due bytes r ok err (Err NoMemory) h = absurd h
+gives_due bytes r ok err (Err (NoMemory lack)) h = absurd h
 gives_due bytes r ok err (Err TooManyRows) h = gives_fault bytes TooManyRows r tt h ok err
 gives_due bytes r ok err (Err (BadBasisRow n)) h = gives_fault bytes (BadBasisRow n) r tt h ok err
 gives_due bytes r ok err (Err (NotRising n)) h = gives_fault bytes (NotRising n) r tt h ok err

@@ -8,4 +8,4 @@ pub mod Exact
 pub mod ListCuts
 pub mod CallerLemmas
 pub mod WorkedRows
-pub mod Stopped
+pub mod Leftover

@@ -1,14 +1,13 @@
 -- What worked basis files are computed from.
-use Rattle.basis_book.proofs.Names.{◌≡◌, ◌⊎◌, ◌≤◌, ◌+◌, ℕ, ℤ, suc, zero, ◌<◌, List, [], ◌∷◌, length, get_or, All, refl, inl, inr, codes, pos, lit≤, lit<, arith, true, Bool, All-nil, All-cons, ints, BasisRow, IsPoints, IsRow, BadBasisRow, csv_on_literals, Reached}
-use Rattle.std.specs.Prelude.{replicate}
-use Rattle.life_dates.specs.Calendar.{Date, IsDate, IsDay, ymd, day_number, days_before, days_before_year, days_of_months}
+use Rattle.basis_book.proofs.Names.{◌≡◌, ◌≤◌, ℕ, List, [], ◌∷◌, All, refl, inl, inr, codes, pos, lit≤, lit<, arith, All-nil, All-cons, ints, IsPoints, BadBasisRow, csv_on_literals, Reached}
+use Rattle.life_dates.specs.Calendar.{IsDay, ymd, day_number, days_before_year, days_of_months}
 use Rattle.life_dates.specs.DayText.{IsDayText}
 use Rattle.basis_book.specs.Name.{IsName, IsNameByte}
 use Rattle.basis_book.specs.File.{IsBasisFile, IsFileFault}
 
 -- three days
 pub first_text : IsDayText (codes "2000-01-01") (pos 10957)
-unfolding day_number days_before days_before_year days_of_months
+unfolding day_number days_before_year days_of_months
 first_text = record {
   date = ymd 2000 1 1;
   is_date = record { year_low = lit≤ tt; year_high = lit≤ tt; month_low = lit≤ tt; month_high = lit≤ tt; day_low = lit≤ tt; day_high = lit≤ tt };
@@ -20,7 +19,7 @@ pub first_in : IsDay (pos 10957)
 first_in = (omega (arith, ints), omega (arith, ints))
 
 pub second_text : IsDayText (codes "2010-01-01") (pos 14610)
-unfolding day_number days_before days_before_year days_of_months
+unfolding day_number days_before_year days_of_months
 second_text = record {
   date = ymd 2010 1 1;
   is_date = record { year_low = lit≤ tt; year_high = lit≤ tt; month_low = lit≤ tt; month_high = lit≤ tt; day_low = lit≤ tt; day_high = lit≤ tt };
@@ -32,7 +31,7 @@ pub second_in : IsDay (pos 14610)
 second_in = (omega (arith, ints), omega (arith, ints))
 
 pub third_text : IsDayText (codes "2018-12-31") (pos 17896)
-unfolding day_number days_before days_before_year days_of_months
+unfolding day_number days_before_year days_of_months
 third_text = record {
   date = ymd 2018 12 31;
   is_date = record { year_low = lit≤ tt; year_high = lit≤ tt; month_low = lit≤ tt; month_high = lit≤ tt; day_low = lit≤ tt; day_high = lit≤ tt };
@@ -119,8 +118,12 @@ one_bad_row = (
     record {
       before = [];
       fields = codes "2000-01-01" ∷ codes "q.xml" ∷ [];
-      stops = record { good = []; rest = []; split = refl; number = refl; right = record { each = tt; rise = tt } };
-      bad = λ row h. h;
+      good = [];
+      rest = [];
+      split = refl;
+      number = refl;
+      right = record { each = tt; rise = tt };
+      wrong = λ row h. h;
     },
   ),
 )

@@ -18,16 +18,16 @@ IsBasisFile bytes found = (rows : List (List (List ℕ))) × HasRows bytes rows 
 
 -- the file has this fault. Memory may always be refused.
 abbrev pub IsFileFault : List ℕ → BasisFault → Type 0
-IsFileFault bytes NoMemory = ⊤
+IsFileFault bytes (NoMemory lack) = ⊤
 IsFileFault bytes fault = (rows : List (List (List ℕ))) × HasRows bytes rows × IsRowsFault rows fault
 
 -- the one answer to a file, where memory isn't refused
 abbrev pub IsBookAnswer : List ℕ → Result (List BasisRow) BasisFault → Type 0
 IsBookAnswer bytes (Ok found) = IsBasisFile bytes found
-IsBookAnswer bytes (Err NoMemory) = ⊥
+IsBookAnswer bytes (Err (NoMemory lack)) = ⊥
 IsBookAnswer bytes (Err fault) = IsFileFault bytes fault
 
 -- what is given is this answer, unless memory was refused
 abbrev pub GivesBook : Result (List BasisRow) BasisFault → Result (List BasisRow) BasisFault → Type 0
-GivesBook (Err NoMemory) answer = ⊤
+GivesBook (Err (NoMemory lack)) answer = ⊤
 GivesBook result answer = answer ≡ result

@@ -11,4 +11,4 @@ pub record IsName (bytes : List ℕ) : Type 0 where
   pub some : 1 ≤ length bytes
   pub short : length bytes ≤ 64
   pub first : IsAsciiAlphanumeric (slice_index bytes 0)
-  pub each : All IsNameByte bytes
+  pub each : All (λ byte. IsAsciiAlphanumeric byte ⊎ ((byte ≡ 46) ⊎ ((byte ≡ 95) ⊎ (byte ≡ 45)))) bytes

@@ -23,20 +23,16 @@ pub record AreRows (rows : List (List (List ℕ))) (found : List BasisRow) : Typ
   pub each : AllZip IsRow rows found
   pub rise : DaysRise found
 
--- the rows before the n-th are right, and these are the fields of the n-th
-pub record StopsAt (rows : List (List (List ℕ))) (n : ℕ) (before : List BasisRow) (fields : List (List ℕ)) : Type 0 where
+-- the rows before the n-th are right and these basis rows, and the n-th has these fields, with which this is wrong
+pub record StopsAt (rows : List (List (List ℕ))) (n : ℕ) (IsWrong : List BasisRow → List (List ℕ) → Type 0) : Type 0 where
+  pub before : List BasisRow
+  pub fields : List (List ℕ)
   pub good : List (List (List ℕ))
   pub rest : List (List (List ℕ))
   pub split : rows ≡ good ++ fields ∷ rest
   pub number : n ≡ length good + 1
   pub right : AreRows good before
-
--- the n-th row is the first that is no basis row
-pub record IsFirstBad (rows : List (List (List ℕ))) (n : ℕ) : Type 0 where
-  pub before : List BasisRow
-  pub fields : List (List ℕ)
-  pub stops : StopsAt rows n before fields
-  pub bad : (row : BasisRow) → IsRow fields row → ⊥
+  pub wrong : IsWrong before fields
 
 -- the day isn't after that of the last of the rows
 pub record Falls (rows : List BasisRow) (day : ℤ) : Type 0 where
@@ -45,18 +41,13 @@ pub record Falls (rows : List BasisRow) (day : ℤ) : Type 0 where
   pub split : rows ≡ before ++ last ∷ []
   pub falls : day ≤ℤ last.from_day
 
--- the n-th row is a basis row, as those before it are, and the first whose day isn't after the one before
-pub record IsFirstFall (rows : List (List (List ℕ))) (n : ℕ) : Type 0 where
-  pub before : List BasisRow
-  pub fields : List (List ℕ)
-  pub row : BasisRow
-  pub stops : StopsAt rows n before fields
-  pub is_row : IsRow fields row
-  pub falls : Falls before row.from_day
-
--- the fault of the rows: that they are more than 1,000 comes before all others. Memory may always be refused.
+-- The fault of the rows: that they are more than 1,000 comes before all others, and then the first row that is no basis row,
+-- or whose day isn't after the one before. Memory may always be refused.
 abbrev pub IsRowsFault : List (List (List ℕ)) → BasisFault → Type 0
 IsRowsFault rows TooManyRows = 1000 < length rows
-IsRowsFault rows (BadBasisRow n) = (length rows ≤ 1000) × IsFirstBad rows n
-IsRowsFault rows (NotRising n) = (length rows ≤ 1000) × IsFirstFall rows n
-IsRowsFault rows NoMemory = ⊤
+IsRowsFault rows (BadBasisRow n) =
+    (length rows ≤ 1000) × StopsAt rows n (λ before fields. (row : BasisRow) → IsRow fields row → ⊥)
+IsRowsFault rows (NotRising n) =
+    (length rows ≤ 1000)
+    × StopsAt rows n (λ before fields. (row : BasisRow) × IsRow fields row × (DaysRise (before ++ row ∷ []) → ⊥))
+IsRowsFault rows (NoMemory lack) = ⊤

@@ -1,7 +1,6 @@
 -- Worked basis files: one of three rows, and one of each fault. Day 10957 is 2000-01-01, 14610 is 2010-01-01, 17896 is 2018-12-31
-use Rattle.std.specs.Prelude.{◌≡◌, ℕ, List, [], ◌∷◌, codes, pos, replicate}
+use Rattle.std.specs.Prelude.{List, [], ◌∷◌, codes, pos, replicate}
 use Rattle.basis_book.specs.declared.row.BasisRow.{BasisRow}
-use Rattle.basis_book.specs.declared.fault.BasisFault.{BasisFault}
 use Rattle.basis_book.specs.declared.fault.BasisFault.TheVariants.{TooManyRows, BadBasisRow, NotRising}
 use Rattle.basis_book.specs.File.{IsBasisFile, IsFileFault}
 use Rattle.basis_book.specs.Rows.{IsRowsFault}

@@ -1,4 +1,3 @@
 pub mod Fields
 pub mod Judged
 pub mod Placed
-pub mod Starting

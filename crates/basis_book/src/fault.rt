@@ -1,3 +1,5 @@
+use policy_types::NoMemory;
+
 /// Why a basis file isn't read. Rows are counted from 1.
 #[derive(Clone, Copy, PartialEq, Eq, Debug)]
 pub enum BasisFault {
@@ -8,7 +10,7 @@ pub enum BasisFault {
     /// The first row that doesn't fit, since its day isn't after that of the row before.
     NotRising(u32),
     /// Memory was refused.
-    NoMemory,
+    NoMemory(NoMemory),
 }
 
 /// The first row, counted from 1, whose table isn't among the tables.

@@ -13,6 +13,7 @@ use crate::points::points_of;
 use crate::reading::Reading;
 use crate::row::{BasisRow, BasisRows, MOST_ROWS};
 use life_dates::parse_day;
+use memory_requests::push;
 use policy_types::NoMemory;
 use std::alloc::Global;
 
@@ -66,15 +67,15 @@ fn judge(
     let row = match row_of(alloc, &fields) {
         Ok(Some(row)) => row,
         Ok(None) => return Err(BasisFault::BadBasisRow(number)),
-        Err(NoMemory) => return Err(BasisFault::NoMemory),
+        Err(lack) => return Err(BasisFault::NoMemory(lack)),
     };
     if !is_after(found.as_slice(), &row) {
         return Err(BasisFault::NotRising(number));
     }
-    if found.push(row).is_err() {
-        return Err(BasisFault::NoMemory);
+    match push(found, row) {
+        Ok(()) => Ok(()),
+        Err(lack) => Err(BasisFault::NoMemory(lack)),
     }
-    Ok(())
 }
 
 impl Reading {
@@ -107,7 +108,7 @@ impl Reading {
         }
         match judge(alloc, &mut self.found, self.count, fields) {
             Ok(()) => Ok(()),
-            Err(BasisFault::NoMemory) => Err(NoMemory),
+            Err(BasisFault::NoMemory(lack)) => Err(lack),
             Err(fault) => {
                 self.fault = Some(fault);
                 Ok(())

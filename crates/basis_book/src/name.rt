@@ -1,6 +1,7 @@
 ghost use Rattle.std.specs.Prelude.{◌≡◌, ◌↔◌, IsTrue, IfOk, MatchOption, All};
 ghost use Rattle.basis_book.specs.Name.{IsName, IsNameByte};
 
+use memory_requests::text_of;
 use policy_types::NoMemory;
 use std::alloc::Global;
 use std::marker::Model;
@@ -56,7 +57,7 @@ impl Name {
         let Ok(text) = str::from_utf8(bytes) else {
             unreachable!();
         };
-        let text = String::from_str(alloc, text)?;
+        let text = text_of(alloc, text)?;
         Ok(Some(Name { text }))
     }
 

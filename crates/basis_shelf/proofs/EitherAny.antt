@@ -1,45 +1,27 @@
 -- Each file spells a table of either kind, or has a first fault.
-use Rattle.basis_shelf.proofs.Names.{◌≡◌, ◌⊎◌, inl, inr, ℕ, ◌+◌, Bool, true, false, List, [], ◌∷◌, Option, Some, None, Result, Ok, Err, refl, sym, codes, MatchBool, Rates, AnyTable, Aggregate, Select, TableKind, NotDocument, BadAge, AgeGap, BadRate, BadDuration, NoUltimate, UltimateGap, TableFault, Bad, NoMemory, fault_at, Node, IsDocument, node_asks, RateElement, path, rates_of, aggregate_parts, age_of, is_due, ReadsRate, first_age, IsScale, AnyParts, aggregate, selected, parts_by_axes, any_parts_of, IsAnyTable, SpellsAny, IsAnyAnswer, whole_document, any_fault_due}
+use Rattle.basis_shelf.proofs.Names.{◌≡◌, ◌⊎◌, inl, inr, ℕ, ◌+◌, Bool, true, false, List, [], ◌∷◌, Option, Some, None, Result, Ok, Err, refl, sym, codes, MatchBool, Rates, AnyTable, Aggregate, Select, TableKind, NotDocument, BadAge, AgeGap, BadRate, BadDuration, NoUltimate, UltimateGap, TableFault, Bad, NoMemory, fault_at, Node, IsDocument, node_asks, RateElement, path, rates_of, aggregate_parts, age_of, is_due, InTurn, ReadsAll, short_number, ◌>>=◌, ReadsRated, IsScale, is_duration, timed, IsTimed, IsIssuedAt, first_issue_age, without_gap, IsTableBy, SelectParts, IsSelectBy, by_root, AnyParts, aggregate, selected, parts_by_axes, any_parts_of, IsAnyBy, SpellsAny, IsAnyAnswer, whole_document, any_fault_due}
 use Rattle.select_rates.specs.Select.{Selected}
 use Rattle.xtbml_subset.specs.declared.period.Attained.{Attained}
-use Rattle.xtbml_subset.specs.SelectChecks.{Issue, SelectParts, InTurn, ReadsAll, duration_of, is_duration, timed, IsTimed, ReadsDuration, ReadsPeriod, IsIssuedAt, ReadsIssue, first_issue_age, ReadsUltimate, first_gap, without_gap, IsJoinedBy, IsSelectTable}
-use Rattle.basis_shelf.proofs.EitherTable.{Answered, scale, reads, rows_read, IsPlaced, placed_then, placed_path, placed_rates, table}
-
--- ---- one check after the other
-
-in_turn : {A B : Type 0} (First : Result A TableFault → Type 0) (Rest : A → Result B TableFault → Type 0) → Answered First
-    → ((value : A) → First (Ok value) → Answered (Rest value)) → Answered (InTurn First Rest)
-in_turn First Rest (inl f) more = elim (more f.0 f.1) [
-  | inl r ↦ inl (r.0, (Ok f.0, f.1, r.1))
-  | inr bad ↦ inr (bad.0, bad.1, (Ok f.0, f.1, bad.2))
-]
-in_turn First Rest (inr bad) more = inr (bad.0, bad.1, (Err (Bad bad.0 bad.1), bad.2, refl))
-
-reads_all : {S A B : Type 0} (One : S → A → Result (S × B) TableFault → Type 0) → ((due : S) (item : A) → Answered (One due item)) → (items : List A) (due : S)
-    → Answered (ReadsAll One due items)
-reads_all One each [] due = inl ([], refl)
-reads_all {S} {A} {B} One each (item ∷ items) due =
-    in_turn (One due item) (λ one all. InTurn (λ rest. ReadsAll One one.0 items rest) (λ values whole. whole ≡ Ok (one.1 ∷ values)) all) (each due item)
-    (λ one h. in_turn (λ rest. ReadsAll One one.0 items rest) (λ values whole. whole ≡ Ok (one.1 ∷ values)) (reads_all One each items one.0)
-    (λ values k. inl (one.1 ∷ values, refl)))
+use Rattle.xtbml_subset.specs.SelectChecks.{Issue, ReadsDuration, ReadsPeriod, ReadsUltimate, first_gap, IsJoinedBy}
+use Rattle.xtbml_subset.specs.inside.Steps.{ReadsIssue}
+use Rattle.basis_shelf.proofs.EitherTable.{Answered, in_turn, reads_all, scale, reads, rated_by, rates, IsPlaced, placed_then, placed_path, placed_rates, table}
 
 -- ---- an age at issue
 
-timed_rate : (due : Attained) (row : RateElement) (duration : ℕ) (is : Bool) → (rate : Option ℕ) × ReadsRate row.text rate
-    → Answered (λ (read : Result (Attained × ℕ) TableFault). MatchBool is ((rate : Option ℕ) × ReadsRate row.text rate × (read ≡ timed row.at due.age duration rate)) (read ≡ Err (Bad row.at BadDuration)))
-timed_rate due row duration true (None, h) = inr (row.at, BadRate, (None, h, refl))
-timed_rate due row duration true (Some rate, h) = inl ((record { duration = Some (duration + 1); age = due.age + 1 }, rate), (Some rate, h, refl))
-timed_rate due row duration false r = inr (row.at, BadDuration, refl)
+timed_rate : (due : Attained) (row : RateElement) (duration : ℕ) (is : Bool)
+    → Answered (λ (read : Result (Attained × ℕ) TableFault). MatchBool is (ReadsRated row (timed due.age duration) read) (read ≡ Err (Bad row.at BadDuration)))
+timed_rate due row duration true = rated_by row (timed due.age duration) (reads row.text)
+timed_rate due row duration false = inr (row.at, BadDuration, refl)
 
 timed_or : (due : Attained) (row : RateElement) (duration : Option ℕ) → Answered (IsTimed due row duration)
 timed_or due row None = inr (row.at, BadDuration, refl)
-timed_or due row (Some duration) = timed_rate due row duration (is_duration due duration) (reads row.text)
+timed_or due row (Some duration) = timed_rate due row duration (is_duration due duration)
 
 period : (at age : ℕ) (rows : List RateElement) → Answered (ReadsPeriod at age rows)
 period at age [] = inr (at, BadDuration, refl)
 period at age (row ∷ rows) =
     in_turn (ReadsAll ReadsDuration (record { duration = None; age = age }) (row ∷ rows)) (λ rates whole. whole ≡ Ok (Some (age + 1), rates))
-    (reads_all ReadsDuration (λ due one. timed_or due one (duration_of one.label)) (row ∷ rows) (record { duration = None; age = age }))
+    (reads_all ReadsDuration (λ due one. timed_or due one (one.label >>= λ text. short_number text)) (row ∷ rows) (record { duration = None; age = age }))
     (λ rates h. inl ((Some (age + 1), rates), refl))
 
 issued_if : (issue : Issue) (age : ℕ) (is : Bool)
@@ -55,10 +37,7 @@ issued_or due issue (Some age) = issued_if issue age (is_due due age)
 
 ultimate : (at : ℕ) (rows : List RateElement) → Answered (ReadsUltimate at rows)
 ultimate at [] = inr (at, NoUltimate, refl)
-ultimate at (row ∷ rows) = elim (rows_read None (row ∷ rows)) [
-  | inl r ↦ inl (record { first_age = first_age (row ∷ rows); rates = r.0 }, (Ok r.0, r.1, refl))
-  | inr bad ↦ inr (bad.0, bad.1, (Err (Bad bad.0 bad.1), bad.2, refl))
-]
+ultimate at (row ∷ rows) = rates (row ∷ rows)
 
 joined_by : (gap : Option ℕ) (given : Selected) → Answered (λ (answer : Result Selected TableFault). answer ≡ without_gap gap given)
 joined_by None given = inl (given, refl)
@@ -68,7 +47,7 @@ joined : (issues : List Issue) (rows : List (List ℕ)) (behind : Rates) → Ans
 joined issues rows behind =
     joined_by (first_gap behind (first_issue_age issues) _ rows) (record { first_age = first_issue_age issues; rows = rows; ultimate = behind })
 
-select : (parts : SelectParts) → Answered (IsSelectTable parts)
+select : (parts : SelectParts) → Answered (IsSelectBy parts)
 select parts =
     in_turn (λ one. IsScale parts.factor one)
     (λ none unscaled. InTurn (IsScale parts.ultimate_factor) (λ same read. InTurn (ReadsAll ReadsIssue None parts.issues)
@@ -99,25 +78,21 @@ placed_axes root found (inner ∷ more) = tt
 placed_any : (root : Node) → IsPlaced (any_parts_of node_asks root)
 placed_any root = placed_then (path node_asks root) _ (placed_path root) (λ found. placed_axes root found (node_asks.children (codes "Axis") found.1))
 
-any_table : (parts : Result AnyParts TableFault) → IsPlaced parts → Answered (IsAnyTable parts)
+any_table : (parts : Result AnyParts TableFault) → IsPlaced parts → Answered (IsAnyBy parts)
 any_table (Err (Bad at what)) h = inr (at, what, refl)
-any_table (Err NoMemory) h = absurd h
-any_table (Ok (aggregate parts)) h = elim (table (Ok parts) tt) [
-  | inl t ↦ inl (Aggregate t.0, (Ok t.0, t.1, refl))
-  | inr bad ↦ inr (bad.0, bad.1, (Err (Bad bad.0 bad.1), bad.2, refl))
-]
-any_table (Ok (selected parts)) h = elim (select parts) [
-  | inl t ↦ inl (Select t.0, (Ok t.0, t.1, refl))
-  | inr bad ↦ inr (bad.0, bad.1, (Err (Bad bad.0 bad.1), bad.2, refl))
-]
+any_table (Err (NoMemory lack)) h = absurd h
+any_table (Ok (aggregate parts)) h =
+    in_turn (λ one. IsTableBy (Ok parts) one) (λ one (whole : Result AnyTable TableFault). whole ≡ Ok (Aggregate one)) (table (Ok parts) tt) (λ one k. inl (Aggregate one, refl))
+any_table (Ok (selected parts)) h =
+    in_turn (λ one. IsSelectBy parts one) (λ one (whole : Result AnyTable TableFault). whole ≡ Ok (Select one)) (select parts) (λ one k. inl (Select one, refl))
 
 -- what a file is
 abbrev AnyJudged : List ℕ → Type 0
 AnyJudged bytes = ((one : AnyTable) × SpellsAny bytes one) ⊎ ((at : ℕ) × (what : TableKind) × IsAnyAnswer bytes (Err (Bad at what)))
 
-judged_root : (bytes : List ℕ) (root : Node) → IsDocument bytes root → Answered (IsAnyTable (any_parts_of node_asks root)) → AnyJudged bytes
-judged_root bytes root d (inl t) = inl (t.0, (root, d, t.1))
-judged_root bytes root d (inr bad) = inr (bad.0, bad.1, inl (root, d, bad.2))
+judged_root : (bytes : List ℕ) (root : Node) → IsDocument bytes root → Answered (IsAnyBy (any_parts_of node_asks root)) → AnyJudged bytes
+judged_root bytes root d (inl t) = inl (t.0, inl (root, d, by_root node_asks root (Ok t.0) t.1))
+judged_root bytes root d (inr bad) = inr (bad.0, bad.1, inl (root, d, by_root node_asks root (Err (Bad bad.0 bad.1)) bad.2))
 
 judged_by : (bytes : List ℕ) (at : Option ℕ) → at ≡ fault_at bytes → AnyJudged bytes
 judged_by bytes (Some at) e = inr (at, NotDocument, any_fault_due bytes at e)

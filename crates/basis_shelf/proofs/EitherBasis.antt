@@ -1,6 +1,5 @@
 -- Each name on a shelf has a basis, or a first bad file.
-use Rattle.basis_shelf.proofs.Names.{◌≡◌, ◌⊎◌, inl, inr, ℕ, ◌+◌, ◌<◌, ◌≤◌, List, [], ◌∷◌, ◌++◌, length, All, Option, Some, None, IsSomeAnd, Err, refl, sym, subst, append_assoc, AllZip, cases_lt, All-nil, All-push, AnyTable, TableKind, SpellsAny, IsAnyAnswer, BasisRow, Dated, IsBasisFile, BadBasis, BasisWord, IsAbsent, IsTooLong, IsFile, HasTable, AreRowsNamed, IsEntry, IsBasis, IsNoTable, IsBadBook, IsBadTable, IsFirstBadRow, IsFirstBadFile, word_of}
-use Rattle.xtbml_subset.specs.declared.fault.TableKind.TheVariants as kind
+use Rattle.basis_shelf.proofs.Names.{◌≡◌, ◌⊎◌, inl, inr, ℕ, ◌+◌, ◌<◌, ◌≤◌, List, [], ◌∷◌, ◌++◌, length, All, Option, Some, None, IsSomeAnd, Err, refl, sym, subst, append_assoc, AllZip, cases_lt, All-nil, All-push, AnyTable, TableKind, SpellsAny, IsAnyAnswer, BasisRow, Dated, IsBasisFile, BadBasis, BasisWord, IsAbsent, IsTooLong, IsFile, HasTable, AreRowsNamed, IsEntry, IsBasis, IsBadBook, IsBadTable, IsFirstBadRow, IsFirstBadFile, word_of}
 use Rattle.xtbml_subset.specs.declared.fault.TableFault.TheVariants as table
 use Rattle.basis_shelf.specs.declared.fault.BasisWord.TheVariants.{Absent, TooLong, BadRow, NotRising, TooManyRows}
 use Rattle.basis_shelf.proofs.EitherAny.{any_or_fault}
@@ -69,7 +68,7 @@ first_bad files before row rest word place h wrong =
 
 one_before : (files : List ℕ → Option (List ℕ)) (before : List BasisRow) (row : BasisRow) (rest : List BasisRow) → HasTable files row.table → Tables files (before ++ row ∷ []) rest → Tables files before (row ∷ rest)
 one_before files before row rest t (inl e) =
-    inl ((record { from_day = row.from_day; table = t.0; bp = row.bp }) ∷ e.0, (record { from_day = refl; table = t.1; bp = refl }, e.1))
+    inl ((record { from_day = row.from_day; table = t.0; bp = row.bp }) ∷ e.0, ((refl, t.1, refl), e.1))
 one_before files before row rest t (inr bad) = inr (bad.0, subst (λ (rows : List BasisRow). IsFirstBadRow files rows bad.0) (append_assoc before (row ∷ []) rest) bad.1)
 
 tables : (files : List ℕ → Option (List ℕ)) (before rest : List BasisRow) → All (Has files) before → Tables files before rest

@@ -16,8 +16,8 @@ use Rattle.basis_book.specs.declared.fault.BasisFault.TheVariants.{TooManyRows, 
 use Rattle.basis_book.specs.Name.{IsName, IsNameByte}
 use Rattle.basis_book.specs.Points.{IsPoints}
 use Rattle.basis_book.specs.Row.{IsRow}
-use Rattle.basis_book.specs.Rows.{IsAfter, Falls, AreRows, IsFirstBad, IsFirstFall}
-use Rattle.basis_book.proofs.Additions.{AreRows-push, lt_true, lt_false}
+use Rattle.basis_book.specs.Rows.{IsAfter, DaysRise, Falls, AreRows, StopsAt}
+use Rattle.basis_book.proofs.Additions.{AreRows-push, lt_true, lt_false, no_rise}
 use Rattle.basis_shelf.proofs.EitherRate.{Decided, both, either, at_most, below}
 
 -- there is one that is right, or none is
@@ -179,14 +179,15 @@ after_or_falls (one ∷ []) on = after_one one on (earlier_or_not one.from_day o
 after_or_falls (one ∷ next ∷ rows) on = elim (after_or_falls (next ∷ rows) on) [ inl a ↦ inl a | inr f ↦ inr (falls_behind one (next ∷ rows) on f) ]
 
 abbrev Judged : List (List (List ℕ)) → Type 0
-Judged rows = ((found : List BasisRow) × AreRows rows found) ⊎ (((n : ℕ) × IsFirstBad rows n) ⊎ ((n : ℕ) × IsFirstFall rows n))
+Judged rows = ((found : List BasisRow) × AreRows rows found) ⊎ (((n : ℕ) × StopsAt rows n (λ before fields. (row : BasisRow) → IsRow fields row → ⊥))
+    ⊎ ((n : ℕ) × StopsAt rows n (λ before fields. (row : BasisRow) × IsRow fields row × (DaysRise (before ++ row ∷ []) → ⊥))))
 
 judged : (good rest : List (List (List ℕ))) (found : List BasisRow) → AreRows good found → Judged (good ++ rest)
 judged good [] found h = inl (found, subst (λ (rows : List (List (List ℕ))). AreRows rows found) (sym (append-nil good)) h)
 judged good (fields ∷ rest) found h = elim (row fields) [
-  | inr bad ↦ inr (inl (length good + 1, record { before = found; fields = fields; stops = record { good = good; rest = rest; split = refl; number = refl; right = h }; bad = bad }))
+  | inr bad ↦ inr (inl (length good + 1, record { before = found; fields = fields; good = good; rest = rest; split = refl; number = refl; right = h; wrong = bad }))
   | inl r ↦ elim (after_or_falls found r.0.from_day) [
-    | inr falls ↦ inr (inr (length good + 1, record { before = found; fields = fields; row = r.0; stops = record { good = good; rest = rest; split = refl; number = refl; right = h }; is_row = r.1; falls = falls }))
+    | inr falls ↦ inr (inr (length good + 1, record { before = found; fields = fields; good = good; rest = rest; split = refl; number = refl; right = h; wrong = (r.0, r.1, no_rise found r.0 falls) }))
     | inl after ↦
         let more = judged (good ++ fields ∷ []) rest (found ++ r.0 ∷ []) (AreRows-push good found fields r.0 h r.1 after) in
         subst Judged (append_assoc good (fields ∷ []) rest) more

@@ -1,8 +1,10 @@
 -- Each text is a rate, or none.
 use Rattle.basis_shelf.proofs.Names.{◌≡◌, ◌⊎◌, inl, inr, ℕ, zero, suc, ◌+◌, ◌*◌, ◌<◌, ◌≤◌, List, [], ◌∷◌, length, take, drop, refl, sym, ap, subst, arith, prefix_len, cases_eq, cases_lt}
-use Rattle.std.specs.Char.{is_ascii_digit, IsAsciiDigit}
-use Rattle.decimal_text.specs.Decimal.{AreDigits, AreFewDigits, Decimal, IsSigned, IsExponent, Spells, number, point, plus_sign, minus, upper_e, lower_e}
-use Rattle.decimal_text.specs.Rate.{IsRate, IsInUnits, numerator, denominator}
+use Rattle.std.specs.Char.{is_ascii_digit, digit_value}
+use Rattle.std.specs.Str.Parse.{IsNumeral}
+use Rattle.decimal_text.proofs.Words.{AreDigits, number, point, plus_sign, minus, numerator, denominator}
+use Rattle.decimal_text.specs.Decimal.{Decimal, IsSigned, IsExponent, Spells}
+use Rattle.decimal_text.specs.Rate.{IsRate, IsInUnits}
 use Rattle.decimal_text.specs.inside.Splits.{SplitsDigits, SplitsFraction}
 use Rattle.decimal_text.proofs.Cuts.{cut_at_prefix}
 use Rattle.decimal_text.proofs.Readings.{reads_parts, spells_parts, one_decimal}
@@ -30,21 +32,25 @@ below n m = elim (cases_lt n m) [ inl less ↦ inl less | inr more ↦ inr (λ h
 
 -- ---- the power behind an `E`
 
-digit : (x : ℕ) → Decided (IsAsciiDigit x)
-digit x = both (at_most 48 x) (at_most x 57)
+digit : (x : ℕ) → Decided (digit_value x < 10)
+digit x = below (digit_value x) 10
 
 digits : (text : List ℕ) → Decided (AreDigits text)
 digits [] = inl tt
 digits (x ∷ text) = both (digit x) (digits text)
 
+-- one to three digits
+abbrev AreFewDigits : List ℕ → Type 0
+AreFewDigits digits = IsNumeral 10 digits × (length digits ≤ 3)
+
 few : (text : List ℕ) → Decided (AreFewDigits text)
 few text = by (digits text) (below 0 (length text)) (at_most (length text) 3)
   where
     by : Decided (AreDigits text) → Decided (0 < length text) → Decided (length text ≤ 3) → Decided (AreFewDigits text)
-    by (inl a) (inl b) (inl c) = inl (a, b, c)
-    by (inr bad) b c = inr (λ h. bad h.0)
-    by (inl a) (inr bad) c = inr (λ h. bad h.1)
-    by (inl a) (inl b) (inr bad) = inr (λ h. bad h.2)
+    by (inl a) (inl b) (inl c) = inl ((b, a), c)
+    by (inr bad) b c = inr (λ h. bad h.0.1)
+    by (inl a) (inr bad) c = inr (λ h. bad h.0.0)
+    by (inl a) (inl b) (inr bad) = inr (λ h. bad h.1)
 
 -- the text gives a power, or none
 abbrev Powers : (List ℕ → ℕ → ℕ → Type 0) → List ℕ → Type 0
@@ -53,9 +59,9 @@ Powers Is text = ((raised : ℕ) × (lowered : ℕ) × Is text raised lowered) �
 unsigned : (text : List ℕ) → (AreFewDigits text → ⊥) → ((ds : List ℕ) → AreFewDigits ds → text ≡ plus_sign ∷ ds → ⊥)
     → ((ds : List ℕ) → AreFewDigits ds → text ≡ minus ∷ ds → ⊥) → (raised lowered : ℕ) → IsSigned text raised lowered → ⊥
 unsigned text bad plus less raised lowered h =
-    elim h.2 [
-      | inl a ↦ elim a.0 [ inl e ↦ bad (subst AreFewDigits (sym e) h.1) | inr e ↦ plus h.0 h.1 e ]
-      | inr b ↦ less h.0 h.1 b.0
+    elim h.3 [
+      | inl a ↦ elim a.0 [ inl e ↦ bad (subst AreFewDigits (sym e) (h.1, h.2)) | inr e ↦ plus h.0 (h.1, h.2) e ]
+      | inr b ↦ less h.0 (h.1, h.2) b.0
     ]
 
 tail_is : (x y : ℕ) (xs ys : List ℕ) → x ∷ xs ≡ y ∷ ys → ys ≡ xs
@@ -65,13 +71,13 @@ head_is : (x y : ℕ) (xs ys : List ℕ) → x ∷ xs ≡ y ∷ ys → x ≡ y
 head_is x y xs ys e = cc
 
 behind_plus : (x : ℕ) (text : List ℕ) → x ≡ plus_sign → (AreFewDigits (x ∷ text) → ⊥) → Decided (AreFewDigits text) → Powers IsSigned (x ∷ text)
-behind_plus x text e bad (inl h) = inl (number text, 0, (text, h, inl (inr (ap (λ (b : ℕ). b ∷ text) e), refl, refl)))
+behind_plus x text e bad (inl h) = inl (number text, 0, (text, h.0, h.1, inl (inr (ap (λ (b : ℕ). b ∷ text) e), refl, refl)))
 behind_plus x text e bad (inr none) =
     inr (unsigned (x ∷ text) bad (λ ds h same. none (subst AreFewDigits (tail_is x plus_sign text ds same) h))
     (λ ds h same. let sign : x ≡ minus = head_is x minus text ds same in omega (arith, e, sign)))
 
 behind_minus : (x : ℕ) (text : List ℕ) → x ≡ minus → (AreFewDigits (x ∷ text) → ⊥) → Decided (AreFewDigits text) → Powers IsSigned (x ∷ text)
-behind_minus x text e bad (inl h) = inl (0, number text, (text, h, inr (ap (λ (b : ℕ). b ∷ text) e, refl, refl)))
+behind_minus x text e bad (inl h) = inl (0, number text, (text, h.0, h.1, inr (ap (λ (b : ℕ). b ∷ text) e, refl, refl)))
 behind_minus x text e bad (inr none) =
     inr (unsigned (x ∷ text) bad (λ ds h same. let sign : x ≡ plus_sign = head_is x plus_sign text ds same in omega (arith, e, sign))
     (λ ds h same. none (subst AreFewDigits (tail_is x minus text ds same) h)))
@@ -88,18 +94,18 @@ behind_sign (x ∷ text) bad = elim (cases_eq x plus_sign) [
 
 signed : (text : List ℕ) → Powers IsSigned text
 signed text = elim (few text) [
-  | inl h ↦ inl (number text, 0, (text, h, inl (inl refl, refl, refl)))
+  | inl h ↦ inl (number text, 0, (text, h.0, h.1, inl (inl refl, refl, refl)))
   | inr bad ↦ behind_sign text bad
 ]
 
-behind_letter : (letter : ℕ) (text : List ℕ) → Decided ((letter ≡ upper_e) ⊎ (letter ≡ lower_e)) → Powers IsSigned text → Powers IsExponent (letter ∷ text)
+behind_letter : (letter : ℕ) (text : List ℕ) → Decided ((letter ≡ 69) ⊎ (letter ≡ 101)) → Powers IsSigned text → Powers IsExponent (letter ∷ text)
 behind_letter letter text (inl e) (inl s) = inl (s.0, s.1, (e, s.2))
 behind_letter letter text (inr bad) s = inr (λ raised lowered h. bad h.0)
 behind_letter letter text (inl e) (inr none) = inr (λ raised lowered h. none raised lowered h.1)
 
 exponent : (text : List ℕ) → Powers IsExponent text
 exponent [] = inl (0, 0, (refl, refl))
-exponent (letter ∷ text) = behind_letter letter text (either (cases_eq letter upper_e) (cases_eq letter lower_e)) (signed text)
+exponent (letter ∷ text) = behind_letter letter text (either (cases_eq letter 69) (cases_eq letter 101)) (signed text)
 
 -- ---- the decimal
 

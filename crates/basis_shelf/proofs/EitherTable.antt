@@ -1,5 +1,5 @@
 -- Each file spells a table, or has a first fault.
-use Rattle.basis_shelf.proofs.Names.{◌≡◌, ◌⊎◌, inl, inr, ℕ, ◌+◌, Bool, true, false, cond, List, [], ◌∷◌, Option, Some, None, Result, Ok, Err, refl, sym, codes, MatchBool, bytes_eq, Rates, TableKind, NotDocument, NoTable, Scaled, BadAge, AgeGap, BadRate, TableFault, Bad, NoMemory, fault_at, Node, IsDocument, node_asks, RateElement, first, or_fault, ◌>=>◌, within, rooted, path, rates_in, rates_of, age_of, is_due, ReadsRate, rated, IsAged, ReadsRow, ReadsRows, first_age, IsUnscaled, IsScale, Parts, parts_of, IsTable, SpellsTable, IsTableAnswer, whole_document}
+use Rattle.basis_shelf.proofs.Names.{◌≡◌, ◌⊎◌, inl, inr, ℕ, ◌+◌, Bool, true, false, cond, List, [], ◌∷◌, Option, Some, None, Result, Ok, Err, refl, sym, codes, MatchBool, bytes_eq, Rates, TableKind, NotDocument, NoTable, Scaled, BadAge, AgeGap, BadRate, TableFault, Bad, NoMemory, fault_at, Node, IsDocument, node_asks, RateElement, first, ok_or, ◌>=>◌, within, rooted, path, rates_in, rates_of, age_of, is_due, InTurn, ReadsAll, ReadsRate, ReadsRated, IsAged, ReadsRow, ReadsRates, first_age, IsUnscaled, IsScale, Parts, parts_of, IsTableBy, table_by_root, SpellsTable, IsTableAnswer, whole_document}
 use Rattle.xtbml_subset.specs.declared.class.Class.TheVariants.{White}
 use Rattle.xtbml_subset.specs.Classes.{is_in, InClass}
 use Rattle.xtbml_subset.specs.Texts.{trimmed}
@@ -9,6 +9,24 @@ use Rattle.basis_shelf.proofs.EitherRate.{Decided, both, either, rate_or_none, i
 -- a value is right, or a fault at a place is
 abbrev pub Answered : {A : Type 0} → (Result A TableFault → Type 0) → Type 0
 Answered {A} Is = ((value : A) × Is (Ok value)) ⊎ ((at : ℕ) × (what : TableKind) × Is (Err (Bad at what)))
+
+-- ---- one check after the other
+
+pub in_turn : {A B : Type 0} (First : Result A TableFault → Type 0) (Rest : A → Result B TableFault → Type 0) → Answered First
+    → ((value : A) → First (Ok value) → Answered (Rest value)) → Answered (InTurn First Rest)
+in_turn First Rest (inl f) more = elim (more f.0 f.1) [
+  | inl r ↦ inl (r.0, (Ok f.0, f.1, r.1))
+  | inr bad ↦ inr (bad.0, bad.1, (Ok f.0, f.1, bad.2))
+]
+in_turn First Rest (inr bad) more = inr (bad.0, bad.1, (Err (Bad bad.0 bad.1), bad.2, refl))
+
+pub reads_all : {S A B : Type 0} (One : S → A → Result (S × B) TableFault → Type 0) → ((due : S) (item : A) → Answered (One due item)) → (items : List A) (due : S)
+    → Answered (ReadsAll One due items)
+reads_all One each [] due = inl ([], refl)
+reads_all {S} {A} {B} One each (item ∷ items) due =
+    in_turn (One due item) (λ one all. InTurn (λ rest. ReadsAll One one.0 items rest) (λ values whole. whole ≡ Ok (one.1 ∷ values)) all) (each due item)
+    (λ one h. in_turn (λ rest. ReadsAll One one.0 items rest) (λ values whole. whole ≡ Ok (one.1 ∷ values)) (reads_all One each items one.0)
+    (λ values k. inl (one.1 ∷ values, refl)))
 
 -- ---- the factor
 
@@ -38,30 +56,27 @@ pub reads : (text : Option (List ℕ)) → (rate : Option ℕ) × ReadsRate text
 reads None = (None, refl)
 reads (Some text) = elim (rate_or_none (trimmed text)) [ inl r ↦ (Some r.0, r.1) | inr none ↦ (None, none) ]
 
-aged_by : (row : RateElement) (age : ℕ) (is : Bool) → (rate : Option ℕ) × ReadsRate row.text rate
-    → Answered (λ (read : Result (ℕ × ℕ) TableFault). MatchBool is ((rate : Option ℕ) × ReadsRate row.text rate × (read ≡ rated row.at age rate)) (read ≡ Err (Bad row.at AgeGap)))
-aged_by row age true (None, h) = inr (row.at, BadRate, (None, h, refl))
-aged_by row age true (Some rate, h) = inl ((age, rate), (Some rate, h, refl))
-aged_by row age false r = inr (row.at, AgeGap, refl)
+pub rated_by : {S : Type 0} (row : RateElement) (next : S) → (rate : Option ℕ) × ReadsRate row.text rate → Answered (ReadsRated row next)
+rated_by row next (None, h) = inr (row.at, BadRate, (None, h, refl))
+rated_by row next (Some rate, h) = inl ((next, rate), (Some rate, h, refl))
+
+aged_by : (row : RateElement) (age : ℕ) (is : Bool)
+    → Answered (λ (read : Result (Option ℕ × ℕ) TableFault). MatchBool is (ReadsRated row (Some (age + 1)) read) (read ≡ Err (Bad row.at AgeGap)))
+aged_by row age true = rated_by row (Some (age + 1)) (reads row.text)
+aged_by row age false = inr (row.at, AgeGap, refl)
 
 aged : (due : Option ℕ) (row : RateElement) (age : Option ℕ) → Answered (IsAged due row age)
 aged due row None = inr (row.at, BadAge, refl)
-aged due row (Some age) = aged_by row age (is_due due age) (reads row.text)
+aged due row (Some age) = aged_by row age (is_due due age)
 
 row_read : (due : Option ℕ) (row : RateElement) → Answered (ReadsRow due row)
 row_read due row = aged due row (age_of row.label)
 
-rows_behind : (due : Option ℕ) (row : RateElement) (rows : List RateElement) (one : ℕ × ℕ) → ReadsRow due row (Ok one) → Answered (ReadsRows (Some (one.0 + 1)) rows)
-    → Answered (ReadsRows due (row ∷ rows))
-rows_behind due row rows one h (inl more) = inl (one.1 ∷ more.0, (Ok one, h, (Ok more.0, more.1, refl)))
-rows_behind due row rows one h (inr bad) = inr (bad.0, bad.1, (Ok one, h, (Err (Bad bad.0 bad.1), bad.2, refl)))
-
-pub rows_read : (due : Option ℕ) (rows : List RateElement) → Answered (ReadsRows due rows)
-rows_read due [] = inl ([], refl)
-rows_read due (row ∷ rows) = elim (row_read due row) [
-  | inl one ↦ rows_behind due row rows one.0 one.1 (rows_read (Some (one.0.0 + 1)) rows)
-  | inr bad ↦ inr (bad.0, bad.1, (Err (Bad bad.0 bad.1), bad.2, refl))
-]
+pub rates : (rows : List RateElement) → Answered (ReadsRates rows)
+rates rows =
+    in_turn (ReadsAll ReadsRow None rows) (λ (found : List ℕ) (made : Result Rates TableFault). made ≡ Ok (record { first_age = first_age rows; rates = found }))
+    (reads_all ReadsRow row_read rows None)
+    (λ found h. inl (record { first_age = first_age rows; rates = found }, refl))
 
 -- ---- the path to the rates
 
@@ -69,14 +84,14 @@ rows_read due (row ∷ rows) = elim (row_read due row) [
 abbrev pub IsPlaced : {A : Type 0} → Result A TableFault → Type 0
 IsPlaced (Ok value) = Unit {0}
 IsPlaced (Err (Bad at what)) = Unit {0}
-IsPlaced (Err NoMemory) = ⊥
+IsPlaced (Err (NoMemory lack)) = ⊥
 
 pub placed_then : {A B : Type 0} (r : Result A TableFault) (more : A → Result B TableFault) → IsPlaced r → ((value : A) → IsPlaced (more value)) → IsPlaced (r >=> more)
 placed_then (Ok value) more h k = k value
 placed_then (Err (Bad at what)) more h k = tt
-placed_then (Err NoMemory) more h k = absurd h
+placed_then (Err (NoMemory lack)) more h k = absurd h
 
-placed_first : (at : ℕ) (nodes : List Node) → IsPlaced (or_fault (Bad at NoTable) (first nodes))
+placed_first : (at : ℕ) (nodes : List Node) → IsPlaced (ok_or (first nodes) (Bad at NoTable))
 placed_first at [] = tt
 placed_first at (node ∷ nodes) = tt
 
@@ -115,25 +130,18 @@ placed_parts root = placed_then (path node_asks root) _ (placed_path root) (λ f
 
 -- ---- the table
 
-table_by : (parts : Parts) (none : Unit {0}) → IsScale parts.factor (Ok none) → Answered (ReadsRows None parts.rows) → Answered (IsTable (Ok parts))
-table_by parts none s (inl r) = inl (record { first_age = first_age parts.rows; rates = r.0 }, (Ok none, s, (Ok r.0, r.1, refl)))
-table_by parts none s (inr bad) = inr (bad.0, bad.1, (Ok none, s, (Err (Bad bad.0 bad.1), bad.2, refl)))
-
-pub table : (parts : Result Parts TableFault) → IsPlaced parts → Answered (IsTable parts)
+pub table : (parts : Result Parts TableFault) → IsPlaced parts → Answered (IsTableBy parts)
 table (Err (Bad at what)) h = inr (at, what, refl)
-table (Err NoMemory) h = absurd h
-table (Ok parts) h = elim (scale parts.factor) [
-  | inl s ↦ table_by parts s.0 s.1 (rows_read None parts.rows)
-  | inr bad ↦ inr (bad.0, bad.1, (Err (Bad bad.0 bad.1), bad.2, refl))
-]
+table (Err (NoMemory lack)) h = absurd h
+table (Ok parts) h = in_turn (IsScale parts.factor) (λ none read. ReadsRates parts.rows read) (scale parts.factor) (λ none s. rates parts.rows)
 
 -- what a file is
 abbrev Judged : List ℕ → Type 0
 Judged bytes = ((rates : Rates) × SpellsTable bytes rates) ⊎ ((at : ℕ) × (what : TableKind) × IsTableAnswer bytes (Err (Bad at what)))
 
-judged_root : (bytes : List ℕ) (root : Node) → IsDocument bytes root → Answered (IsTable (parts_of node_asks root)) → Judged bytes
-judged_root bytes root d (inl t) = inl (t.0, (root, d, t.1))
-judged_root bytes root d (inr bad) = inr (bad.0, bad.1, inl (root, d, bad.2))
+judged_root : (bytes : List ℕ) (root : Node) → IsDocument bytes root → Answered (IsTableBy (parts_of node_asks root)) → Judged bytes
+judged_root bytes root d (inl t) = inl (t.0, (root, d, table_by_root node_asks root (Ok t.0) t.1))
+judged_root bytes root d (inr bad) = inr (bad.0, bad.1, inl (root, d, table_by_root node_asks root (Err (Bad bad.0 bad.1)) bad.2))
 
 judged_by : (bytes : List ℕ) (at : Option ℕ) → at ≡ fault_at bytes → Judged bytes
 judged_by bytes (Some at) e = inr (at, NotDocument, fault_due bytes at e)

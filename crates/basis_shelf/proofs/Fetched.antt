@@ -60,7 +60,7 @@ pub row_is_bad : (files : List ℕ → Option (List ℕ)) (rows : List BasisRow)
     → IfBad (IsFirstBadRow files rows) why
 row_is_bad files rows i row t (Bad bad) within is known right wrong = first_row files rows i row t bad within is known right wrong
 row_is_bad files rows i row t ReadFault within is known right wrong = tt
-row_is_bad files rows i row t NoMemory within is known right wrong = tt
+row_is_bad files rows i row t (NoMemory lack) within is known right wrong = tt
 
 -- ---- the whole
 
@@ -73,11 +73,8 @@ table_of files name (Some v) d h some = h
 table_of files name None d h some = absurd (cc)
 
 entry_of : (files : List ℕ → Option (List ℕ)) (t : List ℕ → Option AnyTable) (row : BasisRow) → AreTables files t → IsSome (t row.table) → IsEntry files row (dated t row)
-entry_of files t row right some = record {
-  from_day = refl;
-  table = table_of files row.table (t row.table) (Aggregate (record { first_age = 0; rates = [] })) (right row.table) some;
-  bp = refl;
-}
+entry_of files t row right some =
+    (refl, table_of files row.table (t row.table) (Aggregate (record { first_age = 0; rates = [] })) (right row.table) some, refl)
 
 entries_of : (files : List ℕ → Option (List ℕ)) (t : List ℕ → Option AnyTable) (rows : List BasisRow) → AreTables files t → All (λ (r : BasisRow). IsSome (t r.table)) rows
     → AllZip (IsEntry files) rows (map (dated t) rows)
@@ -100,4 +97,4 @@ pub gives_due : (files : List ℕ → Option (List ℕ)) (name : List ℕ) (give
 gives_due files name (Ok entries) answer right bad due = one_answer files name answer (Ok entries) due right
 gives_due files name (Err (Bad first)) answer right bad due = one_answer files name answer (Err first) due bad
 gives_due files name (Err ReadFault) answer right bad due = tt
-gives_due files name (Err NoMemory) answer right bad due = tt
+gives_due files name (Err (NoMemory lack)) answer right bad due = tt

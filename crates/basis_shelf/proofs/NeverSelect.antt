@@ -1,8 +1,9 @@
 -- That a table is select is no fault of a table of either kind.
-use Rattle.basis_shelf.proofs.Names.{◌≡◌, ◌⊎◌, inl, inr, ℕ, ◌+◌, Bool, true, false, cond, List, [], ◌∷◌, Option, Some, None, Result, Ok, Err, refl, sym, subst, codes, MatchBool, bytes_eq, Rates, AnyTable, NotDocument, NoTable, Scaled, BadAge, AgeGap, BadRate, BadDuration, NoUltimate, UltimateGap, TableFault, Bad, NoMemory, Node, node_asks, RateElement, first, or_fault, ◌>=>◌, within, rooted, path, rates_in, rates_of, aggregate_parts, age_of, is_due, ReadsRate, rated, IsAged, ReadsRow, Continues, with_rate, ReadsRows, first_age, IsScale, Parts, IsScaledTable, IsTable, AnyParts, aggregate, selected, parts_by_axes, any_parts_of, aggregated, as_select, IsAnyTable, IsAnyAnswer, Unless, IsFaultOfAny}
+use Rattle.basis_shelf.proofs.Names.{◌≡◌, ◌⊎◌, inl, inr, ℕ, ◌+◌, Bool, true, false, cond, List, [], ◌∷◌, Option, Some, None, Result, Ok, Err, refl, sym, subst, codes, MatchBool, bytes_eq, Rates, AnyTable, NotDocument, NoTable, Scaled, BadAge, AgeGap, BadRate, BadDuration, NoUltimate, UltimateGap, TableFault, Bad, NoMemory, Node, node_asks, RateElement, first, ok_or, ◌>=>◌, within, rooted, path, rates_in, rates_of, aggregate_parts, age_of, is_due, InTurn, ReadsAll, short_number, ◌>>=◌, ReadsRated, rated, IsAged, ReadsRow, ReadsRates, first_age, is_duration, timed, IsTimed, IsIssuedAt, first_issue_age, without_gap, IsScale, Parts, IsTableBy, SelectParts, IsSelectBy, AnyParts, aggregate, selected, parts_by_axes, any_parts_of, IsAnyBy, by_parts, Aggregate, Select, IsAnyAnswer, Unless, IsFaultOfAny}
 use Rattle.select_rates.specs.Select.{Selected}
 use Rattle.xtbml_subset.specs.declared.period.Attained.{Attained}
-use Rattle.xtbml_subset.specs.SelectChecks.{Issue, SelectParts, InTurn, ReadsAll, duration_of, is_duration, timed, IsTimed, ReadsDuration, ReadsPeriod, IsIssuedAt, ReadsIssue, ReadsUltimate, first_gap, first_issue_age, without_gap, IsJoinedBy, IsSelectTable}
+use Rattle.xtbml_subset.specs.SelectChecks.{Issue, ReadsDuration, ReadsPeriod, ReadsUltimate, first_gap, IsJoinedBy}
+use Rattle.xtbml_subset.specs.inside.Steps.{ReadsIssue}
 
 -- a fault isn't that the table is select
 abbrev Told : {A : Type 0} → Result A TableFault → Type 0
@@ -37,38 +38,33 @@ scale (Some row) (Err fault) h = subst IsFaultOfAny (sym h.1) tt
 
 -- ---- the rows
 
-told_rated : (at age : ℕ) (rate : Option ℕ) → Told (rated at age rate)
-told_rated at age None = tt
-told_rated at age (Some rate) = tt
+told_rated : {S : Type 0} (at : ℕ) (next : S) (rate : Option ℕ) → Told (rated at next rate)
+told_rated at next None = tt
+told_rated at next (Some rate) = tt
+
+rated_never : {S : Type 0} (row : RateElement) (next : S) → Never (ReadsRated row next)
+rated_never row next answer h = told_is answer (rated row.at next h.0) (told_rated row.at next h.0) h.2
 
 aged_by : (row : RateElement) (age : ℕ) (is : Bool)
-    → Never (λ (read : Result (ℕ × ℕ) TableFault). MatchBool is ((rate : Option ℕ) × ReadsRate row.text rate × (read ≡ rated row.at age rate)) (read ≡ Err (Bad row.at AgeGap)))
-aged_by row age true answer h = told_is answer (rated row.at age h.0) (told_rated row.at age h.0) h.2
+    → Never (λ (read : Result (Option ℕ × ℕ) TableFault). MatchBool is (ReadsRated row (Some (age + 1)) read) (read ≡ Err (Bad row.at AgeGap)))
+aged_by row age true answer h = rated_never row (Some (age + 1)) answer h
 aged_by row age false answer h = told_is answer (Err (Bad row.at AgeGap)) tt h
 
 aged : (due : Option ℕ) (row : RateElement) (age : Option ℕ) → Never (IsAged due row age)
 aged due row None answer h = told_is answer (Err (Bad row.at BadAge)) tt h
 aged due row (Some age) answer h = aged_by row age (is_due due age) answer h
 
-told_rest : (rate : ℕ) (rest : Result (List ℕ) TableFault) → Told rest → Told (with_rate rate rest)
-told_rest rate (Ok rates) h = tt
-told_rest rate (Err fault) h = h
-
-rows : (items : List RateElement) (due : Option ℕ) → Never (ReadsRows due items)
-rows [] due answer h = told_is answer (Ok []) tt h
-rows (row ∷ items) due answer (Err fault, one, k) = told_is answer (Err fault) (aged due row (age_of row.label) (Err fault) one) k
-rows (row ∷ items) due answer (Ok read, one, k) =
-    told_is answer (with_rate read.1 k.0) (told_rest read.1 k.0 (rows items (Some (read.0 + 1)) k.0 k.1)) k.2
+rates : (items : List RateElement) → Never (ReadsRates items)
+rates items answer h =
+    never_turn (ReadsAll ReadsRow None items) (λ (found : List ℕ) (made : Result Rates TableFault). made ≡ Ok (record { first_age = first_age items; rates = found }))
+    (never_all ReadsRow (λ due row. aged due row (age_of row.label)) items None)
+    (λ found made k. told_is made (Ok (record { first_age = first_age items; rates = found })) tt k) answer h
 
 -- ---- an age at issue
 
-told_timed : (at age duration : ℕ) (rate : Option ℕ) → Told (timed at age duration rate)
-told_timed at age duration None = tt
-told_timed at age duration (Some rate) = tt
-
 timed_rate : (due : Attained) (row : RateElement) (duration : ℕ) (is : Bool)
-    → Never (λ (read : Result (Attained × ℕ) TableFault). MatchBool is ((rate : Option ℕ) × ReadsRate row.text rate × (read ≡ timed row.at due.age duration rate)) (read ≡ Err (Bad row.at BadDuration)))
-timed_rate due row duration true answer h = told_is answer (timed row.at due.age duration h.0) (told_timed row.at due.age duration h.0) h.2
+    → Never (λ (read : Result (Attained × ℕ) TableFault). MatchBool is (ReadsRated row (timed due.age duration) read) (read ≡ Err (Bad row.at BadDuration)))
+timed_rate due row duration true answer h = rated_never row (timed due.age duration) answer h
 timed_rate due row duration false answer h = told_is answer (Err (Bad row.at BadDuration)) tt h
 
 timed_or : (due : Attained) (row : RateElement) (duration : Option ℕ) → Never (IsTimed due row duration)
@@ -79,7 +75,7 @@ period : (at age : ℕ) (items : List RateElement) → Never (ReadsPeriod at age
 period at age [] answer h = told_is answer (Err (Bad at BadDuration)) tt h
 period at age (row ∷ items) answer h =
     never_turn (ReadsAll ReadsDuration (record { duration = None; age = age }) (row ∷ items)) (λ rates whole. whole ≡ Ok (Some (age + 1), rates))
-    (never_all ReadsDuration (λ due one. timed_or due one (duration_of one.label)) (row ∷ items) (record { duration = None; age = age }))
+    (never_all ReadsDuration (λ due one. timed_or due one (one.label >>= λ text. short_number text)) (row ∷ items) (record { duration = None; age = age }))
     (λ rates whole k. told_is whole (Ok (Some (age + 1), rates)) tt k) answer h
 
 issued_if : (issue : Issue) (age : ℕ) (is : Bool)
@@ -93,20 +89,12 @@ issued_or due issue (Some age) answer h = issued_if issue age (is_due due age) a
 
 -- ---- the tables
 
-told_made : (first : ℕ) (read : Result (List ℕ) TableFault) → Told read → Told {A = Rates} (read >=> λ rates. Ok (record { first_age = first; rates = rates }))
-told_made first (Ok rates) h = tt
-told_made first (Err fault) h = h
-
-scaled : (items : List RateElement) (none : Result (Unit {0}) TableFault) → Told none → Never (IsScaledTable items none)
-scaled items (Err fault) told answer h = told_is answer (Err fault) told h
-scaled items (Ok none) told answer h = told_is answer _ (told_made (first_age items) h.0 (rows items None h.0 h.1)) h.2
-
-table : (parts : Parts) → Never (IsTable (Ok parts))
-table parts answer h = scaled parts.rows h.0 (scale parts.factor h.0 h.1) answer h.2
+table : (parts : Parts) → Never (IsTableBy (Ok parts))
+table parts answer h = never_turn (IsScale parts.factor) (λ none read. ReadsRates parts.rows read) (scale parts.factor) (λ none. rates parts.rows) answer h
 
 ultimate : (at : ℕ) (items : List RateElement) → Never (ReadsUltimate at items)
 ultimate at [] answer h = told_is answer (Err (Bad at NoUltimate)) tt h
-ultimate at (row ∷ items) answer h = scaled (row ∷ items) (Ok tt) tt answer h
+ultimate at (row ∷ items) answer h = rates (row ∷ items) answer h
 
 told_joined : (gap : Option ℕ) (given : Selected) → Told (without_gap gap given)
 told_joined None given = tt
@@ -118,7 +106,7 @@ joined issues items behind answer h =
     told_is answer (without_gap gap (record { first_age = first_issue_age issues; rows = items; ultimate = behind }))
     (told_joined gap (record { first_age = first_issue_age issues; rows = items; ultimate = behind })) h
 
-select : (parts : SelectParts) → Never (IsSelectTable parts)
+select : (parts : SelectParts) → Never (IsSelectBy parts)
 select parts answer h =
     never_turn (λ one. IsScale parts.factor one)
     (λ none unscaled. InTurn (IsScale parts.ultimate_factor) (λ same read. InTurn (ReadsAll ReadsIssue None parts.issues)
@@ -144,7 +132,7 @@ told_then : {A B : Type 0} (r : Result A TableFault) (more : A → Result B Tabl
 told_then (Ok value) more h k = k value
 told_then (Err fault) more h k = h
 
-told_first : (at : ℕ) (nodes : List Node) → Told (or_fault (Bad at NoTable) (first nodes))
+told_first : (at : ℕ) (nodes : List Node) → Told (ok_or (first nodes) (Bad at NoTable))
 told_first at [] = tt
 told_first at (node ∷ nodes) = tt
 
@@ -188,24 +176,20 @@ told_parts root = told_then (path node_asks root) _ (told_path root) (λ found. 
 
 -- ---- the answer
 
-told_aggregate : (answer : Result Rates TableFault) → Told answer → Told (aggregated answer)
-told_aggregate (Ok one) h = tt
-told_aggregate (Err fault) h = h
-
-told_select : (answer : Result Selected TableFault) → Told answer → Told (as_select answer)
-told_select (Ok one) h = tt
-told_select (Err fault) h = h
-
-any_table : (parts : Result AnyParts TableFault) → Told parts → Never (IsAnyTable parts)
+any_table : (parts : Result AnyParts TableFault) → Told parts → Never (IsAnyBy parts)
 any_table (Err fault) told answer h = told_is answer (Err fault) told h
-any_table (Ok (aggregate parts)) told answer h = told_is answer (aggregated h.0) (told_aggregate h.0 (table parts h.0 h.1)) h.2
-any_table (Ok (selected parts)) told answer h = told_is answer (as_select h.0) (told_select h.0 (select parts h.0 h.1)) h.2
+any_table (Ok (aggregate parts)) told answer h =
+    never_turn (λ one. IsTableBy (Ok parts) one) (λ one (whole : Result AnyTable TableFault). whole ≡ Ok (Aggregate one)) (table parts)
+    (λ one whole k. told_is whole (Ok (Aggregate one)) tt k) answer h
+any_table (Ok (selected parts)) told answer h =
+    never_turn (λ one. IsSelectBy parts one) (λ one (whole : Result AnyTable TableFault). whole ≡ Ok (Select one)) (select parts)
+    (λ one whole k. told_is whole (Ok (Select one)) tt k) answer h
 
 any_answer : (bytes : List ℕ) → Never (IsAnyAnswer bytes)
-any_answer bytes answer (inl judged) = any_table (any_parts_of node_asks judged.0) (told_parts judged.0) answer judged.2
+any_answer bytes answer (inl judged) = any_table (any_parts_of node_asks judged.0) (told_parts judged.0) answer (by_parts node_asks judged.0 answer judged.2)
 any_answer bytes answer (inr h) = told_is answer (Err (Bad h.1.0 NotDocument)) tt h.1.2
 
 -- a fault that the reader of tables of either kind tells
 pub told_fault : (bytes : List ℕ) (fault : TableFault) → Unless fault (IsAnyAnswer bytes (Err fault)) → IsFaultOfAny fault
-told_fault bytes NoMemory h = tt
+told_fault bytes (NoMemory lack) h = tt
 told_fault bytes (Bad at what) h = any_answer bytes (Err (Bad at what)) h

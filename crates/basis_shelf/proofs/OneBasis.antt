@@ -11,9 +11,9 @@ entry day table bp = record { from_day = day; table = table; bp = bp }
 
 one_entry : (files : List ℕ → Option (List ℕ)) (row : BasisRow) (a b : Dated) → IsEntry files row a → IsEntry files row b → a ≡ b
 one_entry files row a b h k =
-    ap (λ (x : ℤ). entry x a.table a.bp) (h.from_day ∙ sym k.from_day)
-    ∙ ap (λ (x : AnyTable). entry b.from_day x a.bp) (one_table files row.table a.table b.table h.table k.table)
-    ∙ ap (λ (x : ℕ). entry b.from_day b.table x) (h.bp ∙ sym k.bp)
+    ap (λ (x : ℤ). entry x a.table a.bp) (h.0 ∙ sym k.0)
+    ∙ ap (λ (x : AnyTable). entry b.from_day x a.bp) (one_table files row.table a.table b.table h.1 k.1)
+    ∙ ap (λ (x : ℕ). entry b.from_day b.table x) (h.2 ∙ sym k.2)
 
 one_list : (files : List ℕ → Option (List ℕ)) (rows : List BasisRow) (a b : List Dated) → AllZip (IsEntry files) rows a → AllZip (IsEntry files) rows b → a ≡ b
 one_list files [] [] [] h k = refl
@@ -82,7 +82,7 @@ one_first_bad files name a b (inr h) (inr k) =
 has_at : (files : List ℕ → Option (List ℕ)) (before : List BasisRow) (row : BasisRow) (after : List BasisRow) (entries : List Dated)
     → AllZip (IsEntry files) (before ++ row ∷ after) entries → HasTable files row.table
 has_at files [] row after [] h = absurd h
-has_at files [] row after (e ∷ es) h = (e.table, h.0.table)
+has_at files [] row after (e ∷ es) h = (e.table, h.0.1)
 has_at files (x ∷ before) row after [] h = absurd h
 has_at files (x ∷ before) row after (e ∷ es) h = has_at files before row after es h.1
 

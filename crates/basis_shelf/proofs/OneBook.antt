@@ -9,19 +9,19 @@ use Rattle.basis_shelf.proofs.OneTable.{one_file, not_absent, not_too_long, not_
 -- ---- the bytes of a basis file
 
 abbrev IsGiven : BasisFault → Type 0
-IsGiven fault.NoMemory = ⊥
+IsGiven (fault.NoMemory lack) = ⊥
 IsGiven (fault.BadBasisRow row) = Unit {0}
 IsGiven (fault.NotRising row) = Unit {0}
 IsGiven fault.TooManyRows = Unit {0}
 
 due_why : (bytes : List ℕ) (why : BasisFault) → IsGiven why → IsFileFault bytes why → IsBookAnswer bytes (Err why)
-due_why bytes fault.NoMemory g h = absurd g
+due_why bytes (fault.NoMemory lack) g h = absurd g
 due_why bytes (fault.BadBasisRow row) g h = h
 due_why bytes (fault.NotRising row) g h = h
 due_why bytes fault.TooManyRows g h = h
 
 gives_why : (why : BasisFault) (answer : Result (List BasisRow) BasisFault) → IsGiven why → GivesBook (Err why) answer → answer ≡ Err why
-gives_why fault.NoMemory answer g h = absurd g
+gives_why (fault.NoMemory lack) answer g h = absurd g
 gives_why (fault.BadBasisRow row) answer g h = h
 gives_why (fault.NotRising row) answer g h = h
 gives_why fault.TooManyRows answer g h = h
@@ -56,13 +56,13 @@ one_rows files name a b h k =
 -- ---- a bad basis file
 
 abbrev word_for : BasisFault → BasisWord
-word_for fault.NoMemory = Absent
+word_for (fault.NoMemory lack) = Absent
 word_for (fault.BadBasisRow row) = BadRow
 word_for (fault.NotRising row) = NotRising
 word_for fault.TooManyRows = TooManyRows
 
 abbrev place_for : BasisFault → ℕ
-place_for fault.NoMemory = 0
+place_for (fault.NoMemory lack) = 0
 place_for (fault.BadBasisRow row) = row
 place_for (fault.NotRising row) = row
 place_for fault.TooManyRows = 1001

@@ -46,14 +46,14 @@ ok_same a b e = cc
 
 pub one_table : (files : List ℕ → Option (List ℕ)) (name : List ℕ) (a b : AnyTable) → IsTableNamed files name a → IsTableNamed files name b → a ≡ b
 one_table files name a b h k =
-    ok_same a b (one_due h.0 k.0 (Ok a) (Ok b) (one_file files name h.0 k.0 h.1 k.1) (inl h.2) (inl k.2))
+    ok_same a b (one_due h.0 k.0 (Ok a) (Ok b) (one_file files name h.0 k.0 h.1 k.1) h.2 k.2)
 
 ok_or_bad : (a : AnyTable) (place : ℕ) (what : TableKind) → spelled a ≡ refused place what → ⊥
 ok_or_bad a place what e = absurd (cc)
 
 table_or_none : (files : List ℕ → Option (List ℕ)) (name : List ℕ) (a : AnyTable) (place : ℕ) (what : TableKind) → IsTableNamed files name a → IsNoTable files name place what → ⊥
 table_or_none files name a place what h k =
-    ok_or_bad a place what (one_due h.0 k.0 (Ok a) (refused place what) (one_file files name h.0 k.0 h.1 k.1) (inl h.2) k.2)
+    ok_or_bad a place what (one_due h.0 k.0 (Ok a) (refused place what) (one_file files name h.0 k.0 h.1 k.1) h.2 k.2)
 
 bad_same : (p q : ℕ) (a b : TableKind) → refused p a ≡ refused q b → (p ≡ q) × (a ≡ b)
 bad_same p q a b e = (cc, cc)

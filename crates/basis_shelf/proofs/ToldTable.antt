@@ -29,5 +29,5 @@ pub told_table : (files : List ℕ → Option (List ℕ)) (name bytes : List ℕ
     → Unless fault (IsAnyAnswer bytes (Err fault)) → TellsTable name fault told → IfBad (IsBadTableFile files name number) told
 told_table files name bytes number (table.Bad at what) (Bad bad) file is tells = as_told files name number at what bad (bytes, file, is) tells
 told_table files name bytes number (table.Bad at what) ReadFault file is tells = tt
-told_table files name bytes number (table.Bad at what) NoMemory file is tells = tt
-told_table files name bytes number table.NoMemory told file is tells = subst (λ (n : NoBasis). IfBad (IsBadTableFile files name number) n) (sym tells) tt
+told_table files name bytes number (table.Bad at what) (NoMemory lack) file is tells = tt
+told_table files name bytes number (table.NoMemory lack) told file is tells = subst (λ (n : NoBasis). IfBad (IsBadTableFile files name number) n) (sym tells) tt

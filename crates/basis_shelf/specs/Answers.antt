@@ -17,10 +17,10 @@ abbrev pub GivesBasis : Result (List Dated) NoBasis → Result (List Dated) BadB
 GivesBasis (Ok entries) answer = answer ≡ Ok entries
 GivesBasis (Err (Bad bad)) answer = answer ≡ Err bad
 GivesBasis (Err ReadFault) answer = ⊤
-GivesBasis (Err NoMemory) answer = ⊤
+GivesBasis (Err (NoMemory lack)) answer = ⊤
 
 -- of a bad file this holds
 abbrev pub IfBad : (BadBasis → Type 0) → NoBasis → Type 0
 IfBad Fact (Bad bad) = Fact bad
 IfBad Fact ReadFault = ⊤
-IfBad Fact NoMemory = ⊤
+IfBad Fact (NoMemory lack) = ⊤

@@ -1,5 +1,6 @@
 // Why there is no basis.
 use basis_book::Name;
+use policy_types::NoMemory;
 
 /// What is wrong with a file of a basis.
 #[derive(Clone, Copy, PartialEq, Eq, Debug)]
@@ -53,5 +54,5 @@ pub enum NoBasis {
     /// The shelf failed.
     ReadFault,
     /// There was no memory.
-    NoMemory,
+    NoMemory(NoMemory),
 }

@@ -38,6 +38,6 @@ fn no_rows(alloc: Global, name: &Name, fault: BasisFault) -> NoBasis
         BasisFault::TooManyRows => bad_file(alloc, name, 1_001, BasisWord::TooManyRows),
         BasisFault::BadBasisRow(row) => bad_file(alloc, name, row, BasisWord::BadRow),
         BasisFault::NotRising(row) => bad_file(alloc, name, row, BasisWord::NotRising),
-        BasisFault::NoMemory => NoBasis::NoMemory,
+        BasisFault::NoMemory(lack) => NoBasis::NoMemory(lack),
     }
 }

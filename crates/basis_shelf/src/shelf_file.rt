@@ -8,7 +8,6 @@ ghost use Rattle.basis_shelf.specs.inside.Parts.{IsToldOfTable, IsUnread};
 use crate::fault::{BadBasis, BasisWord, NoBasis};
 use basis_book::Name;
 use outside_io::{FetchFault, Shelf};
-use policy_types::NoMemory;
 use std::alloc::Global;
 
 /// The answer that a file is bad.
@@ -18,7 +17,7 @@ pub fn bad_file(alloc: Global, name: &Name, place: u32, word: BasisWord) -> NoBa
     match Name::of(alloc, name.text().as_bytes()) {
         Ok(Some(name)) => NoBasis::Bad(BadBasis { name, place, word }),
         Ok(None) => unreachable!(),
-        Err(NoMemory) => NoBasis::NoMemory,
+        Err(lack) => NoBasis::NoMemory(lack),
     }
 }
 
@@ -44,6 +43,6 @@ pub fn fetch_file<H: Shelf>(
         Err(FetchFault::Absent) => Err(bad_file(alloc, name, place, BasisWord::Absent)),
         Err(FetchFault::TooLong) => Err(bad_file(alloc, name, place, BasisWord::TooLong)),
         Err(FetchFault::Failed) => Err(NoBasis::ReadFault),
-        Err(FetchFault::NoMemory) => Err(NoBasis::NoMemory),
+        Err(FetchFault::NoMemory(lack)) => Err(NoBasis::NoMemory(lack)),
     }
 }

@@ -11,6 +11,7 @@ use crate::fault::{BasisWord, NoBasis};
 use crate::shelf_file::{bad_file, fetch_file};
 use basis_book::{BasisRow, Name};
 use indexmap::IndexMap;
+use memory_requests::{insert, text_of};
 use outside_io::Shelf;
 use select_rates::AnyTable;
 use std::alloc::Global;
@@ -64,13 +65,15 @@ fn add_table<H: Shelf>(
         return Ok(());
     }
     let table = fetch_table(alloc, name, number, shelf)?;
-    let Ok(key) = String::from_str(alloc, name.text()) else {
-        return Err(NoBasis::NoMemory);
+    let key = match text_of(alloc, name.text()) {
+        Ok(key) => key,
+        Err(lack) => return Err(NoBasis::NoMemory(lack)),
     };
-    match tables.insert(key, table) {
-        Ok(_) => Ok(()),
-        Err(_) => Err(NoBasis::NoMemory),
+    match insert(tables, key, table) {
+        Ok(_) => {}
+        Err(lack) => return Err(NoBasis::NoMemory(lack)),
     }
+    Ok(())
 }
 
 /// The table of this name, which the row of this number names first.
@@ -103,7 +106,7 @@ fn no_table(alloc: Global, name: &Name, fault: TableFault) -> NoBasis
 {
     match fault {
         TableFault::Bad { at, kind } => bad_file(alloc, name, at, word_of(kind)),
-        TableFault::NoMemory => NoBasis::NoMemory,
+        TableFault::NoMemory(lack) => NoBasis::NoMemory(lack),
     }
 }
 

@@ -54,7 +54,7 @@ fn told<H: Shelf>(alloc: Global, shelf: &mut H) -> Result<Vec<u8>, Fail> {
     match fetch_basis(alloc, &name, shelf) {
         Ok(_) => Ok(b"basis".to_vec(alloc)?),
         Err(NoBasis::ReadFault) => Ok(b"readfault".to_vec(alloc)?),
-        Err(NoBasis::NoMemory) => Ok(b"nomemory".to_vec(alloc)?),
+        Err(NoBasis::NoMemory(_)) => Ok(b"nomemory".to_vec(alloc)?),
         Err(NoBasis::Bad(bad)) => match bad_basis_line(alloc, &bad) {
             Ok(text) => Ok(text.into_vec()),
             Err(_) => Err("a line".into()),

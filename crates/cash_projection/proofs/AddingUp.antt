@@ -1,7 +1,7 @@
 -- Deaths and survivors add up.
 use Rattle.cash_projection.proofs.Names.{◌≡◌, ℕ, zero, suc, ◌+◌, ◌-◌, ◌*◌, ◌^◌, ◌<◌, ◌≤◌, inl, inr, refl, sym, ap, ◌∙◌, arith, true, add-one, mul-zero, eqb_tells, ONE, alive, dying, Prospect, death_due, maturity_due}
 use Rattle.std.proofs.Math.Nat.{mul-le-mul_left, pow-succ', pow-zero, mul-add}
-use Rattle.present_value.specs.Sums.{sum_below}
+use Rattle.present_value.proofs.Recursions.{sum_below, sum_below-is}
 use Rattle.cash_projection.specs.Laws.{NeverRiseLaw, AddUpLaw, deaths_of}
 use Rattle.cash_projection.proofs.Dues.{due_cases}
 
@@ -64,7 +64,8 @@ death_within p left j whole below = elim (due_cases 0 p.n p.amount (p.t + j)) [
 deaths_are : (p : Prospect) (left : ℕ) → p.t + left ≡ p.n → deaths_of p left ≡ p.amount * deaths_to p.rates left
 unfolding deaths_to
 deaths_are p left whole =
-    scaled_sum p.amount (λ j. death_due p j * dying p.rates j * ONE ^ (left - (j + 1))) (λ j. dying p.rates j * ONE ^ (left - (j + 1))) left
+    sum_below-is (λ j. death_due p j * dying p.rates j * ONE ^ (left - (j + 1))) left
+    ∙ scaled_sum p.amount (λ j. death_due p j * dying p.rates j * ONE ^ (left - (j + 1))) (λ j. dying p.rates j * ONE ^ (left - (j + 1))) left
     (λ k below. rw (death_within p left k whole below) (omega arith))
 
 term_adds_up : (p : Prospect) (left : ℕ) → p.t + left ≡ p.n → ((j : ℕ) → j < left → p.rates j ≤ ONE)

@@ -1,5 +1,6 @@
 -- For callers: what the years of a list of policies are.
-use Rattle.cash_projection.proofs.Names.{ℕ, ◌*◌, ◌<◌, ◌≤◌, arith, List, length, get_or, All, ℤ, subst, le_trans, le_of_mul-le-mul_right, get_or_default, most_commands, Policy, Pair, Dated, IsCash, no_year, IsCashOf, IsProspect, IsTellable, Year}
+use Rattle.cash_projection.proofs.Names.{◌≡◌, ap, sym, ◌∙◌, ℕ, ◌*◌, ◌<◌, ◌≤◌, arith, List, length, get_or, All, ℤ, subst, le_trans, le_of_mul-le-mul_right, most_commands, Policy, Pair, Dated, IsCash, rounded_year, IsCashOf, IsProspect, IsTellable, Year}
+use Rattle.std.proofs.lemmas.List.FromFn.{length-map-range_with_len, get_or-map-range_with_len}
 use Rattle.present_value.specs.Fractions.{Fraction}
 use Rattle.cash_projection.proofs.Tallying.{zip_length}
 
@@ -25,7 +26,11 @@ pub cash_tellable : (basis : List Dated) (on : ℤ) (policies : List Policy) (co
 cash_tellable basis on policies count unvalued years is few =
     λ j none below.
     let all : length is.prospects ≤ most_commands = omega (arith, zip_length (IsProspect basis on) policies is.prospects is.each) in
-    let within : j < count = omega (arith, is.rounded.many) in
+    let many : length years ≡ count = ap length is.rounded ∙ length-map-range_with_len (rounded_year is.prospects) 0 count in
+    let within : j < count = omega (arith, many) in
     let year = is.exact j within in
-    subst IsTellable (get_or_default years j no_year none below)
-    (tellable (length is.prospects) _ _ _ (get_or years j no_year) year.premium year.death year.maturity all)
+    let told : get_or years j none ≡ rounded_year is.prospects j =
+    ap (λ (ys : List Year). get_or ys j none) is.rounded
+    ∙ get_or-map-range_with_len (rounded_year is.prospects) 0 count j j none within (omega arith) in
+    subst IsTellable (sym told)
+    (tellable (length is.prospects) _ _ _ (rounded_year is.prospects j) year.premium year.death year.maturity all)

@@ -4,23 +4,23 @@ pub use Rattle.std.proofs.lemmas.Bool.{cases_eq, false≢true}
 pub use Rattle.std.proofs.lemmas.Bool.Decides.{eqb_tells, leb_tells}
 pub use Rattle.std.proofs.lemmas.Int.{to_z-of_z, ints}
 pub use Rattle.std.proofs.lemmas.List.{length-set, get_or-set_same, get_or-set_other, length-replicate, get_or_default, take_all, with_items_is, take_more, get_or-take, get_or_read, take-append-drop}
-pub use Rattle.std.specs.List.{AllByRecursion, AllZip, slice_get}
+pub use Rattle.std.specs.List.{AllByRecursion, AllZip, slice_get, range_with_len, sum_by, flat_map, enumerate_from}
 pub use Rattle.basis_book.specs.Dated.{Dated, IsPicked}
-unfoldable pub use Rattle.cash_projection.specs.Cash.{total_of}
-pub use Rattle.cash_projection.specs.Cash.{premium_by, death_by, maturity_by, no_year, IsCash, rounded_year, EnclosesExpected}
-pub use Rattle.cash_projection.specs.Policies.{nothing_ahead, prospect_of, IsOfIssue, IsCashOf, IsProspect, charged}
+pub use Rattle.cash_projection.specs.Cash.{IsCash, rounded_year, EnclosesExpected}
+pub use Rattle.cash_projection.specs.Policies.{prospect_of, IsOfIssue, IsCashOf, IsProspect}
 pub use Rattle.cash_projection.specs.Prospects.{Prospect, maturity_due, IsSmall, death_due, due, premium_due}
 unfoldable pub use Rattle.cash_projection.specs.Survival.{alive_by, alive}
 pub use Rattle.cash_projection.specs.Survival.{dying, dying_by}
-unfoldable pub use Rattle.cash_projection.specs.Text.{year_text, asked_text}
-pub use Rattle.cash_projection.specs.Text.{years_text, IsTellable}
+unfoldable pub use Rattle.cash_projection.specs.Text.{year_text}
+pub use Rattle.cash_projection.specs.Text.{IsTellable}
 pub use Rattle.cash_projection.specs.declared.column.Sums.{Sums}
 pub use Rattle.cash_projection.specs.declared.path.SurvivalPath.{SurvivalPath}
 pub use Rattle.cash_projection.specs.declared.tally.Tally.{Tally}
 pub use Rattle.cash_projection.specs.declared.years.Year.{Year}
+pub use Rattle.cash_projection.specs.inside.Ahead.{nothing_ahead, charged, asked_text}
 pub use Rattle.cash_projection.specs.inside.Paths.{rates_after, IsSurvivalPath, alive_pair, dying_pair, KnowsYears, IsRightPath, AreRatesOf, IsPathAt, IsTableOfRow, ArePaths}
 pub use Rattle.cash_projection.specs.inside.Portions.{IsProjectorFor, GivesTally, TakesPortion, policies_of_portions, AreTallies, AreTalliesOfFew}
-pub use Rattle.cash_projection.specs.inside.Tallies.{IsTallyOf, HasAdded, HasRisen, sum_at, AreBothSums, IsSized, HasGained, HasCounted, Fits, IsIdle, sums_of, HasCountedBy, AreSums, TakesOneMore, IsRoomy, IsTally}
+pub use Rattle.cash_projection.specs.inside.Tallies.{premium_by, death_by, maturity_by, IsTallyOf, HasAdded, HasRisen, sum_at, AreBothSums, IsSized, HasGained, HasCounted, Fits, IsIdle, sums_of, HasCountedBy, AreSums, TakesOneMore, IsRoomy, IsTally}
 pub use Rattle.parallel_value.specs.Pieces.{AreAsBefore, AreValues, MayGive, TakeAll, IsAsBefore}
 pub use Rattle.policy_types.specs.Limits.{most_commands}
 pub use Rattle.policy_types.specs.declared.policy.Policy.{Policy}

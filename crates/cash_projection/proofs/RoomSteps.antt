@@ -10,7 +10,6 @@ use Rattle.cash_projection.specs.inside.Rooms.{CanTally, HasTallied}
 use Rattle.cash_projection.specs.declared.printing.Projection.{Projection}
 use Rattle.cash_projection.specs.declared.projector.Projector.{Projector}
 use Rattle.cash_projection.specs.declared.tallier.Tallier.{Tallier}
-use Rattle.cash_projection.proofs.CallerLemmas.{cash_tellable}
 use Rattle.cash_projection.proofs.Portioning.{CanJoin}
 use Rattle.cash_projection.proofs.Tallying.{tally_sized}
 
@@ -120,7 +119,7 @@ module _ (basis : List Dated) (on : ℤ) where
             day = day;
             counted = counted ∙ whole_sized.1;
             cash = cash;
-            tellable = cash_tellable basis on policies years projection.unvalued projection.years cash limit;
+            few = limit;
           }
 
 module _ (tallier : Tallier) (can : CanTally tallier) where

@@ -23,7 +23,11 @@ pub uninsured_taken : (basis : List Dated) (on : ℤ) (policy : Policy) (old new
     → HasAdded old.years (nothing_ahead 0) old new → HasCounted basis on policy old new
 uninsured_taken basis on policy old new not added = record {
   prospect = nothing_ahead 0;
-  is = record { insured = λ insured. absurd (not insured); uninsured = λ _. refl };
+  is = record {
+    uninsured = λ _. refl;
+    unnamed = λ insured. absurd (not insured);
+    named = λ insured. absurd (not insured);
+  };
   small = nothing_small 0 (omega arith);
   added = added;
 }
@@ -33,8 +37,9 @@ pub unnamed_taken : (basis : List Dated) (on : ℤ) (policy : Policy) (old new :
 unnamed_taken basis on policy old new insured none added = record {
   prospect = nothing_ahead 1;
   is = record {
-    insured = λ _. record { unnamed = λ _. refl; named = λ index entry picked. absurd (none_picked basis policy.issued index entry none picked) };
     uninsured = λ not. absurd (not insured);
+    unnamed = λ _ _. refl;
+    named = λ _ index entry picked. absurd (none_picked basis policy.issued index entry none picked);
   };
   small = nothing_small 1 (omega arith);
   added = added;
@@ -46,14 +51,12 @@ pub named_taken : (basis : List Dated) (on : ℤ) (policy : Policy) (old new : T
 named_taken basis on policy old new index entry insured picked taken = record {
   prospect = taken.prospect;
   is = record {
-    insured = λ _. record {
-      unnamed = λ none. absurd (none_picked basis policy.issued index entry none picked);
-      named = λ place other again.
-          let same = one_picked basis policy.issued index place entry other picked again in
-          let table : other.table ≡ entry.table = ap (λ (e : Dated). e.table) (sym same.1) in
-          rw table taken.is;
-    };
     uninsured = λ not. absurd (not insured);
+    unnamed = λ _ none. absurd (none_picked basis policy.issued index entry none picked);
+    named = λ _ place other again.
+        let same = one_picked basis policy.issued index place entry other picked again in
+        let table : other.table ≡ entry.table = ap (λ (e : Dated). e.table) (sym same.1) in
+        rw table taken.is;
   };
   small = taken.small;
   added = taken.added;

@@ -1,19 +1,21 @@
 -- Tallies of lists.
-use Rattle.cash_projection.proofs.Names.{◌≡◌, ℕ, zero, suc, ◌+◌, ◌*◌, ◌^◌, ◌<◌, ◌≤◌, refl, ap, ap₂, sym, subst, ◌∙◌, arith, List, [], ◌∷◌, ◌++◌, length, take, get_or, ℤ, le_trans, le_of_mul-le-mul_right, length-append, length-take-le, AllByRecursion, AllZip, take_more, most_commands, Policy, ONE, UNIT, down, up, pair_of, Pair, Dated, alive, dying, Prospect, IsSmall, premium_due, death_due, maturity_due, total_of, premium_by, death_by, maturity_by, rounded_year, no_year, IsProspect, IsCashOf, AreSums, HasAdded, HasGained, TakesOneMore, HasCounted, AreBothSums, IsRoomy, IsSized, IsTally, IsTallyOf, sum_at, Sums, Tally, Year}
+use Rattle.cash_projection.proofs.Names.{◌≡◌, ℕ, zero, suc, ◌+◌, ◌*◌, ◌^◌, ◌<◌, ◌≤◌, refl, ap, ap₂, sym, subst, ◌∙◌, arith, List, [], ◌∷◌, ◌++◌, length, take, get_or, ℤ, le_trans, le_of_mul-le-mul_right, length-append, length-take-le, AllByRecursion, AllZip, take_more, most_commands, Policy, ONE, UNIT, down, up, pair_of, Pair, Dated, alive, dying, Prospect, IsSmall, premium_due, death_due, maturity_due, sum_by, premium_by, death_by, maturity_by, rounded_year, IsProspect, IsCashOf, AreSums, HasAdded, HasGained, TakesOneMore, HasCounted, AreBothSums, IsRoomy, IsSized, IsTally, IsTallyOf, sum_at, Sums, Tally, Year}
+use Rattle.std.proofs.lemmas.List.FromFn.{fill_by_all}
+use Rattle.std.proofs.lemmas.List.Sums.{sum_by-cons, sum_by-append}
 use Rattle.cash_projection.proofs.Survivors.{power_pos}
 use Rattle.cash_projection.proofs.Totals.{IsPart, list_part, premium_part, death_part, maturity_part, year_encloses}
 
-pub total_append : (f : Prospect → ℕ) (ps qs : List Prospect) → total_of f (ps ++ qs) ≡ total_of f ps + total_of f qs
-unfolding total_of
-total_append f [] qs = omega arith
-total_append f (p ∷ ps) qs = omega (arith, total_append f ps qs)
+abbrev pub no_year : Year
+no_year = record { premium = pair_of 0 0; death = pair_of 0 0; maturity = pair_of 0 0 }
 
-total_one : (f : Prospect → ℕ) (p : Prospect) → total_of f (p ∷ []) ≡ f p
-unfolding total_of
+pub total_append : (f : Prospect → ℕ) (ps qs : List Prospect) → sum_by f (ps ++ qs) ≡ sum_by f ps + sum_by f qs
+total_append f ps qs = sum_by-append f ps qs
+
+total_one : (f : Prospect → ℕ) (p : Prospect) → sum_by f (p ∷ []) ≡ f p
 total_one f p = omega arith
 
-total_more : (f : Prospect → ℕ) (ps : List Prospect) (p : Prospect) → total_of f (ps ++ p ∷ []) ≡ total_of f ps + f p
-total_more f ps p = total_append f ps (p ∷ []) ∙ ap (λ n. total_of f ps + n) (total_one f p)
+total_more : (f : Prospect → ℕ) (ps : List Prospect) (p : Prospect) → sum_by f (ps ++ p ∷ []) ≡ sum_by f ps + f p
+total_more f ps p = total_append f ps (p ∷ []) ∙ ap (λ n. sum_by f ps + n) (total_one f p)
 
 all_append : (ps qs : List Prospect) → AllByRecursion IsSmall ps → AllByRecursion IsSmall qs → AllByRecursion IsSmall (ps ++ qs)
 all_append [] qs front back = back
@@ -25,10 +27,9 @@ zip_append P [] vs (y ∷ ys) ws front back = absurd front
 zip_append P (x ∷ xs) vs [] ws front back = absurd front
 zip_append P (x ∷ xs) vs (y ∷ ys) ws front back = (front.0, zip_append P xs vs ys ws front.1 back)
 
-words_few : (ps : List Prospect) → AllByRecursion IsSmall ps → total_of (λ p. p.words) ps ≤ length ps
-unfolding total_of
+words_few : (ps : List Prospect) → AllByRecursion IsSmall ps → sum_by (λ (p : Prospect). p.words) ps ≤ length ps
 words_few [] small = omega arith
-words_few (p ∷ ps) small = omega (arith, small.0.words, words_few ps small.1)
+words_few (p ∷ ps) small = omega (arith, sum_by-cons (λ (q : Prospect). q.words) p ps, small.0.words, words_few ps small.1)
 
 -- no policy
 pub none_tallied : (basis : List Dated) (on : ℤ) (years : ℕ) (tally : Tally) → tally.years ≡ years → tally.policies ≡ 0 → tally.unvalued ≡ 0
@@ -37,7 +38,6 @@ pub none_tallied : (basis : List Dated) (on : ℤ) (years : ℕ) (tally : Tally)
     → ((j : ℕ) → ((sum_at tally.death.sums j).lo ≡ 0) × ((sum_at tally.death.sums j).hi ≡ 0))
     → ((j : ℕ) → ((sum_at tally.maturity.sums j).lo ≡ 0) × ((sum_at tally.maturity.sums j).hi ≡ 0))
     → IsTallyOf basis on years [] tally
-unfolding total_of
 none_tallied basis on years tally same policies unvalued a b d premium death maturity = record {
   prospects = [];
   each = tt;
@@ -77,7 +77,7 @@ one_more_tallied basis on years policies i none old new below was taken =
       tallied = record {
         same = added.same ∙ old_is.same;
         policies = omega (arith, added.policies, old_is.policies, length-append ps (p ∷ []));
-        unvalued = added.unvalued ∙ ap (λ n. n + p.words) old_is.unvalued ∙ sym (total_more (λ p. p.words) ps p);
+        unvalued = added.unvalued ∙ ap (λ n. n + p.words) old_is.unvalued ∙ sym (total_more (λ (p : Prospect). p.words) ps p);
         premium = one_more_summed years premium_by ps p old.premium.sums new.premium.sums old_is.premium added.premium;
         death = one_more_summed years death_by ps p old.death.sums new.death.sums old_is.death added.death;
         maturity = one_more_summed years maturity_by ps p old.maturity.sums new.maturity.sums old_is.maturity added.maturity;
@@ -93,12 +93,12 @@ roomy years part exact den ps sums are small most few positive each = record {
   places = are.places;
   lo = λ j below.
       let p = whole j below in
-      let order : total_of (part down j) ps ≤ total_of (part up j) ps = le_of_mul-le-mul_right (le_trans p.above p.below) (positive j) in
+      let order : sum_by (part down j) ps ≤ sum_by (part up j) ps = le_of_mul-le-mul_right (le_trans p.above p.below) (positive j) in
       omega (arith, are.lo j below, order, p.most);
   hi = λ j below. omega (arith, are.hi j below, (whole j below).most);
 }
   where
-    whole : (j : ℕ) → j < years → IsPart (length ps) (total_of (exact j) ps) (den j) (total_of (part down j) ps) (total_of (part up j) ps)
+    whole : (j : ℕ) → j < years → IsPart (length ps) (sum_by (exact j) ps) (den j) (sum_by (part down j) ps) (sum_by (part up j) ps)
     whole j below = list_part (exact j) (part down j) (part up j) (den j) ps small (λ p s. each p j s (omega arith))
 
 pub sized : (years : ℕ) (ps : List Prospect) (tally : Tally) → IsTally years ps tally → years ≤ 131 → tally.policies ≤ most_commands → IsSized tally
@@ -159,7 +159,7 @@ both_tallied basis on years xs ys ours theirs new a b same policies unvalued pre
       tallied = record {
         same = same ∙ a.tallied.same;
         policies = omega (arith, policies, a.tallied.policies, b.tallied.policies, length-append ps qs);
-        unvalued = unvalued ∙ ap₂ ◌+◌ a.tallied.unvalued b.tallied.unvalued ∙ sym (total_append (λ p. p.words) ps qs);
+        unvalued = unvalued ∙ ap₂ ◌+◌ a.tallied.unvalued b.tallied.unvalued ∙ sym (total_append (λ (p : Prospect). p.words) ps qs);
         premium = joined_sums years premium_by ps qs _ _ _ a.tallied.premium b.tallied.premium premium;
         death = joined_sums years death_by ps qs _ _ _ a.tallied.death b.tallied.death death;
         maturity = joined_sums years maturity_by ps qs _ _ _ a.tallied.maturity b.tallied.maturity maturity;
@@ -194,11 +194,9 @@ cash_told basis on policies tally years most many each is =
       prospects = ps;
       each = is.each;
       words = is.tallied.unvalued;
-      rounded = record {
-        many = many;
-        each = λ j below. each j below ∙ year_rounded tally.years ps tally is.tallied j below;
-      };
-      exact = λ j below. rw (each j below ∙ year_rounded tally.years ps tally is.tallied j below) (year_encloses ps j is.tallied.small (omega arith));
+      rounded = fill_by_all (rounded_year ps) years tally.years no_year many
+          (λ j below. each j below ∙ year_rounded tally.years ps tally is.tallied j below);
+      exact = λ j below. year_encloses ps j is.tallied.small (omega arith);
     }
 
 -- one year more is told

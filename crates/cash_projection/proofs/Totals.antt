@@ -1,6 +1,7 @@
 -- The totals of policies enclose the exact ones.
-use Rattle.cash_projection.proofs.Names.{◌≡◌, ℕ, ◌+◌, ◌*◌, ◌^◌, ◌<◌, ◌≤◌, inl, inr, subst, arith, List, [], ◌∷◌, length, lit<, one-mul, lt_of_mul-lt-mul_right, AllByRecursion, ONE, UNIT, down, up, pair_of, alive, alive_by, dying, dying_by, Prospect, IsSmall, premium_due, death_due, maturity_due, total_of, premium_by, death_by, maturity_by, rounded_year, IsCash, EnclosesExpected}
+use Rattle.cash_projection.proofs.Names.{◌≡◌, ℕ, ◌+◌, ◌*◌, ◌^◌, ◌<◌, ◌≤◌, inl, inr, subst, arith, List, [], ◌∷◌, length, lit<, one-mul, lt_of_mul-lt-mul_right, AllByRecursion, ONE, UNIT, down, up, pair_of, alive, alive_by, dying, dying_by, Prospect, IsSmall, premium_due, death_due, maturity_due, sum_by, premium_by, death_by, maturity_by, rounded_year, IsCash, EnclosesExpected}
 use Rattle.std.proofs.Math.Nat.{mul-le-mul_left, mul-le-mul, le_trans}
+use Rattle.std.proofs.lemmas.List.Sums.{sum_by-cons}
 use Rattle.present_value.specs.Fractions.{Between}
 use Rattle.present_value.proofs.Fractions.{scaled-between}
 use Rattle.present_value.proofs.Quotients.{lt-down, up-lt, up-le}
@@ -75,13 +76,12 @@ maturity_part p j small year =
 -- of a list
 pub list_part : (exact lo hi : Prospect → ℕ) (den : ℕ) (ps : List Prospect) → AllByRecursion IsSmall ps
     → ((p : Prospect) → IsSmall p → IsPart 1 (exact p) den (lo p) (hi p))
-    → IsPart (length ps) (total_of exact ps) den (total_of lo ps) (total_of hi ps)
-unfolding total_of
+    → IsPart (length ps) (sum_by exact ps) den (sum_by lo ps) (sum_by hi ps)
 list_part exact lo hi den [] small each = no_part den
 list_part exact lo hi den (p ∷ ps) small each =
-    subst (λ n. IsPart n (exact p + total_of exact ps) den (lo p + total_of lo ps) (hi p + total_of hi ps)) (omega arith)
-    (both_parts 1 (length ps) (exact p) (total_of exact ps) den (lo p) (hi p) (total_of lo ps) (total_of hi ps) (each p small.0)
-    (list_part exact lo hi den ps small.1 each))
+    rw (sum_by-cons exact p ps, sum_by-cons lo p ps, sum_by-cons hi p ps) (subst (λ n. IsPart n (exact p + sum_by exact ps) den (lo p + sum_by lo ps) (hi p + sum_by hi ps)) (omega arith)
+    (both_parts 1 (length ps) (exact p) (sum_by exact ps) den (lo p) (hi p) (sum_by lo ps) (sum_by hi ps) (each p small.0)
+    (list_part exact lo hi den ps small.1 each)))
 
 -- in cents
 narrow_pair : (count lo hi : ℕ) → hi ≤ lo + count * APART → 1000 * up hi UNIT ≤ 1000 * down lo UNIT + (2000 + count)

@@ -1,5 +1,9 @@
 -- The lines of the years, one after the other.
-use Rattle.cash_projection.proofs.Names.{◌≡◌, ℕ, zero, suc, ◌+◌, ◌<◌, refl, ap, sym, ◌∙◌, arith, List, [], ◌∷◌, ◌++◌, length, take, get_or, append_assoc, append-nil, add-one, year_text, years_text, Year}
+use Rattle.cash_projection.proofs.Names.{◌≡◌, ℕ, zero, suc, ◌+◌, ◌<◌, refl, ap, sym, ◌∙◌, arith, List, [], ◌∷◌, ◌++◌, length, take, get_or, append_assoc, append-nil, add-one, year_text, Year, flat_map, enumerate_from}
+
+-- the years from the first on
+abbrev pub years_text : ℕ → List Year → List ℕ
+years_text first ys = flat_map (λ (year : ℕ × Year). year_text year.0 year.1) (enumerate_from first ys)
 
 longer : (first : ℕ) (ys : List Year) (j : ℕ) (d : Year) → j < length ys
     → years_text first (take (suc j) ys) ≡ years_text first (take j ys) ++ year_text (first + j) (get_or ys j d)

@@ -1,7 +1,7 @@
 -- Laws of the expected totals.
 use Rattle.std.specs.Prelude.{◌≡◌, ℕ, ◌+◌, ◌-◌, ◌*◌, ◌^◌, ◌<◌, ◌≤◌, List, true}
 use Rattle.cash_projection.specs.Names.{AllByRecursion, ONE}
-use Rattle.present_value.specs.Sums.{sum_below}
+use Rattle.std.specs.List.{sum_by, range_with_len}
 use Rattle.cash_projection.specs.Survival.{alive, dying}
 use Rattle.cash_projection.specs.Prospects.{Prospect, IsSmall, death_due, maturity_due}
 use Rattle.cash_projection.specs.Cash.{EnclosesExpected, rounded_year}
@@ -13,7 +13,7 @@ pub record NeverRiseLaw : Type 0 where
 
 -- the deaths of a policy in all years that are left, over one denominator
 abbrev pub deaths_of : Prospect → ℕ → ℕ
-deaths_of p left = sum_below (λ j. death_due p j * dying p.rates j * ONE ^ (left - (j + 1))) left
+deaths_of p left = sum_by (λ j. death_due p j * dying p.rates j * ONE ^ (left - (j + 1))) (range_with_len 0 left)
 
 -- over all years that are left, what deaths and survivors are paid adds up to the amount; without a maturity it is less by
 -- what the survivors would be paid

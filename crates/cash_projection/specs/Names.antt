@@ -1,5 +1,5 @@
 -- The names from elsewhere that several rooms cite, passed on from one place. Declares nothing.
-pub use Rattle.std.specs.List.{AllByRecursion, AllZip, All}
+pub use Rattle.std.specs.List.{AllByRecursion, AllZip, All, range_with_len, sum_by, flat_map, enumerate_from}
 pub use Rattle.basis_book.specs.Dated.{Dated, IsPicked}
 pub use Rattle.plan_benefits.specs.Shapes.{shape_of}
 pub use Rattle.plan_benefits.specs.declared.fault.NotValued.{NotValued}

@@ -1,16 +1,19 @@
 -- Projections worked by hand, over a table whose rates of the ages 0 to 4 are 0.1, 0.2, 0.25, 0.5 and 1.
 use Rattle.std.specs.Prelude.{◌≡◌, ℕ, ◌+◌, List, [], ◌∷◌, true, false}
-use Rattle.cash_projection.specs.Names.{rate_at, pair_of, Between}
+use Rattle.cash_projection.specs.Names.{rate_at, pair_of}
 use Rattle.present_value.specs.Worked.{five_ages}
 use Rattle.cash_projection.specs.Prospects.{Prospect}
-use Rattle.cash_projection.specs.Cash.{expected_premiums, expected_deaths, expected_maturities, rounded_year}
+use Rattle.cash_projection.specs.Cash.{EnclosesExpected, rounded_year}
+use Rattle.cash_projection.specs.declared.years.Year.{Year}
 
 -- exactly these cents, in the j-th year
+abbrev pub exact_year : (premiums deaths maturities : ℕ) → Year
+exact_year premiums deaths maturities =
+    record { premium = pair_of premiums premiums; death = pair_of deaths deaths; maturity = pair_of maturities maturities }
+
 pub record IsYearly (ps : List Prospect) (j premiums deaths maturities : ℕ) : Type 0 where
-  pub premium : Between premiums premiums 1 (expected_premiums ps j)
-  pub death : Between deaths deaths 1 (expected_deaths ps j)
-  pub maturity : Between maturities maturities 1 (expected_maturities ps j)
-  pub rounded : rounded_year ps j ≡ record { premium = pair_of premiums premiums; death = pair_of deaths deaths; maturity = pair_of maturities maturities }
+  pub exact : EnclosesExpected ps j (exact_year premiums deaths maturities)
+  pub rounded : rounded_year ps j ≡ exact_year premiums deaths maturities
 
 -- an endowment of three years from the age 0 in its year t, with the premium 400.00 for 1000.00, of which so many are paid
 abbrev pub endowment_in : (t paid : ℕ) → Prospect
@@ -56,7 +59,6 @@ whole_from_three = record { rates = λ j. rate_at five_ages (3 + 0 + j); t = 0; 
 pub record TogetherCash : Type 0 where
   pub first : IsYearly (term_of_two ∷ paid_up_of_two ∷ []) 0 100 2000 0
   pub second : IsYearly (term_of_two ∷ paid_up_of_two ∷ []) 1 90 2800 3000
-  pub premiums : Between 500 500 1 (expected_premiums (whole_from_three ∷ []) 0)
-  pub deaths : Between 1 2 1 (expected_deaths (whole_from_three ∷ []) 0)
+  pub exact : EnclosesExpected (whole_from_three ∷ []) 0 (record { premium = pair_of 500 500; death = pair_of 1 2; maturity = pair_of 0 0 })
   pub rounded : rounded_year (whole_from_three ∷ []) 0 ≡ record { premium = pair_of 500 500; death = pair_of 1 2; maturity = pair_of 0 0 }
   pub end : rounded_year (whole_from_three ∷ []) 1 ≡ record { premium = pair_of 0 0; death = pair_of 1 2; maturity = pair_of 0 0 }

@@ -6,6 +6,7 @@ ghost use Rattle.cash_projection.specs.declared.path.SurvivalPath.{SurvivalPath 
 
 use crate::path::{PathKey, SurvivalPath};
 use basis_book::Basis;
+use memory_requests::filled;
 use policy_types::NoMemory;
 use rate_table::RateTable;
 use std::alloc::Global;
@@ -23,7 +24,7 @@ impl Paths {
         requires { 1 ≤ most }
         ensures { IfOk result (λ paths. (basis : List Dated) → ArePaths basis paths) }
     {
-        let kept = Vec::from_elem(alloc, SurvivalPath::none(), most as usize)?;
+        let kept = filled(alloc, SurvivalPath::none(), most as usize)?;
         Ok(Paths { kept })
     }
 

@@ -2,8 +2,9 @@
 ghost use Rattle.std.specs.Prelude.{◌≡◌, IfOk};
 ghost use Rattle.cash_projection.specs.inside.Portions.{policies_of_portions};
 
-use policy_types::Policy;
-use std::alloc::{AllocError, Global};
+use memory_requests::push;
+use policy_types::{NoMemory, Policy};
+use std::alloc::Global;
 
 /// The policies of a portion: so few that the last portions take no time, and so many that their tallies are few.
 pub const POLICIES_IN_PORTION: usize = 4_096;
@@ -15,17 +16,14 @@ pub struct Portion<'a> {
 }
 
 /// Portions of so many policies, or a last of fewer, which are the policies one behind the other.
-pub fn portions_of<'a>(
-    alloc: Global,
-    policies: &'a [Policy],
-) -> Result<Vec<Portion<'a>>, AllocError>
+pub fn portions_of<'a>(alloc: Global, policies: &'a [Policy]) -> Result<Vec<Portion<'a>>, NoMemory>
     ensures { IfOk result (λ portions. policies_of_portions portions.items ≡ policies.now) }
 {
     let mut portions = Vec::new(alloc);
     let mut rest = policies;
     while rest.len() > 0 {
         let (front, back) = rest.split_at(POLICIES_IN_PORTION.min(rest.len()));
-        portions.push(Portion { policies: front })?;
+        push(&mut portions, Portion { policies: front })?;
         rest = back;
     }
     Ok(portions)

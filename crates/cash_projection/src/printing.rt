@@ -1,8 +1,11 @@
 // The text of a projection.
-ghost use Rattle.std.specs.Prelude.{◌≡◌, ◌≤◌, ◌++◌, length, IfOk, OnOk};
+ghost use Rattle.std.specs.Prelude.{◌≡◌, ◌≤◌, ◌++◌, ◌∷◌, [], codes, decimal, length, IfOk, OnOk};
 ghost use Rattle.cash_projection.specs.Names.{All, behind_commas};
 ghost use Rattle.life_dates.specs.Calendar.{IsTermDay};
-ghost use Rattle.cash_projection.specs.Text.{IsTellable, asked_text, projection_text, words_text, year_fields, year_text};
+ghost use Rattle.money_core.specs.CentsText.{cents_text};
+ghost use Rattle.text_lines.specs.Lines.{line_of};
+ghost use Rattle.cash_projection.specs.Text.{IsTellable, projection_text, year_text};
+ghost use Rattle.cash_projection.specs.inside.Ahead.{asked_text};
 
 use crate::years::{Year, Years};
 use policy_types::NoMemory;
@@ -41,7 +44,6 @@ pub fn print_projection(alloc: Global, projection: &Projection) -> Result<Text, 
 }
 
 // Adds the line that says what was projected.
-#[tactic(auto, unfolding(crate::specs::Text::asked_text))]
 fn write_asked(lines: &mut LineWriter, projection: &Projection) -> Result<(), NoMemory>
     requires on { IsTermDay projection.now.on }
     requires few { length projection.now.years ≤ 131 }
@@ -70,7 +72,9 @@ fn write_year(lines: &mut LineWriter, j: u32, year: &Year) -> Result<(), NoMemor
 // Adds the bounds of a year.
 fn write_bounds(lines: &mut LineWriter, year: &Year) -> Result<(), NoMemory>
     requires { IsTellable year.now }
-    ensures { OnOk result (lines.new ≡ lines.old ++ behind_commas (year_fields year.now)) }
+    ensures { OnOk result (lines.new ≡ lines.old ++ behind_commas
+        (cents_text year.now.premium.lo ∷ cents_text year.now.premium.hi ∷ cents_text year.now.death.lo ∷ cents_text year.now.death.hi
+        ∷ cents_text year.now.maturity.lo ∷ cents_text year.now.maturity.hi ∷ [])) }
 {
     lines.cents(year.premium.lo as i64)?;
     lines.cents(year.premium.hi as i64)?;
@@ -81,9 +85,8 @@ fn write_bounds(lines: &mut LineWriter, year: &Year) -> Result<(), NoMemory>
 }
 
 // Adds how many have a word.
-#[tactic(auto, unfolding(crate::specs::Text::words_text))]
 fn write_words(lines: &mut LineWriter, unvalued: u32) -> Result<(), NoMemory>
-    ensures { OnOk result (lines.new ≡ lines.old ++ words_text unvalued) }
+    ensures { OnOk result (lines.new ≡ lines.old ++ line_of (codes "unvalued") (decimal unvalued ∷ [])) }
 {
     lines.first("unvalued")?;
     lines.number(unvalued)?;

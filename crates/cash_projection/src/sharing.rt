@@ -13,6 +13,7 @@ use crate::portions::{POLICIES_IN_PORTION, portions_of};
 use crate::projector::Projector;
 use crate::tally::Tally;
 use basis_book::Basis;
+use memory_requests::with_room;
 use parallel_value::map_onto;
 use policy_types::{NoMemory, Policy};
 use std::alloc::Global;
@@ -21,6 +22,9 @@ use std::thread::Threads;
 
 /// The policies that are tallied together.
 pub const POLICIES_IN_ROOM: usize = 131_072;
+
+/// So many portions hold all policies that there may be.
+const MOST_PORTIONS: usize = 1_024;
 
 /// What all workers keep together, counted in paths.
 const PATHS_TOGETHER: usize = 768;
@@ -55,7 +59,7 @@ pub fn tally_in<R: Threads + Sync>(
     ensures projectors { OnOk result (AreAsBefore TakesPortion GivesTally projectors.old projectors.new) }
 {
     let portions = portions_of(alloc, policies)?;
-    let mut tallies = Vec::with_capacity(alloc, portions.len())?;
+    let mut tallies = with_room(alloc, portions.len().min(MOST_PORTIONS))?;
     map_onto(rt, alloc, projectors, portions.as_slice(), 1, &mut tallies)?;
     Ok(joined(years, tallies.as_slice()))
 }
@@ -74,7 +78,7 @@ pub fn projectors_for<'a>(
     ensures each { IfOk result (λ projectors. AllByRecursion (IsProjectorFor basis.now on years) projectors.items) }
 {
     let paths_kept = paths_of_a_worker(many);
-    let mut projectors = Vec::with_capacity(alloc, many)?;
+    let mut projectors = with_room(alloc, many)?;
     for _ in 0..many {
         let paths = Paths::new(alloc, paths_kept)?;
         projectors.push_reserved(Projector {

@@ -10,6 +10,7 @@ use crate::projector::Projector;
 use crate::sharing::{POLICIES_IN_ROOM, projectors_for, tally_in};
 use crate::tally::Tally;
 use basis_book::Basis;
+use memory_requests::{extend, with_room};
 use policy_types::{NoMemory, Policy};
 use snapshot_value::{POLICIES_TO_A_WORKER, Reader};
 use std::alloc::Global;
@@ -57,7 +58,7 @@ impl<'a> Reader for Tallier<'a> {
         } = plan;
         let many = (policies / POLICIES_TO_A_WORKER).clamp(1, usize::from(workers));
         let projectors = projectors_for(alloc, basis, on, years, many)?;
-        let room = Vec::with_capacity(alloc, policies.min(POLICIES_IN_ROOM))?;
+        let room = with_room(alloc, policies.min(POLICIES_IN_ROOM))?;
         let tally = Tally::new(years);
         Ok(Tallier {
             on,
@@ -135,7 +136,7 @@ impl Tallier<'_> {
             → HasTallied basis on years policies self.old
             → OnOk result (HasTallied basis on years (policies ++ part.now) self.new) }
     {
-        self.room.extend_from_slice(part)?;
+        extend(&mut self.room, part)?;
         Ok(())
     }
 }

@@ -2,7 +2,8 @@
 ghost use Rattle.std.specs.Prelude.{◌≡◌, ◌≤◌, ◌<◌, ◌≤ℤ◌, ◌+◌, ◌-◌, ◌++◌, if◌then◌else◌, ℕ, ℤ, [], List, IfOk};
 ghost use Rattle.cash_projection.specs.Names.{Dated, most_commands, APolicy, IsBelow, table_along, shape_of};
 ghost use Rattle.cash_projection.specs.Prospects.{IsSmall, Prospect as AProspect, due};
-ghost use Rattle.cash_projection.specs.Policies.{IsCashOf, IsOfIssue, charged, prospect_of};
+ghost use Rattle.cash_projection.specs.Policies.{IsCashOf, IsOfIssue, prospect_of};
+ghost use Rattle.cash_projection.specs.inside.Ahead.{charged};
 ghost use Rattle.cash_projection.specs.inside.Paths.{ArePaths, IsSurvivalPath, IsTableOfRow};
 ghost use Rattle.cash_projection.specs.inside.Tallies.{Fits, HasAdded, TakesOneMore, HasCounted, HasCountedBy, IsIdle, IsSized, IsTallyOf};
 
@@ -12,6 +13,7 @@ use crate::paths::Paths;
 use crate::years::{Year, Years};
 use basis_book::Basis;
 use life_dates::completed;
+use memory_requests::with_room;
 use plan_benefits::shape_along;
 use policy_types::{NoMemory, Policy, Status};
 use policy_value::is_insured;
@@ -206,7 +208,7 @@ impl Tally {
             → IfOk result (λ years. IsCashOf basis on ps self.now.years self.now.unvalued years) }
     {
         let count = self.years as usize;
-        let mut years = Vec::with_capacity(alloc, count)?;
+        let mut years = with_room(alloc, count)?;
         for j in 0..count {
             let premium = self.premium.pair(j);
             let death = self.death.pair(j);

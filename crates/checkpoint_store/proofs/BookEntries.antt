@@ -1,10 +1,11 @@
 -- The entries of a book by number, in order of issue: what is found in them, and what one more command does to them.
-use Rattle.checkpoint_store.proofs.Names.{◌≡◌, ◌⊎◌, inl, inr, nat_eq, ◌==◌, ℕ, ◌+◌, ◌≤◌, Bool, true, false, cond, List, [], ◌∷◌, ◌++◌, length, filter_map, refl, sym, ap, subst, ◌∙◌, arith, Option, None, Some, Ok, Err, IfSome, AllByRecursion, IsDistinct, cons_option, fold, keys_of, lookup, eqb-false, eqb-true, eq-eqb, ne_eqb, map-append, IndexMap, index_of, insert_entry, set_value_at, Command, Policy, id_of, IsSound, next, IsAccepted, book, issue_id, kept, own, policy_of, policy_ids, AreKeyed, Entries, numbered_policies}
+use Rattle.checkpoint_store.proofs.Names.{◌≡◌, ◌⊎◌, inl, inr, nat_eq, ◌==◌, ℕ, ◌+◌, ◌≤◌, Bool, true, false, cond, List, [], ◌∷◌, ◌++◌, length, filter_map, refl, sym, ap, subst, ◌∙◌, arith, Option, None, Some, Ok, Err, IfSome, AllByRecursion, IsDistinct, cons_option, fold, keys_of, lookup, eqb-false, eqb-true, eq-eqb, ne_eqb, map-append, IndexMap, index_of, insert_entry, set_value_at, Command, Policy, id_of, IsSound, next, IsAccepted, book, issue_id, kept, own, policy_of, AreKeyed, Entries, numbered_policies}
 use Rattle.indexmap.proofs.MapLemmas.{Found-position, insert_entry-first}
 use Rattle.policy_types.specs.declared.refusal.Refusal.TheVariants.{Taken, Unknown}
 use Rattle.policy_machine.proofs.AcceptedLemmas.{IsIssueHere, NeedsPolicy, issue_or_other}
 use Rattle.policy_machine.proofs.BookGrowth.{IsThere, book-ids, book-push_change, book-push_issue, distinct_issues, policies_there}
 use Rattle.policy_machine.proofs.BookLemmas.{policy_of-own}
+use Rattle.checkpoint_store.specs.inside.Storing.{policy_ids}
 
 -- a number that wasn't issued has no policy
 all_tail : (P : ℕ → Type 0) (first : Option ℕ) (ids : List ℕ) → AllByRecursion P (cons_option first ids) → AllByRecursion P ids

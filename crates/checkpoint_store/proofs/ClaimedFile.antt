@@ -10,7 +10,10 @@ claimed_spelled = refl
 pub claimed_sound : IsSoundSnapshot claimed_snapshot
 unfolding IsDistinct
 claimed_sound = record {
-  figures = record { position_in = omega arith; upgrade_in = omega arith; policies_in = omega arith; balances_in = ((omega (arith, ints), omega (arith, ints)), (omega (arith, ints), omega (arith, ints)), (omega (arith, ints), omega (arith, ints)), (omega (arith, ints), omega (arith, ints))) };
+  position_in = omega arith;
+  upgrade_in = omega arith;
+  policies_in = omega arith;
+  balances_in = ((omega (arith, ints), omega (arith, ints)), (omega (arith, ints), omega (arith, ints)), (omega (arith, ints), omega (arith, ints)), (omega (arith, ints), omega (arith, ints)));
   sound = (
     record {
       issue_in = record { id_in = (omega arith, omega arith); day_in = (omega (arith, ints), omega (arith, ints)); age_in = omega arith; years_in = (omega arith, omega arith); amount_in = (omega arith, omega arith); premium_in = (omega arith, omega arith) };
@@ -40,7 +43,10 @@ claimed_checkpoint = record {
 pub issued_sound : IsSoundSnapshot issued_snapshot
 unfolding IsDistinct
 issued_sound = record {
-  figures = record { position_in = omega arith; upgrade_in = omega arith; policies_in = omega arith; balances_in = ((omega (arith, ints), omega (arith, ints)), (omega (arith, ints), omega (arith, ints)), (omega (arith, ints), omega (arith, ints)), (omega (arith, ints), omega (arith, ints))) };
+  position_in = omega arith;
+  upgrade_in = omega arith;
+  policies_in = omega arith;
+  balances_in = ((omega (arith, ints), omega (arith, ints)), (omega (arith, ints), omega (arith, ints)), (omega (arith, ints), omega (arith, ints)), (omega (arith, ints), omega (arith, ints)));
   sound = (
     record {
       issue_in = record { id_in = (omega arith, omega arith); day_in = (omega (arith, ints), omega (arith, ints)); age_in = omega arith; years_in = (omega arith, omega arith); amount_in = (omega arith, omega arith); premium_in = (omega arith, omega arith) };

@@ -1,5 +1,5 @@
 -- What stands in a checkpoint's file, in parts.
-use Rattle.checkpoint_store.proofs.Names.{balances, ◌≡◌, nat_eq, ℕ, zero, suc, ◌+◌, ◌-◌, ◌*◌, ◌/◌, ◌<◌, ◌≤◌, min, Bool, true, false, cond, List, [], ◌∷◌, ◌++◌, length, take, drop, get_or, refl, sym, ap, subst, ◌∙◌, arith, append-nil, length-append, length-drop, Option, Some, None, is_some, true≢false, Result, Ok, Err, IfOk, IfSome, ℤ, FitsSigned, w64, eqb-false, ne_eqb, ints, drop-drop, drop-take, drop_at, get_or-take, length-take, map-append, take-append-drop, take-take, take_at, take_more, AllByRecursion, IsDistinct, flat_map, keys_of, lookup, IsSound, AreWithin, IsWithin, Policy, insert_entry, Front, NumberedBooks, Snapshot, CheckpointBytes, IsSoundSnapshot, policy_ids, balance_bytes, policy_bytes, position_bytes, AreKeyed, Entries, numbered_policies, AreSoundBooks, as_snapshot, IsFrontInRange, front_of, policy_of_bytes, AreBegun, AreBooksBehind, AreBytesOf, AreUpTo, BegunNext, DoFit, HasBooks, HasFront, HasPolicies, IsAddedTo, IsFrontOn, IsStored, UpToNext, WasAdded}
+use Rattle.checkpoint_store.proofs.Names.{balances, ◌≡◌, nat_eq, ℕ, zero, suc, ◌+◌, ◌-◌, ◌*◌, ◌/◌, ◌<◌, ◌≤◌, min, Bool, true, false, cond, List, [], ◌∷◌, ◌++◌, length, take, drop, get_or, refl, sym, ap, subst, ◌∙◌, arith, append-nil, length-append, length-drop, Option, Some, None, is_some, true≢false, Result, Ok, Err, IfOk, IfSome, ℤ, FitsSigned, w64, eqb-false, ne_eqb, ints, drop-drop, drop-take, drop_at, get_or-take, length-take, map-append, take-append-drop, take-take, take_at, take_more, AllByRecursion, IsDistinct, flat_map, keys_of, lookup, IsSound, AreWithin, IsWithin, Policy, insert_entry, Front, NumberedBooks, Snapshot, CheckpointBytes, IsSoundSnapshot, balance_bytes, policy_bytes, position_bytes, AreKeyed, Entries, numbered_policies, AreSoundBooks, as_snapshot, IsFrontInRange, front_of, policy_of_bytes, AreBegun, AreBooksBehind, AreBytesOf, AreUpTo, BegunNext, DoFit, HasBooks, HasFront, HasPolicies, IsAddedTo, IsFrontOn, IsStored, UpToNext, WasAdded}
 use Rattle.std.proofs.lemmas.Grind.{flat_map-append}
 use Rattle.std.proofs.Math.Seq.{drop-append-add, drop-cons}
 use Rattle.indexmap.proofs.CallerLemmas.{insert_entry-new}
@@ -8,6 +8,7 @@ use Rattle.checkpoint_store.specs.declared.faults.ReopenFault.{ReopenFault}
 use Rattle.checkpoint_store.proofs.Behind.{gate_first, length-policies, length-policy_bytes}
 use Rattle.checkpoint_store.proofs.BookEntries.{keyed_ids}
 use Rattle.checkpoint_store.proofs.Reading.{policy_read}
+use Rattle.checkpoint_store.specs.inside.Storing.{policy_ids}
 
 length-front : (f : Front) → length (front_of f) ≡ 63
 unfolding balance_bytes position_bytes
@@ -110,7 +111,7 @@ fits_signed most balance few within = omega (arith, ints, few, within.0, within.
 
 pub front_range : (s : Snapshot) → IsSoundSnapshot s → IsFrontInRange (front_for s)
 front_range s sound =
-    let figures = sound.figures in
+    let figures = sound in
     let most : 40000000000 * s.position ≤ 160000000000000000 = omega (arith, figures.position_in) in
     record {
       position_in = omega (arith, figures.position_in);
@@ -174,12 +175,10 @@ pub sound_stored : (f : Front) (books : NumberedBooks) → DoFit f → books.pos
 sound_stored f books fit position upgrade ledger counted keyed sound distinct = record {
   keyed = keyed;
   sound = record {
-    figures = record {
-      position_in = omega (arith, position, fit.position_in);
-      upgrade_in = omega (arith, position, upgrade, fit.upgrade_in);
-      policies_in = omega (arith, position, counted, fit.policies_in);
-      balances_in = subst (λ n. AreWithin (40000000000 * n) (balances books.ledger)) (sym position) (subst (λ l. AreWithin (40000000000 * f.position) (balances l)) (sym ledger) fit.balances_in);
-    };
+    position_in = omega (arith, position, fit.position_in);
+    upgrade_in = omega (arith, position, upgrade, fit.upgrade_in);
+    policies_in = omega (arith, position, counted, fit.policies_in);
+    balances_in = subst (λ n. AreWithin (40000000000 * n) (balances books.ledger)) (sym position) (subst (λ l. AreWithin (40000000000 * f.position) (balances l)) (sym ledger) fit.balances_in);
     sound = sound;
     distinct = subst (IsDistinct nat_eq) (keyed_ids books.policies.entries keyed) distinct;
   };
@@ -212,7 +211,7 @@ pub other_figures : (file : List ℕ) (count : ℕ) (f : Front) → ((other : Fr
 other_figures file count f only unfit = λ s is le.
     let parts = checkpoint_parts file s is in
     let same : front_for s ≡ f = only (front_for s) (front_range s is.sound) parts.front in
-    let figures = is.sound.figures in
+    let figures = is.sound in
     let fit : DoFit (front_for s) = record { position_in = figures.position_in; upgrade_in = figures.upgrade_in; policies_in = figures.policies_in; balances_in = figures.balances_in } in
     unfit (subst (λ (g : Front). g.position ≤ count) same le) (subst DoFit same fit)
 

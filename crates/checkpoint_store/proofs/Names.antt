@@ -6,7 +6,7 @@ pub use Rattle.std.proofs.lemmas.List.{take_at, take-append-drop, take-take, dro
 unfoldable pub use Rattle.std.specs.List.{IsDistinct}
 pub use Rattle.std.specs.List.{flat_map, AllByRecursion, cons_option, fold}
 pub use Rattle.std.specs.Map.{lookup, keys_of}
-pub use Rattle.checkpoint_store.specs.Checkpoints.{CheckpointBytes, IsSoundSnapshot, IsNoCheckpoint, policy_ids, IsSnapshotOf}
+pub use Rattle.checkpoint_store.specs.Checkpoints.{CheckpointBytes, IsSoundSnapshot, IsNoCheckpoint, IsSnapshotOf}
 pub use Rattle.checkpoint_store.specs.Reopening.{IsSnapshotOfAll, IsSnapshotOfFront, IsStartOf, IsFirstBadBody, IsTrueCheckpoint, AreDecided, IsReopened, IsSnapshotRead, IsFaultOfTwo}
 unfoldable pub use Rattle.checkpoint_store.specs.Spelling.{policy_bytes, balance_bytes, position_bytes}
 pub use Rattle.checkpoint_store.specs.Spelling.{StandBehindGate, snapshot_bytes, checkpoint_header, status_byte, front_bytes}
@@ -24,7 +24,8 @@ pub use Rattle.indexmap.specs.IndexMap.{insert_entry, IndexMap, index_of, set_va
 pub use Rattle.money_ledgers.specs.Balances.{balances, HasRoom}
 pub use Rattle.outside_io.specs.Disks.{Syncs, Holds, Torn, Writes}
 pub use Rattle.outside_io.specs.declared.disks.Disk.{Ghosts}
-pub use Rattle.policy_machine.specs.Book.{judge, IsAccepted, policy_of, refusal_in, book, issue_id, kept, own, judged, judged_after, upgrade_of}
+pub use Rattle.policy_machine.specs.Book.{judge, IsAccepted, policy_of, book, issue_id, judged, judged_after, upgrade_of}
+pub use Rattle.policy_machine.proofs.Parts.{refusal_in, kept, own}
 pub use Rattle.policy_machine.specs.Rules.{IsSound, next}
 pub use Rattle.policy_types.specs.Accounts.{IsWithin, AreWithin, added, booking_of}
 pub use Rattle.policy_types.specs.Valid.{id_of, IsValid, is_upgrade}

@@ -6,7 +6,7 @@ use Rattle.policy_types.specs.declared.command.Plan.{Plan}
 use Rattle.policy_types.specs.declared.command.Plan.TheVariants.{Term, Whole, Endowment, Limited}
 use Rattle.policy_types.specs.declared.policy.Status.{Status}
 use Rattle.policy_types.specs.declared.policy.Status.TheVariants.{InForce, Lapsed, Claimed, Matured, Expired, Settled, PaidUp}
-use Rattle.record_codec.specs.Fields.{plan_byte}
+use Rattle.record_codec.specs.Spelling.{plan_byte}
 
 day_back : (day : ℤ) → FitsSigned w32 day → cast_signed w32 (from_be_bytes w32 (to_be_bytes w32 (cast_unsigned w32 day))) ≡ day
 day_back day h = ap (cast_signed w32) (from_be_bytes-to_be_bytes_4 (cast_unsigned w32 day) (omega (arith, ints))) ∙ to_z-of_z h

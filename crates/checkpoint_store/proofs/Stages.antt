@@ -1,5 +1,5 @@
 -- The stages of a store: what its disk may leave after each.
-use Rattle.checkpoint_store.proofs.Names.{◌≡◌, ◌⊎◌, ◌↔◌, inl, inr, ⊎_elim, ℕ, Bool, true, false, IsTrue, List, ◌∷◌, length, drop, get_or, refl, sym, ◌∙◌, ap, subst, arith, Result, Ok, Err, IfOk, OnOk, cases_eq, cases_lt, Syncs, Ghosts, IsSafe, Leaves, LooksOn, Passes, leaves, leaves_more, leaves_on, wider, Snapshot, CheckpointBytes, IsNoCheckpoint, IsSoundSnapshot, snapshot_bytes, StandBehindGate, AreShut, DifferInGate, IsKeptBy, IsKeptOrSavedBy, IsShut, Knows, KnowsGate, MightBeLeft, Store, StoreLeaves, GatesOn, HasOtherGate, LooksAtGate, OpensGateOn, StaysShut}
+use Rattle.checkpoint_store.proofs.Names.{◌≡◌, ◌⊎◌, ◌↔◌, inl, inr, ⊎_elim, ℕ, Bool, true, false, IsTrue, List, ◌∷◌, length, drop, get_or, refl, sym, ◌∙◌, ap, subst, arith, Result, Ok, Err, IfOk, OnOk, cases_eq, cases_lt, Syncs, Ghosts, IsSafe, Leaves, LooksOn, Passes, leaves, leaves_more, leaves_on, looked, wider, Snapshot, CheckpointBytes, IsNoCheckpoint, IsSoundSnapshot, snapshot_bytes, StandBehindGate, AreShut, DifferInGate, IsKeptBy, IsKeptOrSavedBy, IsShut, Knows, KnowsGate, MightBeLeft, Store, StoreLeaves, GatesOn, HasOtherGate, LooksAtGate, OpensGateOn, StaysShut}
 use Rattle.checkpoint_store.proofs.Behind.{alone_none, gate_first, gate_or, opened, shut_none}
 
 -- what an answer has, it has more of
@@ -136,13 +136,10 @@ module _ {D : Type 0} (g : Ghosts D) where
 
   -- a sync that is looked back on
   pub synced_looks : {T E : Type 0} (old new : D) (r : Result T E) → Syncs r (g.reads old) (g.reads new) (g.may_leave old) (g.may_leave new) → Passes g old new (g.may_leave new) → LooksOn g old new
-  synced_looks old new r syncs time = record {
-    facts = record { reads = syncs.reads; images = syncs.images };
-    time = wider g old new (g.may_leave new) (g.may_leave old) time syncs.images;
-  }
+  synced_looks old new r syncs time = looked g old new (record { reads = syncs.reads; images = syncs.images }) time
 
   pub looks_safe : (old new : D) → IsSafe g old → LooksOn g old new → IsSafe g new
-  looks_safe old new safe looks image left = safe image (looks.facts.images image left) ∙ sym looks.facts.reads
+  looks_safe old new safe looks image left = safe image (looks.images image left) ∙ sym looks.reads
 
   pub looked_at : (disk : D) (closed : Bool) → IsSafe g disk → IsTrue closed ↔ IsShut (g.reads disk) → LooksAtGate g disk closed
   looked_at disk true safe shut = record {
@@ -165,9 +162,9 @@ module _ {D : Type 0} (g : Ghosts D) where
   pub opened_earlier : (old new : D) (closed : Bool) → LooksOn g old new → LooksAtGate g new closed → g.may_leave new (g.reads new)
       → (image : List ℕ) → MightBeLeft g closed new image → IsNoCheckpoint image ⊎ g.may_leave old image
   opened_earlier old new closed looks gate now image might = elim might [
-    | inl left ↦ inr (looks.facts.images image left)
+    | inl left ↦ inr (looks.images image left)
     | inr apart ↦ elim (gate.earlier apart.0) [
       | inl none ↦ inl (subst IsNoCheckpoint (sym apart.1) none)
-      | inr same ↦ inr (looks.facts.images image (subst (λ i. g.may_leave new i) (sym (apart.1 ∙ same)) now))
+      | inr same ↦ inr (looks.images image (subst (λ i. g.may_leave new i) (sym (apart.1 ∙ same)) now))
     ]
   ]

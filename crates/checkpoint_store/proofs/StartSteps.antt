@@ -48,7 +48,7 @@ front_none bodies books of = record {
 pub not_begun : (file : List ℕ) (bodies : List (List ℕ)) (before now : ℕ) (fault : ReopenFault) → HasStoreCause before now fault → IsReopened file bodies (Err fault)
 not_begun file bodies before now (DiskFault count) cause = tt
 not_begun file bodies before now (BadRecord n) cause = absurd cause
-not_begun file bodies before now NoMemory cause = tt
+not_begun file bodies before now (NoMemory lack) cause = tt
 
 -- the records from the books' position on, where the books are those of the front
 module _ {D : Type 0} {g : Ghosts D} (journal : Journal D g) (now : D) (bodies : List (List ℕ)) (last : List ℕ) (honest : g.honest now)
@@ -96,7 +96,7 @@ module _ {D : Type 0} {g : Ghosts D} (journal : Journal D g) (now : D) (bodies :
           none = at.none;
         };
       }
-  fault_shown file replay.NoMemory begun stops = tt
+  fault_shown file (replay.NoMemory lack) begun stops = tt
 
 -- with all records of a journal decided from the first on, the books are those of its commands
 pub all_read : {D : Type 0} {g : Ghosts D} (journal : Journal D g) (now : D) (after : NumberedBooks)

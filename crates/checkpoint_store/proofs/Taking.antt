@@ -1,5 +1,6 @@
 -- The books by number after one more command.
 use Rattle.checkpoint_store.proofs.Names.{◌≡◌, nat_eq, ℕ, ◌+◌, ◌*◌, ◌<◌, ◌^◌, ◌-◌, Bool, true, false, cond, List, [], ◌∷◌, ◌++◌, length, refl, sym, ap, subst, ◌∙◌, arith, length-append, Option, None, Some, Result, Ok, Err, IfErr, IfOk, IfSome, OnOk, MatchResult, AllByRecursion, IsDistinct, lookup, eqb-true, insert_entry, HasRoom, balances, IsAccepted, judge, judged, judged_after, policy_of, refusal_in, upgrade_of, IsSound, next, AreWithin, added, booking_of, IsValid, id_of, is_upgrade, Command, Policy, NumberedBooks, AreKeyed, Entries, numbered_policies, AreBooksOf, AreSoundBooks, HasSetPolicy}
+use Rattle.memory_requests.specs.Evidence.{a_refusal}
 use Rattle.policy_machine.proofs.AcceptedLemmas.{next-own}
 use Rattle.policy_machine.proofs.BookLemmas.{IsAccepted-push, book-upgrade}
 use Rattle.policy_machine.proofs.JudgeLemmas.{accepted_upgrade, judged_none, judged_some, next-no_upgrade, upgrade_from-first, upgrade_from-other}
@@ -29,28 +30,26 @@ look_sound k (e ∷ es) sound = by_test (nat_eq k e.0) (look_sound k es sound.1)
     by_test false later = later
 
 pub has_room : (books : NumberedBooks) → AreSoundBooks books → HasRoom books.ledger
-has_room books sound = let few = sound.sound.figures.position_in in
-    AreWithin-wider (40000000000 * books.position) (2 ^ 63 - 1 - 40000000000) (balances books.ledger) (omega (arith, few)) sound.sound.figures.balances_in
+has_room books sound = let few = sound.sound.position_in in
+    AreWithin-wider (40000000000 * books.position) (2 ^ 63 - 1 - 40000000000) (balances books.ledger) (omega (arith, few)) sound.sound.balances_in
 
 pub sound_more : (old new : NumberedBooks) (command : Command) (policy : Policy) → AreSoundBooks old → HasSetPolicy old new command policy → IsSound policy
     → policy.id ≡ id_of command → IsValid command → old.position < most_commands → AreSoundBooks new
 sound_more old new command policy sound taken here number valid fewer =
     let es : Entries = old.policies.entries in
-    let figures = sound.sound.figures in
+    let figures = sound.sound in
     let keyed : AreKeyed new.policies.entries = subst AreKeyed (sym taken.entries) (insert_keyed (id_of command) policy es number sound.keyed) in
     let few = insert_few (id_of command) policy es in
     let many : length (numbered_policies new.policies.entries) ≡ length (numbered_policies (insert_entry nat_eq es (id_of command) policy)) = ap (λ (l : Entries). length (numbered_policies l)) taken.entries in
     record {
       keyed = keyed;
       sound = record {
-        figures = record {
-          position_in = omega (arith, taken.position, fewer);
-          upgrade_in = omega (arith, taken.position, taken.upgrade, figures.upgrade_in);
-          policies_in = omega (arith, many, few, taken.position, figures.policies_in);
-          balances_in = subst (λ n. AreWithin (40000000000 * n) (balances new.ledger)) (sym taken.position)
-              (subst (AreWithin (40000000000 * (old.position + 1))) (sym taken.ledger)
-              (within_added old.position (balances old.ledger) command policy valid here.issue_in.amount_in.1 figures.balances_in));
-        };
+        position_in = omega (arith, taken.position, fewer);
+        upgrade_in = omega (arith, taken.position, taken.upgrade, figures.upgrade_in);
+        policies_in = omega (arith, many, few, taken.position, figures.policies_in);
+        balances_in = subst (λ n. AreWithin (40000000000 * n) (balances new.ledger)) (sym taken.position)
+            (subst (AreWithin (40000000000 * (old.position + 1))) (sym taken.ledger)
+            (within_added old.position (balances old.ledger) command policy valid here.issue_in.amount_in.1 figures.balances_in));
         sound = subst (λ (l : Entries). AllByRecursion IsSound (numbered_policies l)) (sym taken.entries) (insert_sound (id_of command) policy es here sound.sound.sound);
         distinct = subst (IsDistinct nat_eq) (keyed_ids new.policies.entries keyed) taken.distinct;
       };
@@ -62,16 +61,14 @@ upgraded_books old = record { policies = old.policies; position = old.position +
 pub sound_upgraded : (old : NumberedBooks) → AreSoundBooks old → old.position < most_commands
     → AreSoundBooks (record { policies = old.policies; position = old.position + 1; upgrade = old.position + 1; ledger = old.ledger })
 sound_upgraded old sound fewer =
-    let figures = sound.sound.figures in
+    let figures = sound.sound in
     record {
       keyed = sound.keyed;
       sound = record {
-        figures = record {
-          position_in = omega (arith, fewer);
-          upgrade_in = omega arith;
-          policies_in = omega (arith, figures.policies_in);
-          balances_in = AreWithin-wider (40000000000 * old.position) (40000000000 * (old.position + 1)) (balances old.ledger) (omega arith) figures.balances_in;
-        };
+        position_in = omega (arith, fewer);
+        upgrade_in = omega arith;
+        policies_in = omega (arith, figures.policies_in);
+        balances_in = AreWithin-wider (40000000000 * old.position) (40000000000 * (old.position + 1)) (balances old.ledger) (omega arith) figures.balances_in;
         sound = sound.sound.sound;
         distinct = sound.sound.distinct;
       };
@@ -157,7 +154,7 @@ on_map (Ok x) P Q more has = more has
 on_map (Err e) P Q more has = tt
 
 pub kept_or : {T : Type 0} (r : Result T Unkept) (commands : List Command) (command : Command) (P : Type 0) → judge commands command ≡ None
-    → OnOk r P → IfErr r (λ why. why ≡ NoMemory)
+    → OnOk r P → IfErr r (λ why. why ≡ NoMemory a_refusal)
     → MatchResult r (λ u. P) (λ why. IsUnkept (λ before next. judge before next ≡ None) commands command why)
 kept_or (Ok x) commands command P accepted has none = has
 kept_or (Err e) commands command P accepted has none = subst (IsUnkept (λ before next. judge before next ≡ None) commands command) (sym none) accepted

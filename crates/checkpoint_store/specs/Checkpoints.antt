@@ -1,31 +1,25 @@
 -- Which bytes are a checkpoint, and of which snapshot
-use Rattle.std.specs.Prelude.{◌≡◌, nat_eq, ℕ, ◌*◌, ◌≤◌, List, length, map, slice_index}
+use Rattle.std.specs.Prelude.{◌≡◌, nat_eq, ℕ, ◌*◌, ◌≤◌, List, length, map, take, drop, slice_index}
 use Rattle.checkpoint_store.specs.Names.{AllByRecursion, IsDistinct, balances, book, upgrade_of, IsSound, AreWithin, most_commands, Command, Policy}
 use Rattle.policy_machine.specs.Accounts.{ledger_of}
 use Rattle.checkpoint_store.specs.declared.snapshot.Snapshot.{Snapshot}
-use Rattle.checkpoint_store.specs.Spelling.{snapshot_bytes, StandBehindGate}
+use Rattle.checkpoint_store.specs.Spelling.{snapshot_bytes}
 
--- the numbers of the policies
-abbrev pub policy_ids : List Policy → List ℕ
-policy_ids policies = map (λ (p : Policy). p.id) policies
-
--- There are no more policies than commands, and no balance is above 4 * 10^10 cents for each command, on either side.
-pub record HasFigures (s : Snapshot) : Type 0 where
+-- What holds of every snapshot of a journal: there are no more policies than commands, and no balance is above 4 * 10^10 cents
+-- for each command, on either side; each policy is sound, and their numbers differ.
+pub record IsSoundSnapshot (s : Snapshot) : Type 0 where
   pub position_in : s.position ≤ most_commands
   pub upgrade_in : s.upgrade ≤ s.position
   pub policies_in : length s.book ≤ s.position
   pub balances_in : AreWithin (40000000000 * s.position) (balances s.ledger)
-
--- What holds of every snapshot of a journal: its figures fit together, each policy is sound, and their numbers differ.
-pub record IsSoundSnapshot (s : Snapshot) : Type 0 where
-  pub figures : HasFigures s
   pub sound : AllByRecursion IsSound s.book
-  pub distinct : IsDistinct nat_eq (policy_ids s.book)
+  pub distinct : IsDistinct nat_eq (map (λ (p : Policy). p.id) s.book)
 
--- The file is a checkpoint, and this is its snapshot. What stands behind the last policy has no meaning.
+-- The file is a checkpoint, and this is its snapshot: its bytes stand behind an open gate. What stands behind the last policy has
+-- no meaning.
 pub record CheckpointBytes (file : List ℕ) (s : Snapshot) : Type 0 where
   pub opened : slice_index file 0 ≡ 1
-  pub spelled : StandBehindGate (snapshot_bytes s) file
+  pub spelled : take (length (snapshot_bytes s)) (drop 1 file) ≡ snapshot_bytes s
   pub sound : IsSoundSnapshot s
 
 -- the file is a checkpoint of no snapshot

@@ -21,5 +21,5 @@ pub use Rattle.policy_types.specs.declared.policy.Status.TheVariants.{Claimed, I
 pub use Rattle.posting_journal.specs.Faults.{TellsFailure, TellsFaults}
 pub use Rattle.posting_journal.specs.Runs.{IsSafe, LooksOn, Leaves, Passes}
 pub use Rattle.posting_journal.specs.States.{disk_of, StandsFor, count_of}
-pub use Rattle.record_codec.specs.Fields.{plan_byte}
+pub use Rattle.record_codec.specs.Spelling.{plan_byte}
 unfoldable pub use Rattle.record_codec.specs.Spelling.{spelling_of}

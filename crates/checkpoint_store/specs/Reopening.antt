@@ -75,7 +75,7 @@ abbrev pub IsReopened : List ℕ → List (List ℕ) → Result Snapshot ReopenF
 IsReopened file bodies (Ok s) = IsSnapshotOfAll bodies s
 IsReopened file bodies (Err (DiskFault count)) = Unit {0}
 IsReopened file bodies (Err (BadRecord n)) = IsBadFromStart file bodies n
-IsReopened file bodies (Err NoMemory) = Unit {0}
+IsReopened file bodies (Err (NoMemory lack)) = Unit {0}
 
 -- one for each record from the start on
 pub record TakesSteps (file : List ℕ) (count before now : ℕ) : Type 0 where
@@ -93,7 +93,7 @@ HasCauseOfTwo before now first_before first_now (Err (DiskFault count)) =
     IsFaultOfTwo before now first_before first_now count ⊎ IsFaultOfTwo first_before first_now before now count
 HasCauseOfTwo before now first_before first_now (Ok s) = (now ≡ before) × (first_now ≡ first_before)
 HasCauseOfTwo before now first_before first_now (Err (BadRecord n)) = (now ≡ before) × (first_now ≡ first_before)
-HasCauseOfTwo before now first_before first_now (Err NoMemory) = (now ≡ before) × (first_now ≡ first_before)
+HasCauseOfTwo before now first_before first_now (Err (NoMemory lack)) = (now ≡ before) × (first_now ≡ first_before)
 
 -- a store that was only read is what it was
 pub record KeepsAsBefore {E : Type 0} {g : Ghosts E} (old new : Store E g) : Type 0 where

@@ -1,5 +1,6 @@
 -- Worked checkpoints, computed from the definitions alone; the bytes were packed by hand from the table of the format
 use Rattle.std.specs.Prelude.{◌≡◌, ℕ, ◌++◌, List, [], ◌∷◌, map, pos, negsuc, Ok, Err}
+use Rattle.memory_requests.specs.Evidence.{a_refusal}
 use Rattle.checkpoint_store.specs.Names.{Command, Policy, Claimed, issued, Endowment, spelling_of}
 use Rattle.policy_types.specs.declared.command.Command.TheVariants.{Issue, Upgrade}
 use Rattle.checkpoint_store.specs.declared.faults.ReopenFault.TheVariants.{DiskFault, BadRecord, NoMemory}
@@ -116,4 +117,4 @@ BadByHand =
 abbrev pub FaultsOfTwo : Type 0
 FaultsOfTwo =
     HasCauseOfTwo 0 1 3 3 (Err (DiskFault 1)) × HasCauseOfTwo 0 0 3 4 (Err (DiskFault 4))
-    × (HasCauseOfTwo 0 0 3 3 (Err (DiskFault 3)) → ⊥) × (HasCauseOfTwo 0 1 3 3 (Err NoMemory) → ⊥)
+    × (HasCauseOfTwo 0 0 3 3 (Err (DiskFault 3)) → ⊥) × (HasCauseOfTwo 0 1 3 3 (Err (NoMemory a_refusal)) → ⊥)

@@ -1,5 +1,6 @@
 // The policies of a checkpoint's bytes are added to the books.
 ghost use Rattle.std.specs.Prelude.{◌≡◌, ℕ, ◌+◌, ◌*◌, ◌<◌, ◌≤◌, List, length, take, drop, IfErr, IfOk};
+ghost use Rattle.memory_requests.specs.Evidence.{a_refusal};
 ghost use Rattle.checkpoint_store.specs.declared.faults.ReopenFault.TheVariants.{NoMemory};
 ghost use Rattle.checkpoint_store.specs.declared.front.Front.{Front};
 ghost use Rattle.checkpoint_store.specs.inside.Storing.{AreBegun, AreBytesOf, AreUpTo, BegunNext, UpToNext, WasAdded};
@@ -7,12 +8,13 @@ ghost use Rattle.checkpoint_store.specs.inside.Storing.{AreBegun, AreBytesOf, Ar
 use crate::ReopenFault;
 use crate::numbered::NumberedBooks;
 use crate::parsing::policy_at;
+use memory_requests::insert;
 
 impl NumberedBooks {
     /// Adds the policies that the first bytes spell, one after the other, where each is one of a new number.
     pub(crate) fn add_all(&mut self, bytes: &[u8], many: u32) -> Result<bool, ReopenFault>
         requires { 48 * many ≤ length bytes.now }
-        ensures memory { IfErr result (λ fault. fault ≡ NoMemory) }
+        ensures memory { IfErr result (λ fault. fault ≡ NoMemory a_refusal) }
         ensures begun { (f : Front) (first : ℕ) → AreBegun f first self.old
             → IfOk result (λ added. BegunNext f (first + many) self.new added) }
         ensures next { (file : List ℕ) (f : Front) (first : ℕ) → first + many ≤ f.policies → AreBytesOf file first many bytes.now
@@ -31,7 +33,7 @@ impl NumberedBooks {
     #[tactic(auto, using(crate::proofs::InStore::up_to_one_more, crate::proofs::InStore::begun_one_more))]
     fn add_at(&mut self, bytes: &[u8], index: u32) -> Result<bool, ReopenFault>
         requires { 48 * (index + 1) ≤ length bytes.now }
-        ensures memory { IfErr result (λ fault. fault ≡ NoMemory) }
+        ensures memory { IfErr result (λ fault. fault ≡ NoMemory a_refusal) }
         ensures begun { (f : Front) (first : ℕ) → AreBegun f (first + index) self.old
             → IfOk result (λ added. BegunNext f (first + (index + 1)) self.new added) }
         ensures next { (file : List ℕ) (f : Front) (first many : ℕ) → index < many → first + many ≤ f.policies → AreBytesOf file first many bytes.now
@@ -44,16 +46,16 @@ impl NumberedBooks {
     // Adds the policy that these bytes spell, where they spell one of a new number.
     #[tactic(auto, using(crate::proofs::InStore::added_last))]
     fn add(&mut self, bytes: &[u8; 48]) -> Result<bool, ReopenFault>
-        ensures memory { IfErr result (λ fault. fault ≡ NoMemory) }
+        ensures memory { IfErr result (λ fault. fault ≡ NoMemory a_refusal) }
         ensures added { IfOk result (λ added. WasAdded bytes.now self.old self.new added) }
     {
         let Some(policy) = policy_at(bytes) else {
             return Ok(false);
         };
-        match self.policies.insert(policy.id, policy) {
+        match insert(&mut self.policies, policy.id, policy) {
             Ok(None) => Ok(true),
             Ok(Some(_)) => Ok(false),
-            Err(_) => Err(ReopenFault::NoMemory),
+            Err(lack) => Err(ReopenFault::NoMemory(lack)),
         }
     }
 }

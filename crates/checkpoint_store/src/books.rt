@@ -4,6 +4,7 @@ ghost use Rattle.checkpoint_store.specs.inside.Numbered.{as_snapshot};
 
 use crate::Snapshot;
 use crate::numbered::NumberedBooks;
+use memory_requests::copied;
 use money_ledgers::Ledger;
 use policy_types::{NoMemory, Policy, Slice};
 use std::alloc::Global;
@@ -56,7 +57,7 @@ impl Books {
     pub fn snapshot(&self, alloc: Global) -> Result<Snapshot, NoMemory>
         ensures { IfOk result (λ snapshot. snapshot ≡ self.now) }
     {
-        let book = Vec::from_slice(alloc, self.policies())?;
+        let book = copied(alloc, self.policies())?;
         Ok(Snapshot {
             position: self.books.position,
             upgrade: self.books.upgrade,

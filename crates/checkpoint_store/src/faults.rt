@@ -3,6 +3,7 @@ ghost use Rattle.std.specs.Prelude.{◌≡◌};
 ghost use Rattle.checkpoint_store.specs.inside.Reading.{as_reopen_fault};
 
 use journal_replay::ReplayFault;
+use policy_types::NoMemory;
 
 /// Why a store wasn't started: its disk failed. `count` is the disk's count of faults, which rose in the call.
 #[derive(Debug, Drop)]
@@ -17,7 +18,7 @@ pub struct StoreFault<E> {
 pub enum ReopenFault {
     DiskFault(u64),
     BadRecord(u32),
-    NoMemory,
+    NoMemory(NoMemory),
 }
 
 /// The same fault.
@@ -27,6 +28,6 @@ pub(crate) fn reopen_fault(fault: ReplayFault) -> ReopenFault
     match fault {
         ReplayFault::DiskFault(count) => ReopenFault::DiskFault(count),
         ReplayFault::BadRecord(n) => ReopenFault::BadRecord(n),
-        ReplayFault::NoMemory => ReopenFault::NoMemory,
+        ReplayFault::NoMemory(lack) => ReopenFault::NoMemory(lack),
     }
 }

@@ -1,11 +1,13 @@
 // The books by number, while records are decided anew.
 ghost use Rattle.std.specs.Prelude.{◌≡◌, ◌<◌, [], nat_eq, false, IfErr, IfOk, IfSome, OnOk};
+ghost use Rattle.memory_requests.specs.Evidence.{a_refusal};
 ghost use Rattle.checkpoint_store.specs.Names.{lookup, most_commands, IsValid, id_of, is_upgrade, judged, IsSound, index_of};
 ghost use Rattle.journal_replay.specs.declared.keeper.Unkept.TheVariants.{NoMemory};
 ghost use Rattle.checkpoint_store.specs.inside.Numbered.{AreBooksOf, AreSoundBooks, HasSetPolicy};
 
 use indexmap::IndexMap;
 use journal_replay::Unkept;
+use memory_requests::insert;
 use money_ledgers::Ledger;
 use policy_machine::judge;
 use policy_types::{Command, Policy, Refusal};
@@ -68,7 +70,7 @@ impl NumberedBooks {
         requires policy { IsSound policy }
         requires named { is_upgrade command.now ≡ false }
         ensures taken { OnOk result (HasSetPolicy self.old self.new command.now policy) }
-        ensures memory { IfErr result (λ why. why ≡ NoMemory) }
+        ensures memory { IfErr result (λ why. why ≡ NoMemory a_refusal) }
     {
         self.ledger.post(command, &policy);
         self.position += 1;
@@ -78,9 +80,9 @@ impl NumberedBooks {
                 *before = policy;
                 Ok(())
             }
-            None => match self.policies.insert(command.id(), policy) {
+            None => match insert(&mut self.policies, command.id(), policy) {
                 Ok(_) => Ok(()),
-                Err(_) => Err(Unkept::NoMemory),
+                Err(lack) => Err(Unkept::NoMemory(lack)),
             },
         }
     }

@@ -66,7 +66,7 @@ pub fn reopen<E: Disk, D: Disk, L: Ledger>(
     let books = reopen_books(alloc, store, journal, steps)?;
     match books.snapshot(alloc) {
         Ok(snapshot) => Ok(snapshot),
-        Err(_) => Err(ReopenFault::NoMemory),
+        Err(lack) => Err(ReopenFault::NoMemory(lack)),
     }
 }
 

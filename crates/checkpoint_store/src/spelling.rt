@@ -1,7 +1,7 @@
 // The bytes of a snapshot.
 ghost use Rattle.std.specs.Prelude.{◌≡◌, ◌++◌};
 ghost use Rattle.checkpoint_store.specs.Spelling.{balance_bytes, checkpoint_header, policy_bytes, position_bytes, status_byte};
-ghost use Rattle.record_codec.specs.Fields.{plan_byte};
+ghost use Rattle.record_codec.specs.Spelling.{plan_byte};
 
 use money_ledgers::Ledger;
 use policy_types::{Plan, Policy, Status};

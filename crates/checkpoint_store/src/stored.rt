@@ -9,7 +9,7 @@ use crate::front::{Front, front_at};
 use crate::numbered::NumberedBooks;
 use crate::pieces::POLICIES;
 use crate::soundness::are_within;
-use indexmap::IndexMap;
+use memory_requests::map_with_room;
 use outside_io::{Disk, Failed};
 use policy_types::{MOST_COMMANDS, MOST_REINSTATEMENT_CENTS};
 use std::alloc::Global;
@@ -83,8 +83,9 @@ fn books_behind<E: Disk>(
     ensures behind { E.honest disk.new → IfOk result (λ found. AreBooksBehind (E.reads disk.old) front found) }
 {
     let many = front.policies as usize;
-    let Ok(policies) = IndexMap::with_capacity_and_hasher(alloc, many, KeyHashing) else {
-        return Err(ReopenFault::NoMemory);
+    let policies = match map_with_room(alloc, many, KeyHashing) {
+        Ok(policies) => policies,
+        Err(lack) => return Err(ReopenFault::NoMemory(lack)),
     };
     let mut books = NumberedBooks {
         policies,

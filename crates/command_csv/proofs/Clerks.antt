@@ -1,5 +1,5 @@
 -- The lines of rows, the lanes where all are of clerk 1, and the room for valuations
-use Rattle.command_csv.proofs.Names.{◌≡◌, ℕ, zero, suc, ◌+◌, ◌≤◌, Bool, true, false, eqb, cond, List, [], ◌∷◌, length, map, refl, ap, ◌∙◌, arith, AllZip, AllByRecursion, filter, ne_eqb, Line, Post, Value, Trim, ClerkLine, by_first, IsScriptLine, IsLineRow, MayStandBehind, is_valuation, valuations_in, all_lines, lines_of, lane_of, lanes_of, lanes_up_to, most_valuations}
+use Rattle.command_csv.proofs.Names.{◌≡◌, ℕ, zero, suc, ◌+◌, ◌≤◌, ◌<◌, Bool, true, false, eqb, cond, List, [], ◌∷◌, length, map, refl, ap, ◌∙◌, arith, AllZip, AllByRecursion, filter, ne_eqb, false≢true, Line, Post, Value, Trim, ClerkLine, by_first, IsScriptLine, IsLineRow, MayStandBehind, is_valuation, valuations_in, all_lines, lines_of, lane_of, lanes_of, lanes_up_to, most_valuations}
 use Rattle.std.proofs.lemmas.List.{append-nil}
 
 pub lines_of_first : (lines : List Line) → lines_of 1 (map by_first lines) ≡ lines
@@ -22,7 +22,7 @@ pub all_right : (rows : List (List (List ℕ))) (entries : List ClerkLine) → A
 all_right [] [] h = tt
 all_right [] (entry ∷ entries) h = absurd h
 all_right (row ∷ rows) [] h = absurd h
-all_right (row ∷ rows) (entry ∷ entries) h = (h.0.allowed.right, all_right rows entries h.1)
+all_right (row ∷ rows) (entry ∷ entries) h = (h.0.0.right, all_right rows entries h.1)
 
 -- the valuations among lines
 one_first : (b : Bool) (line : Line) (others : List Line) → length (cond b (line ∷ others) others) ≡ length (cond b (line ∷ []) []) + length others
@@ -35,14 +35,14 @@ valuations-cons line lines = one_first (is_valuation line) line (filter is_valua
 -- a line that may stand behind so many valuations leaves no more than there may be
 pub room_counted : (valued : ℕ) (line : Line) → valued ≤ most_valuations → MayStandBehind valued line → valued + valuations_in (line ∷ []) ≤ most_valuations
 room_counted valued (Post c) few h = omega (arith, few)
-room_counted valued (Value on at workers) few h = omega (arith, h)
+room_counted valued (Value on at workers) few h = let room : valued < most_valuations = h refl in omega arith
 room_counted valued Trim few h = omega (arith, few)
 
 -- and where it doesn't, it may stand there
 pub room_left : (valued : ℕ) (line : Line) → valued + valuations_in (line ∷ []) ≤ most_valuations → MayStandBehind valued line
-room_left valued (Post c) few = tt
-room_left valued (Value on at workers) few = omega (arith, few)
-room_left valued Trim few = tt
+room_left valued (Post c) few = λ no. absurd (false≢true no)
+room_left valued (Value on at workers) few = λ _. omega (arith, few)
+room_left valued Trim few = λ no. absurd (false≢true no)
 
 pub room_first : (valued : ℕ) (line : Line) (lines : List Line) → valued + valuations_in (line ∷ lines) ≤ most_valuations → MayStandBehind valued line
 room_first valued line lines few = room_left valued line (omega (arith, few, valuations-cons line lines))

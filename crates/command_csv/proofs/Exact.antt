@@ -11,9 +11,9 @@ pub gives_due : (bytes : List ℕ) (given answer : Result (List Lane) ScriptFaul
     → IsScriptAnswer bytes answer → GivesScript given answer
 gives_due bytes (Ok lanes) (Ok others) right fault due = ap (λ (ls : List Lane). Ok ls) (one_reading bytes others lanes due right)
 gives_due bytes (Ok lanes) (Err (BadRow row field)) right fault due = absurd (fault_excludes bytes row field lanes due right)
-gives_due bytes (Ok lanes) (Err NoMemory) right fault due = absurd due
+gives_due bytes (Ok lanes) (Err (NoMemory lack)) right fault due = absurd due
 gives_due bytes (Err (BadRow row field)) (Ok lanes) right fault due = absurd (fault_excludes bytes row field lanes fault due)
 gives_due bytes (Err (BadRow row field)) (Err (BadRow other place)) right fault due =
     let same = one_fault bytes other row place field due fault in cc
-gives_due bytes (Err (BadRow row field)) (Err NoMemory) right fault due = absurd due
-gives_due bytes (Err NoMemory) answer right fault due = tt
+gives_due bytes (Err (BadRow row field)) (Err (NoMemory lack)) right fault due = absurd due
+gives_due bytes (Err (NoMemory lack)) answer right fault due = tt

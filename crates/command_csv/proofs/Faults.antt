@@ -18,7 +18,7 @@ no_line : (valued : ℕ) (row : List (List ℕ)) (field : ℕ) (entry : ClerkLin
 no_line valued row field entry entries bad is few =
     let none : counted valued [] ≡ valued = omega arith in
     let room : MayStandBehind valued entry.line = room_first valued entry.line (all_lines entries) few in
-    bad.bad (record { entry = entry; allowed = is.allowed; room = subst (λ (n : ℕ). MayStandBehind n entry.line) (sym none) room; same = ap (take field) is.spelled })
+    bad.bad (record { entry = entry; allowed = is.0; room = subst (λ (n : ℕ). MayStandBehind n entry.line) (sym none) room; same = ap (take field) is.1 })
 
 not_read : (valued : ℕ) (before : List (List (List ℕ))) (lines : List ClerkLine) (row : List (List ℕ)) (after : List (List (List ℕ))) (entries : List ClerkLine) (field : ℕ)
     → AllZip IsLineRow before lines → IsFirstBadField (counted valued lines) row field → AllZip IsLineRow (before ++ row ∷ after) entries → counted valued entries ≤ most_valuations → ⊥

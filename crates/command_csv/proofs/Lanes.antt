@@ -148,7 +148,7 @@ clerks_in : (rows : List (List (List ℕ))) (entries : List ClerkLine) → AllZi
 clerks_in [] [] h = tt
 clerks_in [] (entry ∷ entries) h = absurd h
 clerks_in (row ∷ rows) [] h = absurd h
-clerks_in (row ∷ rows) (entry ∷ entries) h = (h.0.allowed.clerk_in, clerks_in rows entries h.1)
+clerks_in (row ∷ rows) (entry ∷ entries) h = (h.0.0.clerk_in, clerks_in rows entries h.1)
 
 same_length : (rows : List (List (List ℕ))) (entries : List ClerkLine) → AllZip IsLineRow rows entries → length entries ≡ length rows
 same_length [] [] h = refl

@@ -12,4 +12,3 @@ pub mod Progress
 pub mod Records
 pub mod Words
 pub mod WorkedScripts
-pub mod Stopped

@@ -1,5 +1,5 @@
 -- The rows of lines, by the form of a row
-use Rattle.command_csv.proofs.Names.{◌≡◌, ◌≢◌, ℕ, suc, ◌+◌, ◌-◌, ◌≤◌, List, [], ◌∷◌, ◌++◌, length, take, drop, refl, ap, sym, ◌∙◌, subst, arith, length-append, decimal, Line, Post, Value, Trim, IsValid, LineFields, Kind, ClerkLine, command_fields, line_fields, row_fields, IsClerk, IsScriptLine, IsClerkLine, MayStandBehind, FitsUpTo, IsFirstBadField, Took, StopsIn, HoldsLine, IsNextRow, left_of, KindForm, RowForm, KindMayStandBehind, kind_spelling, form_of, FitsIn, StopsAfter}
+use Rattle.command_csv.proofs.Names.{false≢true, ◌≡◌, ◌≢◌, ℕ, suc, ◌+◌, ◌-◌, ◌≤◌, List, [], ◌∷◌, ◌++◌, length, take, drop, refl, ap, sym, ◌∙◌, subst, arith, length-append, decimal, Line, Post, Value, Trim, IsValid, LineFields, Kind, ClerkLine, command_fields, line_fields, row_fields, IsClerk, IsScriptLine, IsClerkLine, MayStandBehind, FitsUpTo, IsFirstBadField, Took, StopsIn, HoldsLine, IsNextRow, left_of, KindForm, RowForm, KindMayStandBehind, kind_spelling, form_of, FitsIn, StopsAfter}
 use Rattle.std.proofs.lemmas.List.{append-nil, length-take, take-append-le, take-take}
 use Rattle.policy_types.specs.declared.command.Command.{Command}
 use Rattle.policy_types.specs.declared.command.Command.TheVariants as command
@@ -79,7 +79,7 @@ size_at_most kind.Upgrade = omega arith
 size_at_most kind.Value = omega arith
 size_at_most kind.Trim = omega arith
 
-line_begins : (line : Line) → line_fields line ≡ kind_spelling (kind_of line) ∷ drop 1 (line_fields line)
+pub line_begins : (line : Line) → line_fields line ≡ kind_spelling (kind_of line) ∷ drop 1 (line_fields line)
 line_begins (Post c) = begins_with_word c
 line_begins (Value on at workers) = refl
 line_begins Trim = refl
@@ -118,7 +118,7 @@ has_form valued command.Upgrade h = then_is kind.Upgrade tt refl
 -- and so have those of a line that may stand where it does
 line_form : (valued : ℕ) (line : Line) → IsScriptLine line → MayStandBehind valued line → KindForm valued (line_fields line)
 line_form valued (Post c) h room = has_form valued c h
-line_form valued (Value on at workers) h room = then_is kind.Value room (then_is on h.0 (then_is at h.1 (then_is workers h.2 refl)))
+line_form valued (Value on at workers) h room = then_is kind.Value (room refl) (then_is on h.0 (then_is at h.1 (then_is workers h.2 refl)))
 line_form valued Trim h room = then_is kind.Trim tt refl
 
 row_form : (valued : ℕ) (entry : ClerkLine) → IsClerkLine entry → MayStandBehind valued entry.line → RowForm valued (row_fields entry)
@@ -132,7 +132,7 @@ record IsBehind (valued : ℕ) (fields : List (List ℕ)) : Type 0 where
   spelled : fields ≡ line_fields line
 
 posted : (valued : ℕ) (fields : List (List ℕ)) (c : Command) → IsValid c → fields ≡ command_fields c → IsBehind valued fields
-posted valued fields c h e = record { line = Post c; right = h; room = tt; spelled = e }
+posted valued fields c h e = record { line = Post c; right = h; room = λ no. absurd (false≢true no); spelled = e }
 
 -- and what has the form is the fields of a right line
 of_form : (valued : ℕ) (fields : List (List ℕ)) → KindForm valued fields → IsBehind valued fields
@@ -195,20 +195,20 @@ of_form valued fields h = by h.value h.rest h.fits h.spelled h.more
         record {
           line = Value m.value a.value w.value;
           right = (m.fits, a.fits, w.fits);
-          room = fits;
+          room = λ _. fits;
           spelled = let one = m.spelled in let two = a.spelled in let three = w.spelled in let last = w.more in cc;
         }
-    by kind.Trim rest fits e m = record { line = Trim; right = tt; room = tt; spelled = cc }
+    by kind.Trim rest fits e m = record { line = Trim; right = tt; room = λ no. absurd (false≢true no); spelled = cc }
 
 pub of_row_form : (valued : ℕ) (fields : List (List ℕ)) → RowForm valued fields → (entry : ClerkLine) × IsNextRow valued fields entry
 of_row_form valued fields h =
     let found = of_form valued h.rest h.more in (
       record { clerk = h.value; line = found.line },
       record {
-        is = record {
-          allowed = record { clerk_in = h.fits; right = found.right };
-          spelled = h.spelled ∙ ap (λ (xs : List (List ℕ)). decimal h.value ∷ xs) found.spelled;
-        };
+        is = (
+          record { clerk_in = h.fits; right = found.right },
+          h.spelled ∙ ap (λ (xs : List (List ℕ)). decimal h.value ∷ xs) found.spelled,
+        );
         room = found.room;
       },
     )
@@ -216,7 +216,7 @@ of_row_form valued fields h =
 fits_up_to : (valued : ℕ) (fields : List (List ℕ)) (n : ℕ) → FitsIn (RowForm valued) fields n → FitsUpTo valued fields n
 fits_up_to valued fields n h =
     let found = of_row_form valued h.whole h.right in
-    record { entry = found.0; allowed = found.1.is.allowed; room = found.1.room; same = h.same ∙ ap (take n) found.1.is.spelled }
+    record { entry = found.0; allowed = found.1.is.0; room = found.1.room; same = h.same ∙ ap (take n) found.1.is.1 }
 
 fits_in : (valued : ℕ) (fields : List (List ℕ)) (n : ℕ) → FitsUpTo valued fields n → FitsIn (RowForm valued) fields n
 fits_in valued fields n h = record { whole = row_fields h.entry; right = row_form valued h.entry h.allowed h.room; same = h.same }
@@ -235,9 +235,9 @@ stopped {valued} {old} {new} none h = bad_field valued (left_of old) h.fitting n
 
 -- a line stands where one of its kind may
 room_of : (valued : ℕ) (line : Line) (k : Kind) → kind_of line ≡ k → KindMayStandBehind valued k → MayStandBehind valued line
-room_of valued (Post c) k e h = tt
-room_of valued (Value on at workers) k e h = subst (KindMayStandBehind valued) (sym e) h
-room_of valued Trim k e h = tt
+room_of valued (Post c) k e h = λ no. absurd (false≢true no)
+room_of valued (Value on at workers) k e h = λ _. subst (KindMayStandBehind valued) (sym e) h
+room_of valued Trim k e h = λ no. absurd (false≢true no)
 
 holds_kind : (k : Kind) (line : Line) (old new : LineFields) → HoldsLine k old new line → kind_of line ≡ k
 holds_kind k line old new h =
@@ -259,10 +259,10 @@ pub next_row : {valued : ℕ} (k : Kind) (line : Line) (clerk : ℕ) {old mid he
 next_row {valued} k line clerk {old} {mid} {head} {new} a b h none =
     let row : List (List ℕ) = row_fields (entry_of clerk line) in
     record {
-      is = record {
-        allowed = record { clerk_in = a.fits; right = h.right };
-        spelled = whole_row valued k line clerk a b h ∙ ap (λ (xs : List (List ℕ)). row ++ xs) none ∙ append-nil row;
-      };
+      is = (
+        record { clerk_in = a.fits; right = h.right },
+        whole_row valued k line clerk a b h ∙ ap (λ (xs : List (List ℕ)). row ++ xs) none ∙ append-nil row,
+      );
       room = room_of valued line k (holds_kind k line head new h) b.fits;
     }
 

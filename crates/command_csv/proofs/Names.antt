@@ -7,18 +7,19 @@ pub use Rattle.std.proofs.lemmas.List.{take-take, map-append, length-map}
 unfoldable pub use Rattle.std.specs.Fmt.{digits}
 pub use Rattle.std.specs.List.{AllZip, filter, AllByRecursion}
 pub use Rattle.std.specs.Prelude.{decimal, IfOk, ⊤, replicate, IfErr}
-pub use Rattle.command_csv.specs.Reads.{IsLineRow, Reads, IsScriptLine, most_valuations, IsClerk, valuations_in, all_lines, lanes_of, IsFirstBadField, IsPosition, AreWorkers, MayStandBehind, is_valuation, lines_of, lanes_up_to, IsFirstScriptFault, lane_of, FitsUpTo, last_lane, AreLineRows, IsClerkLine}
+pub use Rattle.command_csv.specs.Reads.{Reads, IsScriptLine, most_valuations, valuations_in, IsFirstBadField, is_valuation, lines_of, lanes_up_to, IsFirstScriptFault, FitsUpTo, last_lane, AreLineRows, IsClerkLine}
 pub use Rattle.command_csv.specs.Rows.{rows_of}
-pub use Rattle.command_csv.specs.Spelling.{row_fields, by_first, at_text, command_fields, line_fields}
+pub use Rattle.command_csv.specs.Spelling.{row_fields, by_first, line_fields}
 pub use Rattle.command_csv.specs.declared.fields.LineFields.{LineFields}
 pub use Rattle.command_csv.specs.declared.kind.Kind.{Kind}
 pub use Rattle.command_csv.specs.declared.row.ClerkLine.{ClerkLine}
+pub use Rattle.command_csv.specs.inside.Words.{IsLineRow, IsClerk, all_lines, lanes_of, IsPosition, AreWorkers, MayStandBehind, lane_of, at_text, command_fields}
 pub use Rattle.command_csv.specs.inside.Cursor.{Took, left_of, Missed, StopsIn, IsNextRow, HoldsLine}
 pub use Rattle.command_csv.specs.inside.Forms.{Ends, kind_spelling, KindMayStandBehind, KindForm, form_of, Then, Amount, WorkersOn, PositionOn, RowForm, StopsAfter, Reinstatement, PolicyAndDay, YearsOn, AgeOn, PlanOn, FitsIn}
 unfoldable pub use Rattle.csv.proofs.OnLiterals.{csv_on_literals}
 unfoldable pub use Rattle.csv.specs.Reading.{Reached, strip_bom, records_from}
-pub use Rattle.csv.specs.Reading.{default_config, is_flexible, ReadRecord, Ready, source_of, reader_config, reader_state, reader_trim, took_first, records_next, is_bom, ExplainsRead, stops_reader}
-unfoldable pub use Rattle.life_dates.specs.Calendar.{date_of, date_at, year_of, month_of, days_before, days_before_year, days_of_months, day_number}
+pub use Rattle.csv.specs.Reading.{default_config, is_flexible, ReadRecord, Ready, source_of, reader_config, reader_state, reader_trim, took_first, records_next, is_bom}
+unfoldable pub use Rattle.life_dates.specs.Calendar.{date_of, month_of, days_before_year, days_of_months, day_number}
 pub use Rattle.life_dates.specs.Calendar.{IsDay, IsTermDay, days_in_month, is_leap_year}
 unfoldable pub use Rattle.life_dates.specs.DayText.{day_text}
 pub use Rattle.life_dates.specs.DayText.{IsDayText}

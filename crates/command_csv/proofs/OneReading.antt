@@ -18,12 +18,12 @@ chosen_at_most : (test : Bool) (x y : ℕ) → x ≤ 31 → y ≤ 31 → cond te
 chosen_at_most true x y h k = h
 chosen_at_most false x y h k = k
 
-days_at_most : (year month : ℕ) → days_in_month year month ≤ 31
+days_at_most : (year month : ℕ) → days_in_month (pos year) month ≤ 31
 days_at_most year month =
-    let february = chosen_at_most (is_leap_year year) 29 28 (lit≤ tt) (lit≤ tt) in
+    let february = chosen_at_most (is_leap_year (pos year)) 29 28 (lit≤ tt) (lit≤ tt) in
     let short : Bool = (month == 4) || (month == 6) || (month == 9) || (month == 11) in
     let other = chosen_at_most short 30 31 (lit≤ tt) (lit≤ tt) in
-    chosen_at_most (month == 2) (cond (is_leap_year year) 29 28) (cond short 30 31) february other
+    chosen_at_most (month == 2) (cond (is_leap_year (pos year)) 29 28) (cond short 30 31) february other
 
 one_day : (text : List ℕ) (a b : ℤ) → IsDay a → IsDay b → IsDayText text a → IsDayText text b → a ≡ b
 one_day text a b a_in b_in first other =
@@ -216,9 +216,9 @@ one_line a b h k e = by a b h k e (one_kind a b [] (ap (take 1) (append-nil (lin
 
 pub one_entry : (row : List (List ℕ)) (a b : ClerkLine) → IsLineRow row a → IsLineRow row b → a ≡ b
 one_entry row a b h k =
-    let whole : decimal a.clerk ∷ line_fields a.line ≡ decimal b.clerk ∷ line_fields b.line = sym h.spelled ∙ k.spelled in
-    let line : a.line ≡ b.line = one_line a.line b.line h.allowed.right k.allowed.right cc in
-    let clerk : a.clerk ≡ b.clerk = decimal_injective a.clerk b.clerk (omega (arith, h.allowed.clerk_in)) (omega (arith, k.allowed.clerk_in)) cc in
+    let whole : decimal a.clerk ∷ line_fields a.line ≡ decimal b.clerk ∷ line_fields b.line = sym h.1 ∙ k.1 in
+    let line : a.line ≡ b.line = one_line a.line b.line h.0.right k.0.right cc in
+    let clerk : a.clerk ≡ b.clerk = decimal_injective a.clerk b.clerk (omega (arith, h.0.clerk_in)) (omega (arith, k.0.clerk_in)) cc in
     let made : ℕ → Line → ClerkLine = λ n l. record { clerk = n; line = l } in
     let first : made a.clerk a.line ≡ made b.clerk b.line = cc in
     first

@@ -8,7 +8,7 @@ use Rattle.command_csv.proofs.Lines.{bad_field, entry_of}
 use Rattle.command_csv.proofs.Words.{kind_word_injective}
 
 pub row_of : (clerk : ℕ) (line : Line) → IsClerk clerk → IsScriptLine line → IsLineRow (row_fields (entry_of clerk line)) (entry_of clerk line)
-row_of clerk line clerk_in h = record { allowed = record { clerk_in = clerk_in; right = h }; spelled = refl }
+row_of clerk line clerk_in h = (record { clerk_in = clerk_in; right = h }, refl)
 
 pub row_is : (line : Line) → IsScriptLine line → IsLineRow (row_fields (by_first line)) (by_first line)
 row_is line h = row_of 1 line (lit≤ tt, lit≤ tt) h

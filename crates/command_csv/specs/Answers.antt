@@ -9,9 +9,9 @@ use Rattle.command_csv.specs.Reads.{IsFirstScriptFault, Reads}
 abbrev pub IsScriptAnswer : List ℕ → Result (List Lane) ScriptFault → Type 0
 IsScriptAnswer bytes (Ok lanes) = Reads bytes lanes
 IsScriptAnswer bytes (Err (BadRow row field)) = IsFirstScriptFault bytes row field
-IsScriptAnswer bytes (Err NoMemory) = ⊥
+IsScriptAnswer bytes (Err (NoMemory lack)) = ⊥
 
 -- what is given is this answer, unless memory was refused
 abbrev pub GivesScript : Result (List Lane) ScriptFault → Result (List Lane) ScriptFault → Type 0
-GivesScript (Err NoMemory) answer = ⊤
+GivesScript (Err (NoMemory lack)) answer = ⊤
 GivesScript result answer = answer ≡ result

@@ -7,4 +7,4 @@ use Rattle.command_csv.specs.Reads.{IsFirstScriptFault}
 -- a bad row and field are the first; want of memory is said of no bytes
 abbrev pub HasScriptCause : List ℕ → ScriptFault → Type 0
 HasScriptCause bytes (BadRow row field) = IsFirstScriptFault bytes row field
-HasScriptCause bytes NoMemory = Unit {0}
+HasScriptCause bytes (NoMemory lack) = Unit {0}

@@ -1,12 +1,13 @@
 -- What holds of the lanes of any script
 use Rattle.std.specs.Prelude.{◌≡◌, ℕ, ◌≤◌, List, length}
+use Rattle.std.specs.Int.{IsInRange}
 use Rattle.command_csv.specs.Names.{AllByRecursion, Lane}
 use Rattle.policy_types.specs.Lanes.{AreRising, lines_in, numbers_of}
-use Rattle.command_csv.specs.Reads.{IsClerk, IsScriptLine, most_valuations, valuations_in}
+use Rattle.command_csv.specs.Reads.{IsScriptLine, last_lane, most_valuations, valuations_in}
 
 -- a clerk's lane, with a line or more, each of which a script may hold
 pub record IsLane (lane : Lane) : Type 0 where
-  pub clerk_in : IsClerk lane.number
+  pub clerk_in : IsInRange 1 last_lane lane.number
   pub some : 1 ≤ length lane.lines
   pub right : AllByRecursion IsScriptLine lane.lines
 

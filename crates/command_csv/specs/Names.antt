@@ -1,6 +1,5 @@
 -- The names from elsewhere that several rooms cite, passed on from one place. Declares nothing.
 pub use Rattle.std.specs.List.{AllByRecursion, AllZip, flat_map}
-pub use Rattle.csv.specs.Reading.{Ready, is_flexible, reader_trim, ReadRecord, error_kind, stops_reader, took_first}
 pub use Rattle.csv.specs.Records.{fields_of}
 unfoldable pub use Rattle.life_dates.specs.DayText.{day_text}
 pub use Rattle.money_core.specs.CentsText.{cents_text}

@@ -1,6 +1,7 @@
 -- What a script says: its lines, lane by lane, or the first field that doesn't fit
-use Rattle.std.specs.Prelude.{◌≡◌, ℕ, zero, suc, ◌+◌, ◌-◌, ◌<◌, ◌≤◌, ◌==◌, Bool, true, false, List, [], ◌∷◌, ◌++◌, length, take, map, filter, ⊤}
-use Rattle.command_csv.specs.Names.{AllZip, At, Now, Position, Line, Post, Value, Trim, Lane, IsValid, IsCommandDay}
+use Rattle.std.specs.Prelude.{◌≡◌, ℕ, zero, suc, ◌+◌, ◌-◌, ◌<◌, ◌≤◌, ◌==◌, Bool, true, false, List, [], ◌∷◌, ◌++◌, length, take, map, filter, ⊤, IsTrue}
+use Rattle.std.specs.Int.{IsInRange}
+use Rattle.command_csv.specs.Names.{AllZip, Now, Position, Line, Post, Value, Trim, Lane, IsValid, IsCommandDay}
 use Rattle.policy_types.specs.Limits.{most_commands}
 use Rattle.command_csv.specs.declared.row.ClerkLine.{ClerkLine}
 use Rattle.command_csv.specs.Rows.{rows_of}
@@ -14,34 +15,18 @@ last_lane = 8
 abbrev pub most_valuations : ℕ
 most_valuations = 16
 
--- the number of a clerk
-abbrev pub IsClerk : ℕ → Type 0
-IsClerk clerk = (1 ≤ clerk) × (clerk ≤ last_lane)
-
--- a position of a valuation: the end of the list of accepted commands, or so many commands as it may ever hold
-abbrev pub IsPosition : At → Type 0
-IsPosition Now = ⊤
-IsPosition (Position n) = n ≤ most_commands
-
--- a number of workers
-abbrev pub AreWorkers : ℕ → Type 0
-AreWorkers workers = (1 ≤ workers) × (workers ≤ 64)
-
--- the lines that a script may hold: postings of valid commands, valuations, and trims
+-- The lines that a script may hold: postings of valid commands, valuations, and trims. The position of a valuation is the end
+-- of the list of accepted commands, or so many commands as it may ever hold; its workers are 64 at most.
 abbrev pub IsScriptLine : Line → Type 0
 IsScriptLine (Post command) = IsValid command
-IsScriptLine (Value on at workers) = IsCommandDay on × IsPosition at × AreWorkers workers
+IsScriptLine (Value on at workers) =
+    IsCommandDay on × elim at [ Now ↦ ⊤ | Position n ↦ n ≤ most_commands ] × IsInRange 1 64 workers
 IsScriptLine Trim = ⊤
 
 -- such a line of a clerk
 pub record IsClerkLine (entry : ClerkLine) : Type 0 where
-  pub clerk_in : IsClerk entry.clerk
+  pub clerk_in : IsInRange 1 last_lane entry.clerk
   pub right : IsScriptLine entry.line
-
--- the row, which is a list of fields, is the line's
-pub record IsLineRow (row : List (List ℕ)) (entry : ClerkLine) : Type 0 where
-  pub allowed : IsClerkLine entry
-  pub spelled : row ≡ row_fields entry
 
 abbrev pub is_valuation : Line → Bool
 is_valuation (Value on at workers) = true
@@ -51,50 +36,38 @@ is_valuation _ = false
 abbrev pub valuations_in : List Line → ℕ
 valuations_in lines = length (filter is_valuation lines)
 
--- the lines of all clerks, in order
-abbrev pub all_lines : List ClerkLine → List Line
-all_lines entries = map (λ (entry : ClerkLine). entry.line) entries
-
--- each row is a line's, and they hold no more valuations than they may
+-- each row, which is a list of fields, is a line's, and they hold no more valuations than they may
 pub record AreLineRows (rows : List (List (List ℕ))) (entries : List ClerkLine) : Type 0 where
-  pub each : AllZip IsLineRow rows entries
-  pub few : valuations_in (all_lines entries) ≤ most_valuations
+  pub each : AllZip (λ row (entry : ClerkLine). IsClerkLine entry × (row ≡ row_fields entry)) rows entries
+  pub few : valuations_in (map (λ (entry : ClerkLine). entry.line) entries) ≤ most_valuations
 
 -- a clerk's lines among all, in order
 abbrev pub lines_of : ℕ → List ClerkLine → List Line
-lines_of clerk entries = all_lines (filter (λ (entry : ClerkLine). entry.clerk == clerk) entries)
+lines_of clerk entries =
+    map (λ (entry : ClerkLine). entry.line) (filter (λ (entry : ClerkLine). entry.clerk == clerk) entries)
 
--- a clerk's lane; a clerk without lines has none
-abbrev pub lane_of : ℕ → List Line → List Lane
-lane_of clerk [] = []
-lane_of clerk (line ∷ lines) = record { number = clerk; lines = line ∷ lines } ∷ []
-
--- the lanes of the clerks from 1 to this one, in order
+-- the lanes of the clerks from 1 to this one, in order; a clerk without lines has none
 abbrev pub lanes_up_to : ℕ → List ClerkLine → List Lane
 lanes_up_to zero entries = []
-lanes_up_to (suc clerk) entries = lanes_up_to clerk entries ++ lane_of (suc clerk) (lines_of (suc clerk) entries)
+lanes_up_to (suc clerk) entries =
+    lanes_up_to clerk entries
+    ++ elim (lines_of (suc clerk) entries) [
+      | [] ↦ []
+      | line ∷ lines ↦ record { number = suc clerk; lines = line ∷ lines } ∷ []
+    ]
 
--- the lanes of all clerks
-abbrev pub lanes_of : List ClerkLine → List Lane
-lanes_of entries = lanes_up_to last_lane entries
-
--- the rows are these lines', and these are the lanes of the lines
+-- the rows are these lines', and these are the lanes of all clerks
 pub record Reads (bytes : List ℕ) (lanes : List Lane) : Type 0 where
   pub entries : List ClerkLine
   pub rows : AreLineRows (rows_of bytes) entries
-  pub by_clerk : lanes ≡ lanes_of entries
+  pub by_clerk : lanes ≡ lanes_up_to last_lane entries
 
--- a line may stand behind so many valuations: a further valuation only where there are less than there may be
-abbrev pub MayStandBehind : ℕ → Line → Type 0
-MayStandBehind valued (Value on at workers) = valued < most_valuations
-MayStandBehind valued _ = ⊤
-
--- The first fields, up to this place, are those of the row of some line that may stand behind so many valuations.
--- Places are counted from 1; where the fields end before the place, that line's row ends there too.
+-- The first fields, up to this place, are those of the row of some line that may stand behind so many valuations: a further
+-- one only where there are less than there may be. Places are counted from 1; where the fields end before the place, that line's row ends there too.
 pub record FitsUpTo (valued : ℕ) (fields : List (List ℕ)) (place : ℕ) : Type 0 where
   pub entry : ClerkLine
   pub allowed : IsClerkLine entry
-  pub room : MayStandBehind valued entry.line
+  pub room : IsTrue (is_valuation entry.line) → valued < most_valuations
   pub same : take place fields ≡ take place (row_fields entry)
 
 -- The first place whose field doesn't fit: some line's row has all fields before it, and no line's row has these
@@ -113,4 +86,4 @@ pub record IsFirstScriptFault (bytes : List ℕ) (row field : ℕ) : Type 0 wher
   pub number : row ≡ length before + 1
   pub entries : List ClerkLine
   pub right : AreLineRows before entries
-  pub bad : IsFirstBadField (valuations_in (all_lines entries)) faulty field
+  pub bad : IsFirstBadField (valuations_in (map (λ (entry : ClerkLine). entry.line) entries)) faulty field

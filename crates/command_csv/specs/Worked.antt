@@ -2,7 +2,8 @@
 use Rattle.std.specs.Prelude.{ℕ, List, [], ◌∷◌, ◌++◌, pos, codes, replicate}
 use Rattle.command_csv.specs.Names.{flat_map, Now, Position, Line, Post, Value, Trim, Issue, Premium, Alter, Lapse, Reinstate, Claim, Settle, Mature, PaidUp, Upgrade}
 use Rattle.policy_types.specs.declared.command.Plan.TheVariants.{Endowment}
-use Rattle.command_csv.specs.Reads.{Reads, IsFirstScriptFault, lane_of}
+use Rattle.command_csv.specs.Reads.{Reads, IsFirstScriptFault}
+use Rattle.command_csv.specs.inside.Words.{lane_of}
 
 -- the script says these lines, all of clerk 1
 abbrev pub SaysLines : List ℕ → List Line → Type 0

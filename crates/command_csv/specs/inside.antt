@@ -1,3 +1,3 @@
 pub mod Cursor
 pub mod Forms
-pub mod Starting
+pub mod Words

@@ -3,8 +3,7 @@ ghost use Rattle.std.specs.Prelude.{◌≡◌, ◌≢◌, ℕ, ℤ, ◌≤◌, �
 ghost use Rattle.command_csv.specs.Names.{fields_of, IsId, IsCommandDay, IsAmount, IsReinstatement, IsIssueAge, AreYears, APosition, day_text, cents_text, plan_word, APlan};
 ghost use Rattle.command_csv.specs.declared.kind.Kind.{Kind as AKind};
 ghost use Rattle.command_csv.specs.inside.Forms.{KindMayStandBehind, kind_spelling};
-ghost use Rattle.command_csv.specs.Reads.{AreWorkers, IsClerk, IsPosition};
-ghost use Rattle.command_csv.specs.Spelling.{at_text};
+ghost use Rattle.command_csv.specs.inside.Words.{AreWorkers, IsClerk, IsPosition, at_text};
 
 use crate::kind::{Kind, kind_of};
 use csv::ByteRecord;

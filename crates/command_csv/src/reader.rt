@@ -1,18 +1,18 @@
 // A script, read row by row.
-ghost use Rattle.std.specs.Prelude.{◌≡◌, ◌≤◌, List, Some, [], ◌∷◌, true, length, IfOk, IfErr, OnOk, Result};
-ghost use Rattle.command_csv.specs.Names.{ReadRecord, Ready, error_kind, is_flexible, reader_trim, stops_reader, took_first, fields_of, ALane};
-ghost use Rattle.csv.specs.declared.reader.Trim.TheVariants as trim;
+ghost use Rattle.std.specs.Prelude.{◌≡◌, ◌≤◌, List, [], ◌∷◌, length, IfOk, IfErr, Result};
+ghost use Rattle.memory_requests.specs.Evidence.{a_refusal};
+ghost use Rattle.command_csv.specs.Names.{ALane};
 ghost use Rattle.command_csv.specs.Answers.{GivesScript, IsScriptAnswer};
-ghost use Rattle.command_csv.specs.Reads.{AreLineRows, Reads, lanes_of, lines_of as lines_among, valuations_in};
-ghost use Rattle.command_csv.specs.Rows.{rows_of};
+ghost use Rattle.command_csv.specs.Reads.{AreLineRows, Reads, lanes_up_to, last_lane, lines_of as lines_among, valuations_in};
+ghost use Rattle.command_csv.specs.Rows.{rows_of as all_rows};
 ghost use Rattle.command_csv.specs.Cause.{HasScriptCause};
-ghost use Rattle.command_csv.specs.inside.Starting.{HasReadNothing};
 ghost use Rattle.command_csv.specs.declared.fault.ScriptFault.{ScriptFault as AFault};
 
 use crate::fault::ScriptFault;
 use crate::fields::LAST_LANE;
 use crate::row::{ClerkLine, read_row};
-use csv::{ByteRecord, Error, Reader, ReaderBuilder};
+use csv::ByteRecord;
+use memory_requests::{next_row, push, rows_of};
 use policy_types::{Lane, Line, Lines, Script};
 use std::alloc::Global;
 
@@ -42,10 +42,10 @@ fn lanes_in(alloc: Global, bytes: &[u8]) -> Result<Script, ScriptFault>
 // The lines of all rows.
 fn read_lines(alloc: Global, bytes: &[u8]) -> Result<Vec<ClerkLine>, ScriptFault>
     requires { length bytes.now ≤ 16777216 }
-    ensures ok { IfOk result (λ entries. AreLineRows (rows_of bytes.now) entries.items) }
+    ensures ok { IfOk result (λ entries. AreLineRows (all_rows bytes.now) entries.items) }
     ensures fault { IfErr result (HasScriptCause bytes.now) }
 {
-    let mut rows = reader_of(alloc, bytes)?;
+    let mut rows = rows_of(alloc, bytes)?;
     let mut row = ByteRecord::new(alloc);
     let mut entries = Vec::new(alloc);
     let mut count: u32 = 0;
@@ -55,52 +55,12 @@ fn read_lines(alloc: Global, bytes: &[u8]) -> Result<Vec<ClerkLine>, ScriptFault
         match read_row(&row, valuations) {
             Ok(entry) => {
                 valuations += valuations_of(&entry.line);
-                entries.push(entry)?;
+                push(&mut entries, entry)?;
             }
             Err(field) => return Err(ScriptFault::BadRow { row: count, field }),
         }
     }
     Ok(entries)
-}
-
-// A reader of all rows. It has a header row, which is no row of the script: else it would take the first row for one, and
-// keep it twice beside itself.
-fn reader_of(alloc: Global, bytes: &[u8]) -> Result<Reader<&[u8]>, ScriptFault>
-    ensures start { IfOk result (HasReadNothing bytes.now) }
-    ensures fault { IfErr result (λ fault. fault ≡ ScriptFault.NoMemory) }
-{
-    let mut rows = ReaderBuilder::new()
-        .flexible(true)
-        .from_reader(alloc, bytes);
-    match rows.set_byte_headers(ByteRecord::new(alloc)) {
-        Ok(()) => Ok(rows),
-        Err(_) => Err(ScriptFault::NoMemory),
-    }
-}
-
-// The next row, and whether there was one, of a reader that takes rows of any lengths.
-fn next_row(rows: &mut Reader<&[u8]>, row: &mut ByteRecord) -> Result<bool, ScriptFault>
-    requires ready { Ready rows.old }
-    requires flexible { is_flexible rows.old ≡ true }
-    ensures ready { (reader_trim rows.old ≡ trim.None) → OnOk result (took_first rows.new ≡ true) }
-    ensures reads { IfOk result (λ found. (reader_trim rows.old ≡ trim.None)
-        → ReadRecord (λ left. Some left.now) rows.old rows.new found (fields_of row.new)) }
-    ensures flexible { OnOk result (is_flexible rows.new ≡ true) }
-    ensures fault { IfErr result (λ fault. fault ≡ ScriptFault.NoMemory) }
-{
-    match rows.read_byte_record(row) {
-        Ok(found) => Ok(found),
-        Err(error) => Err(memory_of(error)),
-    }
-}
-
-// What an error of such a reader comes to. It is one of memory, or of bytes that can't be read; and bytes in memory can.
-fn memory_of(error: Error) -> ScriptFault
-    requires { stops_reader (error_kind error) ≡ true }
-    ensures { result ≡ ScriptFault.NoMemory }
-{
-    let _error = error;
-    ScriptFault::NoMemory
 }
 
 // 1 for a valuation, 0 for another line.
@@ -115,18 +75,21 @@ fn valuations_of(line: &Line) -> u32
 
 // The script of all clerks.
 fn script_of(alloc: Global, entries: &[ClerkLine]) -> Result<Script, ScriptFault>
-    ensures ok { IfOk result (λ script. script ≡ lanes_of entries.now) }
-    ensures fault { IfErr result (λ fault. fault ≡ ScriptFault.NoMemory) }
+    ensures ok { IfOk result (λ script. script ≡ lanes_up_to last_lane entries.now) }
+    ensures fault { IfErr result (λ fault. fault ≡ (ScriptFault.NoMemory a_refusal)) }
 {
     let mut lanes = Vec::new(alloc);
     for before in 0..LAST_LANE {
         let number = before + 1;
         let lines = lines_of(alloc, entries, number)?;
         if !lines.is_empty() {
-            lanes.push(Lane {
-                number,
-                lines: Lines::new(lines),
-            })?;
+            push(
+                &mut lanes,
+                Lane {
+                    number,
+                    lines: Lines::new(lines),
+                },
+            )?;
         }
     }
     Ok(Script::new(lanes))
@@ -135,12 +98,12 @@ fn script_of(alloc: Global, entries: &[ClerkLine]) -> Result<Script, ScriptFault
 // A clerk's lines.
 fn lines_of(alloc: Global, entries: &[ClerkLine], clerk: u8) -> Result<Vec<Line>, ScriptFault>
     ensures ok { IfOk result (λ lines. lines.items ≡ lines_among clerk entries.now) }
-    ensures fault { IfErr result (λ fault. fault ≡ ScriptFault.NoMemory) }
+    ensures fault { IfErr result (λ fault. fault ≡ (ScriptFault.NoMemory a_refusal)) }
 {
     let mut lines = Vec::new(alloc);
     for entry in entries {
         if entry.clerk == clerk {
-            lines.push(entry.line)?;
+            push(&mut lines, entry.line)?;
         }
     }
     Ok(lines)

@@ -1,7 +1,7 @@
 // A row, read field by field.
 ghost use Rattle.std.specs.Prelude.{◌≡◌, IfOk, IfErr, IfSome, IfNone};
 ghost use Rattle.csv.specs.Records.{fields_of};
-ghost use Rattle.command_csv.specs.Reads.{IsLineRow, IsFirstBadField};
+ghost use Rattle.command_csv.specs.Reads.{IsFirstBadField};
 ghost use Rattle.command_csv.specs.inside.Cursor.{IsNextRow, left_of};
 
 use crate::fields::LineFields;

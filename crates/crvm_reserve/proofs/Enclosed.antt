@@ -1,5 +1,5 @@
 -- The rounded premium and reserve enclose the exact ones, and lie close together.
-use Rattle.crvm_reserve.proofs.Names.{ℕ, ◌+◌, ◌-◌, ◌*◌, ◌<◌, ◌≤◌, arith, Between, over, Cover, year, death, ben, ann, term_premium, level_premium, excess, beta, reserve, Encloses, UNIT, ben_lo, ben_hi, ann_lo, ann_hi, down-le, le-up, apart, plus-between, less-between, lesser-between, over-between, times-between, scaled-between, ben-between, ann-between, ben-narrow, ann-narrow, ben_hi-most, ben_lo-most, ann_lo-most, ann_lo-least, ordered, term_lo, term_hi, level_lo, level_hi, excess_lo, excess_hi, beta_lo, beta_hi, reserve_lo, reserve_hi, amount_lo, amount_hi, IsReserved, AreClose}
+use Rattle.crvm_reserve.proofs.Names.{ℕ, ◌+◌, ◌-◌, ◌*◌, ◌<◌, ◌≤◌, arith, Between, over, Cover, year, death, ben, ann, term_premium, level_premium, excess, beta, reserve, Encloses, UNIT, ben_lo, ben_hi, ann_lo, ann_hi, down-le, le-up, apart, plus-between, less-between, lesser-between, over-between, times-between, scaled-between, ben-between, ann-between, ben-narrow, ann-narrow, ben_hi-most, ben_lo-most, ann_lo-most, ann_lo-least, ordered, term_lo, term_hi, level_lo, level_hi, excess_lo, excess_hi, beta_lo, beta_hi, reserve_lo, reserve_hi, amount_lo, amount_hi, IsReserved, AreClose, level_bound, excess_bound, beta_bound, reserve_bound}
 use Rattle.std.proofs.Math.Nat.{mul-le-mul_right, mul-le-mul_left}
 use Rattle.rate_table.specs.Rates.{ONE}
 use Rattle.present_value.proofs.Enclosing.{year_pos}
@@ -9,7 +9,7 @@ use Rattle.crvm_reserve.proofs.Renewal.{renewal-between}
 -- the term premium of the first year
 
 term-between : (c : Cover) → Between (term_lo c) (term_hi c) UNIT (term_premium c)
-unfolding term_lo term_hi term_premium
+unfolding term_premium
 term-between c = record {
   proper = year_pos c;
   above = omega (arith, down-le (death c 0 * UNIT) (year c));
@@ -17,7 +17,6 @@ term-between c = record {
 }
 
 term-narrow : (c : Cover) → term_hi c ≤ term_lo c + 1
-unfolding term_lo term_hi
 term-narrow c = omega (arith, apart (death c 0 * UNIT) (death c 0 * UNIT) (year c) 0 (year_pos c) (omega arith))
 
 -- a level premium from a year in which a premium is due
@@ -38,7 +37,7 @@ pub ann-order : (c : Cover) (t : ℕ) → IsCover c → t ≤ c.n → ann_lo c t
 ann-order c t is within = ordered (ann_lo c t) (ann_hi c t) UNIT (ann c t) (ann-between c t is.covered within)
 
 level-between : (c : Cover) (t : ℕ) → IsCover c → t < c.h → Between (level_lo c t) (level_hi c t) UNIT (over (ben c t) (ann c t))
-unfolding level_lo level_hi
+unfolding level_bound
 level-between c t is due =
     let within : t < c.n = omega (arith, is.covered) in
     let least = ann_lo-least c t within due in
@@ -46,7 +45,7 @@ level-between c t is due =
     (ann-order c t is (omega arith)) (ben-between c t (omega arith)) (ann-between c t is.covered (omega arith))
 
 level-narrow : (c : Cover) (t : ℕ) → IsCover c → t < c.h → level_hi c t ≤ level_lo c t + 264
-unfolding level_lo level_hi
+unfolding level_bound
 level-narrow c t is due =
     let within : t < c.n = omega (arith, is.covered) in
     let least = ann_lo-least c t within due in
@@ -58,7 +57,7 @@ level-narrow c t is due =
     omega arith
 
 pub level_lo-most : (c : Cover) (t : ℕ) → IsCover c → t < c.h → level_lo c t ≤ UNIT
-unfolding level_lo
+unfolding level_bound
 level_lo-most c t is due =
     let within : t < c.n = omega (arith, is.covered) in
     let least = ann_lo-least c t within due in
@@ -67,7 +66,7 @@ level_lo-most c t is due =
     omega (arith, level_most UNIT (ben_lo c t) (ann_hi c t) 1 (omega arith) (omega arith) most)
 
 pub level_hi-most : (c : Cover) (t : ℕ) → IsCover c → t < c.h → level_hi c t ≤ UNIT
-unfolding level_hi
+unfolding level_bound
 level_hi-most c t is due =
     let within : t < c.n = omega (arith, is.covered) in
     let least = ann_lo-least c t within due in
@@ -81,7 +80,7 @@ unfolding level_premium
 cap-between cap is due = level-between cap 0 is due
 
 pub excess-between : (c cap : Cover) → IsReserved c cap → Between (excess_lo c cap) (excess_hi c cap) UNIT (excess c cap)
-unfolding excess_lo excess_hi excess
+unfolding excess_bound excess
 excess-between c cap r =
     let renewal = renewal-between c (level_lo c 1) (level_hi c 1) r.renewed r.covered r.first
     (level-between c 1 (own c cap r) (omega (arith, r.renewed))) in
@@ -89,7 +88,7 @@ excess-between c cap r =
     less-between UNIT _ _ _ _ _ _ (lesser-between UNIT _ _ _ _ _ _ renewal limit) (term-between c)
 
 pub excess-narrow : (c cap : Cover) → IsReserved c cap → excess_hi c cap ≤ excess_lo c cap + 265
-unfolding excess_lo excess_hi
+unfolding excess_bound
 excess-narrow c cap r =
     let renewal = level-narrow c 1 (own c cap r) (omega (arith, r.renewed)) in
     let limit = level-narrow cap 0 (cap_cover c cap r) (omega (arith, r.cap_paid)) in
@@ -97,13 +96,13 @@ excess-narrow c cap r =
     omega arith
 
 pub excess_lo-most : (c cap : Cover) → IsReserved c cap → excess_lo c cap ≤ UNIT
-unfolding excess_lo
+unfolding excess_bound
 excess_lo-most c cap r =
     let renewal = level_lo-most c 1 (own c cap r) (omega (arith, r.renewed)) in
     omega arith
 
 pub excess_hi-most : (c cap : Cover) → IsReserved c cap → excess_hi c cap ≤ UNIT
-unfolding excess_hi
+unfolding excess_bound
 excess_hi-most c cap r =
     let renewal = level_hi-most c 1 (own c cap r) (omega (arith, r.renewed)) in
     omega arith
@@ -111,7 +110,7 @@ excess_hi-most c cap r =
 -- the modified net premium
 
 pub beta-between : (c cap : Cover) → IsReserved c cap → Between (beta_lo c cap) (beta_hi c cap) UNIT (beta c cap)
-unfolding beta_lo beta_hi beta
+unfolding beta_bound beta
 beta-between c cap r =
     let within : 0 < c.n = omega (arith, r.renewed, r.covered) in
     let least = ann_lo-least c 0 within (omega (arith, r.renewed)) in
@@ -120,7 +119,7 @@ beta-between c cap r =
     (ann-between c 0 r.covered (omega arith))
 
 pub beta-narrow : (c cap : Cover) → IsReserved c cap → beta_hi c cap ≤ beta_lo c cap + 660
-unfolding beta_lo beta_hi
+unfolding beta_bound
 beta-narrow c cap r =
     let within : 0 < c.n = omega (arith, r.renewed, r.covered) in
     let least = ann_lo-least c 0 within (omega (arith, r.renewed)) in
@@ -136,7 +135,7 @@ beta-narrow c cap r =
     omega arith
 
 pub beta_lo-most : (c cap : Cover) → IsReserved c cap → beta_lo c cap ≤ 2 * UNIT
-unfolding beta_lo
+unfolding beta_bound
 beta_lo-most c cap r =
     let within : 0 < c.n = omega (arith, r.renewed, r.covered) in
     let least = ann_lo-least c 0 within (omega (arith, r.renewed)) in
@@ -146,7 +145,7 @@ beta_lo-most c cap r =
     level_most UNIT (ben_lo c 0 + excess_lo c cap) (ann_hi c 0) 2 (omega arith) (omega arith) (omega arith)
 
 pub beta_hi-most : (c cap : Cover) → IsReserved c cap → beta_hi c cap ≤ 2 * UNIT
-unfolding beta_hi
+unfolding beta_bound
 beta_hi-most c cap r =
     let within : 0 < c.n = omega (arith, r.renewed, r.covered) in
     let least = ann_lo-least c 0 within (omega (arith, r.renewed)) in
@@ -158,13 +157,13 @@ beta_hi-most c cap r =
 
 pub reserve-between : (c cap : Cover) (t : ℕ) → IsReserved c cap → t ≤ c.n
     → Between (reserve_lo c cap t) (reserve_hi c cap t) UNIT (reserve c cap t)
-unfolding reserve_lo reserve_hi reserve
+unfolding reserve_bound reserve
 reserve-between c cap t r within =
     less-between UNIT _ _ _ _ _ _ (ben-between c t within)
     (times-between UNIT _ _ _ _ _ _ (omega arith) (beta-between c cap r) (ann-between c t r.covered within))
 
 pub reserve-narrow : (c cap : Cover) (t : ℕ) → IsReserved c cap → t ≤ c.n → reserve_hi c cap t ≤ reserve_lo c cap t + 100000
-unfolding reserve_lo reserve_hi
+unfolding reserve_bound
 reserve-narrow c cap t r within =
     let ben_near = ben-narrow c t in
     let ann_near : ann_hi c t ≤ ann_lo c t + 131 = omega (arith, ann-narrow c t, r.years) in
@@ -191,7 +190,6 @@ reserve-close c cap t r within =
 -- the cents
 pub amount-encloses : (c cap : Cover) (amount t : ℕ) → IsReserved c cap → t ≤ c.n → amount ≤ 10000000000
     → Encloses (amount_lo c cap amount t) (amount_hi c cap amount t) amount (reserve c cap t)
-unfolding amount_lo amount_hi
 amount-encloses c cap amount t r within most =
     let near = mul-le-mul_left amount (reserve-narrow c cap t r within) in
     let bound = apart (amount * reserve_hi c cap t) (amount * reserve_lo c cap t) UNIT 1 (omega arith) (omega arith) in

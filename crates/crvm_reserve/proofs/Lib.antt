@@ -1,3 +1,4 @@
+pub mod EachBound
 pub mod Names
 pub mod Narrow
 pub mod Renewal

@@ -1,5 +1,5 @@
 -- The parts of a mean reserve are those of its cover.
-use Rattle.crvm_reserve.proofs.Names.{◌≡◌, ℕ, zero, suc, ◌+◌, ◌-◌, ◌*◌, ◌<◌, ◌≤◌, refl, inl, inr, arith, Cover, AreValuesAt, ben_lo, ben_hi, UNIT, Columns, Values, ben_hi-most, ben_lo-most, reserve_lo, reserve_hi, net_lo, net_hi, double_lo, double_hi, AreMadeFor, ArePaidUpFor, IsMadeFor, premium_of}
+use Rattle.crvm_reserve.proofs.Names.{◌≡◌, ℕ, zero, suc, ◌+◌, ◌-◌, ◌*◌, ◌<◌, ◌≤◌, refl, inl, inr, arith, Cover, AreValuesAt, ben_lo, ben_hi, UNIT, Columns, Values, ben_hi-most, ben_lo-most, reserve_lo, reserve_hi, net_lo, net_hi, double_lo, double_hi, AreMadeFor, ArePaidUpFor, IsMadeFor, premium_of, net_bound}
 use Rattle.std.proofs.lemmas.Bool.Decides.{leb_tells}
 use Rattle.crvm_reserve.specs.MeanMade.{AreMeanPartsOf, ArePaidUpMeanOf}
 use Rattle.crvm_reserve.specs.declared.mean.MeanParts.{MeanParts}
@@ -8,12 +8,12 @@ use Rattle.crvm_reserve.specs.declared.premium.Premium.{Premium}
 -- the net premium by the year
 pub net_first : (c cap : Cover) (t : ℕ) (premium : Premium) → premium ≡ premium_of c cap → t ≡ 0
     → (premium.lo - premium.excess_hi ≡ net_lo c cap t) × (premium.hi - premium.excess_lo ≡ net_hi c cap t)
-unfolding net_lo net_hi
+unfolding net_bound
 net_first c cap t premium made first = rw (first, made) (refl, refl)
 
 pub net_due : (c cap : Cover) (t : ℕ) (premium : Premium) → premium ≡ premium_of c cap → 0 < t → t < c.h
     → (premium.lo ≡ net_lo c cap t) × (premium.hi ≡ net_hi c cap t)
-unfolding net_lo net_hi
+unfolding net_bound
 net_due c cap zero premium made later due = absurd (omega (arith, later))
 net_due c cap (suc t) premium made later due = elim (leb_tells (suc (suc t)) c.h) [
   | inl h ↦ rw (h.0, made) (refl, refl)
@@ -21,7 +21,7 @@ net_due c cap (suc t) premium made later due = elim (leb_tells (suc (suc t)) c.h
 ]
 
 pub net_after : (c cap : Cover) (t : ℕ) → 0 < t → c.h ≤ t → (0 ≡ net_lo c cap t) × (0 ≡ net_hi c cap t)
-unfolding net_lo net_hi
+unfolding net_bound
 net_after c cap zero later after = absurd (omega (arith, later))
 net_after c cap (suc t) later after = elim (leb_tells (suc (suc t)) c.h) [
   | inl h ↦ absurd (omega (arith, h.1))
@@ -47,12 +47,10 @@ parts_end c cap t parts are = record {
 
 pub double_lo_is : (c cap : Cover) (t start net end : ℕ) → start ≡ reserve_lo c cap t → net ≡ net_lo c cap t → end ≡ reserve_lo c cap (t + 1)
     → start + net + end ≡ double_lo c cap t
-unfolding double_lo
 double_lo_is c cap t start net end p q r = rw (p, q, r) refl
 
 pub double_hi_is : (c cap : Cover) (t start net end : ℕ) → start ≡ reserve_hi c cap t → net ≡ net_hi c cap t → end ≡ reserve_hi c cap (t + 1)
     → start + net + end ≡ double_hi c cap t
-unfolding double_hi
 double_hi_is c cap t start net end p q r = rw (p, q, r) refl
 
 -- columns have the parts of each year before the end of cover

@@ -4,16 +4,13 @@ use Rattle.std.proofs.Math.Nat.{mul-le-mul_left}
 use Rattle.present_value.specs.declared.pair.Pair.{Pair}
 
 pub paid_up_lo_is : (c : Cover) (amount t : ℕ) (values : Values) → AreValuesAt c t values → down (amount * values.ben.lo) UNIT ≡ paid_up_lo c amount t
-unfolding paid_up_lo
 paid_up_lo_is c amount t values are = ap (λ (pair : Pair). down (amount * pair.lo) UNIT) are.benefits
 
 pub paid_up_hi_is : (c : Cover) (amount t : ℕ) (values : Values) → AreValuesAt c t values → up (amount * values.ben.hi) UNIT ≡ paid_up_hi c amount t
-unfolding paid_up_hi
 paid_up_hi_is c amount t values are = ap (λ (pair : Pair). up (amount * pair.hi) UNIT) are.benefits
 
 pub paid_up-encloses : (c : Cover) (amount t : ℕ) → c.n ≤ 131 → t ≤ c.n → amount ≤ 10000000000
     → Encloses (paid_up_lo c amount t) (paid_up_hi c amount t) amount (ben c t)
-unfolding paid_up_lo paid_up_hi
 paid_up-encloses c amount t years within most =
     let close : ben_hi c t ≤ ben_lo c t + 131 = omega (arith, ben-narrow c t) in
     let near = mul-le-mul_left amount close in
@@ -25,7 +22,6 @@ paid_up-encloses c amount t years within most =
 
 -- the benefits of an amount are worth the amount at most
 pub paid_up_hi-most : (c : Cover) (amount t : ℕ) → ((k : ℕ) → k < c.n → c.rates k ≤ 1000000000) → paid_up_hi c amount t ≤ amount
-unfolding paid_up_hi
 paid_up_hi-most c amount t rates =
     up-le (amount * ben_hi c t) UNIT amount (omega arith) (mul-le-mul_left amount (ben_hi-most c t rates))
 

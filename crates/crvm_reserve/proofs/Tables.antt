@@ -1,5 +1,5 @@
 -- What a table and the columns made from it say of the covers.
-use Rattle.crvm_reserve.proofs.Names.{◌≡◌, ℕ, ◌+◌, ◌-◌, ◌*◌, ◌<◌, ◌≤◌, refl, arith, min, length, add-zero, UNIT, down, up, Cover, cover_of, cap_of, cap_shape, AreValuesAt, Columns, Values, up-le, ben_hi-most, ben_lo-most, ann_lo-least, ann_lo-most, ann_hi-most, term_lo, term_hi, level_lo, level_hi, excess_lo, excess_hi, beta_lo, beta_hi, reserve_lo, reserve_hi, amount_lo, amount_hi, CanReserve, IsReserved, ArePremiumPartsOf, IsMadeFor, AreMadeFor, premium_of}
+use Rattle.crvm_reserve.proofs.Names.{◌≡◌, ℕ, ◌+◌, ◌-◌, ◌*◌, ◌<◌, ◌≤◌, refl, arith, min, length, add-zero, UNIT, down, up, Cover, cover_of, cap_of, cap_shape, AreValuesAt, Columns, Values, up-le, ben_hi-most, ben_lo-most, ann_lo-least, ann_lo-most, ann_hi-most, term_lo, term_hi, level_lo, level_hi, excess_lo, excess_hi, beta_lo, beta_hi, reserve_lo, reserve_hi, amount_lo, amount_hi, CanReserve, IsReserved, ArePremiumPartsOf, IsMadeFor, AreMadeFor, premium_of, level_bound, excess_bound, beta_bound, reserve_bound}
 use Rattle.std.proofs.Math.Nat.{le_trans, mul-le-mul_left, mul-le-mul_right}
 use Rattle.std.proofs.lemmas.Nat.{mul-le}
 use Rattle.rate_table.specs.Rates.{Rates, ONE, AreRates, HoldsAge}
@@ -40,7 +40,6 @@ reserved table cap_table shape bp are cap_are can cap =
 pub term_is : (c cap : Cover) (parts : PremiumParts) → ArePremiumPartsOf c cap parts
     → (down (10000 * parts.rate * UNIT) (ONE * (10000 + parts.bp)) ≡ term_lo c)
     × (up (10000 * parts.rate * UNIT) (ONE * (10000 + parts.bp)) ≡ term_hi c)
-unfolding term_lo term_hi
 term_is c cap parts are = rw (are.rate, are.interest) (refl, refl)
 
 -- what a quotient of a year's values asks, where a premium is due
@@ -65,12 +64,12 @@ due_at c values t is are paid =
 -- a quotient of a year's values is the rounded level premium
 pub level_lo_is : (c : Cover) (values : Values) (t : ℕ) → AreValuesAt c t values
     → down (values.ben.lo * UNIT) values.ann.hi ≡ level_lo c t
-unfolding level_lo
+unfolding level_bound
 level_lo_is c values t are = rw (are.benefits, are.premiums) refl
 
 pub level_hi_is : (c : Cover) (values : Values) (t : ℕ) → AreValuesAt c t values
     → up (values.ben.hi * UNIT) values.ann.lo ≡ level_hi c t
-unfolding level_hi
+unfolding level_bound
 level_hi_is c values t are = rw (are.benefits, are.premiums) refl
 
 -- what the parts of a premium ask, at issue, a year later and of the cap
@@ -86,22 +85,22 @@ limit_due c cap parts are = due_at cap parts.limit 0 (cap_cover c cap are.reserv
 -- the parts of the rounded premium
 pub excess_lo_is : (c cap : Cover) (renewal limit term : ℕ) → renewal ≡ level_lo c 1 → limit ≡ level_lo cap 0 → term ≡ term_hi c
     → min renewal limit - term ≡ excess_lo c cap
-unfolding excess_lo
+unfolding excess_bound
 excess_lo_is c cap renewal limit term p q r = rw (p, q, r) refl
 
 pub excess_hi_is : (c cap : Cover) (renewal limit term : ℕ) → renewal ≡ level_hi c 1 → limit ≡ level_hi cap 0 → term ≡ term_lo c
     → min renewal limit - term ≡ excess_hi c cap
-unfolding excess_hi
+unfolding excess_bound
 excess_hi_is c cap renewal limit term p q r = rw (p, q, r) refl
 
 pub beta_lo_is : (c cap : Cover) (values : Values) (more : ℕ) → AreValuesAt c 0 values → more ≡ excess_lo c cap
     → down ((values.ben.lo + more) * UNIT) values.ann.hi ≡ beta_lo c cap
-unfolding beta_lo
+unfolding beta_bound
 beta_lo_is c cap values more are p = rw (are.benefits, are.premiums, p) refl
 
 pub beta_hi_is : (c cap : Cover) (values : Values) (more : ℕ) → AreValuesAt c 0 values → more ≡ excess_hi c cap
     → up ((values.ben.hi + more) * UNIT) values.ann.lo ≡ beta_hi c cap
-unfolding beta_hi
+unfolding beta_bound
 beta_hi_is c cap values more are p = rw (are.benefits, are.premiums, p) refl
 
 -- a premium from its four parts
@@ -141,12 +140,12 @@ small c cap t values premium made =
 -- the rounded reserve from the values and the premium
 pub reserve_lo_is : (c cap : Cover) (t : ℕ) (values : Values) (premium : Premium) → IsMadeFor c cap t values premium
     → values.ben.lo - up (premium.hi * values.ann.hi) UNIT ≡ reserve_lo c cap t
-unfolding reserve_lo
+unfolding reserve_bound
 reserve_lo_is c cap t values premium made = rw (made.values_are.benefits, made.values_are.premiums, made.premium_is) refl
 
 pub reserve_hi_is : (c cap : Cover) (t : ℕ) (values : Values) (premium : Premium) → IsMadeFor c cap t values premium
     → values.ben.hi - down (premium.lo * values.ann.lo) UNIT ≡ reserve_hi c cap t
-unfolding reserve_hi
+unfolding reserve_bound
 reserve_hi_is c cap t values premium made = rw (made.values_are.benefits, made.values_are.premiums, made.premium_is) refl
 
 -- what was made by columns was made by their values at a year
@@ -161,23 +160,20 @@ made_at c cap columns premium t values made within are = record {
 
 -- the reserve per unit is at most 1
 pub reserve_hi-most : (c cap : Cover) (t : ℕ) → IsReserved c cap → reserve_hi c cap t ≤ UNIT
-unfolding reserve_hi
+unfolding reserve_bound
 reserve_hi-most c cap t is = omega (arith, ben_hi-most c t is.rates)
 
 pub reserve_lo-most : (c cap : Cover) (t : ℕ) → IsReserved c cap → t ≤ c.n → reserve_lo c cap t ≤ UNIT
-unfolding reserve_lo
+unfolding reserve_bound
 reserve_lo-most c cap t is within = omega (arith, ben_lo-most c t within is.rates)
 
 pub amount_lo_is : (c cap : Cover) (amount t unit : ℕ) → unit ≡ reserve_lo c cap t → down (amount * unit) UNIT ≡ amount_lo c cap amount t
-unfolding amount_lo
 amount_lo_is c cap amount t unit p = rw p refl
 
 pub amount_hi_is : (c cap : Cover) (amount t unit : ℕ) → unit ≡ reserve_hi c cap t → up (amount * unit) UNIT ≡ amount_hi c cap amount t
-unfolding amount_hi
 amount_hi_is c cap amount t unit p = rw p refl
 
 -- the reserve of an amount is at most the amount
 pub amount_hi-most : (c cap : Cover) (amount t : ℕ) → IsReserved c cap → amount_hi c cap amount t ≤ amount
-unfolding amount_hi
 amount_hi-most c cap amount t is =
     up-le (amount * reserve_hi c cap t) UNIT amount (omega arith) (mul-le-mul_left amount (reserve_hi-most c cap t is))

@@ -1,9 +1,9 @@
 use Rattle.std.specs.Prelude.{◌≡◌, ℕ, ◌+◌, ◌*◌, ◌<◌, ◌≤◌}
-use Rattle.crvm_reserve.specs.Names.{Rates, ONE, rate_at, Fraction, Between, Cover, UNIT, AreValuesAt, CanValue, AreColumns, Values}
+use Rattle.crvm_reserve.specs.Names.{Rates, ONE, rate_at, Fraction, Between, Cover, UNIT, down, up, AreValuesAt, CanValue, AreColumns, Values}
 use Rattle.rate_table.specs.declared.shape.Shape.{Shape}
 use Rattle.present_value.specs.declared.pair.Columns.{Columns}
 use Rattle.present_value.specs.declared.pair.Pair.{Pair}
-use Rattle.crvm_reserve.specs.Rounded.{excess_lo, excess_hi, beta_lo, beta_hi, reserve_lo, reserve_hi}
+use Rattle.crvm_reserve.specs.Rounded.{excess_bound, beta_bound, reserve_bound}
 use Rattle.crvm_reserve.specs.declared.premium.Premium.{Premium}
 use Rattle.crvm_reserve.specs.declared.premium.PremiumParts.{PremiumParts}
 
@@ -29,10 +29,10 @@ pub record IsReserved (c cap : Cover) : Type 0 where
 -- the premium is that of a cover and its cap, rounded, beside the excess that it rests on
 abbrev pub premium_of : Cover → Cover → Premium
 premium_of c cap = record {
-  lo = beta_lo c cap;
-  hi = beta_hi c cap;
-  excess_lo = excess_lo c cap;
-  excess_hi = excess_hi c cap;
+  lo = beta_bound down up c cap;
+  hi = beta_bound up down c cap;
+  excess_lo = excess_bound down up c cap;
+  excess_hi = excess_bound up down c cap;
 }
 
 -- the parts are those of a cover and its cap: the values at issue and a year later, and at issue of the cap
@@ -67,8 +67,8 @@ pub record IsMadeAt (values : Values) (premium : Premium) : Type 0 where
 pub record IsUnitFor (c cap : Cover) (t : ℕ) (unit : Pair) : Type 0 where
   pub reserved : IsReserved c cap
   pub within : t ≤ c.n
-  pub lo : unit.lo ≡ reserve_lo c cap t
-  pub hi : unit.hi ≡ reserve_hi c cap t
+  pub lo : unit.lo ≡ reserve_bound down up c cap t
+  pub hi : unit.hi ≡ reserve_bound up down c cap t
 
 pub record IsUnitAt (unit : Pair) : Type 0 where
   pub cover : Cover

@@ -4,7 +4,7 @@ pub use Rattle.present_value.specs.Fractions.{Between, Fraction}
 unfoldable pub use Rattle.present_value.specs.Mean.{mean_reserve, net_premium, paid_up_mean}
 unfoldable pub use Rattle.present_value.specs.Premium.{beta}
 pub use Rattle.present_value.specs.Premium.{cap_of, cap_shape}
-unfoldable pub use Rattle.present_value.specs.Recursion.{ben_lo, ben_hi, ann_lo, ann_hi}
+unfoldable pub use Rattle.present_value.specs.Recursion.{ben_bound, ann_bound}
 unfoldable pub use Rattle.present_value.specs.Reserve.{reserve}
 pub use Rattle.present_value.specs.Reserve.{Encloses}
 pub use Rattle.present_value.specs.Rounding.{UNIT, down, up}

@@ -1,6 +1,6 @@
 ghost use Rattle.std.specs.Prelude.{◌≡◌, ◌+◌, ◌*◌, ◌-◌, ◌<◌, ◌≤◌, ℕ};
-ghost use Rattle.crvm_reserve.specs.Names.{reserve, Encloses, UNIT, Cover};
-ghost use Rattle.crvm_reserve.specs.Rounded.{reserve_lo, reserve_hi, rounded};
+ghost use Rattle.crvm_reserve.specs.Names.{reserve, Encloses, UNIT, down, up, Cover};
+ghost use Rattle.crvm_reserve.specs.Rounded.{reserve_bound, rounded};
 ghost use Rattle.crvm_reserve.specs.Made.{AreMade, AreMadeFor, AreClose, IsMadeAt, IsMadeFor, IsUnitAt, IsUnitFor};
 
 use crate::premium::Premium;
@@ -18,7 +18,7 @@ pub fn reserve_bounds(columns: &Columns, premium: &Premium, amount: u64, t: u8) 
         → Encloses result.0 result.1 amount (reserve c cap t) }
     ensures most { result.1 ≤ amount }
     ensures close { (c cap : Cover) → AreMadeFor c cap columns.now premium.now
-        → AreClose (reserve_lo c cap t) (reserve_hi c cap t) (reserve c cap t) }
+        → AreClose (reserve_bound down up c cap t) (reserve_bound up down c cap t) (reserve c cap t) }
 {
     bounds_by(&columns.at(t), premium, amount)
 }
@@ -34,7 +34,7 @@ pub fn bounds_by(values: &Values, premium: &Premium, amount: u64) -> (u64, u64)
         → Encloses result.0 result.1 amount (reserve c cap t) }
     ensures most { result.1 ≤ amount }
     ensures close { (c cap : Cover) → (t : ℕ) → IsMadeFor c cap t values.now premium.now
-        → AreClose (reserve_lo c cap t) (reserve_hi c cap t) (reserve c cap t) }
+        → AreClose (reserve_bound down up c cap t) (reserve_bound up down c cap t) (reserve c cap t) }
 {
     bounds_by_unit(unit_reserve(values, premium), amount)
 }
@@ -54,8 +54,8 @@ pub fn bounds_by_unit(unit: Pair, amount: u64) -> (u64, u64)
 /// The reserve per unit of amount, in units of 10^-16.
 pub fn unit_reserve(values: &Values, premium: &Premium) -> Pair
     requires made { IsMadeAt values.now premium.now }
-    ensures lo { (c cap : Cover) → (t : ℕ) → IsMadeFor c cap t values.now premium.now → result.lo ≡ reserve_lo c cap t }
-    ensures hi { (c cap : Cover) → (t : ℕ) → IsMadeFor c cap t values.now premium.now → result.hi ≡ reserve_hi c cap t }
+    ensures lo { (c cap : Cover) → (t : ℕ) → IsMadeFor c cap t values.now premium.now → result.lo ≡ reserve_bound down up c cap t }
+    ensures hi { (c cap : Cover) → (t : ℕ) → IsMadeFor c cap t values.now premium.now → result.hi ≡ reserve_bound up down c cap t }
     ensures unit { (c cap : Cover) → (t : ℕ) → IsMadeFor c cap t values.now premium.now → IsUnitFor c cap t result }
     ensures small_lo { result.lo ≤ UNIT }
     ensures small_hi { result.hi ≤ UNIT }

@@ -1,8 +1,9 @@
-ghost use Rattle.std.specs.Prelude.{◌≡◌, ◌*◌, ◌<◌, ◌≤◌, ℕ};
+ghost use Rattle.std.specs.Prelude.{◌≡◌, ◌+◌, ◌*◌, ◌<◌, ◌≤◌, ℕ};
 ghost use Rattle.crvm_reserve.specs.Names.{UNIT, down, up, Encloses, Cover, mean_reserve, net_premium};
 ghost use Rattle.crvm_reserve.specs.Made.{AreClose, AreMade, AreMadeFor, premium_of};
 ghost use Rattle.crvm_reserve.specs.MeanMade.{AreMeanParts, AreMeanPartsOf};
-ghost use Rattle.crvm_reserve.specs.RoundedMean.{net_lo, net_hi, double_lo, double_hi, rounded_mean};
+ghost use Rattle.crvm_reserve.specs.Rounded.{reserve_bound};
+ghost use Rattle.crvm_reserve.specs.RoundedMean.{net_bound, rounded_mean};
 
 use crate::bounds::{reserve_bounds, unit_reserve};
 use crate::premium::Premium;
@@ -35,7 +36,7 @@ pub fn mean_bounds(columns: &Columns, premium: &Premium, amount: u64, t: u8) -> 
         → Encloses result.0 result.1 amount (mean_reserve c cap t) }
     ensures most { result.1 ≤ 2 * amount }
     ensures close { (c cap : Cover) → AreMadeFor c cap columns.now premium.now
-        → AreClose (net_lo c cap t) (net_hi c cap t) (net_premium c cap t) }
+        → AreClose (net_bound down up c cap t) (net_bound up down c cap t) (net_premium c cap t) }
 {
     if t == columns.n {
         return reserve_bounds(columns, premium, amount, t);
@@ -70,8 +71,8 @@ pub fn mean_by(parts: MeanParts, amount: u64) -> (u64, u64)
 /// units of 10^-16.
 fn double_mean(parts: &MeanParts) -> Pair
     requires { AreMeanParts parts.now }
-    ensures lo { (c cap : Cover) → (t : ℕ) → AreMeanPartsOf c cap t parts.now → result.lo ≡ double_lo c cap t }
-    ensures hi { (c cap : Cover) → (t : ℕ) → AreMeanPartsOf c cap t parts.now → result.hi ≡ double_hi c cap t }
+    ensures lo { (c cap : Cover) → (t : ℕ) → AreMeanPartsOf c cap t parts.now → result.lo ≡ reserve_bound down up c cap t + net_bound down up c cap t + reserve_bound down up c cap (t + 1) }
+    ensures hi { (c cap : Cover) → (t : ℕ) → AreMeanPartsOf c cap t parts.now → result.hi ≡ reserve_bound up down c cap t + net_bound up down c cap t + reserve_bound up down c cap (t + 1) }
     ensures small_lo { result.lo ≤ 4 * UNIT }
     ensures small_hi { result.hi ≤ 4 * UNIT }
 {
@@ -88,8 +89,8 @@ fn double_mean(parts: &MeanParts) -> Pair
 fn net_premium_of(premium: &Premium, t: u8, h: u8) -> Pair
     requires lo { premium.now.lo ≤ 2 * UNIT }
     requires hi { premium.now.hi ≤ 2 * UNIT }
-    ensures lo { (c cap : Cover) → premium.now ≡ premium_of c cap → h ≡ c.h → result.lo ≡ net_lo c cap t }
-    ensures hi { (c cap : Cover) → premium.now ≡ premium_of c cap → h ≡ c.h → result.hi ≡ net_hi c cap t }
+    ensures lo { (c cap : Cover) → premium.now ≡ premium_of c cap → h ≡ c.h → result.lo ≡ net_bound down up c cap t }
+    ensures hi { (c cap : Cover) → premium.now ≡ premium_of c cap → h ≡ c.h → result.hi ≡ net_bound up down c cap t }
     ensures small_lo { result.lo ≤ 2 * UNIT }
     ensures small_hi { result.hi ≤ 2 * UNIT }
 {

@@ -1,6 +1,6 @@
 ghost use Rattle.std.specs.Prelude.{◌≡◌, ◌+◌, ◌*◌, ◌-◌, ◌<◌, ◌≤◌, min};
 ghost use Rattle.crvm_reserve.specs.Names.{ONE, Between, UNIT, down, up, Cover, beta};
-ghost use Rattle.crvm_reserve.specs.Rounded.{excess_lo, excess_hi};
+ghost use Rattle.crvm_reserve.specs.Rounded.{excess_bound};
 ghost use Rattle.crvm_reserve.specs.Made.{ArePremiumParts, ArePremiumPartsOf, premium_of};
 
 use present_value::{Pair, UNITS_IN_ONE, Values, quotient_down, quotient_up};
@@ -56,8 +56,8 @@ pub fn premium_by(parts: PremiumParts) -> Premium
 /// The level premium after the first year, at most that of the cap, less the first year's term premium.
 fn excess_premium(parts: PremiumParts) -> Pair
     requires { ArePremiumParts parts }
-    ensures lo { (c cap : Cover) → ArePremiumPartsOf c cap parts → result.lo ≡ excess_lo c cap }
-    ensures hi { (c cap : Cover) → ArePremiumPartsOf c cap parts → result.hi ≡ excess_hi c cap }
+    ensures lo { (c cap : Cover) → ArePremiumPartsOf c cap parts → result.lo ≡ excess_bound down up c cap }
+    ensures hi { (c cap : Cover) → ArePremiumPartsOf c cap parts → result.hi ≡ excess_bound up down c cap }
 {
     let first = first_year_premium(parts.rate, parts.bp);
     let cap = level_premium(parts.limit.ben, parts.limit.ann);

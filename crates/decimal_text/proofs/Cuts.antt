@@ -2,6 +2,8 @@
 use Rattle.decimal_text.proofs.Names.{◌≡◌, ℕ, suc, ◌+◌, Bool, true, false, cond, List, [], ◌∷◌, ◌++◌, take, drop, refl, sym, ap, ◌∙◌, subst, arith, is_ascii_digit, IsAsciiDigit, nat_tests, AreDigits}
 use Rattle.std.specs.List.{prefix_len}
 use Rattle.std.proofs.lemmas.List.{append-nil}
+use Rattle.std.proofs.lemmas.Str.Parse.{digit_from_value}
+use Rattle.decimal_text.proofs.Numbers.{digit_below}
 use Rattle.decimal_text.specs.inside.Splits.{SplitsDigits, StopsDigits}
 
 is_digit : (x : ℕ) → is_ascii_digit x ≡ true → IsAsciiDigit x
@@ -15,7 +17,7 @@ step : (x : ℕ) (text : List ℕ) (n : ℕ) (b : Bool) → is_ascii_digit x ≡
     → (m : ℕ) → m ≡ cond b (1 + n) 0
     → SplitsDigits (x ∷ text) (take m (x ∷ text)) (drop m (x ∷ text))
 step x text n true e s m h =
-    let more : SplitsDigits (x ∷ text) (x ∷ take n text) (drop n text) = record { joined = ap (λ t. x ∷ t) s.joined; are_digits = (is_digit x e, s.are_digits); stops = s.stops } in
+    let more : SplitsDigits (x ∷ text) (x ∷ take n text) (drop n text) = record { joined = ap (λ t. x ∷ t) s.joined; are_digits = (digit_below x (is_digit x e), s.are_digits); stops = s.stops } in
     let same : m ≡ suc n = omega arith in
     rw same more
 step x text n false e s m h = rw h (record { joined = refl; are_digits = tt; stops = no_digit x e })
@@ -27,8 +29,8 @@ cut_at_prefix (x ∷ text) = step x text (prefix_len is_ascii_digit text) (is_as
 -- the digits at the front are those of each other such cut
 pub fronts : (d r e s : List ℕ) → AreDigits d → StopsDigits r → AreDigits e → StopsDigits s → d ++ r ≡ e ++ s → (d ≡ e) × (r ≡ s)
 fronts [] r [] s dd rr ee ss same = (refl, same)
-fronts [] r (y ∷ e) s dd rr ee ss same = absurd ((subst StopsDigits same rr) ee.0)
-fronts (x ∷ d) r [] s dd rr ee ss same = absurd ((subst StopsDigits (sym same) ss) dd.0)
+fronts [] r (y ∷ e) s dd rr ee ss same = absurd ((subst StopsDigits same rr) (digit_from_value y ee.0))
+fronts (x ∷ d) r [] s dd rr ee ss same = absurd ((subst StopsDigits (sym same) ss) (digit_from_value x dd.0))
 fronts (x ∷ d) r (y ∷ e) s dd rr ee ss same =
     let heads : x ≡ y = cc in
     let tails : d ++ r ≡ e ++ s = cc in

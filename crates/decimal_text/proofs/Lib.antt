@@ -1,4 +1,5 @@
 pub mod Names
+pub mod Words
 pub mod Numbers
 pub mod Cuts
 pub mod Readings

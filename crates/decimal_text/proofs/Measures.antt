@@ -2,7 +2,8 @@
 use Rattle.decimal_text.proofs.Names.{◌≡◌, ℕ, ◌+◌, ◌-◌, ◌*◌, ◌^◌, ◌<◌, ◌≤◌, inl, inr, List, ◌++◌, length, take, drop, refl, sym, ap, ◌∙◌, arith, length-append, take-append-drop, take_all, drop_all, length-drop, cases_lt, number, AreDigits}
 use Rattle.std.proofs.lemmas.Nat.{pow-add}
 use Rattle.std.proofs.Math.Nat.{mul-le-mul_left, mul-le-mul_right, mul-lt-mul_of_pos_right, mul-pos, one-le-pow, mul-one, mul_assoc}
-use Rattle.decimal_text.proofs.Numbers.{number-append, number-lt, AreDigits-append, AreDigits-drop}
+use Rattle.std.proofs.lemmas.Int.Digits.{digits_value-lt}
+use Rattle.decimal_text.proofs.Numbers.{number-append, AreDigits-append, AreDigits-drop}
 
 -- so many whole units and a rest, which is 0 exactly where no digit but 0 stands below the units
 pub record Measures (top bottom units below : ℕ) : Type 0 where
@@ -73,7 +74,7 @@ measured_units s w f raised lowered places digits long some e =
           let k : length (drop places s) ≡ length s - places = length-drop places s in
           let none : (0 < f + lowered - (length (drop places s) + (9 + raised))) → number (take places s) ≡ 0 = λ far. none_taken places s (omega arith) in
           let cut = measured_cut (number (take places s)) (number (drop places s)) (length (drop places s)) raised (f + lowered) (f + lowered - (length (drop places s) + (9 + raised)))
-          (number-lt (drop places s) (AreDigits-drop places s digits)) (omega arith) none in
+          (digits_value-lt 10 (drop places s) (AreDigits-drop places s digits)) (omega arith) none in
           let over : places - length s ≡ 0 = omega arith in
           rw (over, mul-one (number (take places s))) (rw (cut_number places s) at cut)
       | inr past ↦

@@ -1,6 +1,7 @@
 -- A text spells one decimal at most, the one whose parts the cuts give.
 use Rattle.decimal_text.proofs.Names.{◌≡◌, ℕ, ◌+◌, ◌<◌, ◌≤◌, ◌⊎◌, inl, inr, List, [], ◌∷◌, ◌++◌, length, drop, Option, Some, None, IfNone, refl, sym, ap, ◌∙◌, subst, arith, append_assoc, is_ascii_digit, cases_eq, AreDigits, number, Decimal, IsSigned, IsExponent, Spells, point, plus_sign, minus}
 use Rattle.std.specs.List.{prefix_len}
+use Rattle.std.proofs.lemmas.Str.Parse.{digit_from_value}
 use Rattle.decimal_text.specs.inside.Splits.{SplitsDigits, SplitsFraction, StopsDigits}
 use Rattle.decimal_text.proofs.Cuts.{cut_at_prefix, fronts, one_cut}
 
@@ -102,7 +103,7 @@ cut_fraction (byte ∷ rest) =
 
 no_sign : (digits others : List ℕ) (sign : ℕ) → AreDigits digits → digits ≡ sign ∷ others → sign < 48 → ⊥
 no_sign [] others sign h e low = cc
-no_sign (x ∷ digits) others sign h e low = let same : x ≡ sign = cc in omega (arith, h.0)
+no_sign (x ∷ digits) others sign h e low = let same : x ≡ sign = cc in omega (arith, (digit_from_value x h.0).0)
 
 -- the digits behind a sign or none, read two ways
 unsigned : (text digits others : List ℕ) → AreDigits digits → AreDigits others → (text ≡ digits) ⊎ (text ≡ plus_sign ∷ digits) → (text ≡ others) ⊎ (text ≡ plus_sign ∷ others) → digits ≡ others
@@ -118,13 +119,13 @@ no_minus text digits others h a q =
 
 signed_power : (text : List ℕ) (raised lowered raised' lowered' : ℕ) → IsSigned text raised lowered → IsSigned text raised' lowered' → (raised ≡ raised') × (lowered ≡ lowered')
 signed_power text raised lowered raised' lowered' h k =
-    elim h.2 [
-      | inl a ↦ elim k.2 [
-        | inl b ↦ (a.1 ∙ ap number (unsigned text h.0 k.0 h.1.0 k.1.0 a.0 b.0) ∙ sym b.1, a.2 ∙ sym b.2)
-        | inr b ↦ absurd (no_minus text h.0 k.0 h.1.0 a.0 b.0)
+    elim h.3 [
+      | inl a ↦ elim k.3 [
+        | inl b ↦ (a.1 ∙ ap number (unsigned text h.0 k.0 h.1.1 k.1.1 a.0 b.0) ∙ sym b.1, a.2 ∙ sym b.2)
+        | inr b ↦ absurd (no_minus text h.0 k.0 h.1.1 a.0 b.0)
       ]
-      | inr a ↦ elim k.2 [
-        | inl b ↦ absurd (no_minus text k.0 h.0 k.1.0 b.0 a.0)
+      | inr a ↦ elim k.3 [
+        | inl b ↦ absurd (no_minus text k.0 h.0 k.1.1 b.0 a.0)
         | inr b ↦ let same : h.0 ≡ k.0 = cc in (a.1 ∙ sym b.1, a.2 ∙ ap number same ∙ sym b.2)
       ]
     ]

@@ -46,4 +46,4 @@ exact_units d total is_exact t h e =
 
 pub few_units : (d : Decimal) (total : ℕ) (is_exact : Bool) → Totals d total is_exact → total < 1000000000 → is_exact ≡ false → IsTooFine d
 few_units d total is_exact t h e =
-    (at_most_one _ _ t.units t.below t.measures (omega (arith, t.total_is)), no_multiple _ _ t.units t.below t.measures (positive is_exact t.below t.exact_is e))
+    (λ above. omega (arith, above, at_most_one _ _ t.units t.below t.measures (omega (arith, t.total_is))), no_multiple _ _ t.units t.below t.measures (positive is_exact t.below t.exact_is e))

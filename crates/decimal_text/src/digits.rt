@@ -1,7 +1,7 @@
 ghost use Rattle.std.specs.Prelude.{◌≡◌, ◌<◌, ◌≤◌, length};
 ghost use Rattle.std.specs.Char.{is_ascii_digit};
 ghost use Rattle.std.specs.List.{prefix_len};
-ghost use Rattle.decimal_text.specs.Decimal.{AreDigits, number};
+ghost use Rattle.std.specs.Str.Parse.{AllDigits, digits_value};
 ghost use Rattle.decimal_text.specs.inside.Splits.{SplitsDigits};
 
 /// How many digits a text begins with.
@@ -20,9 +20,9 @@ pub fn split_digits(text: &[u8]) -> (&[u8], &[u8])
 
 /// The whole number that at most three digits write.
 pub fn short_number(digits: &[u8]) -> usize
-    requires digits { AreDigits digits.now }
+    requires digits { AllDigits 10 digits.now }
     requires short { length digits.now ≤ 3 }
-    ensures value { result ≡ number digits.now }
+    ensures value { result ≡ digits_value 10 digits.now }
     ensures small { result < 1000 }
 {
     let mut value = 0;

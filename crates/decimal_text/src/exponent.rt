@@ -1,5 +1,6 @@
 ghost use Rattle.std.specs.Prelude.{◌≡◌, ℕ, ◌<◌, ◌≤◌, IfSome, IfNone, length};
-ghost use Rattle.decimal_text.specs.Decimal.{AreFewDigits, IsExponent, IsSigned, number};
+ghost use Rattle.std.specs.Str.Parse.{IsNumeral, digits_value};
+ghost use Rattle.decimal_text.specs.Decimal.{IsExponent, IsSigned};
 
 use crate::digits::{short_number, split_digits};
 
@@ -13,8 +14,8 @@ pub struct Power {
 }
 
 fn few_digits(text: &[u8]) -> Option<usize>
-    ensures found { IfSome result (λ n. AreFewDigits text.now × (n ≡ number text.now) × (n < 1000)) }
-    ensures none { IfNone result (AreFewDigits text.now → ⊥) }
+    ensures found { IfSome result (λ n. IsNumeral 10 text.now × (length text.now ≤ 3) × (n ≡ digits_value 10 text.now) × (n < 1000)) }
+    ensures none { IfNone result ((IsNumeral 10 text.now × (length text.now ≤ 3)) → ⊥) }
 {
     let (digits, rest) = split_digits(text);
     if digits.is_empty() || digits.len() > 3 || !rest.is_empty() {

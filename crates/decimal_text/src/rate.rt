@@ -1,5 +1,6 @@
 ghost use Rattle.std.specs.Prelude.{◌≡◌, ℕ, ◌+◌, ◌<◌, ◌≤◌, ◌↔◌, length, IfOk};
-ghost use Rattle.decimal_text.specs.Decimal.{AreDigits, Decimal, Spells};
+ghost use Rattle.std.specs.Str.Parse.{AllDigits};
+ghost use Rattle.decimal_text.specs.Decimal.{Decimal, Spells};
 ghost use Rattle.decimal_text.specs.inside.Parts.{decimal_of};
 ghost use Rattle.decimal_text.specs.Rate.{Answers, IsAboveOne, IsTooFine, IsRate};
 
@@ -30,8 +31,8 @@ const ONE: u64 = 1_000_000_000;
 
 /// The rate is found from the places of the digits, so no number here is wide.
 fn rate_of(parts: &Parts) -> Result<u32, RateFault>
-    requires whole { AreDigits parts.now.whole.now }
-    requires fraction { AreDigits parts.now.fraction.now }
+    requires whole { AllDigits 10 parts.now.whole.now }
+    requires fraction { AllDigits 10 parts.now.fraction.now }
     requires some_digit { 0 < length parts.now.whole.now + length parts.now.fraction.now }
     requires short { length parts.now.whole.now ≤ LONGEST_TEXT }
     ensures { Answers (decimal_of parts.now) result }

@@ -1,6 +1,6 @@
 ghost use Rattle.std.specs.Prelude.{◌≡◌, ℕ, ◌+◌, ◌*◌, ◌^◌, ◌<◌, ◌≤◌, ◌++◌, ◌∷◌, [], List, length, min};
 ghost use Rattle.std.specs.Char.{IsAsciiDigit};
-ghost use Rattle.decimal_text.specs.Decimal.{AreDigits};
+ghost use Rattle.std.specs.Str.Parse.{AllDigits};
 
 /// One more than the units of 10^-9 in 1: a larger count stays here.
 pub const CAP: u64 = 1_000_000_001;
@@ -33,7 +33,7 @@ impl Units {
     }
 
     pub fn push_all(&mut self, digits: &[u8])
-        requires { AreDigits digits.now }
+        requires { AllDigits 10 digits.now }
         ensures { (places : ℕ) (seen : List ℕ) → Counts places seen self.old → Counts places (seen ++ digits.now) self.new }
     {
         for digit in digits {

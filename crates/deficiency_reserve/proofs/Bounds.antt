@@ -69,7 +69,7 @@ charged_below u amount premium l d n p = let h = mul-le-mul_left (premium * amou
 
 charged-between : (u amount premium : ℕ) (a : Fraction) (lo hi : ℕ) → 0 < amount → Between lo hi u a
     → Between (premium * lo) (premium * hi) (amount * u) (times (gross amount premium) a)
-unfolding times gross
+unfolding times
 charged-between u amount premium a lo hi some p = record {
   proper = mul-pos some p.proper;
   above = charged_above u amount premium lo a.den a.num p.above;
@@ -90,7 +90,6 @@ cents-between u amount a lo hi positive p =
 
 pub gross-between : (c : Cover) (amount premium t : ℕ) → 0 < amount → c.h ≤ c.n → t ≤ c.n
     → Between (gross_lo c amount premium t) (gross_hi c amount premium t) amount (less (ben c t) (times (gross amount premium) (ann c t)))
-unfolding gross_lo gross_hi
 gross-between c amount premium t some covered within =
     cents-between UNIT amount _ _ _ (omega arith)
     (less-between (amount * UNIT) _ _ _ _ _ _ (insured-between UNIT amount _ _ _ (ben-between c t within))
@@ -105,7 +104,6 @@ spread_narrow amount premium bl bh al ah few cheap near_b near_a =
 
 pub gross-narrow : (c : Cover) (amount premium t : ℕ) → c.n ≤ 131 → amount ≤ 10000000000 → premium ≤ 10000000000
     → gross_hi c amount premium t ≤ gross_lo c amount premium t + 2
-unfolding gross_lo gross_hi
 gross-narrow c amount premium t years few cheap =
     let near_b : ben_hi c t ≤ ben_lo c t + 131 = omega (arith, ben-narrow c t) in
     let near_a : ann_hi c t ≤ ann_lo c t + 131 = omega (arith, ann-narrow c t) in
@@ -125,7 +123,7 @@ at_most_ordinary c cap amount premium t enough =
 pub minimum-between : (c cap : Cover) (amount premium t lo hi : ℕ) → 0 < amount → c.h ≤ c.n → t ≤ c.n
     → Between lo hi amount (reserve c cap t)
     → Between (max lo (gross_lo c amount premium t)) (max hi (gross_hi c amount premium t)) amount (minimum c cap amount premium t)
-unfolding minimum
+unfolding minimum greater
 minimum-between c cap amount premium t lo hi some covered within ordinary =
     let by_gross = gross-between c amount premium t some covered within in
     elim (leb_tells ((beta c cap).num * (gross amount premium).den) ((gross amount premium).num * (beta c cap).den)) [
@@ -157,7 +155,6 @@ minimum-encloses c cap t values ordinary amount premium has some few cheap = rec
 
 -- the reserve by the gross premium is at most the amount
 pub gross_hi-most : (c : Cover) (amount premium t : ℕ) → ((k : ℕ) → k < c.n → c.rates k ≤ ONE) → gross_hi c amount premium t ≤ amount
-unfolding gross_hi
 gross_hi-most c amount premium t rates =
     let most = mul-le-mul_left amount (ben_hi-most c t rates) in
     up-le (amount * ben_hi c t - premium * ann_lo c t) UNIT amount (omega arith) (omega arith)
@@ -166,12 +163,10 @@ gross_hi-most c amount premium t rates =
 
 pub gross_lo_is : (c : Cover) (amount premium t : ℕ) (values : Values) → AreValuesAt c t values
     → down (amount * values.ben.lo - premium * values.ann.hi) UNIT ≡ gross_lo c amount premium t
-unfolding gross_lo
 gross_lo_is c amount premium t values are = rw (are.benefits, are.premiums) refl
 
 pub gross_hi_is : (c : Cover) (amount premium t : ℕ) (values : Values) → AreValuesAt c t values
     → up (amount * values.ben.hi - premium * values.ann.lo) UNIT ≡ gross_hi c amount premium t
-unfolding gross_hi
 gross_hi_is c amount premium t values are = rw (are.benefits, are.premiums) refl
 
 -- what the callers have

@@ -1,7 +1,5 @@
 -- What is due each year, as a sum over the years.
-use Rattle.deficiency_reserve.proofs.Names.{◌≡◌, ℕ, zero, suc, ◌+◌, ◌-◌, ◌*◌, ◌^◌, ◌<◌, ap, arith, Fraction, whole, plus, times, Cover, year, survivors, sum_below, ann, deferred, total_below, value_of_dues, AreEqual}
-use Rattle.std.proofs.Math.Nat.{mul-pos}
-use Rattle.present_value.proofs.Enclosing.{power_pos}
+use Rattle.deficiency_reserve.proofs.Names.{◌≡◌, ℕ, zero, suc, ◌+◌, ◌-◌, ◌*◌, ◌^◌, ap, arith, Fraction, whole, plus, times, Cover, year, survivors, sum_below, sum_below-is, ann, deferred, total_below, value_of_dues, AreEqual}
 
 -- one more year
 one_more : (tn td d xn s f : ℕ) → tn * d ≡ xn * s * td → (tn * d + (xn * f) * td) * d ≡ xn * (s + f) * (td * d)
@@ -21,13 +19,4 @@ total_level c x t (suc count) =
 -- the same each year is worth as much as so much of the annuity
 pub level : (c : Cover) (x : Fraction) (t : ℕ) → AreEqual (value_of_dues c (λ k. x) t) (times x (ann c t))
 unfolding value_of_dues times ann
-level c x t = total_level c x t (c.h - t)
-
-total-proper : (c : Cover) (x : Fraction) (t count : ℕ) → 0 < x.den → 0 < (total_below (λ k. times x (deferred c t k)) count).den
-unfolding total_below deferred plus times whole
-total-proper c x t zero positive = omega arith
-total-proper c x t (suc count) positive = mul-pos (total-proper c x t count positive) (mul-pos positive (power_pos c (c.n - t)))
-
-pub dues-proper : (c : Cover) (x : Fraction) (t : ℕ) → 0 < x.den → 0 < (value_of_dues c (λ k. x) t).den
-unfolding value_of_dues
-dues-proper c x t positive = total-proper c x t (c.h - t) positive
+level c x t = rw (sum_below-is (λ k. survivors c t k * year c ^ (c.n - t - k)) (c.h - t)) (total_level c x t (c.h - t))

@@ -1,3 +1,5 @@
+pub mod EachBound
+pub mod Greater
 pub mod Names
 pub mod Orders
 pub mod Dues

@@ -1,5 +1,5 @@
 -- Order and equality of fractions: of differences, of products, of the lesser and the greater of two.
-use Rattle.deficiency_reserve.proofs.Names.{◌≡◌, ℕ, zero, suc, ◌-◌, ◌*◌, ◌<◌, ◌≤◌, refl, ap, false, nat_le, inl, inr, arith, Fraction, less, times, lesser, greater, IsAtMost, AreEqual}
+use Rattle.deficiency_reserve.proofs.Names.{◌≡◌, ℕ, zero, suc, ◌-◌, ◌*◌, ◌<◌, ◌≤◌, refl, false, nat_le, inl, inr, arith, Fraction, less, times, lesser, greater, IsAtMost, AreEqual}
 use Rattle.std.proofs.Math.Nat.{mul-le-mul_left, mul-le-mul_right, mul-sub, mul_comm, mul-zero, zero-mul, le_of_mul-le-mul_right}
 use Rattle.std.proofs.lemmas.Bool.Decides.{leb_tells}
 
@@ -10,30 +10,16 @@ at_most-trans a b c positive p q =
     let spread : (a.num * c.den) * b.den ≤ (c.num * a.den) * b.den = omega arith in
     le_of_mul-le-mul_right spread positive
 
-pub equal-at_most : (a b : Fraction) → AreEqual a b → IsAtMost a b
-equal-at_most a b same = omega (arith, same)
-
 -- differences, of which the second part is scaled as the first
-difference_equal : (p q k p' q' k' : ℕ) → k * p ≡ k' * p' → k * q ≡ k' * q' → (p - q) * k ≡ (p' - q') * k'
-difference_equal p q k p' q' k' e f = rw (mul_comm (p - q) k, mul-sub k p q, mul_comm (p' - q') k', mul-sub k' p' q', e, f) refl
-
 difference_most : (p q k p' q' k' : ℕ) → k * p ≡ k' * p' → k' * q' ≤ k * q → (p - q) * k ≤ (p' - q') * k'
 difference_most p q k p' q' k' e f =
     rw (mul_comm (p - q) k, mul-sub k p q, mul_comm (p' - q') k', mul-sub k' p' q', e) (omega (arith, f))
-
-crossed_equal : (xd an ad bn bd : ℕ) → an * bd ≡ bn * ad → (xd * bd) * (an * xd) ≡ (xd * ad) * (bn * xd)
-crossed_equal xd an ad bn bd same = let spread = ap (λ n. (xd * xd) * n) same in omega arith
 
 crossed_most : (xd an ad bn bd : ℕ) → an * bd ≤ bn * ad → (xd * bd) * (an * xd) ≤ (xd * ad) * (bn * xd)
 crossed_most xd an ad bn bd most = let spread = mul-le-mul_left (xd * xd) most in omega arith
 
 crossed_first : (xn xd ad bd : ℕ) → (xd * bd) * (xn * ad) ≡ (xd * ad) * (xn * bd)
 crossed_first xn xd ad bd = omega arith
-
-pub less-equal : (x a b : Fraction) → AreEqual a b → AreEqual (less x a) (less x b)
-unfolding less
-less-equal x a b same = difference_equal (x.num * a.den) (a.num * x.den) (x.den * b.den) (x.num * b.den) (b.num * x.den) (x.den * a.den)
-    (crossed_first x.num x.den a.den b.den) (crossed_equal x.den a.num a.den b.num b.den same)
 
 pub less-antitone : (x a b : Fraction) → IsAtMost a b → IsAtMost (less x b) (less x a)
 unfolding less

@@ -1,13 +1,33 @@
 -- What holds of the minimum reserve, by its definition.
-use Rattle.std.specs.Prelude.{◌≡◌, ℕ, ◌*◌, ◌<◌, ◌≤◌}
-use Rattle.deficiency_reserve.specs.Names.{Fraction, times, Cover, ben, ann, beta, reserve}
-use Rattle.deficiency_reserve.specs.Minimum.{gross, value_of_dues, minimum}
-use Rattle.deficiency_reserve.specs.Premiums.{IsAtMost}
+use Rattle.std.specs.Prelude.{◌≡◌, ℕ, zero, suc, ◌+◌, ◌-◌, ◌*◌, ◌^◌, ◌<◌, ◌≤◌}
+use Rattle.deficiency_reserve.specs.Names.{Fraction, whole, plus, times, Cover, year, survivors, ben, ann, beta, reserve}
+use Rattle.deficiency_reserve.specs.Minimum.{minimum}
+
+-- a ≤ b, by cross-multiplying
+abbrev pub IsAtMost : Fraction → Fraction → Type 0
+IsAtMost a b = a.num * b.den ≤ b.num * a.den
 
 abbrev pub AreEqual : Fraction → Fraction → Type 0
 AreEqual a b = a.num * b.den ≡ b.num * a.den
 
--- the same premium each year is worth the premium times the annuity
+-- the premium that is charged for a year, per unit of amount
+abbrev pub gross : ℕ → ℕ → Fraction
+gross amount premium = record { num = premium; den = amount }
+
+-- the value at year t of 1 at the start of year t + k
+unfoldable pub deferred : Cover → ℕ → ℕ → Fraction
+deferred c t k = record { num = survivors c t k * year c ^ (c.n - t - k); den = year c ^ (c.n - t) }
+
+-- part 0 + .. + part (count - 1)
+unfoldable pub total_below : (ℕ → Fraction) → ℕ → Fraction
+total_below part zero = whole 0
+total_below part (suc count) = plus (total_below part count) (part count)
+
+-- the value at year t of what is due at the start of each year from t to h - 1
+unfoldable pub value_of_dues : Cover → (ℕ → Fraction) → ℕ → Fraction
+value_of_dues c due t = total_below (λ k. times (due (t + k)) (deferred c t k)) (c.h - t)
+
+-- the same premium each year is worth the premium times the annuity: so counted year by year it takes off as much
 abbrev pub LevelDuesLaw : Type 0
 LevelDuesLaw = (c : Cover) (premium : Fraction) (t : ℕ)
     → AreEqual (value_of_dues c (λ k. premium) t) (times premium (ann c t))

@@ -2,8 +2,8 @@
 -- interest
 use Rattle.std.specs.Prelude.{◌≡◌, ℕ, [], ◌∷◌, true}
 use Rattle.rate_table.specs.Rates.{Rates}
-use Rattle.deficiency_reserve.specs.Names.{Fraction, Cover, cover_of, beta, cap_of}
-use Rattle.crvm_reserve.specs.Rounded.{beta_lo, beta_hi, rounded}
+use Rattle.deficiency_reserve.specs.Names.{Fraction, Cover, cover_of, beta, cap_of, down, up}
+use Rattle.crvm_reserve.specs.Rounded.{beta_bound, rounded}
 use Rattle.deficiency_reserve.specs.Minimum.{minimum}
 use Rattle.deficiency_reserve.specs.RoundedMinimum.{rounded_minimum}
 use Rattle.deficiency_reserve.specs.Premiums.{adequacy_by}
@@ -32,7 +32,8 @@ bounds_after_a_year premium =
 
 abbrev pub adequacy_of_yearly : ℕ → ℕ → Adequacy
 adequacy_of_yearly amount premium =
-    adequacy_by (beta_lo (endowment_paid_in 3) cap_of_age_one) (beta_hi (endowment_paid_in 3) cap_of_age_one) amount premium
+    adequacy_by (beta_bound down up (endowment_paid_in 3) cap_of_age_one) (beta_bound up down (endowment_paid_in 3) cap_of_age_one)
+    amount premium
 
 -- 400.00 is short: 1 - 0.4 * 1.8 = 0.28
 abbrev pub ShortAfterAYear : Type 0

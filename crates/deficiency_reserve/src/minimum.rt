@@ -1,7 +1,7 @@
-ghost use Rattle.std.specs.Prelude.{◌≡◌, ◌≤◌, ℕ, max};
-ghost use Rattle.deficiency_reserve.specs.Names.{Encloses, Cover, ArePaidUpFor, IsPaidUpAt, IsPaidUpFor};
+ghost use Rattle.std.specs.Prelude.{◌≡◌, ◌-◌, ◌*◌, ◌≤◌, ℕ, max};
+ghost use Rattle.deficiency_reserve.specs.Names.{Encloses, Cover, UNIT, down, up, ben_bound, ann_bound, ArePaidUpFor, IsPaidUpAt, IsPaidUpFor};
 ghost use Rattle.deficiency_reserve.specs.Minimum.{minimum};
-ghost use Rattle.deficiency_reserve.specs.RoundedMinimum.{gross_lo, gross_hi, rounded_minimum};
+ghost use Rattle.deficiency_reserve.specs.RoundedMinimum.{rounded_minimum};
 ghost use Rattle.deficiency_reserve.specs.Ordinary.{HasOrdinary, HasOrdinaryFor, HaveOrdinary, HaveOrdinaryFor};
 
 use present_value::{Columns, UNITS_IN_ONE, Values, quotient_down, quotient_up};
@@ -49,8 +49,8 @@ fn reserve_by_gross(values: &Values, amount: u64, premium: u64) -> (u64, u64)
     requires made { IsPaidUpAt values.now }
     requires amount { amount ≤ 10000000000 }
     requires premium { premium ≤ 10000000000 }
-    ensures lo { (c : Cover) → (t : ℕ) → IsPaidUpFor c t values.now → result.0 ≡ gross_lo c amount premium t }
-    ensures hi { (c : Cover) → (t : ℕ) → IsPaidUpFor c t values.now → result.1 ≡ gross_hi c amount premium t }
+    ensures lo { (c : Cover) → (t : ℕ) → IsPaidUpFor c t values.now → result.0 ≡ down (amount * ben_bound down c t - premium * ann_bound up c t) UNIT }
+    ensures hi { (c : Cover) → (t : ℕ) → IsPaidUpFor c t values.now → result.1 ≡ up (amount * ben_bound up c t - premium * ann_bound down c t) UNIT }
 {
     let least = (amount as u128 * values.ben.lo as u128).saturating_sub(
         premium as u128 * values.ann.hi as u128,

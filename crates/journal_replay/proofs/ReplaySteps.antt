@@ -97,7 +97,7 @@ module _ {D : Type 0} {g : Ghosts D} (start : Journal D g) (commands : List Comm
       λ bodies last honest is same.
           stops.1 bodies last honest (stays.stands bodies last (honesty honest) is) (same_later bodies last honest is same),
     )
-    stops_later Kept Follows NoMemory from wants = record {
+    stops_later Kept Follows (NoMemory lack) from wants = record {
       n = wants.n;
       behind = omega (arith, from, so_far.counted, wants.behind);
       replays = replays_on (IsKeptAndOne Kept Follows) wants.n wants.replays;
@@ -129,7 +129,7 @@ Stops-wider Kept Wider Follows widen journal now commands (BadRecord n) stops = 
         none = at.none;
       },
 )
-Stops-wider Kept Wider Follows widen journal now commands NoMemory wants =
+Stops-wider Kept Wider Follows widen journal now commands (NoMemory lack) wants =
     let all = wants.replays in
     let more = all.kept in
     record {

@@ -11,4 +11,4 @@ AreKept {K} stands commands = (keeper : K) × stands keeper commands
 -- the command can't follow these, or it can and there is no memory
 abbrev pub IsUnkept : (List Command → Command → Type 0) → List Command → Command → Unkept → Type 0
 IsUnkept follows commands command Refused = follows commands command → ⊥
-IsUnkept follows commands command NoMemory = follows commands command
+IsUnkept follows commands command (NoMemory lack) = follows commands command

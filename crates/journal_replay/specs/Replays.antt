@@ -29,7 +29,7 @@ abbrev pub HasReplayCause : {D T : Type 0} {g : Ghosts D} → Journal D g → D 
 HasReplayCause journal disk (Ok done) = IsQuiet journal disk
 HasReplayCause journal disk (Err (DiskFault count)) = HasFailed journal disk count
 HasReplayCause journal disk (Err (BadRecord n)) = IsQuiet journal disk
-HasReplayCause journal disk (Err NoMemory) = IsQuiet journal disk
+HasReplayCause journal disk (Err (NoMemory lack)) = IsQuiet journal disk
 
 -- the bodies of a journal have P, where its disk is honest now, later on
 abbrev pub BodiesHave : {D : Type 0} {g : Ghosts D} → Journal D g → D → (List (List ℕ) → Type 0) → Type 0
@@ -82,4 +82,4 @@ abbrev pub Stops : {D : Type 0} {g : Ghosts D} → (List Command → Type 0) →
 Stops Kept Follows journal now commands (DiskFault count) = Unit {0}
 Stops Kept Follows journal now commands (BadRecord n) =
     (length commands ≤ n) × BodiesBehind journal now commands (IsStoppedAt Kept Follows n)
-Stops Kept Follows journal now commands NoMemory = IsWanting Kept Follows journal now commands
+Stops Kept Follows journal now commands (NoMemory lack) = IsWanting Kept Follows journal now commands

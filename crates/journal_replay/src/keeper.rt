@@ -5,13 +5,13 @@ ghost use Rattle.policy_types.specs.Limits.{most_commands};
 ghost use Rattle.policy_types.specs.Valid.{IsValid};
 ghost use Rattle.journal_replay.specs.Keeping.{IsUnkept};
 
-use policy_types::Command;
+use policy_types::{Command, NoMemory};
 
 /// Why a command isn't kept: it can't follow those before it, or it can and there is no memory for it.
 #[derive(Drop)]
 pub enum Unkept {
     Refused,
-    NoMemory,
+    NoMemory(NoMemory),
 }
 
 /// What keeps a journal's commands, one after the other.

@@ -8,6 +8,7 @@ ghost use Rattle.journal_replay.specs.Replays.{HasReplayCause, Replays, StaysAs,
 
 use crate::keeper::{Keeper, Unkept};
 use outside_io::{Disk, Steps};
+use policy_types::NoMemory;
 use posting_journal::{Journal, Stretch};
 use record_codec::decode;
 use std::marker::Brand;
@@ -20,7 +21,7 @@ use std::sync::ledger::{Blank, Ledger};
 pub enum ReplayFault {
     DiskFault(u64),
     BadRecord(u32),
-    NoMemory,
+    NoMemory(NoMemory),
 }
 
 /// Hands the keeper each record's command, from record `from` on, in order. Each record that is read is a step. Nothing
@@ -81,7 +82,7 @@ fn replay_record<D: Disk, K: Keeper, L: Ledger>(
     match keeper.add(n, &command) {
         Ok(()) => Ok(()),
         Err(Unkept::Refused) => Err(ReplayFault::BadRecord(n)),
-        Err(Unkept::NoMemory) => Err(ReplayFault::NoMemory),
+        Err(Unkept::NoMemory(lack)) => Err(ReplayFault::NoMemory(lack)),
     }
 }
 

@@ -122,10 +122,8 @@ fn leaves_at(
         return Ok(true);
     }
     for (keep, reached) in [(0, 0), (1, 1), (2, 2), (3, 30), (3, 63), (3, 64), (3, 100)] {
-        let whole = disk.image(alloc, moment, keep).map_err(|_| AllocError)?;
-        let torn = disk
-            .torn_image(alloc, moment, reached)
-            .map_err(|_| AllocError)?;
+        let whole = disk.image(alloc, moment, keep)?;
+        let torn = disk.torn_image(alloc, moment, reached)?;
         if !is_closed_or(whole.as_slice(), old, new) || !is_closed_or(torn.as_slice(), old, new) {
             return Ok(false);
         }

@@ -1,5 +1,6 @@
 -- The answered lines of one pass, put together
 use Rattle.lane_runner.proofs.Names.{◌≡◌, ℕ, zero, suc, ◌+◌, ◌≤◌, ◌<◌, ℤ, List, [], ◌∷◌, ◌++◌, length, map, take, get_or, Some, Result, Ok, Err, refl, ap, sym, ◌∙◌, subst, append-nil, length-append, arith, AllByRecursion, AllZip, Contains, filter, flat_map, map-append, flat_map-append, Dated, Entry, Line, Post, Value, Trim, Opening, commands_after, AnswersLine, FollowsPin, Placed, turns_of, Holding, PassFacts, TakesTurn, IsOfficeHistory, OfficeOpening, TranscriptLine, AnsweredLine, turns_in, IsOutcome, IsTold, dry_of, lacked_memory, HasAnswered, IsBoxed, in_box, outcome_of, turns_for, turns_needed}
+use Rattle.memory_requests.specs.Evidence.{a_refusal}
 use Rattle.std.specs.Prelude.{Box}
 use Rattle.std.specs.Global.{Global}
 use Rattle.std.proofs.lemmas.List.Elements.{Contains-append_left, Contains-append_right, filter-append}
@@ -118,10 +119,10 @@ next_left asked i d left spent old below enough is few = omega (arith, needed_ne
 outcomes : (basis : List Dated) (commands : List Command) (on : ℤ) (at : At) (workers : ℕ) (reply : Reply) (answer : Result (Box Valuation Global) ValueFault)
     → AnswersPin commands basis on Terminal reply (in_box answer) → IsOutcome commands basis (Value on at workers) reply (outcome_of answer)
 outcomes basis commands on at workers (PinRefused refusal) (Err (Pin why)) h = ap PinRefused (sym h)
-outcomes basis commands on at workers (PinRefused refusal) (Err NoMemory) h = absurd h
+outcomes basis commands on at workers (PinRefused refusal) (Err (NoMemory lack)) h = absurd h
 outcomes basis commands on at workers (PinRefused refusal) (Ok valuation) h = absurd h
 outcomes basis commands on at workers (Pinned position policies) (Ok valuation) h = (position, (policies, refl, h))
-outcomes basis commands on at workers (Pinned position policies) (Err NoMemory) h = (position, (policies, refl))
+outcomes basis commands on at workers (Pinned position policies) (Err (NoMemory lack)) h = (position, (policies, refl))
 outcomes basis commands on at workers (Pinned position policies) (Err (Pin why)) h = absurd h
 outcomes basis commands on at workers (Accepted n) answer h = absurd h
 outcomes basis commands on at workers (Refused refusal) answer h = absurd h
@@ -138,11 +139,11 @@ dry_same : (number : ℕ) (on : ℤ) (at : At) (workers turn : ℕ) (answer : Re
     → dry_of (valued_line number on at workers turn answer ∷ []) ≡ dry_pins turn (in_box answer)
 dry_same number on at workers turn (Ok valuation) = refl
 dry_same number on at workers turn (Err (Pin why)) = refl
-dry_same number on at workers turn (Err NoMemory) = refl
+dry_same number on at workers turn (Err (NoMemory lack)) = refl
 
 -- a pin that is answered by a valuation may be answered by want of memory
 pinned_dry : (basis : List Dated) (commands : List Command) (on : ℤ) (reply : Reply) (valuation : Valuation)
-    → AnswersPin commands basis on Terminal reply (Ok valuation) → AnswersPin commands basis on Terminal reply (Err NoMemory)
+    → AnswersPin commands basis on Terminal reply (Ok valuation) → AnswersPin commands basis on Terminal reply (Err (NoMemory a_refusal))
 pinned_dry basis commands on (Pinned position policies) valuation h = tt
 pinned_dry basis commands on (PinRefused refusal) valuation h = absurd h
 pinned_dry basis commands on (Accepted n) valuation h = absurd h

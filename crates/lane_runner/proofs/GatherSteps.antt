@@ -1,5 +1,6 @@
 -- What becomes of a text that is gathered before it is written
-use Rattle.lane_runner.proofs.Names.{◌≡◌, ℕ, zero, suc, ◌+◌, ◌≤◌, ◌<◌, List, [], ◌∷◌, ◌++◌, length, take, Option, Some, None, Err, refl, ap, sym, ◌∙◌, subst, append-nil, append_assoc, length-append, arith, AppendsPart, TranscriptLine, WriteFault, NoMemory, HasEnded, StopsShort, line_texts, HasPutOut}
+use Rattle.lane_runner.proofs.Names.{◌≡◌, ℕ, zero, suc, ◌+◌, ◌≤◌, ◌<◌, List, [], ◌∷◌, ◌++◌, length, take, Option, Some, None, Err, refl, ap, sym, ◌∙◌, subst, append-nil, append_assoc, length-append, arith, AppendsPart, TranscriptLine, WriteFault, NoMemory, HasEnded, line_texts, HasPutOut}
+use Rattle.memory_requests.specs.Evidence.{a_refusal}
 use Rattle.std.specs.Io.KnownBytes.{Appends}
 use Rattle.std.proofs.KnownBytes.{Appends-nil, Appends-trans}
 use Rattle.outside_io.specs.Faults.{Rose}
@@ -66,7 +67,7 @@ module _ (text : TranscriptLine → List ℕ) where
       (why : Unwritten) → HasPutOut faults now first last text lines gathered (Some why)
       → HasPutOut faults now first last text (lines ++ told ∷ []) other (Some why)
   put_stopped faults now first last lines told gathered other WriteFault put = (put.0, part_line first last lines told put.1)
-  put_stopped faults now first last lines told gathered other NoMemory put = record {
+  put_stopped faults now first last lines told gathered other (NoMemory lack) put = record {
     held = put.held;
     many = put.many;
     fewer = omega (arith, put.fewer, length-append lines (told ∷ []));
@@ -139,7 +140,7 @@ module _ (text : TranscriptLine → List ℕ) where
 
   -- there is no memory for more
   pub put_short : (faults now : ℕ) (first last : Option (List ℕ)) (lines : List TranscriptLine) (told : TranscriptLine) (gathered : List ℕ)
-      (stopped after : Option Unwritten) → stopped ≡ None → gathered ≡ [] → after ≡ Some NoMemory → 0 < length (text told)
+      (stopped after : Option Unwritten) → stopped ≡ None → gathered ≡ [] → after ≡ Some (NoMemory a_refusal) → 0 < length (text told)
       → HasPutOut faults now first last text lines gathered stopped
       → HasPutOut faults now first last text (lines ++ told ∷ []) gathered after
   put_short faults now first last lines told gathered (Some why) after going none lacks some put = absurd (cc)
@@ -186,4 +187,4 @@ module _ (text : TranscriptLine → List ℕ) where
   pub put_unwritten : (faults now : ℕ) (first last : Option (List ℕ)) (lines : List TranscriptLine) (gathered : List ℕ) (why : Unwritten)
       → HasPutOut faults now first last text lines gathered (Some why) → HasEnded faults now first last text lines (Err why)
   put_unwritten faults now first last lines gathered WriteFault put = put
-  put_unwritten faults now first last lines gathered NoMemory put = put
+  put_unwritten faults now first last lines gathered (NoMemory lack) put = put

@@ -164,8 +164,7 @@ module _ {D W : Type 0} (opening : Opening) (history : List Entry) (basis : List
   each_of all rises [] (seat ∷ seats) are rising there back = absurd are
   each_of all rises (lane ∷ lanes) [] are rising there back = absurd are
   each_of all rises (lane ∷ lanes) (seat ∷ seats) are rising there back = (
-    ap (map (λ (one : AnsweredLine). one.line)) here ∙ are.0.asked,
-    ap (flat_map turns_in) here ∙ are.0.turns,
+    (ap (map (λ (one : AnsweredLine). one.line)) here ∙ are.0.asked, ap (flat_map turns_in) here ∙ are.0.turns),
     each_of all rises lanes seats are.1 (rising_later lane.number (numbers lanes) rising)
         (λ z is among. elsewhere z among (in_cases z are.0.answered (answered_in lanes seats are.1) (there z is (inr among))))
         (λ z is. back z (in_back z are.0.answered (answered_in lanes seats are.1) is)),

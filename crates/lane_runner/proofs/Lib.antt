@@ -1,4 +1,5 @@
 pub mod Names
+pub mod LaneLines
 pub mod Places
 pub mod AnswerSteps
 pub mod SeatSteps

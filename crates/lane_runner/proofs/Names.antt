@@ -9,8 +9,9 @@ pub use Rattle.std.specs.List.{AllZip, AllByRecursion, flat_map, Contains, filte
 pub use Rattle.std.specs.List.Sorted.{IsPermutation}
 pub use Rattle.std.specs.Vec.Iter.{into_iter_items, into_iter_len}
 pub use Rattle.basis_book.specs.Dated.{Dated}
-pub use Rattle.lane_runner.specs.AnsweredLines.{AnsweredLine, turns_in, AreOfLanes, lines_by}
-pub use Rattle.lane_runner.specs.Lanes.{AreRightLanes, IsRightLine, is_posting, IsRightLane, is_value}
+pub use Rattle.lane_runner.proofs.LaneLines.{AreOfLanes}
+pub use Rattle.lane_runner.specs.AnsweredLines.{AnsweredLine, turns_in, lines_by}
+pub use Rattle.lane_runner.specs.Lanes.{AreRightLanes, IsRightLine, IsRightLane, is_value}
 pub use Rattle.lane_runner.specs.Tallies.{accepted_lines, tells_accepted, has_faulted, lacks_memory, tells_refused}
 pub use Rattle.lane_runner.specs.Transcripts.{dry_of, IsTold, lacked_memory, HasAnsweredLanes, HasRunLanes, IsOutcome, AreDry}
 pub use Rattle.lane_runner.specs.Written.{line_texts, HasEnded, StopsShort}

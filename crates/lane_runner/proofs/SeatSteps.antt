@@ -24,6 +24,14 @@ lines_left (lane ∷ lanes) (suc i) d below =
     lines_left lanes i d (omega arith)
     ∙ ap (λ n. length (get_or lanes i d).lines + length (lines_in (drop n (lane ∷ lanes)))) next
 
+-- each lane has no more lines than all have
+pub lines_of_one : (lanes : List Lane) (i : ℕ) (d : Lane) → i < length lanes
+    → length (get_or lanes i d).lines ≤ length (lines_in lanes)
+lines_of_one [] i d below = absurd (omega arith)
+lines_of_one (lane ∷ lanes) zero d below = omega (arith, length-append lane.lines (lines_in lanes))
+lines_of_one (lane ∷ lanes) (suc i) d below =
+    omega (arith, lines_of_one lanes i d (omega (arith, below)), length-append lane.lines (lines_in lanes))
+
 pub none_left : (lanes : List Lane) → length (lines_in (drop (length lanes) lanes)) ≡ 0
 none_left [] = refl
 none_left (lane ∷ lanes) = none_left lanes

@@ -1,6 +1,6 @@
 -- The lines of lanes beside the turns that answer them, in the order of their first turns
-use Rattle.std.specs.Prelude.{◌≡◌, ℕ, ◌==◌, List, [], ◌∷◌, map}
-use Rattle.lane_runner.specs.Names.{AllByRecursion, Contains, filter, flat_map, Entry, Line, Lane, AreRising, AnswersLine, Placed, turns_of}
+use Rattle.std.specs.Prelude.{◌≡◌, ℕ, ◌==◌, List, ◌∷◌, map}
+use Rattle.lane_runner.specs.Names.{AllByRecursion, AllZip, Contains, filter, flat_map, Entry, Line, Lane, AreRising, AnswersLine, Placed, turns_of}
 
 -- a line of a clerk, and the turns that answer it, each beside its place in the history
 pub record AnsweredLine : Type 0 where
@@ -15,20 +15,13 @@ turns_in answered = answered.first ∷ answered.rest
 abbrev pub lines_by : ℕ → List AnsweredLine → List AnsweredLine
 lines_by clerk answered = filter (λ (one : AnsweredLine). one.clerk == clerk) answered
 
--- each clerk's lines are those of its lane, and their turns put together are those of the lane's caller
-abbrev pub AreOfLanes : List AnsweredLine → List Entry → List Lane → List ℕ → Type 0
-AreOfLanes answered history [] [] = Unit {0}
-AreOfLanes answered history (lane ∷ lanes) (caller ∷ callers) =
-    (map (λ (one : AnsweredLine). one.line) (lines_by lane.number answered) ≡ lane.lines)
-    × (flat_map turns_in (lines_by lane.number answered) ≡ turns_of history caller)
-    × AreOfLanes answered history lanes callers
-AreOfLanes _ _ _ _ = ⊥
-
--- The lanes' lines as the history answers them, one after the other at the places of their first turns. The pins of
--- valuations that found no memory are dry.
+-- The lanes' lines as the history answers them, one after the other at the places of their first turns. Each clerk's lines
+-- are those of its lane, and their turns put together are those of the lane's caller. The pins of valuations that found no
+-- memory are dry.
 pub record AreLinesOf (answered : List AnsweredLine) (history : List Entry) (lanes : List Lane) (callers dry : List ℕ)
     : Type 0 where
   pub rising : AreRising (map (λ (one : AnsweredLine). one.first.0) answered)
   pub clerks : AllByRecursion (λ (one : AnsweredLine). Contains (map (λ (lane : Lane). lane.number) lanes) one.clerk) answered
   pub turns : AllByRecursion (λ (one : AnsweredLine). AnswersLine dry one.line (turns_in one)) answered
-  pub each : AreOfLanes answered history lanes callers
+  pub each : AllZip (λ (lane : Lane) (caller : ℕ). (map (λ (one : AnsweredLine). one.line) (lines_by lane.number answered) ≡ lane.lines)
+      × (flat_map turns_in (lines_by lane.number answered) ≡ turns_of history caller)) lanes callers

@@ -15,10 +15,6 @@ abbrev pub is_value : Line → Bool
 is_value (Value on at workers) = true
 is_value _ = false
 
-abbrev pub is_posting : Line → Bool
-is_posting (Post command) = true
-is_posting _ = false
-
 -- At most eight lanes, whose numbers rise, with right lines; at most 2^24 lines in all, of which sixteen may be valuations
 pub record AreRightLanes (lanes : List Lane) : Type 0 where
   pub rising : AreRising (numbers_of lanes)

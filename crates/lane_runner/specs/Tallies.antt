@@ -36,8 +36,8 @@ any_faulted lines = list_any (λ (told : TranscriptLine). has_faulted told.outco
 
 -- memory was lacking for the line's posting, or for its valuation
 abbrev pub lacks_memory : Outcome → Bool
-lacks_memory (Posted NoMemory) = true
-lacks_memory ValueNoMemory = true
+lacks_memory (Posted (NoMemory lack)) = true
+lacks_memory (ValueNoMemory lack) = true
 lacks_memory _ = false
 
 abbrev pub any_lacked : List TranscriptLine → Bool

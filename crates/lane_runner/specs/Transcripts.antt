@@ -20,7 +20,7 @@ IsOutcome commands basis Trim reply (Trimmed floor) = reply ≡ Floor floor
 IsOutcome commands basis (Value on at workers) reply (ValueRefused refusal) = reply ≡ PinRefused refusal
 IsOutcome commands basis (Value on at workers) reply (Valued valuation) =
     (position : ℕ) × ((policies : ℕ) × (reply ≡ Pinned position policies) × IsSnapshot commands basis on Terminal position valuation.value)
-IsOutcome commands basis (Value on at workers) reply ValueNoMemory =
+IsOutcome commands basis (Value on at workers) reply (ValueNoMemory lack) =
     (position : ℕ) × ((policies : ℕ) × (reply ≡ Pinned position policies))
 IsOutcome _ _ _ _ _ = ⊥
 
@@ -34,7 +34,7 @@ pub record IsTold (opening : Opening) (history : List Entry) (basis : List Dated
   pub outcome : IsOutcome (commands_after opening (take answered.first.0 history)) basis answered.line answered.first.1.reply told.outcome
 
 abbrev pub lacked_memory : Outcome → Bool
-lacked_memory ValueNoMemory = true
+lacked_memory (ValueNoMemory lack) = true
 lacked_memory _ = false
 
 -- the dry pins: those of the valuations that are told to have found no memory

@@ -25,4 +25,4 @@ abbrev pub HasEnded : (faults faults_now : ℕ) (before now : Option (List ℕ))
 HasEnded faults faults_now before now text lines (Ok done) = (faults_now ≡ faults) × Appends before now (line_texts text lines)
 HasEnded faults faults_now before now text lines (Err WriteFault) =
     Rose faults faults_now × AppendsPart before now (line_texts text lines)
-HasEnded faults faults_now before now text lines (Err NoMemory) = StopsShort faults faults_now before now text lines
+HasEnded faults faults_now before now text lines (Err (NoMemory lack)) = StopsShort faults faults_now before now text lines

@@ -153,9 +153,9 @@ fn answer_value<D: Disk, W: Watching, G: Gate, R: Threads + Wait + Sync>(
 fn boxed(alloc: Global, answer: Result<Valuation, ValueFault>) -> Result<Box<Valuation>, ValueFault>
     ensures { IsBoxed answer result }
 {
-    match Box::new(alloc, answer?) {
+    match memory_requests::boxed(alloc, answer?) {
         Ok(kept) => Ok(kept),
-        Err(_) => Err(ValueFault::NoMemory),
+        Err(lack) => Err(ValueFault::NoMemory(lack)),
     }
 }
 
@@ -166,6 +166,6 @@ fn told_of(answer: Result<Box<Valuation>, ValueFault>) -> Outcome
     match answer {
         Ok(valuation) => Outcome::Valued(valuation),
         Err(ValueFault::Pin(refusal)) => Outcome::ValueRefused(refusal),
-        Err(ValueFault::NoMemory) => Outcome::ValueNoMemory,
+        Err(ValueFault::NoMemory(lack)) => Outcome::ValueNoMemory(lack),
     }
 }

@@ -6,7 +6,6 @@ mod answering;
 mod bell;
 mod merging;
 mod page;
-mod postings;
 mod rooms;
 mod running;
 mod telling;
@@ -14,7 +13,6 @@ mod transcript;
 mod transcript_lines;
 mod wording;
 
-pub use postings::count_postings;
 pub use running::{Ran, run_lanes};
 pub use transcript::{Callers, Outcome, Transcript, TranscriptLine};
 pub use transcript_lines::TranscriptLines;

@@ -12,6 +12,7 @@ ghost use Rattle.lane_runner.specs.inside.Showing.{IsShowing};
 use crate::transcript::TranscriptLine;
 use crate::transcript_lines::{TranscriptLines, is_accepted};
 use crate::wording::{Unwritten, Wording};
+use memory_requests::with_room;
 use moment_ring::MomentInlet;
 use outside_io::{Disk, Moment, Sink, write_all_since};
 use policy_types::NoMemory;
@@ -36,7 +37,7 @@ impl<D: Disk> Page<D> {
     pub fn new(alloc: Global) -> Result<Page<D>, NoMemory>
         ensures { IfOk result (λ page. (page.lines ≡ []) × (page.bytes.items ≡ []) × (page.stopped ≡ None)) }
     {
-        let bytes = Vec::with_capacity(alloc, MOST_GATHERED).map_err(|_| NoMemory)?;
+        let bytes = with_room(alloc, MOST_GATHERED)?;
         Ok(Page {
             lines: TranscriptLines::new(),
             bytes,
@@ -113,7 +114,7 @@ impl<D: Disk> Page<D> {
         }
         match X::words(alloc, told) {
             Ok(words) => self.gather(words.as_slice(), output),
-            Err(NoMemory) => self.stop_short(output),
+            Err(lack) => self.stop_short(lack, output),
         }
     }
 
@@ -193,7 +194,7 @@ impl<D: Disk> Page<D> {
     }
 
     // Writes what is gathered, and no more, since memory is wanting for what comes behind it.
-    fn stop_short<K: Sink<Beside = D>>(&mut self, output: &mut K)
+    fn stop_short<K: Sink<Beside = D>>(&mut self, lack: NoMemory, output: &mut K)
         ensures lines { self.new.lines ≡ self.old.lines }
         ensures later { K.faults output.old ≤ K.faults output.new }
         ensures put { (faults : ℕ) (first : Option (List ℕ)) (text : ALine → List ℕ) (lines : List ALine) (told : ALine) → 0 < length (text told)
@@ -206,7 +207,7 @@ impl<D: Disk> Page<D> {
     {
         self.flush(output);
         match self.stopped {
-            None => self.stopped = Some(Unwritten::NoMemory),
+            None => self.stopped = Some(Unwritten::NoMemory(lack)),
             Some(_) => (),
         }
     }

@@ -1,12 +1,13 @@
 // A lane tells its answered lines in a ring, of which the writer has the other end.
-ghost use Rattle.std.specs.Prelude.{◌≡◌, ◌+◌, ◌<◌, [], ◌∷◌, ◌++◌, IfOk, IsTrue, IsFalse};
+ghost use Rattle.std.specs.Prelude.{◌≡◌, ◌+◌, ◌<◌, ◌≤◌, ◌^◌, [], ◌∷◌, ◌++◌, IfOk, IsTrue, IsFalse};
 ghost use Rattle.rtrb.specs.Ring.{IsPair, SameConsumer, known_free, known_items, received, sent};
 ghost use Rattle.lane_runner.specs.Telling.{MayTellNext};
 ghost use Rattle.lane_runner.specs.inside.Merging.{HasLooked, HasNext, IsNextTurn, LacksNext};
 
 use crate::transcript::TranscriptLine;
+use memory_requests::ruled_ring_ends;
 use policy_types::NoMemory;
-use rtrb::{Consumer, Producer, Protocol, RingBuffer};
+use rtrb::{Consumer, Producer, Protocol};
 use std::alloc::Global;
 
 /// The lines of a lane have rising turns, and each is one that a legal history answers so.
@@ -69,13 +70,12 @@ impl Inlet {
 
 /// A ring with room for so many lines.
 pub fn ring_for(alloc: Global, lines: usize) -> Result<(Outlet, Inlet), NoMemory>
+    requires few { lines ≤ 2 ^ 24 }
     ensures pair { IfOk result (λ ends. IsPair ends.0.ring ends.1.ring) }
     ensures outlet { IfOk result (λ ends. (sent ends.0.ring ≡ []) × (known_free ends.0.ring ≡ lines)) }
     ensures inlet { IfOk result (λ ends. (received ends.1.ring ≡ []) × (known_items ends.1.ring ≡ []) × (ends.1.left ≡ lines)) }
 {
-    let (outlet, inlet) = RingBuffer::with_protocol::<Global, Rising>(alloc, lines).map_err(
-        |_| NoMemory,
-    )?;
+    let (outlet, inlet) = ruled_ring_ends::<TranscriptLine, Rising>(alloc, lines)?;
     Ok((
         Outlet { ring: outlet },
         Inlet {

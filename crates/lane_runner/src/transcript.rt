@@ -1,6 +1,6 @@
 use crate::transcript_lines::TranscriptLines;
 use office_state::Answer;
-use policy_types::{Line, Listed, PinRefusal};
+use policy_types::{Line, Listed, NoMemory, PinRefusal};
 use snapshot_value::Valuation;
 
 /// What is told of an answered line.
@@ -12,7 +12,7 @@ pub enum Outcome {
     /// In a box, so that no other line has to have its room.
     Valued(Box<Valuation>),
     ValueRefused(PinRefusal),
-    ValueNoMemory,
+    ValueNoMemory(NoMemory),
 }
 
 /// A line of a lane with its answer. Its turn is the place of its first turn in the history, from 0.

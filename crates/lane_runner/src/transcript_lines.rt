@@ -1,5 +1,5 @@
 // Answered lines are tallied, and not kept.
-ghost use Rattle.std.specs.Prelude.{◌≡◌, ◌<◌, ◌^◌, [], ◌∷◌, ◌++◌, length};
+ghost use Rattle.std.specs.Prelude.{◌≡◌, ◌<◌, ◌^◌, ◌||◌, [], ◌∷◌, ◌++◌, length, is_some};
 ghost use Rattle.lane_runner.specs.Tallies.{accepted_lines, any_faulted, any_lacked, has_faulted, lacks_memory, refused_lines, tells_accepted, tells_refused};
 
 use crate::transcript::{Outcome, TranscriptLine};
@@ -7,6 +7,7 @@ use office_state::Answer;
 use std::marker::Model;
 use std::mem;
 use std::snapshot::Snapshot;
+use watcher_set::Lack;
 
 // The lines that were added, from the last one back to the first.
 #[derive(Drop)]
@@ -26,11 +27,12 @@ pub struct TranscriptLines {
     accepted: usize,
     refused: usize,
     faulted: bool,
-    lacked: bool,
+    /// The evidence of the first that lacked memory.
+    lack: Option<Lack>,
 }
 
 impl Model for TranscriptLines {
-    ghost use Rattle.std.specs.Prelude.{List};
+    ghost use Rattle.std.specs.Prelude.{List, is_some};
     ghost use Rattle.lane_runner.specs.declared.transcript.TranscriptLine.{TranscriptLine as ALine};
     ghost use Rattle.lane_runner.specs.inside.Added.{AreTallied, all_added};
 
@@ -38,7 +40,7 @@ impl Model for TranscriptLines {
 
     ghost view = { λ lines. all_added lines.added.value };
 
-    ghost invariant = { λ lines. AreTallied (all_added lines.added.value) lines.accepted lines.refused lines.faulted lines.lacked };
+    ghost invariant = { λ lines. AreTallied (all_added lines.added.value) lines.accepted lines.refused lines.faulted (is_some lines.lack) };
 }
 
 impl TranscriptLines {
@@ -51,7 +53,7 @@ impl TranscriptLines {
             accepted: 0,
             refused: 0,
             faulted: false,
-            lacked: false,
+            lack: None,
         }
     }
 
@@ -63,7 +65,7 @@ impl TranscriptLines {
         self.accepted += is_accepted(&told.outcome) as usize;
         self.refused += is_refused(&told.outcome) as usize;
         self.faulted |= is_faulted(&told.outcome);
-        self.lacked |= is_lacking(&told.outcome);
+        self.lack = earlier_of(self.lack, lack_in(&told.outcome));
         let earlier = mem::replace(&mut self.added, Snapshot::of(&Added::Nothing));
         let added = Added::Of {
             earlier,
@@ -93,11 +95,11 @@ impl TranscriptLines {
         self.faulted
     }
 
-    /// Whether memory was lacking for a posting or a valuation.
-    pub fn any_lacked(&self) -> bool
-        ensures { result ≡ any_lacked self.now }
+    /// The evidence of the first posting or valuation for which memory was lacking, if there is one.
+    pub fn lack(&self) -> Option<Lack>
+        ensures { is_some result ≡ any_lacked self.now }
     {
-        self.lacked
+        self.lack
     }
 }
 
@@ -119,11 +121,21 @@ fn is_faulted(outcome: &Outcome) -> bool
     matches!(*outcome, Outcome::Posted(Answer::DiskFault(_)))
 }
 
-fn is_lacking(outcome: &Outcome) -> bool
-    ensures { result ≡ lacks_memory outcome.now }
+fn lack_in(outcome: &Outcome) -> Option<Lack>
+    ensures { is_some result ≡ lacks_memory outcome.now }
 {
-    matches!(
-        *outcome,
-        Outcome::Posted(Answer::NoMemory) | Outcome::ValueNoMemory
-    )
+    match outcome {
+        Outcome::Posted(Answer::NoMemory(lack)) => Some(*lack),
+        Outcome::ValueNoMemory(lack) => Some(Lack::from(*lack)),
+        _ => None,
+    }
+}
+
+fn earlier_of(first: Option<Lack>, next: Option<Lack>) -> Option<Lack>
+    ensures { is_some result ≡ (is_some first || is_some next) }
+{
+    match first {
+        Some(lack) => Some(lack),
+        None => next,
+    }
 }

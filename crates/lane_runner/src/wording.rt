@@ -25,5 +25,5 @@ pub enum Unwritten {
     /// The output failed.
     WriteFault,
     /// Memory was wanting for the text of a line.
-    NoMemory,
+    NoMemory(NoMemory),
 }

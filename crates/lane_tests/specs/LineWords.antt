@@ -11,7 +11,7 @@ use Rattle.office_state.specs.declared.answer.Answer.TheVariants.{Accepted}
 use Rattle.policy_value.specs.declared.worth.Row.{Row}
 use Rattle.policy_value.specs.declared.worth.Worth.{Worth}
 use Rattle.policy_value.specs.declared.worth.Worth.TheVariants.{Bounds}
-use Rattle.policy_machine.specs.Rules.{is_in_force}
+use Rattle.policy_machine.specs.Names.{status_eq, InForce}
 use Rattle.record_codec.specs.Spelling.{spelling_of}
 use Rattle.lane_runner.specs.declared.transcript.TranscriptLine.{TranscriptLine}
 use Rattle.lane_runner.specs.declared.transcript.Outcome.{Outcome}
@@ -28,7 +28,7 @@ is_year_worth _ = false
 
 -- the row of a policy in force one year after it was issued
 abbrev pub is_year_row : Row → Bool
-is_year_row row = is_in_force row.status && ((row.t == 1) && is_year_worth row.worth)
+is_year_row row = status_eq.it row.status InForce && ((row.t == 1) && is_year_worth row.worth)
 
 -- a valuation is told where all its rows are such
 abbrev pub valued_words : (position rows : ℕ) → Bool → List ℕ

@@ -85,9 +85,6 @@ fn is_day(day: i32) -> bool
     -25_567 <= day && day <= 84_005
 }
 
-/// For so many postings there is room in a ring of moments.
-pub const MOST_POSTED: usize = 65_536;
-
 /// What lanes were answered, as it was written, and how many callers ran them.
 #[derive(Drop)]
 pub struct Run {
@@ -148,7 +145,7 @@ fn are_tallied(tallies: &TranscriptLines, lines: &[Written]) -> bool {
     tallies.accepted() == count_accepted(lines)
         && tallies.refused() == 0
         && !tallies.any_faulted()
-        && !tallies.any_lacked()
+        && tallies.lack().is_none()
 }
 
 /// Runs these lanes on an office where the policies of the numbers from 1 to this one were issued, and closes it. Gives what
@@ -165,7 +162,7 @@ pub fn run_watched<W: Watching + Send, G: Gate + Sync, R: Threads + Wait + Sync>
 {
     let basis = flat_basis(alloc)?;
     let empty = MemoryDisk::new(alloc, Vec::new(alloc), Vec::new(alloc));
-    let Ok((outlet, mut moments)) = moment_ring(alloc, MOST_POSTED) else {
+    let Ok((outlet, mut moments)) = moment_ring(alloc) else {
         return Err("a ring".into());
     };
     let Ok((office, mut pass)) = start_telling(alloc, empty, watchers, outlet) else {

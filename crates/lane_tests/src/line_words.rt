@@ -5,6 +5,7 @@ ghost use Rattle.lane_runner.specs.Lanes.{IsRightLine};
 ghost use Rattle.lane_tests.specs.LineWords.{answer_words, asked_words, is_year_row, is_year_worth, numbered, outcome_words, refused_words, valued_words};
 
 use lane_runner::{Outcome, TranscriptLine, Wording};
+use memory_requests::{extend, with_room};
 use office_state::Answer;
 use policy_types::{Command, Line, NoMemory, PinRefusal, Status};
 use policy_value::{Row, Worth};
@@ -41,7 +42,7 @@ impl Wording for LineWords {
     ghost text = { line_words };
 
     fn words(alloc: Global, told: &TranscriptLine) -> Result<Vec<u8>, NoMemory> {
-        let mut words = Vec::with_capacity(alloc, LONG).map_err(|_| NoMemory)?;
+        let mut words = with_room(alloc, LONG)?;
         put(&mut words, &[told.lane])?;
         put(&mut words, &told.turn.to_be_bytes())?;
         put(&mut words, &words_of_line(&told.line))?;
@@ -55,7 +56,7 @@ const LONG: usize = 86;
 fn put(words: &mut Vec<u8>, more: &[u8]) -> Result<(), NoMemory>
     ensures { OnOk result (words.new.items ≡ words.old.items ++ more.now) }
 {
-    words.extend_from_slice(more).map_err(|_| NoMemory)
+    extend(words, more)
 }
 
 fn words_of_line(line: &Line) -> [u8; 64]
@@ -76,7 +77,7 @@ fn words_of_outcome(outcome: &Outcome) -> [u8; 13]
         Outcome::Trimmed(floor) => with_numbers(2, *floor, 0),
         Outcome::Valued(valuation) => words_of_valuation(valuation),
         Outcome::ValueRefused(refusal) => words_of_refusal(*refusal),
-        Outcome::ValueNoMemory => with_numbers(0, 0, 0),
+        Outcome::ValueNoMemory(_) => with_numbers(0, 0, 0),
     }
 }
 

@@ -4,7 +4,7 @@ ghost use Rattle.rtrb.specs.Ring.{received};
 
 use crate::lane_gates::Seven;
 use crate::lane_runner_tests::{claim, lane};
-use crate::lane_trials::{MOST_POSTED, run_right};
+use crate::lane_trials::run_right;
 use crate::line_words::count_accepted;
 use crate::offices::{flat_basis, issue, issue_all};
 use crate::projection_meeting::{ISSUED, project_issues};
@@ -104,7 +104,7 @@ fn seven_lanes_post_during_a_projection(rt: HostRuntime) -> Result<(), Fail> {
     let lanes = seven_lanes(alloc)?;
     let gate = Seven::new();
     let empty = MemoryDisk::new(alloc, Vec::new(alloc), Vec::new(alloc));
-    let Ok((outlet, moments)) = moment_ring(alloc, MOST_POSTED) else {
+    let Ok((outlet, moments)) = moment_ring(alloc) else {
         return Err("a ring".into());
     };
     let Ok((office, mut pass)) = start_telling(alloc, empty, NoWatchers, outlet) else {

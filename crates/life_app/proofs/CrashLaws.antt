@@ -1,33 +1,50 @@
 -- What a crash leaves of a run, and what the next run finds
 use Rattle.life_app.proofs.Names.{◌≡◌, ℕ, List, [], ◌∷◌, ◌++◌, refl, ap, sym, ◌∙◌, subst, inl, inr, append-nil, append_assoc, Ghosts, Command, Entry, Opening, accepted_of, commands_after, IsSafe, HoldsOnce, IsLeftAlone, IsOneMore, Opens, opens_to_one, AreAllHeld, AreHeld, HasRun}
 
+-- what is there of a front, in parts
+pub record Parts (opening : Opening) (history : List Entry) (image : List ℕ) : Type 0 where
+  pub held : List Command
+  pub rest : List Command
+  pub more : List Command
+  pub front : accepted_of history ≡ held ++ rest
+  pub one : IsOneMore history held more
+  pub opens : Opens image (opening.commands ++ held ++ more)
+
+pub in_parts : (opening : Opening) (history : List Entry) (image : List ℕ) → HoldsOnce opening history image → Parts opening history image
+in_parts opening history image (held, rest, front, inl all) = record {
+  held = held;
+  rest = rest;
+  more = [];
+  front = front;
+  one = tt;
+  opens = subst (Opens image) (sym (append-nil (opening.commands ++ held))) all;
+}
+in_parts opening history image (held, rest, front, inr more) = record {
+  held = held;
+  rest = rest;
+  more = more.0 ∷ [];
+  front = front;
+  one = more.1;
+  opens = more.2;
+}
+
 -- a file that opens to the commands from before the run
 pub as_before : (opening : Opening) (history : List Entry) (image : List ℕ) → Opens image opening.commands → HoldsOnce opening history image
-as_before opening history image opens = record {
-  held = [];
-  rest = accepted_of history;
-  more = [];
-  front = refl;
-  one = tt;
-  opens = subst (Opens image) (sym (append-nil (opening.commands ++ []) ∙ append-nil opening.commands)) opens;
-}
+as_before opening history image opens =
+    ([], accepted_of history, refl, inl (subst (Opens image) (sym (append-nil opening.commands)) opens))
 
 -- a file that opens as one did that was left
 alike : (opening : Opening) (history : List Entry) (before image : List ℕ) (commands : List Command)
     → HoldsOnce opening history before → Opens before commands → Opens image commands → HoldsOnce opening history image
-alike opening history before image commands holds opens again = record {
-  held = holds.held;
-  rest = holds.rest;
-  more = holds.more;
-  front = holds.front;
-  one = holds.one;
-  opens = subst (Opens image) (opens_to_one before commands (opening.commands ++ holds.held ++ holds.more) opens holds.opens) again;
-}
+alike opening history before image commands (held, rest, front, inl all) opens again =
+    (held, rest, front, inl (subst (Opens image) (opens_to_one before commands (opening.commands ++ held) opens all) again))
+alike opening history before image commands (held, rest, front, inr more) opens again =
+    (held, rest, front, inr (more.0, more.1, subst (Opens image) (opens_to_one before commands (opening.commands ++ held ++ more.0 ∷ []) opens more.2) again))
 
 -- with no turns none is accepted, and none faulted
 none_held : (held rest more : List Command) → [] ≡ held ++ rest → IsOneMore [] held more → held ++ more ≡ []
 none_held [] rest [] front one = refl
-none_held [] rest (command ∷ []) front one = nothing one.1.0.before _ _ one.1.0.turns
+none_held [] rest (command ∷ []) front one = nothing one.before _ _ one.turns
   where
     nothing : (before : List Entry) (entry : Entry) (after : List Entry) → [] ≡ before ++ entry ∷ after → command ∷ [] ≡ []
     nothing [] entry after none = cc
@@ -36,21 +53,24 @@ none_held [] rest (command ∷ other ∷ more) front one = absurd one
 none_held (command ∷ held) rest more front one = cc
 
 pub opens_as_begun : (opening : Opening) (image : List ℕ) → HoldsOnce opening [] image → Opens image opening.commands
-opens_as_begun opening image held =
+opens_as_begun opening image once =
+    let held = in_parts opening [] image once in
     let none = none_held held.held held.rest held.more held.front held.one in
     subst (Opens image) (append_assoc opening.commands held.held held.more
     ∙ ap (λ cs. opening.commands ++ cs) none ∙ append-nil opening.commands) held.opens
 
 pub next_commands : (opening : Opening) (history : List Entry) (image : List ℕ) (commands : List Command)
     → HoldsOnce opening history image → Opens image commands → AreHeld opening history commands
-next_commands opening history image commands holds opens = record {
-  held = holds.held;
-  rest = holds.rest;
-  more = holds.more;
-  front = holds.front;
-  one = holds.one;
-  are = opens_to_one image commands (opening.commands ++ holds.held ++ holds.more) opens holds.opens;
-}
+next_commands opening history image commands once opens =
+    let holds = in_parts opening history image once in
+    record {
+      held = holds.held;
+      rest = holds.rest;
+      more = holds.more;
+      front = holds.front;
+      one = holds.one;
+      are = opens_to_one image commands (opening.commands ++ holds.held ++ holds.more) opens holds.opens;
+    }
 
 module _ {D : Type 0} (g : Ghosts D) (old new : D) (opening : Opening) (history : List Entry) where
   pub during : HasRun g old new opening history → (image : List ℕ) → g.left_since new (g.clock old) image → HoldsOnce opening history image

@@ -1,7 +1,7 @@
 -- Where the count of faults of one of the disks rose and the output didn't fail, the ending tells it, but for want of memory
-use Rattle.life_app.proofs.Names.{◌≡◌, ◌<◌, ◌⊎◌, ℕ, ℤ, List, [], ◌∷◌, ◌++◌, refl, ap, ◌∙◌, inl, inr, Option, None, Some, arith, AllByRecursion, cons_option, filter_map, last_or, Ghosts, Rose, Command, At, Reply, Accepted, Refused, Faulted, Pinned, PinRefused, Slice, Unpinned, Floor, Blank, Entry, Lane, fault_of, opened_on, Dated, Measure, Auditor, IsLeftBy, Mode, Run, Value, Project, State, Checkpoint, Generate, Load, Ending, Done, BadJournal, WriteFault, DiskFault, NoMemory, status_of, EndsReadOnly, Input, Shelving, Stream, WroteAll, EndsScript, EndsLanes, EndsRun, books_text, policy_account, EndsState, IsStated, EndsValue, IsValued, EndsProject, IsProjected, EndsLoad, EndsLoading, HasNewFault, filing_between, Does, EndsBooks, EndsMode, EndsSave}
+use Rattle.life_app.proofs.Names.{◌≡◌, ◌<◌, ◌⊎◌, ℕ, ℤ, List, [], ◌∷◌, ◌++◌, refl, ap, ◌∙◌, inl, inr, Option, None, Some, arith, AllByRecursion, cons_option, filter_map, last_or, Ghosts, Rose, Command, At, Entry, Lane, fault_of, opened_on, Dated, Measure, Auditor, IsLeftBy, Mode, Run, Value, Project, State, Checkpoint, Generate, Load, Ending, Done, BadJournal, WriteFault, DiskFault, NoMemory, status_of, EndsReadOnly, Input, Shelving, Stream, WroteAll, EndsScript, EndsLanes, EndsRun, policy_account, EndsState, IsStated, EndsValue, IsValued, EndsProject, IsProjected, EndsLoad, EndsLoading, HasNewFault, filing_between, Does, EndsBooks, EndsMode, EndsSave, WroteAsEnded, EndsNoOffice, reports_text, reports_of, accepted_of, books_of}
 use Rattle.std.specs.Option.{unwrap_or}
-use Rattle.program_endings.specs.Replies.{IsAnswered}
+use Rattle.program_endings.proofs.ReplyNames.{IsAnswered}
 use Rattle.life_app.proofs.BooksSteps as both
 use Rattle.life_app.proofs.BooksSteps.{second_between, two_disks}
 
@@ -9,21 +9,10 @@ use Rattle.life_app.proofs.BooksSteps.{second_between, two_disks}
 abbrev faults_met : List Entry → List ℕ
 faults_met history = filter_map (λ (entry : Entry). fault_of entry.reply) history
 
-no_fault : (reply : Reply) → IsAnswered reply → fault_of reply ≡ None
-no_fault (Faulted count) answered = absurd answered
-no_fault (Accepted position) answered = refl
-no_fault (Refused refusal) answered = refl
-no_fault (Pinned position policies) answered = refl
-no_fault (PinRefused refusal) answered = refl
-no_fault (Slice policies) answered = refl
-no_fault Unpinned answered = refl
-no_fault (Floor floor) answered = refl
-no_fault Blank answered = refl
-
 none_met : (history : List Entry) → AllByRecursion (λ (entry : Entry). IsAnswered entry.reply) history → faults_met history ≡ []
 none_met [] answered = refl
 none_met (entry ∷ history) answered =
-    ap (λ first. cons_option first (faults_met history)) (no_fault entry.reply answered.0) ∙ none_met history answered.1
+    ap (λ first. cons_option first (faults_met history)) answered.0.0 ∙ none_met history answered.1
 
 abbrev IsTold : Ending → Type 0
 IsTold ending = (status_of ending ≡ 8) ⊎ (status_of ending ≡ 9)
@@ -43,14 +32,26 @@ module _ {D : Type 0} (g : Ghosts D) (old new : D) (output : Stream) (held : Ros
   all_answered commands history answered left =
       stood (left.faults ∙ ap (λ (ns : List ℕ). unwrap_or (last_or None ns) (g.faults old)) (none_met history answered))
 
+  wrote_told : (commands : List Command) (history : List Entry) (dry : List ℕ) (texts : List (List ℕ)) (reports : List ℕ) (ending : Ending)
+      → IsLeftBy g old new (opened_on commands (g.faults old)) history → WroteAsEnded g old new history dry texts reports output ending → IsTold ending
+  wrote_told commands history dry texts reports Done left wrote = absurd (all_answered commands history wrote.1.0 left)
+  wrote_told commands history dry texts reports WriteFault left wrote = absurd (held wrote.0)
+  wrote_told commands history dry texts reports DiskFault left wrote = inl refl
+  wrote_told commands history dry texts reports (NoMemory lack) left wrote = inr refl
+  wrote_told commands history dry texts reports _ left wrote = absurd wrote
+
+  unopened_told : (ending : Ending) → EndsNoOffice g old new output ending → IsTold ending
+  unopened_told BadJournal ends = absurd (stood ends.3)
+  unopened_told DiskFault ends = inl refl
+  unopened_told (NoMemory lack) ends = inr refl
+  unopened_told _ ends = absurd ends
+
   script_told : (lanes : List Lane) (basis : List Dated) (auditors : List Auditor) (ending : Ending)
       → EndsScript g old new lanes basis auditors output ending → IsTold ending
-  script_told lanes basis auditors Done ends = absurd (all_answered ends.commands ends.history ends.replies.0 ends.disk)
-  script_told lanes basis auditors BadJournal ends = absurd (stood ends.quiet)
-  script_told lanes basis auditors WriteFault ends = absurd (held ends.0)
-  script_told lanes basis auditors DiskFault ends = inl refl
-  script_told lanes basis auditors NoMemory ends = inr refl
-  script_told lanes basis auditors _ ends = absurd ends
+  script_told lanes basis auditors ending ends = elim ends [
+    | inl ran ↦ wrote_told ran.commands ran.history ran.dry ran.texts (reports_text (reports_of auditors (accepted_of ran.history))) ending ran.disk ran.wrote
+    | inr said ↦ unopened_told ending said.0
+  ]
 
   lanes_told : (lanes : List Lane) (name : List ℕ) (auditors : List Auditor) (shelf : Shelving) (ShelfStays : Type 0) (ending : Ending)
       → EndsLanes g old new lanes name auditors shelf output ShelfStays ending → IsTold ending
@@ -71,11 +72,11 @@ module _ {D : Type 0} (g : Ghosts D) (old new : D) (output : Stream) (held : Ros
   read_told : (Tells : (List ℕ → Type 0) → Type 0) (ending : Ending) → (Tells (WroteAll output) → ⊥)
       → EndsReadOnly g old new Tells output ending → IsTold ending
   read_told Tells Done never ends = absurd (never ends)
-  read_told Tells BadJournal never ends = absurd (stood ends.quiet)
+  read_told Tells BadJournal never ends = absurd (stood ends.0.3)
   read_told Tells WriteFault never ends = absurd (held ends.0)
   read_told Tells DiskFault never ends = inl refl
-  read_told Tells NoMemory never ends = inr refl
-  read_told Tells _ never ends = absurd ends
+  read_told Tells (NoMemory lack) never ends = inr refl
+  read_told Tells _ never ends = absurd ends.0
 
   value_told : (on : ℤ) (at : At) (measure : Measure) (name : List ℕ) (shelf : Shelving) (ending : Ending)
       → EndsValue g old new on at measure name shelf output ending → IsTold ending
@@ -101,11 +102,11 @@ module _ {D : Type 0} (g : Ghosts D) (old new : D) (output : Stream) (held : Ros
       → EndsLoading g old new lanes workers basis output ending → IsTold ending
   loading_told lanes workers basis Done ends =
       absurd (all_answered ends.commands (ends.postings ++ ends.valuation) ends.tells.replies.0 ends.disk)
-  loading_told lanes workers basis BadJournal ends = absurd (stood ends.quiet)
-  loading_told lanes workers basis WriteFault ends = absurd (held ends.0)
+  loading_told lanes workers basis BadJournal ends = absurd (stood ends.0.3)
+  loading_told lanes workers basis WriteFault ends = absurd (held ends.tells.wrote.0)
   loading_told lanes workers basis DiskFault ends = inl refl
-  loading_told lanes workers basis NoMemory ends = inr refl
-  loading_told lanes workers basis _ ends = absurd ends
+  loading_told lanes workers basis (NoMemory lack) ends = inr refl
+  loading_told lanes workers basis _ ends = absurd ends.0
 
   load_told : (seed count lanes workers : ℕ) (shelf : Shelving) (ending : Ending)
       → EndsLoad g old new seed count lanes workers shelf output ending → IsTold ending
@@ -130,7 +131,7 @@ module _ {D E : Type 0} (g : Ghosts D) (e : Ghosts E) (old new : D) (output : St
       absurd (omega (arith, other, still))
 
   books_told : (second kept : Option E) (ending : Ending) → OneRose second kept → EndsBooks g e old new second kept output ending → IsTold ending
-  books_told None None ending rose ends = state_told g old new output held rose books_text ending ends
+  books_told None None ending rose ends = state_told g old new output held rose books_of ending ends
   books_told (Some second) (Some kept) ending rose ends =
       both.told g e (two_disks old new second kept) output ending rose held (both.stated g e (two_disks old new second kept) output ending ends)
   books_told _ _ ending rose ends = absurd ends
@@ -164,5 +165,5 @@ module _ {D E : Type 0} (g : Ghosts D) (e : Ghosts E) (old new : D) (output : St
         → (status_of ending ≡ 8) ⊎ (status_of ending ≡ 9)
     fault_told words does = elim does [
       | inl (mode, asked, ends) ↦ mode_told mode ends
-      | inr unasked ↦ absurd (untouched g old new output held (first_rose second kept rose unasked.other) unasked.disk)
+      | inr unasked ↦ absurd (untouched g old new output held (first_rose second kept rose unasked.1) unasked.0)
     ]

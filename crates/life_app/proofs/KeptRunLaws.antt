@@ -7,7 +7,7 @@ use Rattle.checkpoint_store.specs.declared.snapshot.Snapshot.{Snapshot}
 use Rattle.checkpoint_store.proofs.OneSnapshot.{one_snapshot}
 use Rattle.journal_replay.specs.Replays.{bodies_of}
 use Rattle.office_state.proofs.OpeningSteps.{opening_keeps}
-use Rattle.posting_journal.proofs.Moments.{leaves, looks_none}
+use Rattle.posting_journal.proofs.Moments.{leaves, looks_none, looks_pass}
 use Rattle.life_app.proofs.LeftLaws.{left_so}
 use Rattle.life_app.specs.KeptRuns.{AreRunsOfTwo, IsLeftByCall, IsRunOfTwo, LeavesSaved, LeavesSecond, IsSnapshotOfFirst, KeepsSecond, OneRunOfTwo, SavedOfFirst, SavesBooks, run_disks}
 use Rattle.life_app.proofs.RunLaws.{Facts, Grown, Starts, one_more_run}
@@ -122,10 +122,10 @@ module _ {D E : Type 0} (g : Ghosts D) (e : Ghosts E) (first_facts : Facts g) (s
     one_of_three image (inr (inl earlier)) s bytes = file_held.2 image earlier s bytes
     one_of_three image (inr (inr held)) s bytes =
         let of = held.2 true_disks in
-        let all : of.commands ≡ commands = opens_to_one (g.reads old) of.commands commands of.opened file_held.1 in
+        let all : of.commands ≡ commands = opens_to_one (g.reads old) of.commands commands (of.disk.opened is.one.honest) file_held.1 in
         let same : held.0 ≡ s = one_snapshot image held.0 s held.1 bytes in
         saved_whole image (g.reads old) commands s file_held.1
-        (subst (IsSnapshotOf commands) same (subst (λ (cs : List Command). IsSnapshotOf cs held.0) all of.leave))
+        (subst (IsSnapshotOf commands) same (subst (λ (cs : List Command). IsSnapshotOf cs held.0) all of.so))
 
     opens_still : (image : List ℕ) → IsOpenedOn (g.reads old) image → Opens image commands
     opens_still image opened = opening_keeps (g.reads old) image commands file_held.1 opened
@@ -198,8 +198,9 @@ module _ {D E : Type 0} (g : Ghosts D) (e : Ghosts E) (second_facts : Facts e) (
   read_leaves : IsOnlyRead e disks.second disks.kept → LeavesSecond e disks.second disks.kept
   read_leaves read = record {
     since = leaves e disks.second disks.kept (e.may_leave disks.second)
-        (λ image left. second_facts.only_now disks.second image (read.honesty kept_honest) left) (read.looks kept_honest).time;
-    now = (read.looks kept_honest).facts.images;
+        (λ image left. second_facts.only_now disks.second image (read.honesty kept_honest) left)
+        (looks_pass e disks.second disks.kept (read.looks kept_honest));
+    now = (read.looks kept_honest).images;
   }
 
   untouched : disks.kept ≡ disks.second → LeavesSecond e disks.second disks.kept
@@ -238,6 +239,6 @@ module _ {D E : Type 0} (g : Ghosts D) (e : Ghosts E) (second_facts : Facts e) (
       left_so g disks.old disks.new e (Some disks.second) (Some disks.kept) auditors input output shelf InputStays ShelfStays words obeys.ending obeys.does,
       elim obeys.does [
         | inl (mode, asked, ends) ↦ by_mode mode obeys.ending ends
-        | inr none ↦ left_alone none.other
+        | inr none ↦ left_alone none.1
       ],
     )

@@ -1,5 +1,5 @@
 -- How each mode leaves the disk: by the turns of an office, alone, or untouched
-use Rattle.life_app.proofs.Names.{◌≡◌, ℕ, ℤ, List, [], refl, inl, inr, Option, None, Some, Ghosts, Command, At, Entry, Lane, Opening, opened_on, Auditor, Dated, Measure, Mode, Run, Value, Project, State, Checkpoint, Generate, Load, IsLeftAlone, IsLeftBy, Ending, Done, BadJournal, WriteFault, DiskFault, NoMemory, EndsReadOnly, Input, Shelving, Stream, EndsScript, IsRunOf, EndsLanes, EndsRun, books_text, policy_account, EndsState, IsStated, EndsValue, IsValued, EndsProject, IsProjected, EndsLoad, EndsLoading, IsLoadOf, Does, EndsBooks, EndsMode, EndsSave, IsLeftSo}
+use Rattle.life_app.proofs.Names.{◌≡◌, ℕ, ℤ, List, [], refl, inl, inr, Option, None, Some, Ghosts, Command, At, Entry, Lane, Opening, opened_on, Auditor, Dated, Measure, Mode, Run, Value, Project, State, Checkpoint, Generate, Load, IsLeftAlone, IsLeftBy, Ending, Done, BadJournal, WriteFault, DiskFault, NoMemory, EndsReadOnly, Input, Shelving, Stream, EndsScript, EndsLanes, EndsRun, books_of, policy_account, EndsState, IsStated, EndsValue, IsValued, EndsProject, IsProjected, EndsLoad, EndsLoading, IsLoadOf, Does, EndsBooks, EndsMode, EndsSave, IsLeftSo}
 
 module _ {D : Type 0} (g : Ghosts D) (old new : D) where
   abbrev Left : Type 0
@@ -14,25 +14,12 @@ module _ {D : Type 0} (g : Ghosts D) (old new : D) where
   untouched : new ≡ old → Left
   untouched same = (opened_on [] (g.faults old), ([], inr (inr (refl, same))))
 
-  ran : (lanes : List Lane) (basis : List Dated) (auditors : List Auditor) (output : Stream) (Wrote : List (List ℕ) → List ℕ → Type 0)
-      (Replies : List Entry → List ℕ → Type 0) → IsRunOf g old new lanes basis auditors output Wrote Replies → Left
-  ran lanes basis auditors output Wrote Replies run = by_turns (opened_on run.commands (g.faults old)) run.history run.disk
-
   script : (lanes : List Lane) (basis : List Dated) (auditors : List Auditor) (output : Stream) (ending : Ending)
       → EndsScript g old new lanes basis auditors output ending → Left
-  script lanes basis auditors output Done ends = ran _ _ _ _ _ _ ends
-  script lanes basis auditors output BadJournal ends = all_alone ends.alone
-  script lanes basis auditors output WriteFault ends = ran _ _ _ _ _ _ ends.1
-  script lanes basis auditors output DiskFault ends = elim ends.1 [
-    | inl said ↦ all_alone said.1
-    | inr run ↦ ran _ _ _ _ _ _ run
+  script lanes basis auditors output ending ends = elim ends [
+    | inl run ↦ by_turns (opened_on run.commands (g.faults old)) run.history run.disk
+    | inr said ↦ all_alone said.1
   ]
-  script lanes basis auditors output NoMemory ends = elim ends [
-    | inl said ↦ all_alone said.1
-    | inr (inl run) ↦ ran _ _ _ _ _ _ run
-    | inr (inr run) ↦ ran _ _ _ _ _ _ run
-  ]
-  script lanes basis auditors output _ ends = absurd ends
 
   lanes_left : (lanes : List Lane) (name : List ℕ) (auditors : List Auditor) (shelf : Shelving) (output : Stream) (ShelfStays : Type 0) (ending : Ending)
       → EndsLanes g old new lanes name auditors shelf output ShelfStays ending → Left
@@ -53,11 +40,11 @@ module _ {D : Type 0} (g : Ghosts D) (old new : D) where
   read_only : (Tells : (List ℕ → Type 0) → Type 0) (output : Stream) (ending : Ending)
       → ((Wrote : List ℕ → Type 0) → Tells Wrote → Left) → EndsReadOnly g old new Tells output ending → Left
   read_only Tells output Done told ends = told _ ends
-  read_only Tells output BadJournal told ends = all_alone ends.alone
+  read_only Tells output BadJournal told ends = all_alone ends.1
   read_only Tells output WriteFault told ends = told _ ends.1
-  read_only Tells output DiskFault told ends = all_alone ends.2
-  read_only Tells output NoMemory told ends = all_alone ends.1
-  read_only Tells output _ told ends = absurd ends
+  read_only Tells output DiskFault told ends = all_alone ends.1
+  read_only Tells output (NoMemory lack) told ends = all_alone ends.1
+  read_only Tells output _ told ends = absurd ends.0
 
   value_left : (on : ℤ) (at : At) (measure : Measure) (name : List ℕ) (shelf : Shelving) (output : Stream) (ending : Ending)
       → EndsValue g old new on at measure name shelf output ending → Left
@@ -84,18 +71,18 @@ module _ {D : Type 0} (g : Ghosts D) (old new : D) where
   loading : (lanes : List Lane) (workers : ℕ) (basis : List Dated) (output : Stream) (ending : Ending)
       → EndsLoading g old new lanes workers basis output ending → Left
   loading lanes workers basis output Done ends = load_of _ _ _ ends
-  loading lanes workers basis output BadJournal ends = all_alone ends.alone
-  loading lanes workers basis output WriteFault ends = load_of _ _ _ ends.1
-  loading lanes workers basis output DiskFault ends = elim ends.1 [
+  loading lanes workers basis output BadJournal ends = all_alone ends.1
+  loading lanes workers basis output WriteFault ends = load_of _ _ _ ends
+  loading lanes workers basis output DiskFault ends = elim ends [
     | inl said ↦ all_alone said.1
-    | inr load ↦ load_of _ _ _ load
+    | inr load ↦ load_of _ _ _ load.1
   ]
-  loading lanes workers basis output NoMemory ends = elim ends [
+  loading lanes workers basis output (NoMemory lack) ends = elim ends [
     | inl said ↦ all_alone said.1
     | inr (inl load) ↦ load_of _ _ _ load
     | inr (inr load) ↦ load_of _ _ _ load
   ]
-  loading lanes workers basis output _ ends = absurd ends
+  loading lanes workers basis output _ ends = absurd ends.0
 
   load_left : (seed count lanes workers : ℕ) (shelf : Shelving) (output : Stream) (ending : Ending)
       → EndsLoad g old new seed count lanes workers shelf output ending → Left
@@ -111,7 +98,7 @@ module _ {D : Type 0} (g : Ghosts D) (old new : D) where
   -- both disks leave the journal's alone
   books_left : {E : Type 0} (e : Ghosts E) (second kept : Option E) (output : Stream) (ending : Ending)
       → EndsBooks g e old new second kept output ending → Left
-  books_left e None None output ending ends = state_left books_text output ending ends
+  books_left e None None output ending ends = state_left books_of output ending ends
   books_left e (Some second) (Some kept) output ending ends = all_alone ends.first
   books_left e _ _ output ending ends = absurd ends
 
@@ -140,5 +127,5 @@ module _ {D : Type 0} (g : Ghosts D) (old new : D) where
         → (opening : Opening) × ((history : List Entry) × IsLeftSo g old new opening history)
     left_so words ending does = elim does [
       | inl (mode, asked, ends) ↦ mode_left mode ending ends
-      | inr unasked ↦ untouched unasked.disk
+      | inr unasked ↦ untouched unasked.0
     ]

@@ -1,4 +1,5 @@
 pub mod Names
+pub mod Parts
 pub mod CrashLaws
 pub mod FaultsTold
 pub mod TextLaws

@@ -1,5 +1,5 @@
 -- What the exit status tells of the words, the script, the basis and the file
-use Rattle.life_app.proofs.Names.{◌≡◌, ℕ, ◌≤◌, ◌<◌, ◌⊎◌, ℤ, List, length, ⊎_elim, refl, ap, subst, inl, inr, Option, None, Some, codes, Ghosts, Rose, GivesMore, Command, At, Position, Lane, Auditor, Dated, Measure, Reads, AreWords, Mode, Run, Value, Project, State, Checkpoint, Generate, Load, IsLeftAlone, Opens, OpensToNone, Ending, Done, Usage, BadScript, BadBasis, BadJournal, ReadFault, DiskFault, NoMemory, Ahead, status_of, SaysBadFile, Input, IsWholeInput, Shelving, Stream, EndsRun, HasItsBasis, IsUnreadable, asks_for_values, books_text, policy_account, EndsValue, position_of, EndsProject, Filing, HasSecond, Second, Without, filing_between, seen_by, HasBasis, HasItsJournal, HasItsNeeds, HasJournal, HasNoBasis, HasNoJournal, HasNoScript, IsDueEnding, IsHeld, LacksItsBasis, LacksItsJournal, Does, EndsBooks, EndsMode, EndsSave, SaysUnasked, AreNoWords, AskForCheckpoint, AskForGenerate, AskForLoad, AskForProject, AskForRun, AskForValue}
+use Rattle.life_app.proofs.Names.{◌≡◌, ℕ, ◌≤◌, ◌<◌, ◌⊎◌, ℤ, List, length, ⊎_elim, refl, ap, subst, inl, inr, Option, None, Some, codes, Ghosts, Rose, GivesMore, Command, At, Position, Lane, Auditor, Dated, Measure, Reads, AreWords, Mode, Run, Value, Project, State, Checkpoint, Generate, Load, IsLeftAlone, Opens, OpensToNone, Ending, Done, Usage, BadScript, BadBasis, BadJournal, ReadFault, DiskFault, NoMemory, Ahead, status_of, SaysBadFile, Input, IsWholeInput, Shelving, Stream, EndsRun, HasItsBasis, IsUnreadable, asks_for_values, books_of, policy_account, EndsValue, position_of, EndsProject, Filing, HasSecond, Second, Without, filing_between, seen_by, HasBasis, HasItsJournal, HasItsNeeds, HasJournal, HasNoBasis, HasNoJournal, HasNoScript, HasScript, IsDueEnding, LacksItsJournal, NeedsBasis, NeedsOf, commands_of, Does, EndsBooks, EndsMode, EndsSave, SaysUnasked, AreNoWords, AskForCheckpoint, AskForGenerate, AskForLoad, AskForProject, AskForRun, AskForValue}
 use Rattle.std.specs.Prelude.{true}
 use Rattle.outside_io.specs.Shelves.{Files}
 use Rattle.basis_shelf.specs.Bases.{IsBasis}
@@ -23,7 +23,7 @@ said output bad says = ⊎_elim (λ four. inl four.0) (λ nine. inr nine) says
 -- a shelf that has the basis of lanes that ask for values
 module _ {shelf : Shelving} (lanes : List Lane) (name : List ℕ) (has : asks_for_values lanes ≡ true → HasBasis shelf name) where
   basis_for : HasItsBasis lanes name shelf
-  basis_for asks = (let basis = has asks in (basis.files, (basis.basis, basis.agree, basis.is)))
+  basis_for asks = (let basis = has asks in (basis.files, (basis.so.0, basis.agree, basis.so.1)))
 
   held_for : asks_for_values lanes ≡ true → Rose shelf.faults_before shelf.faults_after → ⊥
   held_for asks = (has asks).held
@@ -32,7 +32,7 @@ module _ {D E : Type 0} (g : Ghosts D) (e : Ghosts E) (old new : D) (second kept
   module _ (words : List (List ℕ)) (input : Input) (output : Stream) (shelf : Shelving) (InputStays ShelfStays : Type 0) where
     unasked : (ending : Ending) → SaysUnasked words output ending → (mode : Mode) → AreWords words mode → status_of ending ≡ 9
     unasked Usage says mode asked = absurd (says.0 mode asked)
-    unasked NoMemory says mode asked = refl
+    unasked (NoMemory lack) says mode asked = refl
     unasked _ says mode asked = absurd says
 
     -- the mode that the words ask for ended so, or there was no memory to read them
@@ -44,7 +44,7 @@ module _ {D E : Type 0} (g : Ghosts D) (e : Ghosts E) (old new : D) (second kept
           subst (λ (m : Mode). EndsMode g e old new second kept m auditors input output shelf InputStays ShelfStays ending)
           (ask_once words other mode asked_too asked) ends
           )
-      | inr none ↦ inr (unasked ending none.says mode asked)
+      | inr none ↦ inr (unasked ending none.4 mode asked)
     ]
 
     -- words that ask for nothing
@@ -52,21 +52,21 @@ module _ {D E : Type 0} (g : Ghosts D) (e : Ghosts E) (old new : D) (second kept
         → AreNoWords words → (status_of ending ≡ 2) ⊎ (status_of ending ≡ 9)
     as_nothing ending does nothing = elim does [
       | inl (mode, asked, ends) ↦ absurd (nothing mode asked)
-      | inr none ↦ said ending none.says
+      | inr none ↦ said ending none.4
     ]
       where
         said : (ending : Ending) → SaysUnasked words output ending → (status_of ending ≡ 2) ⊎ (status_of ending ≡ 9)
         said Usage says = inl refl
-        said NoMemory says = inr refl
+        said (NoMemory lack) says = inr refl
         said _ says = absurd says
 
     -- how a mode leaves a file that opens to none
     alone_as_before : IsLeftAlone g old new → g.honest new → OpensToNone (g.reads old) → g.reads new ≡ g.reads old
-    alone_as_before alone honest none = (alone.unwritten honest (finished (g.reads old) none)).facts.reads
+    alone_as_before alone honest none = (alone.unwritten honest (finished (g.reads old) none)).reads
 
     books_as_before : (second kept : Option E) (ending : Ending) → EndsBooks g e old new second kept output ending
         → g.honest new → OpensToNone (g.reads old) → g.reads new ≡ g.reads old
-    books_as_before None None ending ends honest none = state_as_before g old new books_text output ending ends honest none
+    books_as_before None None ending ends honest none = state_as_before g old new books_of output ending ends honest none
     books_as_before (Some second) (Some kept) ending ends honest none = alone_as_before ends.first honest none
     books_as_before _ _ ending ends honest none = absurd ends
 
@@ -96,7 +96,7 @@ module _ {D E : Type 0} (g : Ghosts D) (e : Ghosts E) (old new : D) (second kept
         → g.honest new → OpensToNone (g.reads old) → g.reads new ≡ g.reads old
     unopened ending does honest none = elim does [
       | inl (mode, asked, ends) ↦ mode_as_before mode ending ends honest none
-      | inr unasked ↦ ap g.reads unasked.disk
+      | inr unasked ↦ ap g.reads unasked.0
     ]
 
     abbrev filing : Filing
@@ -109,14 +109,14 @@ module _ {D E : Type 0} (g : Ghosts D) (e : Ghosts E) (old new : D) (second kept
     books_done : (second kept : Option E) (commands : List Command) (ending : Ending) → HasJournal filing (second_between e second kept) commands
         → (Rose output.faults_before output.faults_after → ⊥) → EndsBooks g e old new second kept output ending
         → (status_of ending ≡ 0) ⊎ (status_of ending ≡ 9)
-    books_done None None commands ending file held ends = state_to_end g old new books_text output ending ends commands file.trusted file.opens held file.held
+    books_done None None commands ending file held ends = state_to_end g old new books_of output ending ends commands file.trusted file.so held file.held
     books_done (Some second) (Some kept) commands ending file held ends =
         both.done g e (two_disks old new second kept) output commands ending file held (both.stated g e (two_disks old new second kept) output ending ends)
     books_done _ _ commands ending file held ends = absurd ends
 
     books_refused : (second kept : Option E) (ending : Ending) → HasNoJournal filing (second_between e second kept)
         → EndsBooks g e old new second kept output ending → (status_of ending ≡ 5) ⊎ (status_of ending ≡ 9)
-    books_refused None None ending none ends = state_refused g old new books_text output ending ends none.trusted none.none none.held
+    books_refused None None ending none ends = state_refused g old new books_of output ending ends none.trusted none.so none.held
     books_refused (Some second) (Some kept) ending none ends =
         both.refused g e (two_disks old new second kept) output ending none (both.stated g e (two_disks old new second kept) output ending ends)
     books_refused _ _ ending none ends = absurd ends
@@ -201,9 +201,9 @@ module _ {D E : Type 0} (g : Ghosts D) (e : Ghosts E) (old new : D) (second kept
       ]
 
       unfit_project : (on : ℤ) (years : ℕ) (name : List ℕ) (none : HasNoBasis shelf name) → AskForProject words on years name
-          → SaysBadFile none.bad output (status_of ending) ⊎ (status_of ending ≡ 9)
+          → SaysBadFile none.so.0 output (status_of ending) ⊎ (status_of ending ≡ 9)
       unfit_project on years name none asked = elim (projected_so on years name asked) [
-        | inl ends ↦ project_unfit g old new on years output name shelf none.files none.agree ending none.bad ends none.first none.held
+        | inl ends ↦ project_unfit g old new on years output name shelf none.files none.agree ending none.so.0 ends none.so.1 none.held
         | inr without ↦ inr without
       ]
 
@@ -211,15 +211,15 @@ module _ {D E : Type 0} (g : Ghosts D) (e : Ghosts E) (old new : D) (second kept
           → AskForProject words on years name → HasJournal filing Without commands
           → (Rose output.faults_before output.faults_after → ⊥) → (status_of ending ≡ 0) ⊎ (status_of ending ≡ 9)
       projected on years name has commands asked file output_held = elim (projected_so on years name asked) [
-        | inl ends ↦ project_to_end g old new on years output name shelf has.files has.agree has.basis has.is has.held file.trusted file.held ending commands
-            ends file.opens output_held
+        | inl ends ↦ project_to_end g old new on years output name shelf has.files has.agree has.so.0 has.so.1 has.held file.trusted file.held ending commands
+            ends file.so output_held
         | inr none ↦ inr none
       ]
 
       unprojected : (on : ℤ) (years : ℕ) (name : List ℕ) (has : HasBasis shelf name) → AskForProject words on years name
           → HasNoJournal filing Without → (status_of ending ≡ 5) ⊎ (status_of ending ≡ 9)
       unprojected on years name has asked none = elim (projected_so on years name asked) [
-        | inl ends ↦ project_refused g old new on years output name shelf has.files has.agree has.basis has.is has.held none.trusted none.held ending ends none.none
+        | inl ends ↦ project_refused g old new on years output name shelf has.files has.agree has.so.0 has.so.1 has.held none.trusted none.held ending ends none.so
         | inr without ↦ inr without
       ]
 
@@ -230,7 +230,7 @@ module _ {D E : Type 0} (g : Ghosts D) (e : Ghosts E) (old new : D) (second kept
         | inr none ↦ inr none
       ]
       stated (Some id) commands asked file held = elim (as_asked ending does (State (Some id)) asked) [
-        | inl ends ↦ state_to_end g old new (policy_account id) output ending ends.3 commands file.trusted file.opens held file.held
+        | inl ends ↦ state_to_end g old new (policy_account id) output ending ends.3 commands file.trusted file.so held file.held
         | inr none ↦ inr none
       ]
 
@@ -241,7 +241,7 @@ module _ {D E : Type 0} (g : Ghosts D) (e : Ghosts E) (old new : D) (second kept
         | inr without ↦ inr without
       ]
       unstated (Some id) asked none = elim (as_asked ending does (State (Some id)) asked) [
-        | inl ends ↦ state_refused g old new (policy_account id) output ending ends.3 none.trusted none.none none.held
+        | inl ends ↦ state_refused g old new (policy_account id) output ending ends.3 none.trusted none.so none.held
         | inr without ↦ inr without
       ]
 
@@ -349,66 +349,89 @@ module _ {D E : Type 0} (g : Ghosts D) (e : Ghosts E) (old new : D) (second kept
 
       -- the ending that is due
       unscript : (name : List ℕ) → AskForRun words name → HasNoScript input → (status_of ending ≡ 3) ⊎ (status_of ending ≡ 9)
-      unscript name asked none = elim none.unreadable [
-        | inl more ↦ script_too_long name asked more none.held
-        | inr bytes ↦ script_refused bytes.0 name asked bytes.1 bytes.2 none.held
+      unscript name asked none = elim none.0 [
+        | inl more ↦ script_too_long name asked more none.1
+        | inr bytes ↦ script_refused bytes.0 name asked bytes.1 bytes.2 none.1
       ]
 
-      bad_basis : (mode : Mode) → AreWords words mode → LacksItsBasis mode input shelf → (status_of ending ≡ 4) ⊎ (status_of ending ≡ 9)
-      bad_basis (Run name) asked lacks =
-          let script = lacks.1 in
-          let none = lacks.3 in
-          said output none.bad
-          (unfit_run script.bytes name lacks.0 none.bad none.files asked script.whole script.read.0 script.read.1 lacks.2 none.agree none.first script.held none.held)
-      bad_basis (Value on at workers name measure) asked none = said output none.bad (unfit on at name none.bad none.files (workers, (measure, asked)) none.agree none.first none.held)
-      bad_basis (Project on years workers name) asked none = said output none.bad (unfit_project on years name none (workers, asked))
-      bad_basis (Load seed count lanes workers) asked none =
-          said output none.bad (unfit_load none.bad none.files (seed, (count, (lanes, (workers, asked)))) none.agree none.first none.held)
-      bad_basis _ asked lacks = absurd lacks
+      abbrev ReadsValues : Type 0
+      ReadsValues = (lanes : List Lane) × HasScript input lanes × (asks_for_values lanes ≡ true)
 
-      bad_journal : (mode : Mode) → AreWords words mode → HasItsNeeds mode input shelf other → LacksItsJournal mode filing other
+      bad_basis : (mode : Mode) → AreWords words mode → (name : List ℕ) → NeedsBasis mode ReadsValues name → HasNoBasis shelf name
+          → (status_of ending ≡ 4) ⊎ (status_of ending ≡ 9)
+      bad_basis (Run basis) asked name need is =
+          let none : HasNoBasis shelf basis = subst (λ (n : List ℕ). HasNoBasis shelf n) need.0 is in
+          let values = need.1 in
+          let script = values.1 in
+          said output none.so.0
+          (unfit_run script.bytes basis values.0 none.so.0 none.files asked script.whole script.read.0 script.read.1 values.2 none.agree none.so.1 script.held none.held)
+      bad_basis (Value on at workers basis measure) asked name need is =
+          let none : HasNoBasis shelf basis = subst (λ (n : List ℕ). HasNoBasis shelf n) need is in
+          said output none.so.0 (unfit on at basis none.so.0 none.files (workers, (measure, asked)) none.agree none.so.1 none.held)
+      bad_basis (Project on years workers basis) asked name need is =
+          let none : HasNoBasis shelf basis = subst (λ (n : List ℕ). HasNoBasis shelf n) need is in
+          said output none.so.0 (unfit_project on years basis none (workers, asked))
+      bad_basis (Load seed count lanes workers) asked name need is =
+          let none : HasNoBasis shelf (codes "basis.csv") = subst (λ (n : List ℕ). HasNoBasis shelf n) need is in
+          said output none.so.0 (unfit_load none.so.0 none.files (seed, (count, (lanes, (workers, asked)))) none.agree none.so.1 none.held)
+      bad_basis _ asked name need is = absurd need
+
+      needs : (mode : Mode) → HasItsNeeds mode input shelf other → NeedsOf mode input shelf other
+      needs (Run name) has = (has.lanes, has.script name refl, λ asks. has.basis name (refl, asks))
+      needs (Value on at workers name measure) has = has.basis name refl
+      needs (Project on years workers name) has = has.basis name refl
+      needs (State id) has = tt
+      needs Checkpoint has = has.disks refl
+      needs (Generate seed count lanes) has = tt
+      needs (Load seed count lanes workers) has = has.basis (codes "basis.csv") refl
+
+      bad_journal : (mode : Mode) → AreWords words mode → NeedsOf mode input shelf other → LacksItsJournal mode filing other
           → (status_of ending ≡ 5) ⊎ (status_of ending ≡ 9)
       bad_journal (Run name) asked has none =
           let script = has.1 in
           refused_exactly script.bytes name has.0 asked script.whole script.read.0 script.read.1 (basis_for has.0 name has.2) (held_for has.0 name has.2)
-          none.trusted none.none script.held none.held
+          none.trusted none.so script.held none.held
       bad_journal (Value on at workers name measure) asked has none =
-          unvalued on at name has.files has.basis (workers, (measure, asked)) has.agree has.is none.trusted none.none has.held none.held
+          unvalued on at name has.files has.so.0 (workers, (measure, asked)) has.agree has.so.1 none.trusted none.so has.held none.held
       bad_journal (Project on years workers name) asked has none = unprojected on years name has (workers, asked) none
       bad_journal (State id) asked has none = unstated id asked none
       bad_journal (Load seed count lanes workers) asked has none =
-          unloaded has.files has.basis (seed, (count, (lanes, (workers, asked)))) has.agree has.is none.trusted none.none has.held none.held
+          unloaded has.files has.so.0 (seed, (count, (lanes, (workers, asked)))) has.agree has.so.1 none.trusted none.so has.held none.held
       bad_journal Checkpoint asked has none = unsaved asked has none
       bad_journal (Generate seed count lanes) asked has none = absurd none
 
-      done : (mode : Mode) → AreWords words mode → HasItsNeeds mode input shelf other → HasItsJournal mode filing other
-          → IsHeld output.faults_before output.faults_after → (status_of ending ≡ 0) ⊎ (status_of ending ≡ 9)
+      done : (mode : Mode) → AreWords words mode → NeedsOf mode input shelf other → HasItsJournal mode filing other
+          → ¬ Rose output.faults_before output.faults_after → (status_of ending ≡ 0) ⊎ (status_of ending ≡ 9)
       done (Run name) asked has journal output_held =
           let script = has.1 in
-          let file = journal.1 in
-          complete script.bytes name has.0 journal.0 asked script.whole script.read.0 script.read.1 (basis_for has.0 name has.2)
-          (held_for has.0 name has.2) file.trusted file.opens script.held output_held file.held
+          let found = commands_of journal in
+          let file = found.1 in
+          complete script.bytes name has.0 found.0 asked script.whole script.read.0 script.read.1 (basis_for has.0 name has.2)
+          (held_for has.0 name has.2) file.trusted file.so script.held output_held file.held
       done (Value on at workers name measure) asked has journal output_held =
-          let file = journal.1 in
-          valued on at name has.files has.basis journal.0 (workers, (measure, asked)) has.agree has.is file.trusted file.opens journal.2 has.held output_held file.held
-      done (Project on years workers name) asked has journal output_held = projected on years name has journal.0 (workers, asked) journal.1 output_held
-      done (State id) asked has file output_held = stated id file.0 asked file.1 output_held
-      done Checkpoint asked has file output_held = saved file.0 asked has file.1 output_held
+          let found = journal.so in
+          valued on at name has.files has.so.0 found.0 (workers, (measure, asked)) has.agree has.so.1 journal.trusted found.1 found.2 has.held output_held journal.held
+      done (Project on years workers name) asked has journal output_held = (let found = commands_of journal in projected on years name has found.0 (workers, asked) found.1 output_held)
+      done (State None) asked has journal output_held = (let found = commands_of journal in stated None found.0 asked found.1 output_held)
+      done (State (Some id)) asked has journal output_held = (let found = commands_of journal in stated (Some id) found.0 asked found.1 output_held)
+      done Checkpoint asked has journal output_held = (let found = commands_of journal in saved found.0 asked has found.1 output_held)
       done (Generate seed count lanes) asked has journal output_held = generated (seed, (count, (lanes, asked))) output_held
       done (Load seed count lanes workers) asked has journal output_held =
-          let file = journal.1 in
-          loaded has.files has.basis journal.0 (seed, (count, (lanes, (workers, asked)))) has.agree has.is file.trusted file.opens has.held output_held file.held
+          let found = commands_of journal in
+          let file = found.1 in
+          loaded has.files has.so.0 found.0 (seed, (count, (lanes, (workers, asked)))) has.agree has.so.1 file.trusted file.so has.held output_held file.held
 
       pub due : (shelf.faults_before < shelf.faults_after → ending ≡ ReadFault)
           → (input.faults_before < input.faults_after → ending ≡ ReadFault) → (wanted : Ending) → IsDueEnding words input output shelf (filing_between g old new) (second_between e second kept) wanted
           → (status_of ending ≡ status_of wanted) ⊎ (status_of ending ≡ 9)
       due counted heard Usage is = as_nothing ending does is
-      due counted heard BadScript is = unscript is.0 is.1 is.2
-      due counted heard BadBasis is = bad_basis is.0 is.1 is.2
-      due counted heard BadJournal is = bad_journal is.0 is.1 is.2 is.3
-      due counted heard Done is = done is.0 is.1 is.2 is.3 is.4
-      due counted heard Ahead (on, (p, (name, asked, has, (commands, file, past)))) =
-          ahead on p name has.files has.basis commands asked has.agree has.is file.trusted file.opens past has.held file.held
+      due counted heard BadScript is = unscript is.0 is.1 (is.2, is.3)
+      due counted heard BadBasis (mode, asked, (name, need, none)) = bad_basis mode asked name need none
+      due counted heard BadJournal is = bad_journal is.0 is.1 (needs is.0 is.2) is.3
+      due counted heard Done is = done is.0 is.1 (needs is.0 is.2) is.3 is.4
+      due counted heard Ahead (on, (p, workers, (name, (measure, asked, has, file)))) =
+          let found = file.so in
+          ahead on p name has.files has.so.0 found.0 (workers, (measure, asked)) has.agree has.so.1 file.trusted found.1 found.2 has.held file.held
       due counted heard ReadFault (inl rose) = inl (ap (λ (e : Ending). status_of e) (counted rose))
       due counted heard ReadFault (inr rose) = inl (ap (λ (e : Ending). status_of e) (heard rose))
       due counted heard DiskFault is = fault_told g e old new output is.1 second kept is.0 auditors input shelf InputStays ShelfStays ending words does

@@ -1,7 +1,7 @@
 -- What a list of runs leaves, each ended by its return or by a crash
 use Rattle.life_app.proofs.Names.{◌≡◌, ℕ, ◌≤◌, ◌⊎◌, List, [], ◌∷◌, ◌++◌, ◌+◌, length, refl, ap, sym, ◌∙◌, subst, inl, inr, append-nil, append_assoc, arith, filter_map-append, Ghosts, Command, Entry, accepted_by, accepted_of, commands_after, IsSafe, HoldsOnce, IsLeftAlone, IsLeftBy, IsOneMore, Opens, opens_to_one, AddsCommands, AreLeft, AreRuns, HasReturned, IsLeftSo, OneRun, WasCut}
 use Rattle.std.proofs.lemmas.List.{length-append}
-use Rattle.life_app.proofs.HeadlineLaws.{faulted_last}
+use Rattle.life_app.proofs.CrashLaws.{in_parts}
 
 -- Each image that a disk may leave opens to commands with P: these, or these and one more.
 pub record Starts {D : Type 0} (g : Ghosts D) (P : List Command → Type 0) (disk : D) : Type 0 where
@@ -113,7 +113,7 @@ module _ {D : Type 0} (g : Ghosts D) (facts : Facts g) (P : List Command → Typ
 
   alone_later : IsLeftAlone g old run.new → g.clock old ≤ g.clock run.new
   alone_later alone = elim (alone.synced honest) [
-    | inl looks ↦ looks.time.later
+    | inl looks ↦ looks.later
     | inr at ↦ (let later = at.1.later in let passed = at.1.passed in omega (arith, later, passed))
   ]
 
@@ -167,21 +167,19 @@ module _ {D : Type 0} (g : Ghosts D) (facts : Facts g) (P : List Command → Typ
           ),
           inl refl,
         )
-        | inr more ↦
-            let was = faulted_last run.history more.0 more.1 in (
-              commands_after run.opening run.history ++ more.0 ∷ [],
-              inl more.2,
-              (
-                run.opening.commands,
-                accepted_of run.history,
-                more.0 ∷ [],
-                opened_near.0,
-                adds_all returned (more.0 ∷ [])
-                    (was.after, (record { before = was.before; caller = was.caller; count = was.count; turns = was.turns }, was.then)),
-                refl,
-              ),
-              inr (more.0, refl),
-            )
+        | inr more ↦ (
+          commands_after run.opening run.history ++ more.0 ∷ [],
+          inl more.2,
+          (
+            run.opening.commands,
+            accepted_of run.history,
+            more.0 ∷ [],
+            opened_near.0,
+            adds_all returned (more.0 ∷ []) more.1,
+            refl,
+          ),
+          inr (more.0, refl),
+        )
       ];
     }
 
@@ -239,18 +237,19 @@ module _ {D : Type 0} (g : Ghosts D) (facts : Facts g) (P : List Command → Typ
 
     cut_late : WasCut g old run → HoldsOnce run.opening run.history (g.reads run.next)
         → (commands : List Command) × Opens (g.reads run.next) commands × Grown P run commands
-    cut_late cut once = (
-      run.opening.commands ++ once.held ++ once.more,
-      once.opens,
-      (
-        run.opening.commands,
-        once.held,
-        once.more,
-        opened_near.0,
-        record { front = (once.rest, once.front); one = once.one; answered = answered_in cut once.held once.more once.opens },
-        refl,
-      ),
-    )
+    cut_late cut once =
+        let parts = in_parts run.opening run.history (g.reads run.next) once in (
+          run.opening.commands ++ parts.held ++ parts.more,
+          parts.opens,
+          (
+            run.opening.commands,
+            parts.held,
+            parts.more,
+            opened_near.0,
+            record { front = (parts.rest, parts.front); one = parts.one; answered = answered_in cut parts.held parts.more parts.opens },
+            refl,
+          ),
+        )
 
     opened : HasReturned run ⊎ WasCut g old run → Starts g (Grown P run) run.next
     opened (inl returned) = subst (λ (disk : D). Starts g (Grown P run) disk) (sym returned.handed) (after returned)

@@ -1,9 +1,10 @@
 -- The text of a line is read back as its fields, and a block as its rows
-use Rattle.life_app.proofs.Names.{◌≡◌, ℕ, zero, suc, ◌+◌, ◌/◌, ◌%◌, ◌^◌, ◌<◌, ◌≤◌, ℤ, List, [], ◌∷◌, ◌++◌, drop, length, map, get_or, refl, ap, ap₂, sym, ◌∙◌, subst, arith, codes, lit<, Bool, true, nat_le, ◌&&◌, decimal, if◌then◌else◌, ◌==◌, AllByRecursion, flat_map, and_parts, leb-true, Date, date_of, date_text, day_text, two_digits, NoBasis, BelowTable, PastTable, RateHigh, InForce, Lapsed, Claimed, Matured, Expired, Settled, PaidUp, Terminal, Row, Bounds, Both, Word, block_text, heading_text, reason_word, row_text, total_text, worth_fields, Command, Reply, Accepted, Refused, Faulted, Blank, reply_fields, AreAlike, IsPlainReply, IsPlainRow, IsPlainWorth, TellsApart, run_wording}
+use Rattle.life_app.proofs.Names.{◌≡◌, ℕ, zero, suc, ◌+◌, ◌/◌, ◌%◌, ◌^◌, ◌<◌, ◌≤◌, ℤ, List, [], ◌∷◌, ◌++◌, drop, length, map, get_or, refl, ap, ap₂, sym, ◌∙◌, subst, arith, codes, lit<, Bool, true, nat_le, ◌&&◌, decimal, if◌then◌else◌, ◌==◌, AllByRecursion, flat_map, and_parts, leb-true, Date, date_of, date_text, day_text, two_digits, NoBasis, BelowTable, PastTable, RateHigh, InForce, Lapsed, Claimed, Matured, Expired, Settled, PaidUp, Terminal, Row, Bounds, Both, Word, block_text, heading_text, row_text, total_text, worth_fields, Command, Reply, Accepted, Refused, Faulted, Blank, reply_fields, AreAlike, IsPlainReply, IsPlainRow, IsPlainWorth, TellsApart, run_wording}
 use Rattle.std.specs.Int.Digits.{digits_of}
 use Rattle.std.proofs.lemmas.Fmt.{decimal_digit, decimal-digits_of, decimal_injective}
 use Rattle.std.proofs.lemmas.List.{append_assoc}
-use Rattle.money_core.specs.CentsText.{cents_text, hundredths_text}
+use Rattle.money_core.proofs.CentsTextLemmas.{hundredths_text}
+use Rattle.money_core.specs.CentsText.{cents_text}
 use Rattle.money_core.proofs.CentsTextLemmas.{cents_text_injective}
 use Rattle.plan_benefits.specs.declared.fault.NotValued.{NotValued}
 use Rattle.policy_types.specs.Words.{kind_word, status_word}
@@ -167,6 +168,16 @@ bare_worth (Word PastTable) plain = (bare_by (codes "pasttable") refl, tt)
 bare_worth (Word RateHigh) plain = (bare_by (codes "ratehigh") refl, tt)
 bare_worth (Both lo hi min_lo min_hi test) plain = absurd plain
 
+-- the one field of a word
+abbrev reason_word : NotValued → List ℕ
+reason_word why = get_or (worth_fields (Word why)) 0 []
+
+one_field : (why : NotValued) → length (worth_fields (Word why)) ≡ 1
+one_field NoBasis = refl
+one_field BelowTable = refl
+one_field PastTable = refl
+one_field RateHigh = refl
+
 reason_by : ℕ → NotValued
 reason_by letter =
     if letter == 110 then NoBasis else if letter == 98 then BelowTable else if letter == 112 then PastTable else RateHigh
@@ -187,9 +198,9 @@ same_worth (Bounds lo hi) (Bounds low high) plain bare same =
     small : (n : ℕ) → n < 2 ^ 64 → n < 10 ^ 64
     small n below = omega (arith, below)
 same_worth (Bounds lo hi) (Word why) plain bare same =
-    absurd (let long = ap (λ (fs : List (List ℕ)). length fs) same in omega (arith, long))
+    absurd (let long = ap (λ (fs : List (List ℕ)). length fs) same ∙ one_field why in omega (arith, long))
 same_worth (Word why) (Bounds lo hi) plain bare same =
-    absurd (let long = ap (λ (fs : List (List ℕ)). length fs) same in omega (arith, long))
+    absurd (let long = sym (one_field why) ∙ ap (λ (fs : List (List ℕ)). length fs) same in omega (arith, long))
 same_worth (Word why) (Word other) plain bare same =
     let words : reason_word why ≡ reason_word other = ap (λ (fs : List (List ℕ)). get_or fs 0 []) same in
     let reasons = sym (reason_again why) ∙ ap (λ (word : List ℕ). reason_by (get_or word 0 0)) words ∙ reason_again other in

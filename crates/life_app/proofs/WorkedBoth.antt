@@ -33,4 +33,4 @@ only_line bytes (inl all) = all
 only_line bytes (inr part) = absurd (no_fault part.0)
 
 pub no_words : NoWordsLine
-no_words words = (inl refl, only_line)
+no_words words = ((refl, refl, tt, tt, inl refl), λ bytes ends. only_line bytes ends.4)

@@ -1,6 +1,6 @@
 -- What a crash leaves of a run, as commands
 use Rattle.std.specs.Prelude.{◌≡◌, ◌⊎◌, List, [], ◌∷◌, ◌++◌}
-use Rattle.life_app.specs.Names.{Ghosts, Command, Entry, Opening, accepted_of, commands_after, IsSafe, IsLeftBy, IsOneMore, IsPending}
+use Rattle.life_app.specs.Names.{Ghosts, Command, Entry, Opening, accepted_of, commands_after, IsSafe, IsLeftBy, WasFaulted}
 
 -- An office was opened on the disk's file, when a crash left just what is read, and the turns of the history left the
 -- disk so, which comes back honest.
@@ -8,6 +8,12 @@ pub record HasRun {D : Type 0} (g : Ghosts D) (old new : D) (opening : Opening) 
   pub honest : g.honest new
   pub safe : IsSafe g old
   pub left : IsLeftBy g old new opening history
+
+-- no command more, or one whose posting was answered `fault` when just these were accepted
+abbrev pub IsOneMore : List Entry → List Command → List Command → Type 0
+IsOneMore history held [] = Unit {0}
+IsOneMore history held (command ∷ []) = WasFaulted history held command
+IsOneMore _ _ _ = ⊥
 
 -- the commands from before the run, then a front of what it accepted, then at most one more, whose posting faulted when
 -- just these were accepted
@@ -19,9 +25,9 @@ pub record AreHeld (opening : Opening) (history : List Entry) (commands : List C
   pub one : IsOneMore history held more
   pub are : commands ≡ opening.commands ++ held ++ more
 
--- the commands from before the run and all that it accepted, or these and one more, whose posting faulted with none
--- accepted since
+-- the commands from before the run and all that it accepted, or these and one more, whose posting faulted when
+-- just these were accepted
 abbrev pub AreAllHeld : Opening → List Entry → List Command → Type 0
 AreAllHeld opening history commands =
     (commands ≡ commands_after opening history)
-    ⊎ ((command : Command) × IsPending history command × (commands ≡ commands_after opening history ++ command ∷ []))
+    ⊎ ((command : Command) × WasFaulted history (accepted_of history) command × (commands ≡ commands_after opening history ++ command ∷ []))

@@ -1,5 +1,4 @@
 pub mod Names
-pub mod Words
 pub mod Needs
 pub mod Reasons
 pub mod Due

@@ -1,24 +1,28 @@
--- What the words need of the basis and the disks
-use Rattle.std.specs.Prelude.{◌≡◌, ℕ, ◌<◌, ◌⊎◌, ℤ, List, None, length, codes}
-use Rattle.life_app.specs.Names.{Rose, Files, Ghosts, Command, Position, Mode, State, Checkpoint, Opens, Input, Shelving, Stream, WroteOrFailed, ReadsForValues, TellsTruth, At, IsFirstBadFile}
-use Rattle.basis_shelf.specs.Lines.{bad_basis_text}
-use Rattle.basis_shelf.specs.declared.fault.BadBasis.{BadBasis}
-use Rattle.life_app.specs.Words.{AskForLoad, AskForProject, AskForRun, AskForValue}
+-- What a mode needs of the input, the basis and the disks
+use Rattle.std.specs.Prelude.{◌≡◌, ℕ, ◌⊎◌, true, List, None, codes}
+use Rattle.life_app.specs.Names.{Rose, Files, Ghosts, Lane, Dated, IsBasis, Mode, Run, Value, Project, State, Checkpoint, Load, Input, IsWholeInput, Shelving, IsReadAs, asks_for_values, TellsTruth}
 
--- the words need the basis of this name: they ask for values, or to run a script of which a line does, or to run a
--- generated script, or for a projection
-abbrev pub NeedBasis : List (List ℕ) → Input → List ℕ → Type 0
-NeedBasis words input name =
-    ((on : ℤ) × ((at : At) × AskForValue words on at name))
-    ⊎ (AskForRun words name × ReadsForValues input)
-    ⊎ (AskForLoad words × (name ≡ codes "basis.csv"))
-    ⊎ ((on : ℤ) × ((years : ℕ) × AskForProject words on years name))
+-- the mode needs the basis of this name, where a script to run is such that a line of it asks for values
+abbrev pub NeedsBasis : Mode → (Asks : Type 0) → List ℕ → Type 0
+NeedsBasis (Run basis) Asks name = (name ≡ basis) × Asks
+NeedsBasis (Value on at workers basis measure) Asks name = name ≡ basis
+NeedsBasis (Project on years workers basis) Asks name = name ≡ basis
+NeedsBasis (Load seed count lanes workers) Asks name = name ≡ codes "basis.csv"
+NeedsBasis _ _ _ = ⊥
 
--- the words need a basis of which a file is bad, and the first bad one is named
-abbrev pub HasBadFile : List (List ℕ) → Input → Shelving → Stream → Type 0
-HasBadFile words input shelf output =
-    (name : List ℕ) × ((bad : BadBasis) × NeedBasis words input name
-    × ((files : Files) → shelf.Agrees files → IsFirstBadFile files name bad) × WroteOrFailed output (bad_basis_text bad))
+-- the whole input is a script of these lanes, and didn't fail
+pub record HasScript (input : Input) (lanes : List Lane) : Type 0 where
+  pub bytes : List ℕ
+  pub whole : IsWholeInput input bytes
+  pub read : IsReadAs bytes lanes
+  pub held : ¬ Rose input.faults_before input.faults_after
+
+-- files that agree with what the shelf answered are so, and it didn't fail
+pub record ShelfHas (shelf : Shelving) (AreSo : Files → Type 0) : Type 0 where
+  pub files : Files
+  pub agree : shelf.Agrees files
+  pub so : AreSo files
+  pub held : ¬ Rose shelf.faults_before shelf.faults_after
 
 -- The file of a disk between two moments: what it read as and what it reads as, whether the disk comes back honest, and
 -- the disk's counts of faults.
@@ -48,6 +52,14 @@ abbrev pub HasSecond : Second → Type 0
 HasSecond Without = ⊥
 HasSecond (With file) = Unit {0}
 
+-- The mode has the script and the basis that it needs; `checkpoint` needs a second disk.
+pub record HasItsNeeds (mode : Mode) (input : Input) (shelf : Shelving) (second : Second) : Type 0 where
+  pub lanes : List Lane
+  pub script : (name : List ℕ) → mode ≡ Run name → HasScript input lanes
+  pub basis : (name : List ℕ) → NeedsBasis mode (asks_for_values lanes ≡ true) name
+      → ShelfHas shelf (λ files. (basis : List Dated) × IsBasis files name basis)
+  pub disks : mode ≡ Checkpoint → HasSecond second
+
 -- a mode sees what it opens of it: `state` of all policies and `checkpoint` do
 abbrev pub seen_by : Mode → Second → Second
 seen_by (State None) second = second
@@ -60,18 +72,14 @@ abbrev pub AreTrusted : Filing → Second → Type 0
 AreTrusted disk Without = disk.Honest
 AreTrusted disk (With second) = disk.Honest × second.Honest × TellsTruth second.before disk.before
 
--- one of them failed
-abbrev pub HasDiskFault : Filing → Second → Type 0
-HasDiskFault disk Without = Rose disk.faults_before disk.faults_after
-HasDiskFault disk (With second) = Rose disk.faults_before disk.faults_after ⊎ Rose second.faults_before second.faults_after
+-- one of the disks failed, as these counts of its faults tell
+abbrev pub HasDiskFault : (Tell : ℕ → ℕ → Type 0) → Filing → Second → Type 0
+HasDiskFault Tell disk Without = Tell disk.faults_before disk.faults_after
+HasDiskFault Tell disk (With second) =
+    Tell disk.faults_before disk.faults_after ⊎ Tell second.faults_before second.faults_after
 
--- the count of one of them rose
-abbrev pub HasNewFault : Filing → Second → Type 0
-HasNewFault disk Without = disk.faults_before < disk.faults_after
-HasNewFault disk (With second) = (disk.faults_before < disk.faults_after) ⊎ (second.faults_before < second.faults_after)
-
--- the words ask for values after more commands than the disk's file opens to
-abbrev pub IsPastTheEnd : List (List ℕ) → Filing → Type 0
-IsPastTheEnd words disk =
-    (on : ℤ) × ((p : ℕ) × ((name : List ℕ) × AskForValue words on (Position p) name
-    × (disk.Honest → (commands : List Command) × Opens disk.before commands × (length commands < p))))
+-- The journal's file is so; and it and the second one, where there is one, are trusted, and didn't fail.
+pub record JournalIs (disk : Filing) (second : Second) (IsSo : List ℕ → Type 0) : Type 0 where
+  pub trusted : AreTrusted disk second
+  pub so : IsSo disk.before
+  pub held : ¬ HasDiskFault Rose disk second

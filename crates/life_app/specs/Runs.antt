@@ -1,6 +1,7 @@
 -- A list of runs over one disk, each ended by its return or by a crash at any moment, and what they leave
 use Rattle.std.specs.Prelude.{◌≡◌, ◌⊎◌, List, [], ◌∷◌, ◌++◌}
-use Rattle.life_app.specs.Names.{Ghosts, Command, Entry, Opening, accepted_of, IsSafe, HasKept, IsLeftAlone, IsLeftBy, IsOneMore}
+use Rattle.life_app.specs.Names.{Ghosts, Command, Entry, Opening, accepted_of, IsSafe, HasKept, IsLeftAlone, IsLeftBy}
+use Rattle.life_app.specs.Crashes.{IsOneMore}
 
 -- A run: the disk as it gives it back, or would have, and the disk on which the next run begins; what its office was opened
 -- on, and the turns; and the commands of which the run had answered that they are accepted when it ended.

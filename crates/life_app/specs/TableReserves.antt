@@ -4,6 +4,7 @@ use Rattle.life_app.specs.Names.{Dated, Policy, Fraction, NotValued}
 use Rattle.plan_benefits.specs.Shapes.{shape_of}
 use Rattle.policy_value.specs.Covers.{AreByDuration, cap_along, cover_along}
 use Rattle.policy_value.specs.Measures.{exact_reserve}
+use Rattle.policy_value.specs.declared.worth.Measure.TheVariants.{Terminal}
 use Rattle.rate_table.specs.declared.shape.Shape.{Shape}
 use Rattle.life_app.specs.Given.{Reserves}
 
@@ -14,14 +15,14 @@ pub record IsTableReserve (policy : Policy) (entry : Dated) (years t : ℕ) (res
   pub covered : years ≡ shape.n
   pub rates : AreByDuration entry.table shape.age (cover_along entry.table shape entry.bp) (cap_along entry.table shape.age entry.bp)
   pub exact : reserve
-      ≡ exact_reserve policy.status (cover_along entry.table shape entry.bp) (cap_along entry.table shape.age entry.bp) t
+      ≡ exact_reserve Terminal policy.status (cover_along entry.table shape entry.bp) (cap_along entry.table shape.age entry.bp) t
 
--- why the table has none
-abbrev pub HasNoTableReserve : Policy → Dated → NotValued → Type 0
-HasNoTableReserve policy entry why = shape_of policy.plan policy.age policy.years entry.table ≡ Err why
-
+-- and none where it has no shape, for the reason why
 abbrev pub table_reserves : Reserves
-table_reserves = record { Is = IsTableReserve; HasNone = HasNoTableReserve }
+table_reserves = record {
+  Is = IsTableReserve;
+  HasNone = λ policy entry why. shape_of policy.plan policy.age policy.years entry.table ≡ Err why;
+}
 
 -- There is one exact reserve at most, and none where there is a reason for that.
 pub record AreOnce (reserves : Reserves) : Type 0 where

@@ -1,18 +1,6 @@
--- The texts of the program, as the headline is given them
+-- What the texts of the program tell apart
 use Rattle.std.specs.Prelude.{◌≡◌, ℕ, ◌<◌, ◌^◌, ℤ, List, length}
-use Rattle.life_app.specs.Names.{AllByRecursion, Command, Reply, Accepted, Refused, Faulted, Blank, Terminal, Row, Bounds, Word, id_of, Worth, posting_text, reports_text, trim_text, unpinned_text, unvalued_text}
-use Rattle.report_text.specs.Block.{block_text}
-use Rattle.life_app.specs.Given.{Wording}
-
-abbrev pub run_wording : Wording
-run_wording = record {
-  posting = posting_text;
-  trim = trim_text;
-  unpinned = unpinned_text;
-  unvalued = unvalued_text;
-  block = λ clerk on position rows. block_text clerk on position Terminal rows;
-  reports = reports_text;
-}
+use Rattle.life_app.specs.Names.{AllByRecursion, Command, Reply, Accepted, Refused, Faulted, Blank, Row, Bounds, Word, id_of, Worth, Wording}
 
 -- numbers below 2^64, which the texts hold
 abbrev pub IsPlainReply : Reply → Type 0

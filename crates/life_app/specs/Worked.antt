@@ -1,15 +1,18 @@
 -- Worked cases of what a run and `state` write, computed from the definitions alone. Day 18262 is 2020-01-01
-use Rattle.std.specs.Prelude.{◌≡◌, ◌⊎◌, ◌++◌, ℕ, List, [], ◌∷◌, Some, pos, codes}
-use Rattle.life_app.specs.Names.{AllZip, AreWords, Mode, Ghosts, Command, Endowment, Reply, Accepted, Refused, Faulted, Blank, Entry, PostLine, Lane, AnsweredLine, AreLinesOf, opened_on, Stream, WroteLine, BadJournal, NoMemory, books_text, policy_account, AreTrue, TwoDisks, Row, Bounds, Issue, Premium, Alter, Lapse, Reinstate, Claim, Settle, Mature, PaidUp, Upgrade, InForce, Lapsed, Claimed, Matured, Expired, Settled, IsPaidUp, Taken, Unknown, BeforeLast, WrongStatus, TermOver, NothingDue, TooEarly, GraceOver, NotInArrears, TooLate, WrongAmount, NotAReduction, NotMatured, OverSettled, Full, NotUpgraded, Upgraded, IsLineText, posting_text, reports_text, trim_text, unpinned_text, unvalued_text, watcher_text}
+use Rattle.std.specs.Prelude.{◌≡◌, ◌⊎◌, ◌++◌, ◌<◌, ℕ, List, [], ◌∷◌, None, length, pos, codes}
+use Rattle.watcher_set.specs.Evidence.{a_lack}
+use Rattle.life_app.specs.Names.{AllZip, AreWords, Mode, Ghosts, Command, Endowment, Reply, Accepted, Refused, Faulted, Blank, Entry, PostLine, Lane, AnsweredLine, AreLinesOf, Stream, WroteLine, BadJournal, NoMemory, books_text, policy_account, AreTrue, TwoDisks, Row, Bounds, Issue, Premium, Alter, Lapse, Reinstate, Claim, Settle, Mature, PaidUp, Upgrade, InForce, Lapsed, Claimed, Matured, Expired, Settled, IsPaidUp, Taken, Unknown, BeforeLast, WrongStatus, TermOver, NothingDue, TooEarly, GraceOver, NotInArrears, TooLate, WrongAmount, NotAReduction, NotMatured, OverSettled, Full, NotUpgraded, Upgraded, IsToldLine, Terminal, run_wording, posting_text, reports_text, trim_text, unpinned_text, unvalued_text, watcher_text, Rose, book, EndsCheckpoint, EndsStateKept}
 use Rattle.policy_types.specs.declared.refusal.Refusal.{Refusal}
 use Rattle.policy_types.specs.declared.entry.Call.TheVariants.{Post}
 use Rattle.policy_types.specs.declared.entry.PinRefusal.TheVariants.{Ahead, Trimmed, PinsFull}
 use Rattle.policy_machine.specs.Worked.Cases.{policy_issue}
 use Rattle.program_endings.specs.Worked.{output_with}
-use Rattle.life_app.specs.Needs.{AreTrusted, Filing, HasDiskFault, HasNewFault, HasSecond, With, Without, seen_by}
+use Rattle.life_app.specs.Needs.{AreTrusted, Filing, HasDiskFault, HasSecond, With, Without, seen_by}
 use Rattle.life_app.specs.TableReserves.{AreOnce, table_reserves}
-use Rattle.life_app.specs.Texts.{AreAlike, IsPlainReply, IsPlainRow, IsPlainWorth, TellsApart, run_wording}
-use Rattle.life_app.specs.Obeys.{EndsBooks, EndsSave, SaysUnasked}
+use Rattle.policy_value.specs.Rows.{IsValuedRow}
+use Rattle.life_app.specs.Texts.{AreAlike, IsPlainReply, IsPlainRow, IsPlainWorth, TellsApart}
+use Rattle.life_app.specs.Obeys.{EndsUnasked}
+use Rattle.policy_machine.specs.Accounts.{ledger_of}
 
 abbrev pub first_premium : Command
 first_premium = Premium 7001 (pos 18262) 40000
@@ -84,7 +87,7 @@ clerks_answers =
 -- two clerks' lines stand in the order of their turns
 abbrev pub TwoClerks : Type 0
 TwoClerks = AreLinesOf clerks_answers clerks_turns clerks_lanes (11 ∷ 12 ∷ []) []
-    × AllZip (IsLineText (opened_on [] 0) clerks_turns [] []) clerks_answers ((codes "5,premium,7001,refused,unknown" ++ 10 ∷ [])
+    × AllZip (IsToldLine run_wording (λ on. IsValuedRow [] on Terminal) [] clerks_turns []) clerks_answers ((codes "5,premium,7001,refused,unknown" ++ 10 ∷ [])
     ∷ (codes "3,issue,7001,accepted,1" ++ 10 ∷ []) ∷ (codes "5,premium,7001,accepted,2" ++ 10 ∷ []) ∷ [])
 
 -- a trim, and why a valuation on 2021-01-01 has no rows
@@ -108,7 +111,7 @@ claimed_beside_another = policy_issue ∷ first_premium ∷ Claim 7001 (pos 1841
 
 -- all policies, the balances and the number of commands
 abbrev pub ClaimedBooks : Type 0
-ClaimedBooks = books_text claimed_beside_another
+ClaimedBooks = books_text (book claimed_beside_another) (ledger_of claimed_beside_another) (length claimed_beside_another)
     ≡ codes "policy,7001,claimed,endowment,0,3,1000.00,400.00,2020-01-01,1,600.00" ++ 10
     ∷ codes "policy,7,inforce,endowment,0,3,1000.00,400.00,2020-07-01,0,0.00" ++ 10
     ∷ codes "balance,cash,0.00" ++ 10 ∷ codes "balance,premiums,-400.00" ++ 10
@@ -140,21 +143,22 @@ BothWords = SeesSecond (codes "checkpoint" ∷ []) × SeesSecond (codes "state" 
 
 -- a fault of the second disk is one where it is seen, and two empty files are trusted
 abbrev pub TwoFilings : Type 0
-TwoFilings = HasDiskFault (filing_with 0) (With (filing_with 1)) × HasNewFault (filing_with 0) (With (filing_with 1))
-    × (HasDiskFault (filing_with 0) Without → ⊥) × (HasNewFault (filing_with 0) Without → ⊥)
+TwoFilings = HasDiskFault Rose (filing_with 0) (With (filing_with 1)) × HasDiskFault ◌<◌ (filing_with 0) (With (filing_with 1))
+    × (HasDiskFault Rose (filing_with 0) Without → ⊥) × (HasDiskFault ◌<◌ (filing_with 0) Without → ⊥)
     × AreTrusted (filing_with 0) (With (filing_with 0))
 
 -- over five bytes that are no journal both modes end with that line
 abbrev pub BothRefuseHello : {D E : Type 0} → Ghosts D → Ghosts E → Type 0
 BothRefuseHello {D} {E} g e = (disks : TwoDisks D E) (output : Stream) → AreTrue g e disks → g.reads disks.old ≡ codes "hello"
-    → EndsBooks g e disks.old disks.new (Some disks.second) (Some disks.kept) output BadJournal
-    ⊎ EndsSave g e disks.old disks.new (Some disks.second) (Some disks.kept) output BadJournal
+    → EndsStateKept g e disks output BadJournal ⊎ EndsCheckpoint g e disks output BadJournal
     → WroteLine output (codes "badjournal,notajournal")
 
--- where no words could be read, `nomemory` is written, and is all that is
+-- where no words could be read for want of memory, `nomemory` is written, and is all that is
 abbrev pub NoWordsLine : Type 0
-NoWordsLine = (words : List (List ℕ)) → SaysUnasked words (output_with 0 [] (codes "nomemory" ++ 10 ∷ [])) NoMemory
-    × ((bytes : List ℕ) → SaysUnasked words (output_with 0 [] bytes) NoMemory → bytes ≡ codes "nomemory" ++ 10 ∷ [])
+NoWordsLine = (words : List (List ℕ))
+    → EndsUnasked {D = Unit {0}} {E = Unit {0}} (tt {0}) (tt {0}) None None words (output_with 0 [] (codes "nomemory" ++ 10 ∷ [])) (Unit {0}) (Unit {0}) (NoMemory a_lack)
+    × ((bytes : List ℕ) → EndsUnasked {D = Unit {0}} {E = Unit {0}} (tt {0}) (tt {0}) None None words (output_with 0 [] bytes) (Unit {0}) (Unit {0}) (NoMemory a_lack)
+    → bytes ≡ codes "nomemory" ++ 10 ∷ [])
 
 abbrev pub plain_row : Row
 plain_row = record { id = 7001; status = InForce; t = 1; worth = Bounds 12722 12723 }

@@ -1,1 +1,2 @@
 pub mod Unasked
+pub mod Obeying

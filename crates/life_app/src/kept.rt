@@ -1,10 +1,10 @@
 // The top call over two disks.
-ghost use Rattle.std.specs.Prelude.{◌≡◌, ◌≤◌, ◌⊎◌, Some, [], map, length, string_bytes};
+ghost use Rattle.std.specs.Prelude.{◌≡◌, ◌≤◌, ◌⊎◌, Some, [], map, length, string_bytes, IsSome};
 ghost use Rattle.life_app.specs.Names.{AllByRecursion, OpensToNone, status_of, between, input_between, shelf_between, AnEnding, most_watchers};
 ghost use Rattle.life_app.specs.Due.{IsDueEnding};
 ghost use Rattle.life_app.specs.Needs.{With, filing_between};
 ghost use Rattle.life_app.specs.Obeys.{Obeys};
-ghost use Rattle.life_app.specs.Reasons.{IsReasoned};
+ghost use Rattle.life_app.specs.Reasons.{HasReason};
 
 use crate::modes::obey;
 use outside_io::{Disk, Gate, Shelf, Sink, Source};
@@ -13,11 +13,13 @@ use stating_modes::FinishedKept;
 use std::alloc::Global;
 use std::sync::Wait;
 use std::thread::Threads;
-use watcher_set::Watchers;
+use watcher_set::{Lack, Watchers};
 
 /// What the program leaves: its exit status, and its two disks.
 pub struct EndedKept<D, E> {
     pub status: u8,
+    /// What memory was wanting, of status 9.
+    pub lack: Option<Lack>,
     pub disk: D,
     pub second: E,
 }
@@ -56,10 +58,10 @@ pub fn life_kept<
     ensures shelf { H.files shelf.new ≡ H.files shelf.old }
 
     // Each status but 0 and 9 has its reason: what the words, the script, a basis file or the journal are, or the device that failed.
-    ensures reason { IsReasoned (map string_bytes words.now) (input_between S.faults S.left S.given S.ended input.old input.new)
+    ensures reason { (ending : AnEnding) × (result.status ≡ status_of ending) × HasReason (map string_bytes words.now) (input_between S.faults S.left S.given S.ended input.old input.new)
         (between K.faults K.written K.pieces output.old output.new)
         (shelf_between H.faults H.agrees shelf.old shelf.new) (filing_between D.Disk disk result.disk)
-        (With (filing_between E.Disk second result.second)) result.status }
+        (With (filing_between E.Disk second result.second)) ending }
 
     // An ending that is due, where the devices don't fail on which it rests, comes about, but for want of memory.
     ensures due { (ending : AnEnding) → IsDueEnding (map string_bytes words.now) (input_between S.faults S.left S.given S.ended input.old input.new)
@@ -67,6 +69,10 @@ pub fn life_kept<
         (shelf_between H.faults H.agrees shelf.old shelf.new) (filing_between D.Disk disk result.disk)
         (With (filing_between E.Disk second result.second)) ending
         → (result.status ≡ status_of ending) ⊎ (result.status ≡ 9) }
+
+    // It ends for want of memory where memory was wanting, and has the evidence of that; no other status has it.
+    ensures lack { result.status ≡ 9 → IsSome result.lack }
+    ensures unlacking { IsSome result.lack → result.status ≡ 9 }
 
     // A file that opens to no commands reads as before, however the run ends, where its disk comes back honest.
     ensures unopened { D.honest result.disk → OpensToNone (D.reads disk) → D.reads result.disk ≡ D.reads disk }
@@ -92,6 +98,7 @@ pub fn life_kept<
     match second {
         Some(second) => EndedKept {
             status: ending.status(),
+            lack: ending.lack(),
             disk,
             second,
         },

@@ -1,6 +1,6 @@
 // What the definitions have to mean, as functions that do nothing.
 ghost use Rattle.std.specs.Prelude.{◌≡◌, ◌⊎◌, ℕ, List, Option, Some, []};
-ghost use Rattle.life_app.specs.Names.{Command, Entry, Opening, IsSafe, IsFirstScriptFault, TellsTruth, TwoDisks, between, input_between, shelf_between, Auditor, HoldsOnce, IsLeftAlone, Opens, IsReadable, IsUnreadable};
+ghost use Rattle.life_app.specs.Names.{Command, Entry, Opening, IsSafe, IsFirstScriptFault, TellsTruth, TwoDisks, between, input_between, shelf_between, Auditor, IsFrontThere, IsLeftAlone, Opens, IsReadable, IsUnreadable};
 ghost use Rattle.life_app.specs.Crashes.{AreAllHeld, AreHeld, HasRun};
 ghost use Rattle.life_app.specs.KeptRuns.{AreRunsOfTwo, IsLeftByCall, OneRunOfTwo, SavedOfFirst};
 ghost use Rattle.life_app.specs.Runs.{AreLeft, AreRuns, IsLeftSo, OneRun};
@@ -21,7 +21,7 @@ pub fn scripts_are_read_or_refused()
 pub fn crashes_of_a_run<D: Disk>()
     ensures during { (old new : D) (opening : Opening) (history : List Entry) (image : List ℕ)
         → HasRun D.Disk old new opening history → D.left_since new (D.clock old) image
-        → HoldsOnce opening history image }
+        → IsFrontThere Opens opening.commands history image }
     ensures afterwards { (old new : D) (opening : Opening) (history : List Entry) (image : List ℕ)
         (commands : List Command) → HasRun D.Disk old new opening history → D.may_leave new image
         → Opens image commands → AreAllHeld opening history commands }
@@ -30,18 +30,18 @@ pub fn crashes_of_a_run<D: Disk>()
 /// The run that opens what a crash left goes on from these commands.
 pub fn runs_after_a_crash<D: Disk>()
     ensures { (next last : D) (opening second : Opening) (history turns : List Entry)
-        → HoldsOnce opening history (D.reads next) → HasRun D.Disk next last second turns
+        → IsFrontThere Opens opening.commands history (D.reads next) → HasRun D.Disk next last second turns
         → AreHeld opening history second.commands }
 {}
 
 /// Where that opening is cut short, before its first turn or where it answers no office, a crash leaves them anew.
 pub fn crashes_of_an_opening<D: Disk>()
     ensures opened { (next last : D) (opening second : Opening) (history : List Entry) (image : List ℕ)
-        → HoldsOnce opening history (D.reads next) → HasRun D.Disk next last second []
-        → D.left_since last (D.clock next) image → HoldsOnce opening history image }
+        → IsFrontThere Opens opening.commands history (D.reads next) → HasRun D.Disk next last second []
+        → D.left_since last (D.clock next) image → IsFrontThere Opens opening.commands history image }
     ensures unopened { (next last : D) (opening : Opening) (history : List Entry) (image : List ℕ)
-        → HoldsOnce opening history (D.reads next) → D.honest last → IsSafe D.Disk next → IsLeftAlone D.Disk next last
-        → D.left_since last (D.clock next) image → HoldsOnce opening history image }
+        → IsFrontThere Opens opening.commands history (D.reads next) → D.honest last → IsSafe D.Disk next → IsLeftAlone D.Disk next last
+        → D.left_since last (D.clock next) image → IsFrontThere Opens opening.commands history image }
 {}
 
 /// The runs of a list, each ended by its return or by a crash at any moment, leave in their order what each had answered to

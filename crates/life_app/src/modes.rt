@@ -1,7 +1,7 @@
 // The words are obeyed over the journal's disk and a second one, or none.
 ghost use Rattle.std.specs.Prelude.{◌≡◌, ◌<◌, ℕ, [], Some, map, string_bytes};
 ghost use Rattle.life_app.specs.Names.{between, input_between, shelf_between, ReadFault, EndsStateKept, disks_of};
-ghost use Rattle.life_app.specs.Obeys.{Does, EndsBooks, EndsSave};
+ghost use Rattle.life_app.specs.inside.Obeying.{Does, EndsBooks, EndsSave};
 ghost use Rattle.life_app.specs.inside.Unasked.{SaysNoMode};
 
 use life_args::{Mode, WordsFault, read_words};
@@ -202,6 +202,6 @@ fn refuse_words<K: Sink>(fault: WordsFault, output: &mut K) -> Ending
 {
     match fault {
         WordsFault::Usage => end(output, b"usage\n", Ending::Usage),
-        WordsFault::NoMemory => lack_memory(output),
+        WordsFault::NoMemory(lack) => lack_memory(lack, output),
     }
 }

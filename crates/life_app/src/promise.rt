@@ -1,11 +1,11 @@
 // What the program promises of a script's run, as a function that does nothing.
 ghost use Rattle.std.specs.Prelude.{◌≡◌, ◌⊎◌, ℕ, List, Option, []};
-ghost use Rattle.life_app.specs.Names.{Files, Command, Lane, Dated, IsBasis, Reads, Opens, IsWholeInput, between, input_between, shelf_between, Auditor};
+ghost use Rattle.life_app.specs.Names.{AreWords, Run, Files, Command, Lane, Dated, IsBasis, Reads, Opens, IsWholeInput, between, input_between, shelf_between, Auditor};
 ghost use Rattle.life_app.specs.Headline.{IsGivenBasis, IsPromised, IsUnrun};
 ghost use Rattle.life_app.specs.Obeys.{Obeys};
 ghost use Rattle.life_app.specs.TableReserves.{AreOnce, table_reserves};
-ghost use Rattle.life_app.specs.Texts.{TellsApart, run_wording};
-ghost use Rattle.life_app.specs.Words.{AskForRun};
+ghost use Rattle.life_app.specs.Texts.{TellsApart};
+ghost use Rattle.transcript_text.specs.Transcript.{run_wording};
 
 use outside_io::{Disk, Shelf, Sink, Source};
 
@@ -20,7 +20,7 @@ pub fn headline<S: Source, K: Sink, H: Shelf, D: Disk, E: Disk>()
         → Obeys D.Disk E.Disk old new second kept words auditors (input_between S.faults S.left S.given S.ended input read)
         (between K.faults K.written K.pieces output written) (shelf_between H.faults H.agrees shelf asked)
         (read ≡ input) (asked ≡ shelf) status
-        → AskForRun words name → IsWholeInput (input_between S.faults S.left S.given S.ended input read) bytes
+        → AreWords words (Run name) → IsWholeInput (input_between S.faults S.left S.given S.ended input read) bytes
         → Reads bytes lanes → IsGivenBasis IsBasis lanes name (shelf_between H.faults H.agrees shelf asked) basis
         → IsPromised D.Disk Opens run_wording table_reserves old new lanes basis auditors (between K.faults K.written K.pieces output written) status
         ⊎ IsUnrun D.Disk Opens old new name (input_between S.faults S.left S.given S.ended input read)

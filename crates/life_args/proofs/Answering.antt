@@ -1,9 +1,11 @@
 -- What readers answer
 use Rattle.life_args.proofs.Names.{◌≡◌, ◌≤◌, ◌∙◌, arith, drop, get_or, length, map, string_bytes, String, take, lit<, ◌-◌, ap₂, IfOk, IfErr, IfSome, ok_or, ℤ, ap, sym, refl, subst, true, false, List, [], ◌∷◌, Option, Some, None, unwrap_or, Result, Ok, Err, IsErrAnd, true≢false, Text, found_of, raw_values-rows, WordsFault, Mode, Verb, WordPiece, AreWords, AskFor, AskForNothing, IsFaultOf, NameAMode, mode_names, GivesAsked, IsLine, ReadsLine, Spelling, TakesWords, has_odd, line_app, values_of, AsksFor, IsLone, SaysMode, options_of, verb_of, verb_word, IsDay, IsDayText, IsDayValue, IsMeasureBy, Measure}
+use Rattle.memory_requests.specs.Evidence.{a_refusal}
 use Rattle.std.specs.Global.{Global}
 use Rattle.std.specs.List.{Contains}
 use Rattle.std.proofs.lemmas.List.{take_all}
 use Rattle.clap.specs.declared.parser.matches.ArgMatches.{ArgMatches}
+use Rattle.memory_requests.specs.declared.words.NoMatches.TheVariants as not
 use Rattle.life_args.specs.declared.fault.WordsFault.TheVariants.{Usage, NoMemory}
 use Rattle.life_args.specs.declared.verb.Verb.TheVariants as verb
 use Rattle.life_args.proofs.Lines.{spelled_even, spelled_taken, taken_spelled, values_in}
@@ -17,13 +19,13 @@ use Rattle.life_args.proofs.Texts.{day_of_text, text_of_day}
 pub handed_on : {T : Type 0} (r : Result T WordsFault) (fault : WordsFault) (Q : T → Type 0) → IsErrAnd r (λ y. y ≡ fault) → (fault ≡ Usage → (answer : T) → Q answer → ⊥) → GivesAsked Q r
 handed_on (Ok answer) fault Q is none = absurd is
 handed_on (Err Usage) fault Q is none = none (sym is)
-handed_on (Err NoMemory) fault Q is none = tt
+handed_on (Err (NoMemory lack)) fault Q is none = tt
 
 -- so is the fault of a part that each answer has
 pub refused : {T U : Type 0} (P : T → Type 0) (Q : U → Type 0) (r : Result U WordsFault) (fault : WordsFault) → IsErrAnd r (λ y. y ≡ fault) → GivesAsked P (Err fault)
     → ((answer : U) → Q answer → (part : T) × P part) → GivesAsked Q r
 refused P Q r Usage is none part = handed_on r Usage Q is (λ usage answer asked. let of_it = part answer asked in none of_it.0 of_it.1)
-refused P Q r NoMemory is none part = handed_on r NoMemory Q is (λ usage. cc)
+refused P Q r (NoMemory lack) is none part = handed_on r (NoMemory a_refusal) Q is (λ usage. cc)
 
 -- ---- a measure
 
@@ -47,16 +49,17 @@ day_given text bytes found r same some exact is = subst (λ x. GivesAsked (IsDay
 
 -- ---- a line
 
-pub line_read : (verb : Verb) (words : List Text) (r : Result ArgMatches WordsFault) → has_odd words ≡ false → TakesWords (line_app (options_of verb)) words r → ReadsLine (options_of verb) words r
-line_read verb words (Ok line) even takes =
+pub line_read : (verb : Verb) (words : List Text) (line : ArgMatches) → has_odd words ≡ false → TakesWords (line_app (options_of verb)) words (Ok line) → IsLine (options_of verb) words line
+line_read verb words line even takes =
     let found = taken_spelled (options_of verb) (good verb) words even takes.0 in
     record {
       pieces = found.0;
       spelling = found.1;
       every = λ others spelling id. ap (λ o. unwrap_or o []) (raw_values-rows (found_of line) id) ∙ ap (values_in id) takes.1 ∙ (spelled_taken (options_of verb) (good verb) words others spelling).1 id;
     }
-line_read verb words (Err Usage) even takes = λ pieces spelling. takes (spelled_taken (options_of verb) (good verb) words pieces spelling).0
-line_read verb words (Err NoMemory) even takes = tt
+
+pub usage_refused : (verb : Verb) (words : List Text) → TakesWords (line_app (options_of verb)) words (Err not.Usage) → (pieces : List WordPiece) → Spelling (options_of verb) words pieces → ⊥
+usage_refused verb words takes pieces spelling = takes (spelled_taken (options_of verb) (good verb) words pieces spelling).0
 
 pub odd_refused : (verb : Verb) (words : List Text) → has_odd words ≡ true → (pieces : List WordPiece) → Spelling (options_of verb) words pieces → ⊥
 odd_refused verb words odd pieces spelling = true≢false (sym odd ∙ spelled_even (options_of verb) (good verb) words pieces spelling)
@@ -99,7 +102,7 @@ module _ (verb : Verb) (words : List Text) where
   mode_given line (Err Usage) read gives = λ one are.
       let asks = asked_of verb words one are in
       gives one (record { is = asks.0; says = subst (λ (v : Text → List Text). SaysMode v one) (λ i id. (sym (read.every asks.1.0 asks.1.1 id)) i) asks.1.2 })
-  mode_given line (Err NoMemory) read gives = tt
+  mode_given line (Err (NoMemory lack)) read gives = tt
 
 -- ---- the words
 
@@ -132,7 +135,7 @@ answered words verb rest r same gives = go r (subst (λ ws. GivesAsked (AreWords
     go : (x : Result Mode WordsFault) → GivesAsked (AreWords (map string_bytes words)) x → IfOk x (AskFor words) × IfErr x (IsFaultOf words)
     go (Ok one) h = (h, tt)
     go (Err Usage) h = (tt, h)
-    go (Err NoMemory) h = (tt, subst NameAMode same (names_a_mode verb))
+    go (Err (NoMemory lack)) h = (tt, subst NameAMode same (names_a_mode verb))
 
 pub unnamed : (words : List (String Global)) (first : String Global) → 1 ≤ length words → first ≡ get_or words 0 first → ((verb : Verb) → string_bytes first ≡ verb_word verb → ⊥) → AskForNothing words
 unnamed words first some is none one asks =

@@ -1,5 +1,5 @@
 -- The words of a mode, as pieces whose values say the mode
-use Rattle.life_args.proofs.Names.{◌≡◌, ◌≤◌, ◌<◌, ◌^◌, ℕ, Bool, true, false, cond, List, [], ◌∷◌, Option, Some, None, refl, sym, ap, ◌∙◌, subst, arith, inl, inr, bytes_eq, codes, decimal, length, map, ⊤, has_byte, At, Now, Position, Mode, Verb, Run, Value, Project, State, Checkpoint, Generate, Load, WordPiece, bare, apart, joined, flag, spelled, bare_values, option_values, value_under, IsAmong, HasOnly, AtMostOne, IsPositionOr, AreWorkersOr, IsBasisOr, IsPolicyOr, IsSeed, IsPolicyCount, IsLaneCount, AreWords, ArePlain, IsPlainText, OptionNames, Spelling, alone_id, line_app, values_of, SaysMode, options_of, verb_of, verb_word}
+use Rattle.life_args.proofs.Names.{◌≡◌, ◌≤◌, ◌<◌, ◌^◌, ℕ, Bool, true, false, cond, List, [], ◌∷◌, Option, Some, None, refl, sym, ap, ◌∙◌, subst, arith, inl, inr, bytes_eq, codes, decimal, length, map, ⊤, has_byte, At, Now, Position, Mode, Verb, Run, Value, Project, State, Checkpoint, Generate, Load, WordPiece, bare, apart, joined, flag, spelled, bare_values, option_values, value_under, IsAmong, HasOnly, AtMostOne, IsPositionOr, AreWorkersOr, IsBasisOr, IsPolicyOr, IsInRange, AreWords, ArePlain, IsPlainText, OptionNames, Spelling, alone_id, line_app, values_of, SaysMode, options_of, verb_of, verb_word}
 use Rattle.clap.specs.Walk.{Text, arg_by_long}
 use Rattle.clap.specs.Faults.{is_simple_and_free}
 use Rattle.life_args.specs.declared.mode.Mode.TheVariants as mode
@@ -124,7 +124,7 @@ asked_so one words pieces spells only alone options says =
     let plain = are_plain names pieces only alone (each (λ name. EachPlain (option_values name pieces)) names.valued options) in
     record { pieces = pieces; spelling = record { spells = spells; only = only; plain = plain }; says = says }
 
-plain_draws : (seed count lanes : ℕ) (values : List Text) → IsSeed seed → IsPolicyCount count → IsLaneCount lanes → EachPlain values
+plain_draws : (seed count lanes : ℕ) (values : List Text) → seed ≤ 2147483647 → IsInRange 1 100000 count → IsInRange 1 8 lanes → EachPlain values
     → EachPlain (decimal seed ∷ decimal count ∷ decimal lanes ∷ values)
 plain_draws seed count lanes values a b c more =
     (plain_number 2147483647 seed (omega arith) a, (plain_number 100000 count (omega arith) b.1, (plain_number 8 lanes (omega arith) c.1, more)))
@@ -152,18 +152,16 @@ asked word words (mode.State id) are =
     let is = are.1 in
     (are.0, asked_so (mode.State id) words is.pieces is.spells is.only (plain_lone _ (λ given. IsPolicyOr given id) is.id_is (plain_policy id)) tt is.id_is)
 asked word words mode.Checkpoint are = (are.0, asked_so mode.Checkpoint words [] are.1 tt tt tt refl)
-asked word words (mode.Generate seed count lanes) are =
-    let is = are.1 in (
-      are.0,
-      asked_so (mode.Generate seed count lanes) words (bare (decimal seed) ∷ bare (decimal count) ∷ bare (decimal lanes) ∷ []) is.spells tt
-          (plain_draws seed count lanes [] is.seed_in is.count_in is.lanes_in tt) tt (refl, (is.seed_in, is.count_in, is.lanes_in)),
-    )
+asked word words (mode.Generate seed count lanes) are = (
+  are.0,
+  asked_so (mode.Generate seed count lanes) words (bare (decimal seed) ∷ bare (decimal count) ∷ bare (decimal lanes) ∷ []) are.1 tt
+      (plain_draws seed count lanes [] are.2 are.3 are.4 tt) tt (refl, (are.2, are.3, are.4)),
+)
 asked word words (mode.Load seed count lanes workers) are =
-    let is = are.1 in
-    let crew = plain_number 64 workers (omega arith) is.workers_in.1 in (
+    let crew = plain_number 64 workers (omega arith) are.5.1 in (
       are.0,
-      asked_so (mode.Load seed count lanes workers) words (bare (decimal seed) ∷ bare (decimal count) ∷ bare (decimal lanes) ∷ bare (decimal workers) ∷ []) is.spells tt
-          (plain_draws seed count lanes (decimal workers ∷ []) is.seed_in is.count_in is.lanes_in (crew, tt)) tt (refl, (is.seed_in, is.count_in, is.lanes_in), is.workers_in),
+      asked_so (mode.Load seed count lanes workers) words (bare (decimal seed) ∷ bare (decimal count) ∷ bare (decimal lanes) ∷ bare (decimal workers) ∷ []) are.1 tt
+          (plain_draws seed count lanes (decimal workers ∷ []) are.2 are.3 are.4 (crew, tt)) tt (refl, (are.2, are.3, are.4), are.5),
     )
 
 -- without options each piece is a word
@@ -207,22 +205,7 @@ asking words (mode.Project on years workers basis) is = (
 )
 asking words (mode.State id) is = (refl, record { pieces = is.pieces; spells = is.spelling.spells; only = is.spelling.only; id_is = is.says })
 asking words mode.Checkpoint is = (refl, is.spelling.spells ∙ all_bare is.pieces is.spelling.only ∙ is.says)
-asking words (mode.Generate seed count lanes) is = (
-  refl,
-  record {
-    spells = is.spelling.spells ∙ all_bare is.pieces is.spelling.only ∙ is.says.0;
-    seed_in = is.says.1.0;
-    count_in = is.says.1.1;
-    lanes_in = is.says.1.2;
-  },
-)
-asking words (mode.Load seed count lanes workers) is = (
-  refl,
-  record {
-    spells = is.spelling.spells ∙ all_bare is.pieces is.spelling.only ∙ is.says.0;
-    seed_in = is.says.1.0;
-    count_in = is.says.1.1;
-    lanes_in = is.says.1.2;
-    workers_in = is.says.2;
-  },
-)
+asking words (mode.Generate seed count lanes) is =
+    (refl, is.spelling.spells ∙ all_bare is.pieces is.spelling.only ∙ is.says.0, is.says.1.0, is.says.1.1, is.says.1.2)
+asking words (mode.Load seed count lanes workers) is =
+    (refl, is.spelling.spells ∙ all_bare is.pieces is.spelling.only ∙ is.says.0, is.says.1.0, is.says.1.1, is.says.1.2, is.says.2)

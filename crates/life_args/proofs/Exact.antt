@@ -10,8 +10,8 @@ pub gives_due : (words : List (String Global)) (given answer : Result Mode Words
 gives_due words (Ok mode) (Ok other) right fault due =
     ap (λ (m : Mode). Ok m) (ask_once (map string_bytes words) other mode due right)
 gives_due words (Ok mode) (Err Usage) right fault due = absurd (due mode right)
-gives_due words (Ok mode) (Err NoMemory) right fault due = absurd due
+gives_due words (Ok mode) (Err (NoMemory lack)) right fault due = absurd due
 gives_due words (Err Usage) (Ok mode) right fault due = absurd (fault mode due)
 gives_due words (Err Usage) (Err Usage) right fault due = refl
-gives_due words (Err Usage) (Err NoMemory) right fault due = absurd due
-gives_due words (Err NoMemory) answer right fault due = tt
+gives_due words (Err Usage) (Err (NoMemory lack)) right fault due = absurd due
+gives_due words (Err (NoMemory lack)) answer right fault due = tt

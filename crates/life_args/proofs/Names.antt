@@ -13,16 +13,19 @@ pub use Rattle.clap.specs.Lexer.{has_byte, long_of, name_and_value, short_of}
 pub use Rattle.clap.specs.Simple.{filled, filled_from, with_index, Shape, new_shape}
 pub use Rattle.clap.specs.Words.{found_of, Text, with_rule, is_simple_and_free, app_of, built, is_simple}
 pub use Rattle.clap.specs.declared.error.kind.ErrorKind.TheVariants.{InvalidValue, TooManyValues, UnknownArgument}
-pub use Rattle.life_args.specs.Pieces.{WordPiece, bare, flag, spelled, HasOnly, AtMostOne, apart, joined, IsAmong, bare_values, option_values, value_under, apart as apart_piece, joined as joined_piece}
-pub use Rattle.life_args.specs.Values.{IsBasisOr, IsMeasureBy, AreWorkersOr, IsPositionOr, IsPolicyOr, IsDayValue, IsSeed, IsPolicyCount, IsLaneCount}
+pub use Rattle.memory_requests.specs.Words.{TakesWords}
+pub use Rattle.std.specs.Int.{IsInRange}
+pub use Rattle.life_args.specs.inside.Short.{spelled, value_under}
+pub use Rattle.life_args.specs.Pieces.{WordPiece, bare, flag, HasOnly, AtMostOne, apart, joined, IsAmong, bare_values, option_values, apart as apart_piece, joined as joined_piece}
+pub use Rattle.life_args.specs.Values.{IsBasisOr, IsMeasureBy, AreWorkersOr, IsPositionOr, IsPolicyOr}
 pub use Rattle.life_args.specs.Words.{AreWords, AskFor, AskForNothing, IsFaultOf, NameAMode, mode_names}
 pub use Rattle.life_args.specs.declared.fault.WordsFault.{WordsFault}
 pub use Rattle.life_args.specs.declared.mode.Mode.{Mode}
 pub use Rattle.life_args.specs.declared.verb.Verb.{Verb}
 pub use Rattle.life_args.specs.declared.verb.Verb.TheVariants.{Run, Value, Project, State, Generate, Checkpoint, Load}
-pub use Rattle.life_args.specs.inside.Lines.{alone_id, line_app, Spelling, values_of, OptionNames, has_odd, ArePlain, IsPlainText, is_odd, GivesAsked, TakesWords, values_named, IsLine, ReadsLine, alone_rule, flag_rule, option_rule}
-pub use Rattle.life_args.specs.inside.Verbs.{verb_of, AsksFor, SaysMode, options_of, texts_of, verb_word, AreDrawn, IsLone, AreDayAndYears, AreDraws, JustOne, IsNumberValue}
-unfoldable pub use Rattle.life_dates.specs.Calendar.{day_number, date_of, date_at, year_of, month_of, days_before, days_before_year, days_of_months}
+pub use Rattle.life_args.specs.inside.Lines.{alone_id, line_app, Spelling, values_of, OptionNames, has_odd, ArePlain, IsPlainText, is_odd, GivesAsked, values_named, IsLine, ReadsLine, alone_rule, flag_rule, option_rule}
+pub use Rattle.life_args.specs.inside.Verbs.{IsDayValue, verb_of, AsksFor, SaysMode, options_of, texts_of, verb_word, AreDrawn, IsLone, AreDayAndYears, AreDraws, JustOne, IsNumberValue}
+unfoldable pub use Rattle.life_dates.specs.Calendar.{day_number, date_of, month_of, days_before_year, days_of_months}
 pub use Rattle.life_dates.specs.Calendar.{IsDay, days_in_month, is_leap_year, IsTermDay}
 unfoldable pub use Rattle.life_dates.specs.DayText.{day_text}
 pub use Rattle.life_dates.specs.DayText.{IsDayText}

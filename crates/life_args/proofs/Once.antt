@@ -1,4 +1,5 @@
 -- Values say one mode at most
+use Rattle.std.specs.Prelude.{pos}
 use Rattle.life_args.proofs.Names.{◌≡◌, ℕ, ◌≤◌, cond, Bool, true, false, List, [], ◌∷◌, Option, Some, None, refl, sym, ap, ◌∙◌, subst, arith, lit≤, ℤ, codes, decimal, decimal_injective, At, Now, Position, Measure, IsDay, days_in_month, is_leap_year, day_number, day_text, Mode, AtMostOne, IsPositionOr, AreWorkersOr, IsBasisOr, IsMeasureBy, IsPolicyOr, alone_id, AreDraws, SaysMode, verb_of}
 use Rattle.std.specs.Prelude.{◌==◌, ◌||◌}
 use Rattle.clap.specs.Walk.{Text}
@@ -12,12 +13,12 @@ chosen_at_most : (test : Bool) (x y : ℕ) → x ≤ 31 → y ≤ 31 → cond te
 chosen_at_most true x y h k = h
 chosen_at_most false x y h k = k
 
-days_at_most : (year month : ℕ) → days_in_month year month ≤ 31
+days_at_most : (year month : ℕ) → days_in_month (pos year) month ≤ 31
 days_at_most year month =
-    let february = chosen_at_most (is_leap_year year) 29 28 (lit≤ tt) (lit≤ tt) in
+    let february = chosen_at_most (is_leap_year (pos year)) 29 28 (lit≤ tt) (lit≤ tt) in
     let short : Bool = (month == 4) || (month == 6) || (month == 9) || (month == 11) in
     let other = chosen_at_most short 30 31 (lit≤ tt) (lit≤ tt) in
-    chosen_at_most (month == 2) (cond (is_leap_year year) 29 28) (cond short 30 31) february other
+    chosen_at_most (month == 2) (cond (is_leap_year (pos year)) 29 28) (cond short 30 31) february other
 
 same_day : (a b : ℤ) → IsDay a → IsDay b → day_text a ≡ day_text b → a ≡ b
 same_day a b a_in b_in e =

@@ -1,5 +1,5 @@
 -- What worked words are told by.
-use Rattle.life_args.proofs.Names.{◌≡◌, ◌≤◌, ◌∙◌, ℕ, List, [], ◌∷◌, refl, sym, subst, inl, inr, codes, decimal, lit≤, arith, pos, ℤ, decimal_injective, ints, IsName, IsNameByte, date_of, date_at, year_of, month_of, days_before, days_before_year, days_of_months, day_text, Mode, Verb, Run, WordPiece, spelled, HasOnly, IsDayValue, AreWords, ArePlain, line_app, values_of, AreDayAndYears, SaysMode, options_of, verb_of, verb_word, fault_of, Kinds}
+use Rattle.life_args.proofs.Names.{◌≡◌, ◌≤◌, ◌∙◌, ℕ, List, [], ◌∷◌, refl, sym, subst, inl, inr, codes, decimal, lit≤, arith, pos, ℤ, decimal_injective, ints, IsName, IsNameByte, date_of, month_of, days_before_year, days_of_months, day_text, Mode, Verb, Run, WordPiece, spelled, HasOnly, IsDayValue, AreWords, ArePlain, line_app, values_of, AreDayAndYears, SaysMode, options_of, verb_of, verb_word, fault_of, Kinds}
 use Rattle.std.proofs.lemmas.List.Elements.{All-from_recursion}
 use Rattle.std.specs.Fmt.{digits}
 use Rattle.life_args.specs.Worked.{Ask, AskNothing}
@@ -44,7 +44,7 @@ no_help Run e = differ (codes "help") (codes "run") refl e
 no_help verb e = differ (codes "help") (verb_word verb) refl e
 
 pub new_year : IsDayValue (codes "2021-01-01") (pos 18628)
-unfolding digits day_text date_of date_at year_of month_of days_before days_before_year days_of_months
+unfolding digits day_text date_of month_of days_before_year days_of_months
 new_year = ((omega (arith, ints), omega (arith, ints)), refl)
 
 pub b2_name : IsName (codes "b2.csv")

@@ -10,9 +10,9 @@ use Rattle.life_args.specs.Words.{AskFor, AskForNothing}
 abbrev pub IsWordsAnswer : List (String Global) → Result Mode WordsFault → Type 0
 IsWordsAnswer words (Ok mode) = AskFor words mode
 IsWordsAnswer words (Err Usage) = AskForNothing words
-IsWordsAnswer words (Err NoMemory) = ⊥
+IsWordsAnswer words (Err (NoMemory lack)) = ⊥
 
 -- what is given is this answer, unless memory was refused
 abbrev pub GivesMode : Result Mode WordsFault → Result Mode WordsFault → Type 0
-GivesMode (Err NoMemory) answer = ⊤
+GivesMode (Err (NoMemory lack)) answer = ⊤
 GivesMode result answer = answer ≡ result

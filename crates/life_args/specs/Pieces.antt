@@ -18,11 +18,6 @@ piece_words (apart name value) = (codes "--" ++ name) ∷ value ∷ []
 piece_words (joined name value) = (codes "--" ++ (name ++ (codes "=" ++ value))) ∷ []
 piece_words (flag name) = (codes "--" ++ name) ∷ []
 
--- the words that the pieces spell
-abbrev pub spelled : List WordPiece → List (List ℕ)
-spelled [] = []
-spelled (piece ∷ pieces) = piece_words piece ++ spelled pieces
-
 -- the values that stand alone
 abbrev pub bare_values : List WordPiece → List (List ℕ)
 bare_values [] = []
@@ -31,17 +26,13 @@ bare_values (apart name value ∷ pieces) = bare_values pieces
 bare_values (joined name value ∷ pieces) = bare_values pieces
 bare_values (flag name ∷ pieces) = bare_values pieces
 
--- the values that an option of one name gets here, where it has the other name
-abbrev pub value_under : List ℕ → List ℕ → List ℕ → List (List ℕ) → List (List ℕ)
-value_under name other value values = cond (bytes_eq other name) (value ∷ values) values
-
 -- the values of the option of this name. Each use of a flag has the empty text.
 abbrev pub option_values : List ℕ → List WordPiece → List (List ℕ)
 option_values name [] = []
 option_values name (bare value ∷ pieces) = option_values name pieces
-option_values name (apart other value ∷ pieces) = value_under name other value (option_values name pieces)
-option_values name (joined other value ∷ pieces) = value_under name other value (option_values name pieces)
-option_values name (flag other ∷ pieces) = value_under name other [] (option_values name pieces)
+option_values name (apart other value ∷ pieces) = cond (bytes_eq other name) (value ∷ option_values name pieces) (option_values name pieces)
+option_values name (joined other value ∷ pieces) = cond (bytes_eq other name) (value ∷ option_values name pieces) (option_values name pieces)
+option_values name (flag other ∷ pieces) = cond (bytes_eq other name) ([] ∷ option_values name pieces) (option_values name pieces)
 
 -- the name is one of these
 abbrev pub IsAmong : List (List ℕ) → List ℕ → Type 0

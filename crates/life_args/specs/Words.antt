@@ -1,17 +1,21 @@
 -- The words of the program's commands
-use Rattle.std.specs.Prelude.{◌≡◌, ℕ, List, [], ◌∷◌, map, codes, decimal, string_bytes, String, Option, ℤ}
+use Rattle.std.specs.Prelude.{◌≡◌, ℕ, ◌≤◌, List, [], ◌∷◌, map, codes, decimal, string_bytes, String, Option, ℤ}
+use Rattle.std.specs.Int.{IsInRange}
+use Rattle.std.specs.List.{flat_map}
+use Rattle.life_dates.specs.Calendar.{IsDay}
+use Rattle.life_dates.specs.DayText.{day_text}
 use Rattle.life_args.specs.Names.{Global, Contains, At, Measure}
 use Rattle.life_args.specs.declared.fault.WordsFault.{WordsFault}
 use Rattle.life_args.specs.declared.fault.WordsFault.TheVariants.{Usage, NoMemory}
 use Rattle.life_args.specs.declared.mode.Mode.{Mode}
 use Rattle.life_args.specs.declared.mode.Mode.TheVariants.{Run, Value, Project, State, Checkpoint, Generate, Load}
-use Rattle.life_args.specs.Pieces.{WordPiece, spelled, bare_values, option_values, HasOnly, AtMostOne}
-use Rattle.life_args.specs.Values.{IsDayValue, IsPositionOr, AreWorkersOr, IsYearCount, IsBasisOr, IsMeasureBy, IsPolicyOr, IsSeed, IsPolicyCount, IsLaneCount, IsWorkerCount}
+use Rattle.life_args.specs.Pieces.{WordPiece, piece_words, bare_values, option_values, HasOnly, AtMostOne}
+use Rattle.life_args.specs.Values.{IsPositionOr, AreWorkersOr, IsBasisOr, IsMeasureBy, IsPolicyOr}
 
 -- `run [--basis NAME]`: the words behind `run`
 pub record IsRun (words : List (List ℕ)) (basis : List ℕ) : Type 0 where
   pub pieces : List WordPiece
-  pub spells : words ≡ spelled pieces
+  pub spells : words ≡ flat_map piece_words pieces
   pub only : HasOnly (codes "basis" ∷ []) [] pieces
   pub alone : bare_values pieces ≡ []
   pub basis_is : AtMostOne (option_values (codes "basis") pieces) (λ given. IsBasisOr given basis)
@@ -20,11 +24,11 @@ pub record IsRun (words : List (List ℕ)) (basis : List ℕ) : Type 0 where
 -- among them
 pub record IsValue (words : List (List ℕ)) (on : ℤ) (position : At) (workers : ℕ) (basis : List ℕ) (measure : Measure) : Type 0 where
   pub pieces : List WordPiece
-  pub spells : words ≡ spelled pieces
+  pub spells : words ≡ flat_map piece_words pieces
   pub only : HasOnly (codes "at" ∷ codes "workers" ∷ codes "basis" ∷ []) (codes "mean" ∷ codes "deficiency" ∷ []) pieces
   pub day : List ℕ
   pub alone : bare_values pieces ≡ day ∷ []
-  pub day_is : IsDayValue day on
+  pub day_is : IsDay on × (day ≡ day_text on)
   pub position_is : AtMostOne (option_values (codes "at") pieces) (λ given. IsPositionOr given position)
   pub workers_are : AtMostOne (option_values (codes "workers") pieces) (λ given. AreWorkersOr given workers)
   pub basis_is : AtMostOne (option_values (codes "basis") pieces) (λ given. IsBasisOr given basis)
@@ -33,36 +37,21 @@ pub record IsValue (words : List (List ℕ)) (on : ℤ) (position : At) (workers
 -- `project ON YEARS [--workers N] [--basis NAME]`: the words behind `project`, options anywhere among them
 pub record IsProject (words : List (List ℕ)) (on : ℤ) (years workers : ℕ) (basis : List ℕ) : Type 0 where
   pub pieces : List WordPiece
-  pub spells : words ≡ spelled pieces
+  pub spells : words ≡ flat_map piece_words pieces
   pub only : HasOnly (codes "workers" ∷ codes "basis" ∷ []) [] pieces
   pub day : List ℕ
   pub alone : bare_values pieces ≡ day ∷ decimal years ∷ []
-  pub day_is : IsDayValue day on
-  pub years_in : IsYearCount years
+  pub day_is : IsDay on × (day ≡ day_text on)
+  pub years_in : IsInRange 1 131 years
   pub workers_are : AtMostOne (option_values (codes "workers") pieces) (λ given. AreWorkersOr given workers)
   pub basis_is : AtMostOne (option_values (codes "basis") pieces) (λ given. IsBasisOr given basis)
 
 -- `state [ID]`: the words behind `state`
 pub record IsState (words : List (List ℕ)) (id : Option ℕ) : Type 0 where
   pub pieces : List WordPiece
-  pub spells : words ≡ spelled pieces
+  pub spells : words ≡ flat_map piece_words pieces
   pub only : HasOnly [] [] pieces
   pub id_is : AtMostOne (bare_values pieces) (λ given. IsPolicyOr given id)
-
--- `generate SEED COUNT LANES`: the words behind `generate`
-pub record IsGenerate (words : List (List ℕ)) (seed count lanes : ℕ) : Type 0 where
-  pub spells : words ≡ decimal seed ∷ decimal count ∷ decimal lanes ∷ []
-  pub seed_in : IsSeed seed
-  pub count_in : IsPolicyCount count
-  pub lanes_in : IsLaneCount lanes
-
--- `load SEED COUNT LANES WORKERS`: the words behind `load`
-pub record IsLoad (words : List (List ℕ)) (seed count lanes workers : ℕ) : Type 0 where
-  pub spells : words ≡ decimal seed ∷ decimal count ∷ decimal lanes ∷ decimal workers ∷ []
-  pub seed_in : IsSeed seed
-  pub count_in : IsPolicyCount count
-  pub lanes_in : IsLaneCount lanes
-  pub workers_in : IsWorkerCount workers
 
 -- the first word is the mode's name, and those behind it are the mode's
 abbrev pub AreWords : List (List ℕ) → Mode → Type 0
@@ -73,8 +62,12 @@ AreWords (word ∷ words) (Value on position workers basis measure) =
 AreWords (word ∷ words) (Project on years workers basis) = (word ≡ codes "project") × IsProject words on years workers basis
 AreWords (word ∷ words) (State id) = (word ≡ codes "state") × IsState words id
 AreWords (word ∷ words) Checkpoint = (word ≡ codes "checkpoint") × (words ≡ [])
-AreWords (word ∷ words) (Generate seed count lanes) = (word ≡ codes "generate") × IsGenerate words seed count lanes
-AreWords (word ∷ words) (Load seed count lanes workers) = (word ≡ codes "load") × IsLoad words seed count lanes workers
+AreWords (word ∷ words) (Generate seed count lanes) =
+    (word ≡ codes "generate") × (words ≡ decimal seed ∷ decimal count ∷ decimal lanes ∷ [])
+    × (seed ≤ 2147483647) × IsInRange 1 100000 count × IsInRange 1 8 lanes
+AreWords (word ∷ words) (Load seed count lanes workers) =
+    (word ≡ codes "load") × (words ≡ decimal seed ∷ decimal count ∷ decimal lanes ∷ decimal workers ∷ [])
+    × (seed ≤ 2147483647) × IsInRange 1 100000 count × IsInRange 1 8 lanes × IsInRange 1 64 workers
 
 -- the words ask for this
 abbrev pub AskFor : List (String Global) → Mode → Type 0
@@ -96,4 +89,4 @@ NameAMode (word ∷ words) = Contains mode_names word
 -- the cause of a fault. Memory is taken, and may be refused, only where a mode is named.
 abbrev pub IsFaultOf : List (String Global) → WordsFault → Type 0
 IsFaultOf words Usage = AskForNothing words
-IsFaultOf words NoMemory = NameAMode (map string_bytes words)
+IsFaultOf words (NoMemory lack) = NameAMode (map string_bytes words)

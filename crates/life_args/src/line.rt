@@ -1,15 +1,16 @@
 // What stands behind the first word: values that stand alone, and options with their values.
-ghost use Rattle.std.specs.Prelude.{◌≡◌, [], true, IfOk, false, map, string_bytes};
-ghost use Rattle.life_args.specs.Names.{list_any, app_of, is_simple_and_free, rule_of};
+ghost use Rattle.std.specs.Prelude.{◌≡◌, IfOk, false, map, string_bytes};
+ghost use Rattle.life_args.specs.Names.{list_any, app_of, rule_of};
 ghost use Rattle.life_args.specs.inside.Lines as lines;
-ghost use Rattle.life_args.specs.inside.Lines.{ReadsLine, TakesWords, flag_rule, line_app, no_option_names, option_rule};
+ghost use Rattle.life_args.specs.inside.Lines.{ReadsLine, flag_rule, line_app, no_option_names, option_rule};
 ghost use Rattle.life_args.specs.inside.Verbs.{options_of};
 
 use crate::fault::WordsFault;
 use crate::verb::Verb;
-use clap::error::ErrorKind;
 use clap::{Arg, ArgAction, ArgMatches, Command};
-use std::alloc::{AllocError, Global};
+use memory_requests::{NoMatches, matches_of, with_arg};
+use policy_types::NoMemory;
+use std::alloc::Global;
 
 /// What `clap` makes of the words behind a verb: the values that stand alone, and those of each option. How many there
 /// may be is judged where they are read.
@@ -23,9 +24,14 @@ pub fn read_line<'a>(
     if has_odd(words) {
         return Err(WordsFault::Usage);
     }
-    match command_of(alloc, verb) {
-        Ok(command) => take_words(command, words),
-        Err(_) => Err(WordsFault::NoMemory),
+    let command = match command_of(alloc, verb) {
+        Ok(command) => command,
+        Err(lack) => return Err(WordsFault::NoMemory(lack)),
+    };
+    match matches_of(command, words) {
+        Ok(line) => Ok(line),
+        Err(NoMatches::Usage) => Err(WordsFault::Usage),
+        Err(NoMatches::NoMemory(lack)) => Err(WordsFault::NoMemory(lack)),
     }
 }
 
@@ -47,33 +53,35 @@ fn is_odd(word: &str) -> bool
 }
 
 // The command that takes values alone and the options of the verb.
-fn command_of<'a>(alloc: Global, verb: Verb) -> Result<Command<'a>, AllocError>
+fn command_of<'a>(alloc: Global, verb: Verb) -> Result<Command<'a>, NoMemory>
     ensures { IfOk result (λ command. app_of command ≡ line_app (options_of verb)) }
 {
     let command = optionless(alloc)?;
     match verb {
-        Verb::Run => command.arg(option(alloc, "basis")),
-        Verb::Value => command
-            .arg(option(alloc, "at"))?
-            .arg(option(alloc, "workers"))?
-            .arg(option(alloc, "basis"))?
-            .arg(flag(alloc, "mean"))?
-            .arg(flag(alloc, "deficiency")),
-        Verb::Project => command
-            .arg(option(alloc, "workers"))?
-            .arg(option(alloc, "basis")),
+        Verb::Run => with_arg(command, option(alloc, "basis")),
+        Verb::Value => {
+            let command = with_arg(command, option(alloc, "at"))?;
+            let command = with_arg(command, option(alloc, "workers"))?;
+            let command = with_arg(command, option(alloc, "basis"))?;
+            let command = with_arg(command, flag(alloc, "mean"))?;
+            with_arg(command, flag(alloc, "deficiency"))
+        }
+        Verb::Project => {
+            let command = with_arg(command, option(alloc, "workers"))?;
+            with_arg(command, option(alloc, "basis"))
+        }
         Verb::State | Verb::Checkpoint | Verb::Generate | Verb::Load => Ok(command),
     }
 }
 
-fn optionless<'a>(alloc: Global) -> Result<Command<'a>, AllocError>
+fn optionless<'a>(alloc: Global) -> Result<Command<'a>, NoMemory>
     ensures { IfOk result (λ command. app_of command ≡ line_app no_option_names) }
 {
-    let values = Arg::new(alloc, "values").action(ArgAction::Append);
-    Command::new(alloc, "life")
+    let command = Command::new(alloc, "life")
         .no_binary_name(true)
-        .disable_help_flag(true)
-        .arg(values)
+        .disable_help_flag(true);
+    let values = Arg::new(alloc, "values").action(ArgAction::Append);
+    with_arg(command, values)
 }
 
 // An option, which may have a value each time that it is used.
@@ -90,25 +98,4 @@ fn flag<'a>(alloc: Global, name: &'a str) -> Arg<'a>
     ensures local { result.global ≡ false }
 {
     option(alloc, name).num_args(0).default_missing_value("")
-}
-
-// What a command makes of words.
-fn take_words<'a>(command: Command<'a>, words: &'a [String]) -> Result<ArgMatches<'a>, WordsFault>
-    requires { is_simple_and_free (app_of command) ≡ true }
-    ensures { TakesWords (app_of command.entry) (map string_bytes words.entry.now) result }
-{
-    match command.try_get_matches_from(words) {
-        Ok(line) => Ok(line),
-        Err(error) => Err(fault_of(error.kind())),
-    }
-}
-
-fn fault_of(kind: ErrorKind) -> WordsFault
-    ensures memory { kind ≡ ErrorKind.OutOfMemory → result ≡ WordsFault.NoMemory }
-    ensures usage { result ≡ WordsFault.NoMemory → kind ≡ ErrorKind.OutOfMemory }
-{
-    match kind {
-        ErrorKind::OutOfMemory => WordsFault::NoMemory,
-        _ => WordsFault::Usage,
-    }
 }

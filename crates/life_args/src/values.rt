@@ -1,15 +1,15 @@
 // What the values of a command line say.
 ghost use Rattle.std.specs.Prelude.{◌≡◌, ◌≢◌, ◌≤◌, ◌↔◌, ℕ, [], ◌∷◌, length, IsTrue, IfSome, IfNone, decimal};
 ghost use Rattle.life_args.specs.Pieces.{AtMostOne};
-ghost use Rattle.life_args.specs.Values.{IsDayValue, IsPositionOr, AreWorkersOr, IsBasisOr, IsMeasureBy, IsPolicyOr};
+ghost use Rattle.life_args.specs.Values.{IsPositionOr, AreWorkersOr, IsBasisOr, IsMeasureBy, IsPolicyOr};
 ghost use Rattle.life_args.specs.inside.Lines.{GivesAsked};
-ghost use Rattle.life_args.specs.inside.Verbs.{GivesLone, IsNumberValue, texts_of};
+ghost use Rattle.life_args.specs.inside.Verbs.{GivesLone, IsDayValue, IsNumberValue, texts_of};
 
 use crate::fault::WordsFault;
 use basis_book::Name;
 use life_dates::parse_day;
 use money_core::parse_number;
-use policy_types::{At, MOST_COMMANDS, NoMemory};
+use policy_types::{At, MOST_COMMANDS};
 use policy_value::Measure;
 use std::alloc::Global;
 
@@ -54,7 +54,7 @@ pub fn basis_of(alloc: Global, values: Option<&[&str]>) -> Result<Name, WordsFau
     match Name::of(alloc, text.as_bytes()) {
         Ok(Some(name)) => Ok(name),
         Ok(None) => Err(WordsFault::Usage),
-        Err(NoMemory) => Err(WordsFault::NoMemory),
+        Err(lack) => Err(WordsFault::NoMemory(lack)),
     }
 }
 

@@ -1,4 +1,3 @@
 pub mod Names
-pub mod FromStart
 pub mod Promised
 pub mod WorkedStart

@@ -1,43 +1,49 @@
--- A script's run is as is promised, over both disks, from their start; and so the shipped program is
-use Rattle.life_cli.proofs.Names.{ℕ, List, Some, With, EndsDuly, ObeysFromStart, filing_from_start, shipped_auditors}
+-- A script's run is as is promised, over both disks; and so the shipped program is
+use Rattle.life_cli.proofs.Names.{◌≡◌, ◌⊎◌, ◌∷◌, ◌++◌, ℕ, List, [], Option, Some, ap, inr, map, refl, NoMemory, With, filing_between, shipped_auditors}
+use Rattle.watcher_set.specs.Evidence.{a_lack}
+use Rattle.watcher_set.specs.Noted.{Auditor}
 use Rattle.outside_io.specs.declared.disks.Disk.{Ghosts}
-use Rattle.basis_book.specs.Dated.{Dated}
-use Rattle.basis_shelf.specs.Bases.{IsBasis}
-use Rattle.command_csv.specs.Reads.{Reads}
-use Rattle.policy_types.specs.declared.script.Lane.{Lane}
-use Rattle.office_state.specs.Journals.{Opens}
-use Rattle.program_endings.specs.Writing.{Input, IsWholeInput, Shelving, Stream}
-use Rattle.life_app.specs.Headline.{IsGivenBasis, IsPromisedFromStart}
-use Rattle.life_app.specs.TableReserves.{table_reserves}
-use Rattle.life_app.specs.Texts.{run_wording}
-use Rattle.life_app.specs.Words.{AskForRun}
+use Rattle.office_state.specs.Journals.{OpensToNone}
+use Rattle.program_endings.specs.Writing.{Input, Shelving, Stream}
+use Rattle.program_endings.specs.Status.{status_of}
+use Rattle.program_endings.specs.declared.ending.Ending.{Ending}
+use Rattle.life_app.specs.Due.{IsDueEnding}
+use Rattle.life_app.specs.Obeys.{Obeys}
+use Rattle.life_app.specs.Reasons.{HasReason}
 use Rattle.life_app.proofs.HeadlineLaws.{headline}
 use Rattle.life_cli.specs.ShippedRun.{IsShipped}
 
-module _ {D E : Type 0} (g : Ghosts D) (e : Ghosts E) (words : List (List ℕ)) (name script : List ℕ) (lanes : List Lane)
-    (basis : List Dated) (input : Input) (output : Stream) (shelf : Shelving) (A B : Type 0) (status : ℕ) where
-  pub promised : (bytes saved : List ℕ) (new : D) (kept : E)
-      → ObeysFromStart g e bytes saved new kept words input output shelf A B status
-      → ((disk : D) (image : List ℕ) → g.honest disk → g.left_since disk (g.clock disk) image → g.may_leave disk image)
-      → AskForRun words name → IsWholeInput input script → Reads script lanes → IsGivenBasis IsBasis lanes name shelf basis
-      → IsPromisedFromStart g Opens run_wording table_reserves bytes new lanes name basis shipped_auditors input output shelf status
-  promised bytes saved new kept obeys only_now run whole reads given = record {
-    old = obeys.old;
-    found = obeys.found;
-    told = headline g obeys.old new output name input shelf only_now e (Some obeys.second) (Some kept) lanes basis shipped_auditors script words A B
-        status obeys.obeys run whole reads given;
-  }
+-- What is seen of two values that were put into an empty list.
+pub seen_of_two : {X Y : Type 0} → (see : X → Y) (none ready one two : List X) (first second : X) (a b : Y) → two ≡ one ++ second ∷ [] → one ≡ ready ++ first ∷ []
+    → ready ≡ none → none ≡ [] → see first ≡ a → see second ≡ b → map see two ≡ a ∷ b ∷ []
+seen_of_two see none ready one two first second a b e₁ e₂ e₃ e₄ is_a is_b = rw (e₁, e₂, e₃, e₄, is_a, is_b) refl
 
-module _ {D E : Type 0} (g : Ghosts D) (e : Ghosts E) (words : List (List ℕ)) (input : Input) (output : Stream) (shelf : Shelving)
-    (A B : Type 0) (status : ℕ) where
-  pub shipped : (bytes saved : List ℕ) (new : D) (kept : E) → ObeysFromStart g e bytes saved new kept words input output shelf A B status
-      → ((disk : D) (image : List ℕ) → g.honest disk → g.left_since disk (g.clock disk) image → g.may_leave disk image)
-      → EndsDuly words input output shelf (filing_from_start bytes (g.reads new) (g.honest new) (g.faults new))
-      (With (filing_from_start saved (e.reads kept) (e.honest kept) (e.faults kept))) status
-      → IsShipped g e bytes saved new kept words input output shelf A B status
-  shipped bytes saved new kept obeys only_now ends = record {
+-- The auditors that were handed over are these.
+module _ {D E : Type 0} (g : Ghosts D) (e : Ghosts E) (old new : D) (second kept : Option E) (words : List (List ℕ)) (input : Input) (output : Stream)
+    (shelf : Shelving) (A B : Type 0) (status : ℕ) where
+  pub obeys_with : (auditors others : List Auditor) → auditors ≡ others → Obeys g e old new second kept words auditors input output shelf A B status
+      → Obeys g e old new second kept words others input output shelf A B status
+  obeys_with auditors others same obeys = rw same at obeys
+
+module _ {D E : Type 0} (g : Ghosts D) (e : Ghosts E) (old new : D) (second kept : E) (words : List (List ℕ)) (input : Input) (output : Stream)
+    (shelf : Shelving) (A B : Type 0) (status : ℕ)
+    (only_now : (disk : D) (image : List ℕ) → g.honest disk → g.left_since disk (g.clock disk) image → g.may_leave disk image)
+    (obeys : Obeys g e old new (Some second) (Some kept) words shipped_auditors input output shelf A B status) where
+  pub shipped : ((ending : Ending) × (status ≡ status_of ending)
+      × HasReason words input output shelf (filing_between g old new) (With (filing_between e second kept)) ending)
+      → ((ending : Ending) → IsDueEnding words input output shelf (filing_between g old new) (With (filing_between e second kept)) ending
+      → (status ≡ status_of ending) ⊎ (status ≡ 9))
+      → (g.honest new → OpensToNone (g.reads old) → g.reads new ≡ g.reads old)
+      → IsShipped g e old new second kept words input output shelf A B status
+  shipped reason due unopened = record {
     obeys = obeys;
     promised = λ name script lanes basis run whole reads given.
-        promised g e words name script lanes basis input output shelf A B status bytes saved new kept obeys only_now run whole reads given;
-    ends = ends;
+        headline g old new output name input shelf only_now e (Some second) (Some kept) lanes basis shipped_auditors script words A B status obeys run whole reads given;
+    reason = reason;
+    due = due;
+    unopened = unopened;
   }
+
+  -- where there was no memory to begin, 9 is right in every case
+  pub given_up : status ≡ 9 → new ≡ old → IsShipped g e old new second kept words input output shelf A B status
+  given_up nine same = shipped (NoMemory a_lack, nine, tt) (λ ending is. inr nine) (λ honest none. ap g.reads same)

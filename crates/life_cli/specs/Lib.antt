@@ -1,5 +1,4 @@
 pub mod Names
 pub mod Shipped
-pub mod Completing
 pub mod ShippedRun
 pub mod WorkedShipped

@@ -17,7 +17,8 @@ use std::process::ExitCode;
 use std::rt::{Env, Files};
 use words::told_words;
 
-/// Ends with the status that the run leaves; with 9 where not even the words find memory.
+/// Ends with the status that the run leaves; with 9 where not even the words find memory. The words are told before there is
+/// a run, by the system's own calls, whose want of memory has no evidence: that this 9 is right is read here, and not proved.
 fn main(rt: HostRuntime) -> ExitCode {
     let held = hold_descriptors(&rt);
     let code = match words_of(&rt) {

@@ -1,14 +1,14 @@
 // All of the program but what the system hands it, on the devices that it is shipped with. Of the system it has threads and
 // waiting, and these devices: no way leads to another.
-ghost use Rattle.std.specs.Prelude.{◌≡◌, Some, [], codes, map, string_bytes};
+ghost use Rattle.std.specs.Prelude.{◌≡◌, Some, None, [], codes, map, string_bytes, IsSome};
 ghost use Rattle.std.specs.Process.{exit_status};
-ghost use Rattle.life_cli.specs.Names.{Files, between, input_between, shelf_between, With, filing_between, Obeys};
-ghost use Rattle.life_cli.specs.Completing.{EndsDuly};
-ghost use Rattle.life_cli.specs.Shipped.{input_from_start, output_from_start, shelf_from_start, shipped_auditors};
+ghost use Rattle.life_cli.specs.Names.{between, input_between, shelf_between};
+ghost use Rattle.program_endings.specs.Writing.{WroteLine};
 ghost use Rattle.life_cli.specs.ShippedRun.{IsShipped};
 
 use crate::devices::{CheckpointDisk, Devices, Folder, Input, JournalDisk, OutputOf};
 use life_app::{EndedKept, life_kept};
+use memory_requests::{NoMemory, boxed, reserve};
 use outside_io::{Disk, FoundFile, OpenGate, Shelf, Sink, Source, StdSink};
 use policy_types::{MOST_COMMANDS, Watcher};
 use program_endings::lack_memory;
@@ -17,11 +17,13 @@ use std::io::Stdout;
 use std::process::ExitCode;
 use std::sync::Wait;
 use std::thread::Threads;
-use watcher_set::{CountWatcher, PremiumWatcher};
+use watcher_set::{CountWatcher, Lack, PremiumWatcher};
 
 /// What the program leaves: its exit status, and its devices with what they noted.
 pub struct Left<D: Disk, S: Disk> {
     pub status: u8,
+    /// What memory was wanting, of status 9.
+    pub lack: Option<Lack>,
     pub input: Input,
     pub output: StdSink<Stdout, D>,
     pub shelf: Folder,
@@ -46,15 +48,26 @@ pub fn run_shipped<R: Threads + Wait + Sync, F: FoundFile, C: FoundFile>(
     requires shelf { (devices.shelf.faults ≡ 0) × (devices.shelf.answers ≡ []) }
     requires disk { (devices.disk.file.faults ≡ 0) × (devices.disk.file.calls ≡ []) }
     requires second { (devices.second.file.faults ≡ 0) × (devices.second.file.calls ≡ []) }
-    ensures shipped { IsShipped ⟦<JournalDisk<F> as Disk>⟧ ⟦<CheckpointDisk<C> as Disk>⟧ F.bytes C.bytes
-        result.disk result.second (map string_bytes words.now)
-        (input_from_start (⟦<Input as Source>⟧.faults result.input) (⟦<Input as Source>⟧.given result.input)
-        (⟦<Input as Source>⟧.ended result.input))
-        (output_from_start (⟦<OutputOf<F> as Sink>⟧.faults result.output) (⟦<OutputOf<F> as Sink>⟧.written result.output)
-        (⟦<OutputOf<F> as Sink>⟧.pieces result.output))
-        (shelf_from_start (⟦<Folder as Shelf>⟧.faults result.shelf) (⟦<Folder as Shelf>⟧.agrees result.shelf))
-        (⟦<Input as Source>⟧.given result.input ≡ [])
-        ((files : Files) → ⟦<Folder as Shelf>⟧.agrees result.shelf files) result.status }
+    ensures shipped { IsShipped ⟦<JournalDisk<F> as Disk>⟧ ⟦<CheckpointDisk<C> as Disk>⟧
+        devices.disk result.disk devices.second result.second (map string_bytes words.now)
+        (input_between (⟦<Input as Source>⟧.faults) (⟦<Input as Source>⟧.left) (⟦<Input as Source>⟧.given)
+        (⟦<Input as Source>⟧.ended) devices.input result.input)
+        (between (⟦<OutputOf<F> as Sink>⟧.faults) (⟦<OutputOf<F> as Sink>⟧.written) (⟦<OutputOf<F> as Sink>⟧.pieces)
+        devices.output result.output)
+        (shelf_between (⟦<Folder as Shelf>⟧.faults) (⟦<Folder as Shelf>⟧.agrees) devices.shelf result.shelf)
+        (result.input ≡ devices.input) (result.shelf ≡ devices.shelf) result.status }
+    // So the devices tell it of their start: the two files read as they were found, and nothing had passed or failed.
+    ensures first { (⟦<JournalDisk<F> as Disk>⟧.reads devices.disk ≡ F.bytes) × (⟦<JournalDisk<F> as Disk>⟧.clock devices.disk ≡ 0)
+        × (⟦<JournalDisk<F> as Disk>⟧.faults devices.disk ≡ 0) }
+    ensures other { (⟦<CheckpointDisk<C> as Disk>⟧.reads devices.second ≡ C.bytes) × (⟦<CheckpointDisk<C> as Disk>⟧.clock devices.second ≡ 0)
+        × (⟦<CheckpointDisk<C> as Disk>⟧.faults devices.second ≡ 0) }
+    ensures streams { (⟦<Input as Source>⟧.given devices.input ≡ []) × (⟦<Input as Source>⟧.left devices.input ≡ None)
+        × (⟦<OutputOf<F> as Sink>⟧.written devices.output ≡ Some []) × (⟦<OutputOf<F> as Sink>⟧.pieces devices.output ≡ []) }
+    ensures held { (⟦<Input as Source>⟧.faults devices.input ≡ 0) × (⟦<OutputOf<F> as Sink>⟧.faults devices.output ≡ 0)
+        × (⟦<Folder as Shelf>⟧.faults devices.shelf ≡ 0) }
+    // It ends for want of memory where memory was wanting, and has the evidence of that; no other status has it.
+    ensures lack { result.status ≡ 9 → IsSome result.lack }
+    ensures unlacking { IsSome result.lack → result.status ≡ 9 }
     // Each of the two files has its own name.
     ensures names { (result.disk.file.name.now ≡ codes "journal.life") × (result.second.file.name.now ≡ codes "checkpoint.life") }
 {
@@ -67,6 +80,7 @@ pub fn run_shipped<R: Threads + Wait + Sync, F: FoundFile, C: FoundFile>(
     } = devices;
     let EndedKept {
         status,
+        lack,
         disk,
         second,
     } = obey(
@@ -81,6 +95,7 @@ pub fn run_shipped<R: Threads + Wait + Sync, F: FoundFile, C: FoundFile>(
     );
     Left {
         status,
+        lack,
         input,
         output,
         shelf,
@@ -97,6 +112,7 @@ pub fn leave<F: FoundFile + Drop, C: FoundFile + Drop>(
 {
     let Left {
         status,
+        lack: _lack,
         input,
         output,
         shelf,
@@ -111,7 +127,8 @@ pub fn leave<F: FoundFile + Drop, C: FoundFile + Drop>(
     ExitCode::from(status)
 }
 
-// The same over devices as they are: the top call with the two auditors, or 9 where these find no memory.
+// The same over devices as they are: the top call with the two auditors, or 9 where one of these is refused memory, with
+// the evidence of that request.
 fn obey<R: Threads + Wait + Sync, F: FoundFile, C: FoundFile>(
     rt: &R,
     alloc: Global,
@@ -122,36 +139,63 @@ fn obey<R: Threads + Wait + Sync, F: FoundFile, C: FoundFile>(
     disk: JournalDisk<F>,
     second: CheckpointDisk<C>,
 ) -> EndedKept<JournalDisk<F>, CheckpointDisk<C>>
-    ensures obeys { Obeys ⟦<JournalDisk<F> as Disk>⟧ ⟦<CheckpointDisk<C> as Disk>⟧
-        disk result.disk (Some second) (Some result.second) (map string_bytes words.now) shipped_auditors
+    ensures shipped { IsShipped ⟦<JournalDisk<F> as Disk>⟧ ⟦<CheckpointDisk<C> as Disk>⟧
+        disk result.disk second result.second (map string_bytes words.now)
         (input_between (⟦<Input as Source>⟧.faults) (⟦<Input as Source>⟧.left) (⟦<Input as Source>⟧.given)
         (⟦<Input as Source>⟧.ended) input.old input.new)
         (between (⟦<OutputOf<F> as Sink>⟧.faults) (⟦<OutputOf<F> as Sink>⟧.written) (⟦<OutputOf<F> as Sink>⟧.pieces) output.old output.new)
         (shelf_between (⟦<Folder as Shelf>⟧.faults) (⟦<Folder as Shelf>⟧.agrees) shelf.old shelf.new)
         (input.new ≡ input.old) (shelf.new ≡ shelf.old) result.status }
-    ensures ends { EndsDuly (map string_bytes words.now)
-        (input_between (⟦<Input as Source>⟧.faults) (⟦<Input as Source>⟧.left) (⟦<Input as Source>⟧.given)
-        (⟦<Input as Source>⟧.ended) input.old input.new)
-        (between (⟦<OutputOf<F> as Sink>⟧.faults) (⟦<OutputOf<F> as Sink>⟧.written) (⟦<OutputOf<F> as Sink>⟧.pieces) output.old output.new)
-        (shelf_between (⟦<Folder as Shelf>⟧.faults) (⟦<Folder as Shelf>⟧.agrees) shelf.old shelf.new)
-        (filing_between ⟦<JournalDisk<F> as Disk>⟧ disk result.disk)
-        (With (filing_between ⟦<CheckpointDisk<C> as Disk>⟧ second result.second)) result.status }
+    ensures lack { result.status ≡ 9 → IsSome result.lack }
+    ensures unlacking { IsSome result.lack → result.status ≡ 9 }
 {
-    let counting = Box::new(alloc, CountWatcher::new(MOST_COMMANDS));
-    let adding = Box::new(alloc, PremiumWatcher::new());
+    let counting = match boxed(alloc, CountWatcher::new(MOST_COMMANDS)) {
+        Ok(counting) => counting,
+        Err(refused) => {
+            let (status, lack) = give_up(refused, output);
+            return EndedKept {
+                status,
+                lack,
+                disk,
+                second,
+            };
+        }
+    };
+    let adding = match boxed(alloc, PremiumWatcher::new()) {
+        Ok(adding) => adding,
+        Err(refused) => {
+            let (status, lack) = give_up(refused, output);
+            return EndedKept {
+                status,
+                lack,
+                disk,
+                second,
+            };
+        }
+    };
     let mut auditors: Vec<Box<dyn Watcher + Send>> = Vec::new(alloc);
-    let room = auditors.reserve(2);
-    let (Ok(counting), Ok(adding), Ok(())) = (counting, adding, room) else {
-        let status = lack_memory(output).status();
+    if let Err(refused) = reserve(&mut auditors, 2) {
+        let (status, lack) = give_up(refused, output);
         return EndedKept {
             status,
+            lack,
             disk,
             second,
         };
-    };
+    }
     auditors.push_reserved(counting);
     auditors.push_reserved(adding);
     life_kept(
         rt, alloc, words, input, output, shelf, disk, second, auditors, &OpenGate,
     )
+}
+
+// Says that an auditor was refused memory: the status, and the evidence.
+fn give_up<K: Sink>(refused: NoMemory, output: &mut K) -> (u8, Option<Lack>)
+    ensures status { result.0 ≡ 9 }
+    ensures lack { IsSome result.1 }
+    ensures wrote { WroteLine (between K.faults K.written K.pieces output.old output.new) (codes "nomemory") }
+{
+    let ending = lack_memory(refused, output);
+    (ending.status(), ending.lack())
 }

@@ -1,4 +1,5 @@
-// The words of the command line.
+// The words of the command line. They are told before there is a run: want of memory for them is the kit's error, which has
+// no evidence.
 ghost use Rattle.std.specs.Prelude.{◌≡◌, ◌≢◌, IfErr, IfOk, [], drop, is_ok, true};
 ghost use Rattle.std.specs.IoError.{error_kind};
 ghost use Rattle.std.specs.Vec.Iter.{into_iter_items};

@@ -1,5 +1,6 @@
 -- Anniversaries are days, and come one after another.
-use Rattle.life_dates.proofs.Names.{◌≡◌, ℕ, suc, ◌+◌, ◌-◌, ◌<◌, ◌≤◌, ◌↔◌, min, inl, inr, refl, ap, arith, ℤ, pos, ◌<ℤ◌, ◌≤ℤ◌, cases_lt, int_min, clamps, by_lt_z, Plain, epoch_day, signed_arith, days_in_month_bounds, Date, IsDate, IsDay, IsTermDay, days_in_month, day_number, date_of, years_later, anniversary_of, IsCompleted}
+use Rattle.life_dates.proofs.Names.{◌≡◌, ℕ, suc, ◌+◌, ◌-◌, ◌<◌, ◌≤◌, ◌↔◌, min, inl, inr, refl, ap, arith, ℤ, pos, ◌<ℤ◌, ◌≤ℤ◌, cases_lt, int_min, clamps, by_lt_z, Plain, epoch_day, signed_arith, days_in_month_bounds, Date, IsDate, IsDay, IsTermDay, day_number, date_of, years_later, anniversary_of, IsCompleted}
+use Rattle.jiff_core.specs.Calendar.{days_in_month}
 use Rattle.life_dates.proofs.CalendarLemmas.{date_of_is, days_before-lt, day_number-days_before, days_from_civil-day_number, IsDay-year, IsTermDay-year, IsTermDay-from_year}
 
 -- the later date is one of the calendar
@@ -38,7 +39,7 @@ anniversary_zero issued h =
     let d = date_of issued in
     let here = IsDay-date issued h in
     let year : d.year + 0 ≡ d.year = omega arith in
-    let day : min d.day (days_in_month d.year d.month) ≡ d.day = omega (arith, here.0.day_high) in
+    let day : min d.day (days_in_month (pos d.year) d.month) ≡ d.day = omega (arith, here.0.day_high) in
     rw (year, day) here.1
 
 -- a date of `jiff` with the parts of the later date has the anniversary's number

@@ -1,15 +1,13 @@
 -- The date of each day, and `jiff`'s day count.
-use Rattle.life_dates.proofs.Names.{◌≡◌, ℕ, zero, suc, ◌+◌, ◌-◌, ◌*◌, ◌<◌, ◌≤◌, cond, [], ◌∷◌, get_or, lit<, nat_lt, true, false, refl, sym, ◌∙◌, inl, inr, arith, rules, ℤ, pos, ◌+ℤ◌, ◌-ℤ◌, unsigned_abs, cases_lt, Plain, epoch_day, IsYmd, signed_arith, one_part, days_of_months_table, days_of_months_more, days_of_months_mono, days_of_months_all, day_count-day_of_year, days_from_civil-day_count, Date, ymd, IsDate, IsDay, IsTermDay, days_in_month, days_before_year, days_of_months, days_before, day_number, year_of, month_of, date_at, date_of}
+use Rattle.life_dates.proofs.Names.{◌≡◌, ℕ, zero, suc, ◌+◌, ◌-◌, ◌*◌, ◌<◌, ◌≤◌, cond, [], ◌∷◌, get_or, lit<, nat_lt, true, false, refl, sym, ◌∙◌, inl, inr, arith, rules, ℤ, pos, ◌+ℤ◌, ◌-ℤ◌, unsigned_abs, cases_lt, Plain, epoch_day, IsYmd, signed_arith, one_part, days_of_months_table, days_of_months_more, days_of_months_mono, days_of_months_all, day_count-day_of_year, days_from_civil-day_count, Date, ymd, IsDate, IsDay, IsTermDay, days_before_year, days_of_months, days_before, day_number, year_of, month_of, date_at, date_of}
 use Rattle.std.proofs.lemmas.Bool.Decides.{nat_tests}
 use Rattle.jiff_core.specs.Calendar as jiff
 use Rattle.jiff_core.proofs.MarchLemmas.{leap_day, days_in_year-leap_day, day_count-early}
 use Rattle.jiff_core.proofs.DateLemmas.{epoch_day_injective}
 
--- the months are those of `jiff`
-pub days_of_months-jiff : (y n : ℕ) → days_of_months y n ≡ jiff.days_of_months (pos y) n
-unfolding days_of_months jiff.days_of_months
-days_of_months-jiff y zero = refl
-days_of_months-jiff y (suc n) = rw (days_of_months-jiff y n)
+pub day_number-days_before : (d : Date) → day_number d ≡ pos (days_before d) -ℤ pos 719_162
+unfolding day_number days_before
+day_number-days_before d = refl
 
 pub days_before_year-suc : (y : ℕ) → 1 ≤ y → days_before_year (suc y) ≡ days_before_year y + 365 + leap_day (pos y)
 unfolding days_before_year
@@ -33,12 +31,11 @@ pub days_before-jiff : (d : Date) → IsDate d → jiff.day_count (pos d.year) d
 unfolding days_before days_before_year
 days_before-jiff d h =
     let first = day_count-early (pos d.year) (d.year + 9999) 1 1 (omega (arith, signed_arith)) (omega arith) (omega arith) (omega arith) in
-    omega (arith, first, day_count-day_of_year (pos d.year) d.month d.day h.day_low, days_of_months-jiff d.year (d.month - 1))
+    omega (arith, first, day_count-day_of_year (pos d.year) d.month d.day h.day_low)
 
 pub days_from_civil-day_number : (d : Date) → IsDate d → jiff.days_from_civil (pos d.year) d.month d.day ≡ day_number d
-unfolding day_number
 days_from_civil-day_number d h =
-    omega (arith, signed_arith, days_from_civil-day_count (pos d.year) d.month d.day, days_before-jiff d h)
+    omega (arith, signed_arith, day_number-days_before d, days_from_civil-day_count (pos d.year) d.month d.day, days_before-jiff d h)
 
 -- the year of a day begins at or before it, and the next one after it
 pub year_of_is : (n : ℕ) → n < 900_000 → (1 ≤ year_of n) × (year_of n ≤ 2999) × (days_before_year (year_of n) ≤ n) × (n < days_before_year (year_of n + 1))
@@ -52,20 +49,20 @@ if_lt P n k a b below above = elim (cases_lt n k) [
 ]
 
 abbrev IsMonthOf : ℕ → ℕ → ℕ → Type 0
-IsMonthOf y n m = (1 ≤ m) × (m ≤ 12) × (days_of_months y (m - 1) ≤ n) × (n < days_of_months y m)
+IsMonthOf y n m = (1 ≤ m) × (m ≤ 12) × (days_of_months (pos y) (m - 1) ≤ n) × (n < days_of_months (pos y) m)
 
 -- the days of the months before each month, and of the whole year
-months_before : (y n : ℕ) → n < 12 → days_of_months y n ≡ get_or (0 ∷ 31 ∷ 59 ∷ 90 ∷ 120 ∷ 151 ∷ 181 ∷ 212 ∷ 243 ∷ 273 ∷ 304 ∷ 334 ∷ []) n 0 + cond (nat_lt 1 n) (leap_day (pos y)) 0
-months_before y n h = days_of_months-jiff y n ∙ days_of_months_table (pos y) n h
+months_before : (y n : ℕ) → n < 12 → days_of_months (pos y) n ≡ get_or (0 ∷ 31 ∷ 59 ∷ 90 ∷ 120 ∷ 151 ∷ 181 ∷ 212 ∷ 243 ∷ 273 ∷ 304 ∷ 334 ∷ []) n 0 + cond (nat_lt 1 n) (leap_day (pos y)) 0
+months_before y n h = days_of_months_table (pos y) n h
 
-months_all : (y : ℕ) → days_of_months y 12 ≡ 365 + leap_day (pos y)
-months_all y = days_of_months-jiff y 12 ∙ days_of_months_all (pos y) ∙ days_in_year-leap_day (pos y)
+months_all : (y : ℕ) → days_of_months (pos y) 12 ≡ 365 + leap_day (pos y)
+months_all y = days_of_months_all (pos y) ∙ days_in_year-leap_day (pos y)
 
 -- the month of a day of the year begins at or before it, and ends after it
 pub month_of_is : (y n : ℕ) → n < 365 + leap_day (pos y) → IsMonthOf y n (month_of y n)
 unfolding month_of
 month_of_is y n h =
-    let b : (k : ℕ) → k < 12 → days_of_months y k ≡ get_or (0 ∷ 31 ∷ 59 ∷ 90 ∷ 120 ∷ 151 ∷ 181 ∷ 212 ∷ 243 ∷ 273 ∷ 304 ∷ 334 ∷ []) k 0 + cond (nat_lt 1 k) (leap_day (pos y)) 0 = months_before y in
+    let b : (k : ℕ) → k < 12 → days_of_months (pos y) k ≡ get_or (0 ∷ 31 ∷ 59 ∷ 90 ∷ 120 ∷ 151 ∷ 181 ∷ 212 ∷ 243 ∷ 273 ∷ 304 ∷ 334 ∷ []) k 0 + cond (nat_lt 1 k) (leap_day (pos y)) 0 = months_before y in
     let all = months_all y in
     let leap : ℕ = leap_day (pos y) in
     if_lt (IsMonthOf y n) n 31 _ _
@@ -92,15 +89,10 @@ month_of_is y n h =
     (λ below_11. (omega arith, omega arith, omega (arith, b 10 (lit< tt)), omega (arith, b 11 (lit< tt))))
     (λ above_11. (omega arith, omega arith, omega (arith, b 11 (lit< tt)), omega (arith, all)))))))))))))
 
--- a month follows the months before it
-pub days_of_months_next : (y m : ℕ) → 1 ≤ m → days_of_months y m ≡ days_of_months y (m - 1) + days_in_month y m
-days_of_months_next y m h =
-    rw (days_of_months-jiff y m, days_of_months-jiff y (m - 1)) (days_of_months_more (pos y) m h)
-
-date_parts_are : (n y m : ℕ) → 1 ≤ y → y ≤ 2999 → days_before_year y ≤ n → IsMonthOf y (n - days_before_year y) m → (d : Date) → d ≡ record { year = y; month = m; day = n - days_before_year y - days_of_months y (m - 1) + 1 } → IsDate d × (days_before d ≡ n)
+date_parts_are : (n y m : ℕ) → 1 ≤ y → y ≤ 2999 → days_before_year y ≤ n → IsMonthOf y (n - days_before_year y) m → (d : Date) → d ≡ record { year = y; month = m; day = n - days_before_year y - days_of_months (pos y) (m - 1) + 1 } → IsDate d × (days_before d ≡ n)
 unfolding days_before
 date_parts_are n y m low high begun month d e =
-    let next = days_of_months_next y m month.0 in
+    let next = days_of_months_more (pos y) m month.0 in
     rw e (record { year_low = low; year_high = omega arith; month_low = month.0; month_high = month.1; day_low = omega arith; day_high = omega (arith, month.3) }, omega (arith, month.2))
 
 -- the n-th day after 0001-01-01 has a date, which n days lie before
@@ -114,13 +106,16 @@ date_at_is n h =
     let month = month_of_is (year_of n) (n - days_before_year (year_of n)) (omega (arith, year.2)) in
     date_parts_are n (year_of n) _ year.0 year.1 year.2 month (date_at n) refl
 
+date_of-date_at : (day : ℤ) → date_of day ≡ date_at (unsigned_abs (day +ℤ pos 719_162))
+unfolding date_of date_at year_of
+date_of-date_at day = refl
+
 -- each day has a date
 pub date_of_is : (day : ℤ) → IsTermDay day → IsDate (date_of day) × (day_number (date_of day) ≡ day)
-unfolding date_of day_number
 date_of_is day h =
     let part = one_part (day +ℤ pos 719_162) in
     let at = date_at_is (unsigned_abs (day +ℤ pos 719_162)) (omega (arith, signed_arith)) in
-    (at.0, omega (arith, signed_arith, at.1))
+    rw date_of-date_at (at.0, omega (arith, signed_arith, at.1, day_number-days_before (date_at (unsigned_abs (day +ℤ pos 719_162)))))
 
 -- the date as `jiff` has it
 unfoldable pub plain : (d : Date) → IsDate d → Plain
@@ -137,21 +132,15 @@ plain_is x day h e =
 pub days_before-year : (d : Date) → IsDate d → (days_before_year d.year ≤ days_before d) × (days_before d < days_before_year (suc d.year))
 unfolding days_before
 days_before-year d h =
-    let next = days_of_months_next d.year d.month h.month_low in
+    let next = days_of_months_more (pos d.year) d.month h.month_low in
     let mono = days_of_months_mono (pos d.year) d.month 12 h.month_high in
     let all = months_all d.year in
-    let here = days_of_months-jiff d.year d.month in
-    let whole = days_of_months-jiff d.year 12 in
     (omega arith, omega (arith, h.day_low, h.day_high, days_before_year-suc d.year h.year_low))
 
 -- dates of later years have later days
 pub days_before-lt : (a b : Date) → IsDate a → IsDate b → a.year < b.year → days_before a < days_before b
 days_before-lt a b h k lt =
     omega (arith, days_before-year a h, days_before-year b k, days_before_year_mono (suc a.year) b.year (omega arith) (omega arith))
-
-pub day_number-days_before : (d : Date) → day_number d ≡ pos (days_before d) -ℤ pos 719_162
-unfolding day_number
-day_number-days_before d = refl
 
 years_begin : (days_before_year 1900 ≡ 693_595) × (days_before_year 2200 ≡ 803_168) × (days_before_year 2400 ≡ 876_216)
 unfolding days_before_year
@@ -171,25 +160,22 @@ year_below y end n low e h = elim (cases_lt y end) [
 
 -- the years of the days
 pub IsTermDay-year : (d : Date) → IsDate d → IsTermDay (day_number d) → (1900 ≤ d.year) × (d.year < 2400)
-unfolding day_number
 IsTermDay-year d h k =
     let lies = days_before-year d h in
-    (year_at_least d.year (omega (arith, signed_arith, lies.1)), year_below d.year 2400 876_216 (omega arith) years_begin.2 (omega (arith, signed_arith, lies.0)))
+    (year_at_least d.year (omega (arith, signed_arith, day_number-days_before d, lies.1)), year_below d.year 2400 876_216 (omega arith) years_begin.2 (omega (arith, signed_arith, day_number-days_before d, lies.0)))
 
 pub IsDay-year : (d : Date) → IsDate d → IsDay (day_number d) → (1900 ≤ d.year) × (d.year < 2200)
-unfolding day_number
 IsDay-year d h k =
     let lies = days_before-year d h in
-    (year_at_least d.year (omega (arith, signed_arith, lies.1)), year_below d.year 2200 803_168 (omega arith) years_begin.1 (omega (arith, signed_arith, lies.0)))
+    (year_at_least d.year (omega (arith, signed_arith, day_number-days_before d, lies.1)), year_below d.year 2200 803_168 (omega arith) years_begin.1 (omega (arith, signed_arith, day_number-days_before d, lies.0)))
 
 -- and the days of the years
 pub IsTermDay-from_year : (d : Date) → IsDate d → 1900 ≤ d.year → d.year < 2400 → IsTermDay (day_number d)
-unfolding day_number
 IsTermDay-from_year d h low high =
     let lies = days_before-year d h in
     let first = days_before_year_mono 1900 d.year (omega arith) low in
     let last = days_before_year_mono (suc d.year) 2400 (omega arith) (omega arith) in
-    (omega (arith, signed_arith, lies.0, years_begin.0), omega (arith, signed_arith, lies.1, years_begin.2))
+    (omega (arith, signed_arith, day_number-days_before d, lies.0, years_begin.0), omega (arith, signed_arith, day_number-days_before d, lies.1, years_begin.2))
 
 epoch_date : IsDate (ymd 1970 1 1)
 epoch_date = record { year_low = omega arith; year_high = omega arith; month_low = omega arith; month_high = omega arith; day_low = omega arith; day_high = omega arith }

@@ -3,3 +3,4 @@ pub mod AnniversaryLemmas
 pub mod CalendarLemmas
 pub mod KnownDays
 pub mod TextLemmas
+pub mod Parts

@@ -8,6 +8,8 @@ pub use Rattle.jiff_core.proofs.SignedLemmas.{signed_arith, one_part}
 pub use Rattle.jiff_core.specs.Date.{epoch_day, IsYmd}
 pub use Rattle.jiff_core.specs.declared.civil.date.Date.{Date as Plain}
 unfoldable pub use Rattle.life_dates.specs.Anniversary.{anniversary_of}
-pub use Rattle.life_dates.specs.Anniversary.{IsCompleted, years_later}
-unfoldable pub use Rattle.life_dates.specs.Calendar.{date_of, day_number, days_before_year, days_of_months, days_before, year_of, month_of, date_at}
-pub use Rattle.life_dates.specs.Calendar.{ymd, Date, IsDate, IsDay, IsTermDay, days_in_month}
+pub use Rattle.life_dates.specs.Anniversary.{IsCompleted}
+pub use Rattle.life_dates.proofs.Parts.{years_later}
+unfoldable pub use Rattle.life_dates.specs.Calendar.{date_of, day_number, days_before_year, days_of_months, month_of}
+unfoldable pub use Rattle.life_dates.proofs.Parts.{days_before, year_of, date_at}
+pub use Rattle.life_dates.specs.Calendar.{ymd, Date, IsDate, IsDay, IsTermDay}

@@ -2,7 +2,8 @@
 use Rattle.life_dates.proofs.Names.{◌≡◌, ℕ, ◌+◌, ◌-◌, ◌*◌, ◌/◌, ◌%◌, ◌<◌, ◌≤◌, inl, inr, List, [], ◌∷◌, length, get_or, Option, Some, None, IfSome, refl, sym, ap, ◌∙◌, arith, ℤ, pos, negsuc, ◌≤ℤ◌, IsInRange, cases_lt, Plain, epoch_day, signed_arith, days_in_month_bounds, Date, ymd, IsDate, IsDay, IsTermDay, day_number, date_of}
 use Rattle.std.specs.Option.{SomeIff}
 use Rattle.jiff_core.proofs.DateLemmas.{epoch_day-lt}
-use Rattle.life_dates.specs.DayText.{two_digits, date_text, day_text, IsDayText}
+use Rattle.life_dates.proofs.Parts.{two_digits}
+use Rattle.life_dates.specs.DayText.{date_text, day_text, IsDayText}
 use Rattle.life_dates.proofs.CalendarLemmas.{plain, plain_is, date_of_is, days_from_civil-day_number}
 
 first_date : IsDate (ymd 1900 1 1)

@@ -1,16 +1,16 @@
 -- The anniversaries of a day.
-use Rattle.std.specs.Prelude.{ℕ, ◌+◌, ◌≤◌, min, ℤ, ◌≤ℤ◌}
-use Rattle.life_dates.specs.Calendar.{Date, ymd, days_in_month, day_number, date_of}
+use Rattle.std.specs.Prelude.{ℕ, ◌+◌, ◌≤◌, min, ℤ, pos, ◌≤ℤ◌}
+use Rattle.jiff_core.specs.Calendar.{days_in_month}
+use Rattle.life_dates.specs.Calendar.{day_number, date_of}
 
--- the date with its year raised by t, where 29 February of a common year is read as the 28th
-abbrev pub years_later : Date → ℕ → Date
-years_later date t = let year = date.year + t in
-    ymd year date.month (min date.day (days_in_month year date.month))
-
--- anniversary t of a day, for policies issued on it
+-- anniversary t of a day, for policies issued on it: its date with the year raised by t, where 29 February of a common year
+-- is read as the 28th
 unfoldable pub anniversary_of : ℤ → ℕ → ℤ
 unfolding day_number date_of
-anniversary_of issued t = day_number (years_later (date_of issued) t)
+anniversary_of issued t =
+    let date = date_of issued in
+    let year = date.year + t in
+    day_number (record date { year = year; day = min date.day (days_in_month (pos year) date.month) })
 
 -- t is the greatest number of years up to 131 whose anniversary isn't after the day
 pub record IsCompleted (issued on : ℤ) (t : ℕ) : Type 0 where

@@ -2,15 +2,14 @@
 use Rattle.std.specs.Prelude.{◌≡◌, ℕ, ◌+◌, ◌/◌, ◌%◌, List, [], ◌∷◌, ◌++◌, ℤ}
 use Rattle.life_dates.specs.Calendar.{Date, IsDate, day_number, date_of}
 
--- the two digits of a number below 100
-abbrev pub two_digits : ℕ → List ℕ
-two_digits n = (48 + n / 10) ∷ (48 + n % 10) ∷ []
-
--- the date, where 45 is the hyphen
+-- the date as YYYY-MM-DD, where 45 is the hyphen
 abbrev pub date_text : Date → List ℕ
 date_text date =
     two_digits (date.year / 100) ++ two_digits (date.year % 100)
     ++ (45 ∷ two_digits date.month) ++ (45 ∷ two_digits date.day)
+  where
+    two_digits : ℕ → List ℕ
+    two_digits n = (48 + n / 10) ∷ (48 + n % 10) ∷ []
 
 -- the text of a day's date
 unfoldable pub day_text : ℤ → List ℕ

@@ -1,9 +1,9 @@
 // The text of a day: YYYY-MM-DD.
-ghost use Rattle.std.specs.Prelude.{◌≡◌, ◌+◌, ◌-◌, ◌*◌, ◌<◌, ◌≤◌, ℤ, Some, IfSome};
+ghost use Rattle.std.specs.Prelude.{◌≡◌, ◌+◌, ◌-◌, ◌*◌, ◌/◌, ◌%◌, [], ◌∷◌, ◌<◌, ◌≤◌, ℤ, Some, IfSome};
 ghost use Rattle.std.specs.Int.{IsInRange};
 ghost use Rattle.std.specs.Option.{SomeIff};
 ghost use Rattle.life_dates.specs.Calendar.{IsDate, IsDay, IsTermDay, day_number, ymd};
-ghost use Rattle.life_dates.specs.DayText.{day_text, two_digits, IsDayText};
+ghost use Rattle.life_dates.specs.DayText.{day_text, IsDayText};
 
 use crate::calendar::{number_of, year_month_day};
 use jiff::civil::Date;
@@ -69,7 +69,7 @@ fn two_digits_value(tens: u8, ones: u8) -> Option<u8>
 
 fn two_digits_of(n: u8) -> [u8; 2]
     requires { n < 100 }
-    ensures { result ≡ two_digits n }
+    ensures { result ≡ (48 + n / 10) ∷ (48 + n % 10) ∷ [] }
 {
     [b'0' + n / 10, b'0' + n % 10]
 }

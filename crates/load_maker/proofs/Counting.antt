@@ -1,8 +1,7 @@
 -- Lanes of rows: their numbers rise, and each row is a line of one of them
-use Rattle.load_maker.proofs.Names.{◌≡◌, ℕ, zero, suc, ◌+◌, ◌≤◌, ◌<◌, ◌==◌, Bool, true, false, List, [], ◌∷◌, ◌++◌, length, map, refl, ap, sym, ◌∙◌, subst, arith, append-nil, length-append, AllByRecursion, Line, ScriptRow, IsValidPosting, lane_with, dealt_lanes, dealt_lines}
+use Rattle.load_maker.proofs.Names.{◌≡◌, ℕ, zero, suc, ◌+◌, ◌≤◌, ◌<◌, ◌==◌, Bool, true, false, List, [], ◌∷◌, ◌++◌, length, map, refl, ap, sym, ◌∙◌, subst, arith, append-nil, length-append, AllByRecursion, Line, ClerkLine, IsValidPosting, lane_of, lanes_up_to, lines_of}
 use Rattle.std.proofs.lemmas.Bool.{cond-false, cond-true, eqb-true, eqb-false, ne_eqb}
 use Rattle.std.proofs.lemmas.Grind.{flat_map-append}
-use Rattle.policy_types.specs.declared.script.Line.TheVariants.{Post}
 use Rattle.policy_types.specs.declared.script.Lane.{Lane}
 use Rattle.policy_types.specs.Lanes.{AreRising, lines_in, numbers_of}
 use Rattle.load_maker.proofs.Drawing.{IsRowFor, all_and}
@@ -25,7 +24,7 @@ pub record AreNumbered (lanes : List Lane) (n : ℕ) : Type 0 where
   pub below : AllByRecursion (λ (lane : Lane). lane.number < suc n) lanes
   pub few : length lanes ≤ n
 
-one_more : (lanes : List Lane) (n : ℕ) (lines : List Line) → AreNumbered lanes n → AreNumbered (lanes ++ lane_with (suc n) lines) (suc n)
+one_more : (lanes : List Lane) (n : ℕ) (lines : List Line) → AreNumbered lanes n → AreNumbered (lanes ++ lane_of (suc n) lines) (suc n)
 one_more lanes n [] are = rw (append-nil lanes) (record {
   rising = are.rising;
   below = below_next lanes (suc n) (suc (suc n)) (omega arith) are.below;
@@ -40,73 +39,73 @@ one_more lanes n (line ∷ lines) are =
       few = omega (arith, are.few, length-append lanes (last ∷ []));
     }
 
-pub numbered : (n : ℕ) (rows : List ScriptRow) → AreNumbered (dealt_lanes n rows) n
+pub numbered : (n : ℕ) (rows : List ClerkLine) → AreNumbered (lanes_up_to n rows) n
 numbered zero rows = record { rising = tt; below = tt; few = omega arith }
-numbered (suc n) rows = one_more (dealt_lanes n rows) n (dealt_lines (suc n) rows) (numbered n rows)
+numbered (suc n) rows = one_more (lanes_up_to n rows) n (lines_of (suc n) rows) (numbered n rows)
 
 -- the lines of one lane more
-lines_of_lane : (n : ℕ) (lines : List Line) → lines_in (lane_with n lines) ≡ lines
+lines_of_lane : (n : ℕ) (lines : List Line) → lines_in (lane_of n lines) ≡ lines
 lines_of_lane n [] = refl
 lines_of_lane n (line ∷ lines) = append-nil (line ∷ lines)
 
-lines_more : (lanes : List Lane) (n : ℕ) (lines : List Line) → lines_in (lanes ++ lane_with n lines) ≡ lines_in lanes ++ lines
+lines_more : (lanes : List Lane) (n : ℕ) (lines : List Line) → lines_in (lanes ++ lane_of n lines) ≡ lines_in lanes ++ lines
 lines_more lanes n lines =
-    flat_map-append (λ (lane : Lane). lane.lines) lanes (lane_with n lines)
+    flat_map-append (λ (lane : Lane). lane.lines) lanes (lane_of n lines)
     ∙ ap (λ more. lines_in lanes ++ more) (lines_of_lane n lines)
 
 -- a lane's lines are of its rows alone
-own : (n : ℕ) (row : ScriptRow) (rows : List ScriptRow) → (row.lane == n) ≡ true → dealt_lines n (row ∷ rows) ≡ Post row.command ∷ dealt_lines n rows
-own n row rows is = ap (map (λ (row : ScriptRow). Post row.command)) (cond-true (row.lane == n) _ _ is)
+own : (n : ℕ) (row : ClerkLine) (rows : List ClerkLine) → (row.clerk == n) ≡ true → lines_of n (row ∷ rows) ≡ row.line ∷ lines_of n rows
+own n row rows is = ap (map (λ (row : ClerkLine). row.line)) (cond-true (row.clerk == n) _ _ is)
 
-other : (n : ℕ) (row : ScriptRow) (rows : List ScriptRow) → (row.lane == n) ≡ false → dealt_lines n (row ∷ rows) ≡ dealt_lines n rows
-other n row rows is = ap (map (λ (row : ScriptRow). Post row.command)) (cond-false (row.lane == n) _ _ is)
+other : (n : ℕ) (row : ClerkLine) (rows : List ClerkLine) → (row.clerk == n) ≡ false → lines_of n (row ∷ rows) ≡ lines_of n rows
+other n row rows is = ap (map (λ (row : ClerkLine). row.line)) (cond-false (row.clerk == n) _ _ is)
 
-valid_lines : (lanes n : ℕ) (rows : List ScriptRow) → AllByRecursion (IsRowFor lanes) rows → AllByRecursion IsValidPosting (dealt_lines n rows)
+valid_lines : (lanes n : ℕ) (rows : List ClerkLine) → AllByRecursion (IsRowFor lanes) rows → AllByRecursion IsValidPosting (lines_of n rows)
 valid_lines lanes n [] right = tt
-valid_lines lanes n (row ∷ rows) right = by (row.lane == n) refl (valid_lines lanes n rows right.1)
+valid_lines lanes n (row ∷ rows) right = by (row.clerk == n) refl (valid_lines lanes n rows right.1)
   where
-    by : (b : Bool) → (row.lane == n) ≡ b → AllByRecursion IsValidPosting (dealt_lines n rows) → AllByRecursion IsValidPosting (dealt_lines n (row ∷ rows))
+    by : (b : Bool) → (row.clerk == n) ≡ b → AllByRecursion IsValidPosting (lines_of n rows) → AllByRecursion IsValidPosting (lines_of n (row ∷ rows))
     by true is rest = subst (AllByRecursion IsValidPosting) (sym (own n row rows is)) (right.0.valid, rest)
     by false is rest = subst (AllByRecursion IsValidPosting) (sym (other n row rows is)) rest
 
-pub all_valid : (lanes n : ℕ) (rows : List ScriptRow) → AllByRecursion (IsRowFor lanes) rows → AllByRecursion IsValidPosting (lines_in (dealt_lanes n rows))
+pub all_valid : (lanes n : ℕ) (rows : List ClerkLine) → AllByRecursion (IsRowFor lanes) rows → AllByRecursion IsValidPosting (lines_in (lanes_up_to n rows))
 all_valid lanes zero rows right = tt
-all_valid lanes (suc n) rows right = subst (AllByRecursion IsValidPosting) (sym (lines_more (dealt_lanes n rows) (suc n) (dealt_lines (suc n) rows)))
-    (all_and IsValidPosting (lines_in (dealt_lanes n rows)) (dealt_lines (suc n) rows) (all_valid lanes n rows right) (valid_lines lanes (suc n) rows right))
+all_valid lanes (suc n) rows right = subst (AllByRecursion IsValidPosting) (sym (lines_more (lanes_up_to n rows) (suc n) (lines_of (suc n) rows)))
+    (all_and IsValidPosting (lines_in (lanes_up_to n rows)) (lines_of (suc n) rows) (all_valid lanes n rows right) (valid_lines lanes (suc n) rows right))
 
 -- how many lines lanes 1 to n have
-abbrev lines_up_to : ℕ → List ScriptRow → ℕ
+abbrev lines_up_to : ℕ → List ClerkLine → ℕ
 lines_up_to zero rows = 0
-lines_up_to (suc n) rows = lines_up_to n rows + length (dealt_lines (suc n) rows)
+lines_up_to (suc n) rows = lines_up_to n rows + length (lines_of (suc n) rows)
 
-of_lanes : (n : ℕ) (rows : List ScriptRow) → length (lines_in (dealt_lanes n rows)) ≡ lines_up_to n rows
+of_lanes : (n : ℕ) (rows : List ClerkLine) → length (lines_in (lanes_up_to n rows)) ≡ lines_up_to n rows
 of_lanes zero rows = refl
 of_lanes (suc n) rows =
-    let more = ap length (lines_more (dealt_lanes n rows) (suc n) (dealt_lines (suc n) rows)) in
-    let both = length-append (lines_in (dealt_lanes n rows)) (dealt_lines (suc n) rows) in
+    let more = ap length (lines_more (lanes_up_to n rows) (suc n) (lines_of (suc n) rows)) in
+    let both = length-append (lines_in (lanes_up_to n rows)) (lines_of (suc n) rows) in
     let before = of_lanes n rows in
     omega (arith, more, both, before)
 
-of_later : (n : ℕ) (row : ScriptRow) (rows : List ScriptRow) → n < row.lane → lines_up_to n (row ∷ rows) ≡ lines_up_to n rows
+of_later : (n : ℕ) (row : ClerkLine) (rows : List ClerkLine) → n < row.clerk → lines_up_to n (row ∷ rows) ≡ lines_up_to n rows
 of_later zero row rows later = refl
 of_later (suc n) row rows later =
-    let same = ap length (other (suc n) row rows (ne_eqb row.lane (suc n) (λ e. omega (arith, e, later)))) in
+    let same = ap length (other (suc n) row rows (ne_eqb row.clerk (suc n) (λ e. omega (arith, e, later)))) in
     let before = of_later n row rows (omega (arith, later)) in
     omega (arith, same, before)
 
-of_one : (n : ℕ) (row : ScriptRow) (rows : List ScriptRow) → 1 ≤ row.lane → row.lane ≤ n → lines_up_to n (row ∷ rows) ≡ suc (lines_up_to n rows)
+of_one : (n : ℕ) (row : ClerkLine) (rows : List ClerkLine) → 1 ≤ row.clerk → row.clerk ≤ n → lines_up_to n (row ∷ rows) ≡ suc (lines_up_to n rows)
 of_one zero row rows first last = absurd (omega (arith, first, last))
-of_one (suc n) row rows first last = by (row.lane == suc n) refl (of_one n row rows first)
+of_one (suc n) row rows first last = by (row.clerk == suc n) refl (of_one n row rows first)
   where
-    by : (b : Bool) → (row.lane == suc n) ≡ b → (row.lane ≤ n → lines_up_to n (row ∷ rows) ≡ suc (lines_up_to n rows))
+    by : (b : Bool) → (row.clerk == suc n) ≡ b → (row.clerk ≤ n → lines_up_to n (row ∷ rows) ≡ suc (lines_up_to n rows))
         → lines_up_to (suc n) (row ∷ rows) ≡ suc (lines_up_to (suc n) rows)
     by true is rest =
-        let here : row.lane ≡ suc n = eqb-true row.lane (suc n) is in
+        let here : row.clerk ≡ suc n = eqb-true row.clerk (suc n) is in
         let before = of_later n row rows (omega (arith, here)) in
         let own_lines = ap length (own (suc n) row rows is) in
         omega (arith, before, own_lines)
     by false is rest =
-        let apart = eqb-false row.lane (suc n) is in
+        let apart = eqb-false row.clerk (suc n) is in
         let before = rest (omega (arith, apart, last)) in
         let same = ap length (other (suc n) row rows is) in
         omega (arith, before, same)
@@ -115,9 +114,9 @@ none : (n : ℕ) → lines_up_to n [] ≡ 0
 none zero = refl
 none (suc n) = let before = none n in omega (arith, before)
 
-of_rows : (lanes : ℕ) (rows : List ScriptRow) → AllByRecursion (IsRowFor lanes) rows → lines_up_to lanes rows ≡ length rows
+of_rows : (lanes : ℕ) (rows : List ClerkLine) → AllByRecursion (IsRowFor lanes) rows → lines_up_to lanes rows ≡ length rows
 of_rows lanes [] right = none lanes
 of_rows lanes (row ∷ rows) right = of_one lanes row rows right.0.first right.0.last ∙ ap suc (of_rows lanes rows right.1)
 
-pub all_counted : (lanes : ℕ) (rows : List ScriptRow) → AllByRecursion (IsRowFor lanes) rows → length (lines_in (dealt_lanes lanes rows)) ≡ length rows
+pub all_counted : (lanes : ℕ) (rows : List ClerkLine) → AllByRecursion (IsRowFor lanes) rows → length (lines_in (lanes_up_to lanes rows)) ≡ length rows
 all_counted lanes rows right = of_lanes lanes rows ∙ of_rows lanes rows right

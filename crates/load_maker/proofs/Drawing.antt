@@ -1,9 +1,9 @@
 -- The rows of drawn policies are of valid commands, and of the lanes to which they are dealt out
-use Rattle.load_maker.proofs.Names.{◌≡◌, ℕ, zero, suc, ◌+◌, ◌*◌, ◌%◌, ◌≤◌, ◌<◌, false, List, [], ◌∷◌, ◌++◌, length, refl, arith, length-append, AllByRecursion, drawn_below, state_after, plan_drawn, policy_drawn, policy_of_draws, renewed, years_drawn, ScriptRow, generated_rows, policy_rows}
+use Rattle.load_maker.proofs.Names.{◌≡◌, ℕ, zero, suc, ◌+◌, ◌*◌, ◌%◌, ◌≤◌, ◌<◌, List, [], ◌∷◌, ◌++◌, length, refl, arith, length-append, AllByRecursion, drawn_below, state_after, plan_drawn, policy_drawn, policy_of_draws, renewed, years_drawn, ClerkLine, IsValidPosting, generated_rows, policy_rows}
 use Rattle.std.proofs.lemmas.Int.{ints}
 use Rattle.policy_types.specs.declared.command.Plan.{Plan}
 use Rattle.policy_types.specs.declared.command.Plan.TheVariants.{Term, Whole, Endowment, Limited}
-use Rattle.policy_types.specs.Valid.{AreYears, IsIssue, IsValid, is_upgrade}
+use Rattle.policy_types.specs.Valid.{AreYears, IsIssue}
 use Rattle.load_maker.specs.declared.generator.Drawn.{Drawn}
 
 years_right : (plan : Plan) (age draw : ℕ) → age < 80 → draw < 20 → AreYears plan age (years_drawn plan draw)
@@ -44,11 +44,10 @@ right_policy id x first last =
     (below 60 second (omega arith)) (below 20 third (omega arith)) (below 1000 fourth (omega arith)) (below 3650 fifth (omega arith))
 
 -- a row of one of so many lanes, with a valid command that names a policy
-pub record IsRowFor (lanes : ℕ) (row : ScriptRow) : Type 0 where
-  pub first : 1 ≤ row.lane
-  pub last : row.lane ≤ lanes
-  pub valid : IsValid row.command
-  pub named : is_upgrade row.command ≡ false
+pub record IsRowFor (lanes : ℕ) (row : ClerkLine) : Type 0 where
+  pub first : 1 ≤ row.clerk
+  pub last : row.clerk ≤ lanes
+  pub valid : IsValidPosting row.line
 
 pub all_and : {A : Type 0} (P : A → Type 0) (xs ys : List A) → AllByRecursion P xs → AllByRecursion P ys → AllByRecursion P (xs ++ ys)
 all_and P [] ys all also = also
@@ -56,8 +55,8 @@ all_and P (x ∷ xs) ys all also = (all.0, all_and P xs ys all.1 also)
 
 right_rows : (lanes lane id : ℕ) (p : Drawn) → 1 ≤ lane → lane ≤ lanes → IsRight id p → AllByRecursion (IsRowFor lanes) (policy_rows lane id p)
 right_rows lanes lane id p first last right = (
-  record { first = first; last = last; valid = right; named = refl },
-  (record { first = first; last = last; valid = (right.id_in, right.day_in, right.premium_in); named = refl }, tt),
+  record { first = first; last = last; valid = right },
+  (record { first = first; last = last; valid = (right.id_in, right.day_in, right.premium_in) }, tt),
 )
 
 pub rows_right : (seed lanes n : ℕ) → 1 ≤ lanes → n ≤ 100000 → AllByRecursion (IsRowFor lanes) (generated_rows seed lanes n)

@@ -1,5 +1,5 @@
 -- What those who run the generated lanes rest on
-use Rattle.load_maker.proofs.Names.{◌≡◌, ℕ, List, ap, ◌∙◌, ◌≤◌, generated_rows, AreDealt, generated_lanes, dealt_lanes}
+use Rattle.load_maker.proofs.Names.{◌≡◌, ℕ, List, ap, ◌∙◌, ◌≤◌, generated_rows, AreDealt, generated_lanes, lanes_up_to}
 use Rattle.policy_types.specs.declared.script.Lane.{Lane}
 use Rattle.load_maker.proofs.Drawing.{rows_counted, rows_right}
 use Rattle.load_maker.proofs.Counting.{all_counted, all_valid, numbered}
@@ -18,6 +18,6 @@ lanes_dealt seed lanes count some few =
     }
 
 pub all_lanes : (seed lanes count n : ℕ) (dealt result : List Lane) → n ≡ lanes
-    → dealt ≡ dealt_lanes n (generated_rows seed lanes count) → result ≡ dealt → result ≡ generated_lanes seed lanes count
+    → dealt ≡ lanes_up_to n (generated_rows seed lanes count) → result ≡ dealt → result ≡ generated_lanes seed lanes count
 unfolding generated_lanes
-all_lanes seed lanes count n dealt result all are is = is ∙ are ∙ ap (λ n. dealt_lanes n (generated_rows seed lanes count)) all
+all_lanes seed lanes count n dealt result all are is = is ∙ are ∙ ap (λ n. lanes_up_to n (generated_rows seed lanes count)) all

@@ -1,3 +1,4 @@
+pub mod Renewing
 pub mod Names
 pub mod Drawing
 mod Dealing

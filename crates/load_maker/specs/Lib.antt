@@ -3,3 +3,4 @@ pub mod GeneratedRows
 pub mod GeneratedScript
 pub mod GeneratedLanes
 pub mod Worked
+pub mod inside

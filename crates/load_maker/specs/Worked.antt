@@ -3,7 +3,8 @@ use Rattle.std.specs.Prelude.{◌≡◌, [], ◌∷◌, ◌++◌, codes, pos}
 use Rattle.policy_types.specs.declared.command.Command.TheVariants.{Issue, Premium}
 use Rattle.policy_types.specs.declared.command.Plan.TheVariants.{Term, Endowment}
 use Rattle.policy_types.specs.declared.script.Line.TheVariants.{Post}
-use Rattle.load_maker.specs.Generator.{renewed, drawn_below, policy_drawn}
+use Rattle.load_maker.specs.Generator.{renewed, policy_drawn}
+use Rattle.load_maker.specs.inside.Rows.{drawn_below}
 use Rattle.load_maker.specs.GeneratedScript.{generated_text}
 use Rattle.load_maker.specs.GeneratedLanes.{generated_lanes}
 

@@ -1,7 +1,8 @@
 // Policies drawn from a seed.
 ghost use Rattle.std.specs.Prelude.{◌≡◌, ℕ, ◌<◌, ◌≤◌, ◌+◌, ◌^◌, pos, ◌≤ℤ◌};
 ghost use Rattle.policy_types.specs.Valid.{AreYears};
-ghost use Rattle.load_maker.specs.Generator.{renewed, drawn_below, plan_drawn, years_drawn, policy_of_draws, policy_drawn, renewed_by_policy};
+ghost use Rattle.load_maker.specs.Generator.{renewed, policy_of_draws, policy_drawn};
+ghost use Rattle.load_maker.specs.inside.Rows.{drawn_below, plan_drawn, years_drawn};
 
 use policy_types::Plan;
 
@@ -36,9 +37,9 @@ impl Generator {
     }
 
     /// The next policy: plan, age, years, amount and day of issue are drawn in this order.
-    #[tactic(auto, unfolding(crate::specs::Generator::policy_drawn, crate::specs::Generator::renewed_by_policy))]
+    #[tactic(auto, unfolding(crate::specs::Generator::policy_drawn))]
     pub fn next_policy(&mut self) -> Drawn
-        ensures state { self.new.state ≡ renewed_by_policy self.old.state }
+        ensures state { self.new.state ≡ renewed (renewed (renewed (renewed (renewed self.old.state)))) }
         ensures policy { result ≡ policy_drawn self.old.state }
         ensures years { AreYears result.plan result.age result.years }
         ensures amount { result.amount ≤ 100000000 }

@@ -1,10 +1,12 @@
 // The lanes of the policies that are drawn.
 ghost use Rattle.std.specs.Prelude.{◌≡◌, ◌++◌, ◌∷◌, [], ◌<◌, ◌≤◌, ◌^◌, IfOk, OnOk};
-ghost use Rattle.policy_types.specs.declared.script.Line.TheVariants.{Post};
-ghost use Rattle.load_maker.specs.GeneratedRows.{generated_rows, drawn_issue, drawn_premium};
-ghost use Rattle.load_maker.specs.GeneratedLanes.{AreDealt, generated_lanes, dealt_lines};
+ghost use Rattle.load_maker.specs.GeneratedRows.{generated_rows};
+ghost use Rattle.load_maker.specs.GeneratedLanes.{AreDealt, generated_lanes};
+ghost use Rattle.command_csv.specs.Reads.{lines_of};
+ghost use Rattle.load_maker.specs.inside.Rows.{drawn_issue, drawn_premium};
 
 use crate::generator::{Drawn, Generator};
+use memory_requests::{extend, push};
 use policy_types::{Command, Lane, Line, Lines, NoMemory, Script};
 use std::alloc::Global;
 
@@ -22,9 +24,7 @@ pub fn make_lanes(alloc: Global, seed: u32, count: u32, lanes: u8) -> Result<Scr
         let lines = make_lines(alloc, seed, count, lanes, number)?;
         if !lines.is_empty() {
             let lines = Lines::new(lines);
-            if dealt.push(Lane { number, lines }).is_err() {
-                return Err(NoMemory);
-            }
+            push(&mut dealt, Lane { number, lines })?;
         }
     }
     Ok(Script::new(dealt))
@@ -42,7 +42,7 @@ fn make_lines(
     requires seed { seed < 2 ^ 31 }
     requires count { (1 ≤ count) × (count ≤ 100000) }
     requires lanes { (1 ≤ lanes) × (lanes ≤ 8) }
-    ensures { IfOk result (λ lines. lines.items ≡ dealt_lines lane (generated_rows seed lanes count)) }
+    ensures { IfOk result (λ lines. lines.items ≡ lines_of lane (generated_rows seed lanes count)) }
 {
     let mut generator = Generator::new(seed);
     let mut lines = Vec::new(alloc);
@@ -59,7 +59,7 @@ fn make_lines(
 // Adds the line that issues a policy, and the line of its first premium.
 fn add_lines(lines: &mut Vec<Line>, id: u32, policy: &Drawn) -> Result<(), NoMemory>
     ensures { let p = policy.now in OnOk result (lines.new.items
-        ≡ lines.old.items ++ (Post (drawn_issue id p) ∷ Post (drawn_premium id p) ∷ [])) }
+        ≡ lines.old.items ++ (drawn_issue id p ∷ drawn_premium id p ∷ [])) }
 {
     let Drawn {
         plan,
@@ -83,6 +83,5 @@ fn add_lines(lines: &mut Vec<Line>, id: u32, policy: &Drawn) -> Result<(), NoMem
         day,
         amount: premium,
     };
-    lines.extend_from_slice(&[Line::Post(issue), Line::Post(first_premium)])?;
-    Ok(())
+    extend(lines, &[Line::Post(issue), Line::Post(first_premium)])
 }

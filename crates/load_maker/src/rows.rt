@@ -3,8 +3,7 @@ ghost use Rattle.std.specs.Prelude.{◌≡◌, ◌++◌, ◌∷◌, [], ◌≤�
 ghost use Rattle.std.specs.List.{flat_map};
 ghost use Rattle.life_dates.specs.DayText.{day_text};
 ghost use Rattle.text_lines.specs.Lines.{behind_commas};
-ghost use Rattle.load_maker.specs.GeneratedRows.{drawn_issue, drawn_premium, policy_rows};
-ghost use Rattle.load_maker.specs.GeneratedScript.{script_row_text};
+ghost use Rattle.load_maker.specs.inside.Rows.{drawn_issue, drawn_premium, policy_rows, script_row_text};
 
 use crate::generator::Drawn;
 use itoa::Buffer;
@@ -23,12 +22,11 @@ pub fn write_rows(lines: &mut LineWriter, lane: u8, id: u32, policy: &Drawn) -> 
 }
 
 // Adds the row that issues a policy.
-#[tactic(auto, unfolding(crate::specs::GeneratedScript::script_row_text))]
 fn write_issue(lines: &mut LineWriter, lane: u8, id: u32, policy: &Drawn) -> Result<(), NoMemory>
     requires amount { policy.now.amount ≤ 100000000 }
     requires premium { policy.now.premium ≤ 2000000 }
     requires issued { (pos 10957 ≤ℤ policy.now.issued) × (policy.now.issued ≤ℤ pos 14606) }
-    ensures { OnOk result (lines.new ≡ lines.old ++ script_row_text (record { lane = lane; command = drawn_issue id policy.now })) }
+    ensures { OnOk result (lines.new ≡ lines.old ++ script_row_text (record { clerk = lane; line = drawn_issue id policy.now })) }
 {
     write_start(lines, lane, "issue", id, policy.issued)?;
     lines.insurance(
@@ -42,11 +40,10 @@ fn write_issue(lines: &mut LineWriter, lane: u8, id: u32, policy: &Drawn) -> Res
 }
 
 // Adds the row of a policy's first premium.
-#[tactic(auto, unfolding(crate::specs::GeneratedScript::script_row_text))]
 fn write_premium(lines: &mut LineWriter, lane: u8, id: u32, policy: &Drawn) -> Result<(), NoMemory>
     requires premium { policy.now.premium ≤ 2000000 }
     requires issued { (pos 10957 ≤ℤ policy.now.issued) × (policy.now.issued ≤ℤ pos 14606) }
-    ensures { OnOk result (lines.new ≡ lines.old ++ script_row_text (record { lane = lane; command = drawn_premium id policy.now })) }
+    ensures { OnOk result (lines.new ≡ lines.old ++ script_row_text (record { clerk = lane; line = drawn_premium id policy.now })) }
 {
     write_start(lines, lane, "premium", id, policy.issued)?;
     lines.cents(policy.premium as i64)?;

@@ -13,9 +13,10 @@ use Rattle.policy_types.specs.declared.entry.Reply.{Reply}
 use Rattle.policy_types.specs.declared.entry.Reply.TheVariants.{Accepted, Refused, Faulted, Pinned, PinRefused, Slice, Unpinned, Floor, Blank}
 use Rattle.policy_types.specs.declared.entry.Entry.{Entry}
 use Rattle.policy_types.specs.declared.watcher.Report.{Report}
-use Rattle.policy_machine.specs.History.{Opening, IsDue, IsLegalAfter, commands_after, fault_of, opened_on}
+use Rattle.policy_machine.specs.History.{Opening, IsDue, IsLegalAfter, commands_after, fault_of, opened_on, accepted_of}
 use Rattle.policy_machine.specs.Merge.{FollowsPin, Placed, pin_call, turns_of}
-use Rattle.office_state.specs.Images.{AreQuiet, HasFaultedBefore, HoldsNow, HoldsOnce, IsLeftBy, IsOneMore}
+use Rattle.office_state.specs.Images.{AreQuiet, IsLeftBy, IsThere, WasFaulted}
+use Rattle.office_state.proofs.Holdings.{HoldsNow, HoldsOnce}
 use Rattle.office_state.specs.Journals.{JournalBytes, Opens}
 use Rattle.office_state.proofs.KeptSteps.{keeps_none}
 use Rattle.shared_office.specs.Offices.{IsOfficeHistory, OfficeOpening}
@@ -24,28 +25,16 @@ use Rattle.shared_office.specs.Starting.{HasClosed, HasStartedOffice}
 use Rattle.watcher_set.specs.declared.watching.Watching.{Ghosts as WatcherGhosts}
 use Rattle.turn_lock.specs.Passes.{Holding, PassFacts, callers}
 use Rattle.snapshot_value.specs.Growing.{Grows}
-use Rattle.program_endings.specs.Replies.{IsAnswered}
 use Rattle.program_endings.proofs.ListSteps.{Has, all_has, has_of_contains, has_right, of_all, same_opened}
 use Rattle.program_endings.proofs.TurnSteps.{posts, quiet_follow, quiet_pin, quiet_reply, quiet_turns, unposted_reply}
 use Rattle.program_endings.proofs.QuietTurns.{ArePostless, none_accepted, all_own, entries_in, same_first, same_rest, postless_entries}
-
-no_fault : (reply : Reply) → IsAnswered reply → fault_of reply ≡ None
-no_fault (Accepted position) answered = refl
-no_fault (Refused refusal) answered = refl
-no_fault (Faulted count) answered = absurd answered
-no_fault (Pinned position policies) answered = refl
-no_fault (PinRefused refusal) answered = refl
-no_fault (Slice policies) answered = refl
-no_fault Unpinned answered = refl
-no_fault (Floor floor) answered = refl
-no_fault Blank answered = absurd answered
 
 none_met : (opening : Opening) (before history : List Entry) → IsLegalAfter opening before history → ArePostless history
     → filter_map (λ (entry : Entry). fault_of entry.reply) history ≡ []
 none_met opening before [] legal quiet = refl
 none_met opening before (entry ∷ history) legal quiet =
     ap (λ first. cons_option first (filter_map (λ (e : Entry). fault_of e.reply) history))
-    (no_fault entry.reply (quiet_reply opening before entry.caller entry.call entry.reply legal.0 quiet.0))
+    (quiet_reply opening before entry.caller entry.call entry.reply legal.0 quiet.0).0
     ∙ none_met opening (before ++ entry ∷ []) history legal.1 quiet.1
 
 all_quiet : (opening : Opening) (before history : List Entry) → IsLegalAfter opening before history → ArePostless history → AreQuiet history
@@ -55,22 +44,17 @@ all_quiet opening before (entry ∷ history) legal quiet = (
   all_quiet opening (before ++ entry ∷ []) history legal.1 quiet.1,
 )
 
-never_faulted : {A : Type 0} (history after : List Entry) (command : Command) → ArePostless history → HasFaultedBefore history command after → A
-never_faulted history after command quiet fault =
+never_faulted : {A : Type 0} (history : List Entry) (held : List Command) (command : Command) → ArePostless history → WasFaulted history held command → A
+never_faulted history held command quiet fault =
     let entry : Entry = record { caller = fault.caller; call = Post command; reply = Faulted fault.count } in
     let posted : true ≡ false =
-    of_all (λ (e : Entry). posts e.call ≡ false) (fault.before ++ entry ∷ after) entry
-    (subst (λ (h : List Entry). ArePostless h) fault.turns quiet) (has_right fault.before (entry ∷ after) entry (inl refl)) in
+    of_all (λ (e : Entry). posts e.call ≡ false) (fault.before ++ entry ∷ fault.after) entry
+    (subst (λ (h : List Entry). ArePostless h) fault.turns quiet) (has_right fault.before (entry ∷ fault.after) entry (inl refl)) in
     absurd (false≢true (sym posted))
 
 nothing_held : (xs ys : List Command) → [] ≡ xs ++ ys → xs ≡ []
 nothing_held [] ys none = refl
 nothing_held (x ∷ xs) ys none = absurd (cc)
-
-nothing_more : (history : List Entry) (held more : List Command) → ArePostless history → IsOneMore history held more → more ≡ []
-nothing_more history held [] quiet one = refl
-nothing_more history held (command ∷ []) quiet one = never_faulted history one.0 command quiet one.1.0
-nothing_more history held (command ∷ other ∷ more) quiet one = absurd one
 
 -- turns that post nothing leave the disk as none do
 module _ {D : Type 0} (g : Ghosts D) (old new : D) (opening : Opening) (history : List Entry) (legal : IsLegalAfter opening [] history)
@@ -78,21 +62,17 @@ module _ {D : Type 0} (g : Ghosts D) (old new : D) (opening : Opening) (history 
   quiet_now : (image : List ℕ) → HoldsNow opening history image → HoldsNow opening [] image
   quiet_now image (inl journal) =
       inl (subst (λ (cs : List Command). JournalBytes image (opening.commands ++ cs)) (none_accepted history quiet) journal)
-  quiet_now image (inr pending) = never_faulted history pending.1.after pending.0 quiet pending.1.faulted
+  quiet_now image (inr pending) = never_faulted history (accepted_of history) pending.0 quiet pending.1
+
+  quiet_there : (held : List Command) (image : List ℕ) → IsThere Opens opening.commands history held image
+      → IsThere Opens opening.commands [] held image
+  quiet_there held image (inl all) = inl all
+  quiet_there held image (inr more) = never_faulted history held more.0 quiet more.1
 
   quiet_once : (image : List ℕ) → HoldsOnce opening history image → HoldsOnce opening [] image
   quiet_once image once =
-      let held : once.held ≡ [] = nothing_held once.held once.rest (sym (none_accepted history quiet) ∙ once.front) in
-      let more : once.more ≡ [] = nothing_more history once.held once.more quiet once.one in
-      record {
-        held = [];
-        rest = [];
-        more = [];
-        front = refl;
-        one = tt;
-        opens = subst (λ (cs : List Command). Opens image (opening.commands ++ [] ++ cs)) more
-            (subst (λ (cs : List Command). Opens image (opening.commands ++ cs ++ once.more)) held once.opens);
-      }
+      let held : once.0 ≡ [] = nothing_held once.0 once.1 (sym (none_accepted history quiet) ∙ once.2) in
+      ([], [], refl, subst (λ (cs : List Command). IsThere Opens opening.commands [] cs image) held (quiet_there once.0 image once.3))
 
   quiet_left : IsLeftBy g old new opening history → IsLeftBy g old new opening []
   quiet_left left = record {

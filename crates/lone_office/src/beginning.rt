@@ -1,7 +1,8 @@
 // A basis and an office, with which each mode begins that has one.
 ghost use Rattle.std.specs.Prelude.{◌≡◌, ◌<◌, ℕ, [], IfOk, IfErr, OnOk, MatchResult};
 ghost use Rattle.std.specs.Option.{option_copied};
-ghost use Rattle.moment_ring.specs.Ends.{told};
+ghost use Rattle.moment_ring.specs.Ends.{HasRoomFor, told};
+ghost use Rattle.policy_types.specs.Limits.{most_commands};
 ghost use Rattle.turn_lock.specs.Passes.{PassFacts};
 ghost use Rattle.shared_office.specs.Offices.{IsOfficeHistory};
 ghost use Rattle.program_endings.specs.Writing.{between, shelf_between};
@@ -39,6 +40,7 @@ pub fn begin<H: Shelf, K: Sink, D: Disk, W: Watching>(
 ) -> Result<Begun<D, W>, Finished<D>>
     requires told { (before : ℕ) → W.told watchers before [] }
     requires untold { told outlet.ring ≡ [] }
+    requires room { HasRoomFor most_commands outlet.ring }
     ensures basis { IfOk result (λ begun. IsAskedBasis (option_copied basis.entry)
         (shelf_between H.faults H.agrees shelf.old shelf.new) (shelf.new ≡ shelf.old) begun.basis) }
     ensures opened { IfOk result (λ begun. HasFirstPass D.Disk disk watchers outlet.ring begun.pass) }
@@ -87,6 +89,7 @@ fn open<K: Sink, D: Disk, W: Watching>(
 ) -> Result<Begun<D, W>, Finished<D>>
     requires told { (before : ℕ) → W.told watchers before [] }
     requires untold { told outlet.ring ≡ [] }
+    requires room { HasRoomFor most_commands outlet.ring }
     ensures basis { IfOk result (λ begun. begun.basis ≡ basis) }
     ensures opened { IfOk result (λ begun. HasFirstPass D.Disk disk watchers outlet.ring begun.pass) }
     ensures ours { IfOk result (λ begun. begun.pass.turnstile ≡ begun.office) }

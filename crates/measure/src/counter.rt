@@ -6,7 +6,7 @@ use policy_types::NoMemory;
 use std::alloc::Global;
 use std::sync::{Barrier, Wait};
 use std::thread::Threads;
-use turn_lock::{Pass, Stands, Turn, Turnstile};
+use turn_lock::{NoRoom, Pass, Stands, Turn, Turnstile};
 
 /// How many turns were taken.
 #[derive(Drop)]
@@ -90,8 +90,9 @@ pub fn count_turns<R: Threads + Wait + Sync, L: Lane<Counter, R> + Sync>(
     requires turns { L.turns lane.now < 2 ^ 32 }
     ensures { IfOk result (λ count. count ≡ callers * L.turns lane.now) }
 {
-    let Ok((gate, pass)) = Turnstile::new(alloc, Counter { count: 0 }) else {
-        return Err(NoMemory);
+    let (gate, pass) = match Turnstile::new(alloc, Counter { count: 0 }) {
+        Ok(made) => made,
+        Err(NoRoom { lack, .. }) => return Err(lack),
     };
     let (pass, _) = lanes(rt, &gate, pass, lane, 0, callers);
     Ok(gate.close(pass).count)

@@ -50,7 +50,7 @@ fn is_accepted(answer: Answer) -> u64
 {
     match answer {
         Answer::Accepted(_) => 1,
-        Answer::Refused(_) | Answer::DiskFault(_) | Answer::NoMemory => 0,
+        Answer::Refused(_) | Answer::DiskFault(_) | Answer::NoMemory(_) => 0,
     }
 }
 

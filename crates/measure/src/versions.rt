@@ -4,8 +4,8 @@ ghost use Rattle.versioned_book.specs.Books.{IsSomeBook};
 
 use crate::words::{Outcome, number_in};
 use outside_io::Steps;
-use policy_types::{Plan, Policy, Status};
-use std::alloc::{AllocError, Global};
+use policy_types::{NoMemory, Plan, Policy, Status};
+use std::alloc::Global;
 use std::env::Args;
 use std::io;
 use std::marker::Brand;
@@ -50,7 +50,7 @@ pub fn measure_versions<R: Print + AllocGlobal>(rt: &R, words: &mut Args) -> io:
 }
 
 // How many versions are kept at the end, and the sum of what was read.
-fn run<L: Ledger>(alloc: Global, blank: Blank, load: Load) -> Result<(u32, u64), AllocError>
+fn run<L: Ledger>(alloc: Global, blank: Blank, load: Load) -> Result<(u32, u64), NoMemory>
     requires name { blank.name ≡ L.name }
     requires parts { blank.parts ≡ L.parts }
     requires some { 0 < L.parts }
@@ -79,7 +79,7 @@ fn set_all(
     policies: u32,
     round: u32,
     last: u32,
-) -> Result<u32, AllocError>
+) -> Result<u32, NoMemory>
     requires stands { IsSomeBook book.old }
     requires rising { book.old.last ≤ last }
     requires floor { book.old.floor ≡ 0 }

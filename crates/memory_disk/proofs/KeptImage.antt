@@ -1,5 +1,6 @@
 -- The writes that are done whole make an image.
-use Rattle.memory_disk.proofs.Names.{◌≡◌, ℕ, ◌-◌, ◌≤◌, zero, suc, Bool, true, false, List, [], ◌∷◌, length, take, nat_le, refl, arith, cond, leb-true, le-leb, both_true, Torn, put, reaching, images_after, kept_after, image_of_writes, all_within, IsImage, both_of, length-reaching, length-put, torn_put, torn_same, DiskCall, Len, Read, Write, Sync}
+use Rattle.memory_disk.proofs.Names.{◌≡◌, Vec, Result, Ok, Err, IfOk, ℕ, ◌-◌, ◌≤◌, zero, suc, Bool, true, false, List, [], ◌∷◌, length, take, nat_le, refl, arith, cond, leb-true, le-leb, both_true, Torn, put, reaching, images_after, kept_after, image_of_writes, all_within, IsImage, both_of, length-reaching, length-put, torn_put, torn_same, DiskCall, Len, Read, Write, Sync}
+use Rattle.std.specs.declared.alloc.Global.{Global}
 
 torn_done : (old : List ℕ) (at : ℕ) (bytes : List ℕ) (done : Bool) → (done ≡ true → at ≤ length old)
     → Torn at (length bytes) old (cond done (put old at bytes) old)
@@ -47,3 +48,9 @@ pub possible : (image first : List ℕ) (calls : List DiskCall) (n keep : ℕ) �
     → image ≡ image_of_writes first keep (take n calls) → IsImage first (take n calls) image
 possible image first calls n keep within same =
     rw same (kept_as_image (take n calls) first first keep keep (λ earlier. earlier ≡ first) refl (λ some. omega arith) (all_within-take n calls first within))
+
+-- the same of an answer, where it gives one
+pub answer_possible : {E : Type 0} (answer : Result (Vec ℕ Global) E) (first : List ℕ) (calls : List DiskCall) (n keep : ℕ) → all_within first calls ≡ true
+    → IfOk answer (λ image. image.items ≡ image_of_writes first keep (take n calls)) → IfOk answer (λ image. IsImage first (take n calls) image.items)
+answer_possible (Ok image) first calls n keep within same = possible image.items first calls n keep within same
+answer_possible (Err fault) first calls n keep within same = cc

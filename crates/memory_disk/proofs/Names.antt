@@ -1,5 +1,5 @@
 -- The names that several proofs cite, passed on from one place. Declares nothing.
-pub use Rattle.std.proofs.Common.{◌≡◌, refl, arith, ℕ, ◌≤◌, true, false, List, [], ◌∷◌, length, take, Bool, cond, nat_le, ◌++◌, ap, ◌∙◌, drop, Vec, sym, Option, Some, None, IsSome, ◌-◌, zero, suc, ◌⊎◌, inl, inr, ◌+◌, ◌<◌, length-append, is_ok}
+pub use Rattle.std.proofs.Common.{◌≡◌, refl, arith, ℕ, ◌≤◌, true, false, List, [], ◌∷◌, length, take, Bool, cond, nat_le, ◌++◌, ap, ◌∙◌, drop, Vec, sym, Option, Some, None, IsSome, ◌-◌, zero, suc, ◌⊎◌, inl, inr, ◌+◌, ◌<◌, length-append, is_ok, Result, Ok, Err, IfOk}
 pub use Rattle.std.proofs.lemmas.Bool.{le-leb, leb-true, cases_lt}
 pub use Rattle.std.specs.Cmp.Derive.{both_true}
 pub use Rattle.memory_disk.specs.First.{first_bytes}

@@ -1,5 +1,6 @@
 -- What reached the disk of each write makes an image.
-use Rattle.memory_disk.proofs.Names.{◌≡◌, ℕ, ◌≤◌, Bool, true, false, List, [], ◌∷◌, length, take, nat_le, refl, arith, cond, leb-true, Torn, put, put_within, reaching, images_after, torn_after, IsImage, torn_put, torn_same, DiskCall, Len, Read, Write, Sync}
+use Rattle.memory_disk.proofs.Names.{◌≡◌, Vec, Result, Ok, Err, IfOk, ℕ, ◌≤◌, Bool, true, false, List, [], ◌∷◌, length, take, nat_le, refl, arith, cond, leb-true, Torn, put, put_within, reaching, images_after, torn_after, IsImage, torn_put, torn_same, DiskCall, Len, Read, Write, Sync}
+use Rattle.std.specs.declared.alloc.Global.{Global}
 use Rattle.std.proofs.lemmas.List.{length-take}
 
 torn_within : (old : List ℕ) (at keep : ℕ) (bytes : List ℕ) (begins : Bool) → (begins ≡ true → at ≤ length old)
@@ -21,3 +22,9 @@ torn_as_image (Sync true ∷ calls) bytes image keep images known = torn_as_imag
 
 pub torn_possible : (image first : List ℕ) (calls : List DiskCall) (reached : ℕ) → image ≡ torn_after first first reached calls → IsImage first calls image
 torn_possible image first calls reached same = rw same (torn_as_image calls first first reached (λ earlier. earlier ≡ first) refl)
+
+-- the same of an answer, where it gives one
+pub torn_answer_possible : {E : Type 0} (answer : Result (Vec ℕ Global) E) (first : List ℕ) (calls : List DiskCall) (reached : ℕ)
+    → IfOk answer (λ image. image.items ≡ torn_after first first reached calls) → IfOk answer (λ image. IsImage first calls image.items)
+torn_answer_possible (Ok image) first calls reached same = torn_possible image.items first calls reached same
+torn_answer_possible (Err fault) first calls reached same = cc

@@ -1,11 +1,13 @@
 // What a disk had at first, and every call since.
-ghost use Rattle.std.specs.Prelude.{◌≡◌, ◌+◌, ◌<◌, ◌≤◌, ◌++◌, ◌∷◌, [], true, false, if◌then◌else◌, length, IfOk, IsSome, IsTrue, OnOk, vec_len, vec_capacity};
+ghost use Rattle.std.specs.Prelude.{◌≡◌, ◌+◌, ◌<◌, ◌≤◌, ◌++◌, ◌∷◌, [], true, false, if◌then◌else◌, length, IfOk, IsSome, IsTrue, OnErr, OnOk, vec_len, vec_capacity};
 ghost use Rattle.outside_io.specs.Disks.{Looks, Follows, Torn, Only, put};
 ghost use Rattle.memory_disk.specs.History.{bytes_after, all_within, reaching, WritesNothing, IsWriteOf, IsImage, GoesOnFrom};
 ghost use Rattle.memory_disk.specs.First.{first_bytes};
 ghost use Rattle.memory_disk.specs.declared.disk_call.DiskCall.TheVariants.{Sync};
 
 use crate::DiskCall;
+use memory_requests::extend;
+use policy_types::NoMemory;
 use std::alloc::{AllocError, Global};
 
 /// The bytes that are read now, those at first where they were others, and all calls in order.
@@ -140,16 +142,24 @@ pub(crate) fn reaching_part(bytes: &[u8], failed: bool) -> &[u8]
     }
 }
 
-// Puts bytes over those that stand from a place on, and past the end.
-pub(crate) fn put_over(target: &mut Vec<u8>, at: usize, bytes: &[u8])
-    requires within { at ≤ length target.old.items }
+// Puts bytes over those that stand from a place on, and past the end, where there is room for them.
+fn put_over(target: &mut Vec<u8>, at: usize, bytes: &[u8])
     requires room { vec_len target.old + length bytes.now ≤ vec_capacity target.old }
     ensures { target.new.items ≡ put target.old.items at bytes.now }
 {
-    let over = bytes.len().min(target.len() - at);
-    let added = target.extend_from_slice(&bytes[over..]);
-    if added.is_err() {
+    if put_more(target, at, bytes).is_err() {
         unreachable!();
     }
-    target[at..at + over].copy_from_slice(&bytes[..over]);
+}
+
+// Puts bytes over those that stand from a place on, and past the end, for which it takes memory.
+pub(crate) fn put_more(target: &mut Vec<u8>, at: usize, bytes: &[u8]) -> Result<(), NoMemory>
+    ensures put { OnOk result (target.new.items ≡ put target.old.items at bytes.now) }
+    ensures full { OnErr result (vec_capacity target.old < vec_len target.old + length bytes.now) }
+{
+    let begin = at.min(target.len());
+    let over = bytes.len().min(target.len() - begin);
+    extend(target, &bytes[over..])?;
+    target[begin..begin + over].copy_from_slice(&bytes[..over]);
+    Ok(())
 }

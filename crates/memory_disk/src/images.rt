@@ -5,8 +5,10 @@ ghost use Rattle.outside_io.specs.Disks.{put};
 ghost use Rattle.memory_disk.specs.declared.disk_call.DiskCall.{DiskCall as Call};
 
 use crate::DiskCall;
-use crate::history::{put_over, reaching_part};
-use std::alloc::{AllocError, Global};
+use crate::history::{put_more, reaching_part};
+use memory_requests::{copied, extend};
+use policy_types::NoMemory;
+use std::alloc::Global;
 
 // What is read, and the image so far, of which so many writes are yet to be done.
 #[derive(Drop)]
@@ -22,12 +24,12 @@ pub(crate) fn image_of(
     first: &[u8],
     calls: &[DiskCall],
     keep: u32,
-) -> Result<Vec<u8>, AllocError>
+) -> Result<Vec<u8>, NoMemory>
     ensures { IfOk result (λ image. image.items ≡ image_of_writes first.now keep calls.now) }
 {
     let mut replay = Replay {
-        bytes: Vec::from_slice(alloc, first)?,
-        image: Vec::from_slice(alloc, first)?,
+        bytes: copied(alloc, first)?,
+        image: copied(alloc, first)?,
         left: keep,
     };
     for call in calls {
@@ -38,7 +40,7 @@ pub(crate) fn image_of(
 
 impl Replay {
     // One call more.
-    fn go_on(&mut self, call: &DiskCall, keep: u32) -> Result<(), AllocError>
+    fn go_on(&mut self, call: &DiskCall, keep: u32) -> Result<(), NoMemory>
         ensures { OnOk result ((rest : List Call)
             → kept_after self.new.bytes.items self.new.image.items keep self.new.left rest
             ≡ kept_after self.old.bytes.items self.old.image.items keep self.old.left (call.now ∷ rest)) }
@@ -51,7 +53,7 @@ impl Replay {
             DiskCall::Sync { failed: false } => {
                 self.left = keep;
                 self.image.clear();
-                self.image.extend_from_slice(&self.bytes)
+                extend(&mut self.image, &self.bytes)
             }
             DiskCall::Sync { failed: true } => Ok(()),
             DiskCall::Len { .. } => Ok(()),
@@ -60,7 +62,7 @@ impl Replay {
     }
 
     // The write is done whole, where one is yet to be done.
-    fn do_write(&mut self, at: usize, bytes: &[u8]) -> Result<(), AllocError>
+    fn do_write(&mut self, at: usize, bytes: &[u8]) -> Result<(), NoMemory>
         ensures bytes { self.new.bytes ≡ self.old.bytes }
         ensures left { OnOk result (self.new.left ≡ self.old.left - 1) }
         ensures image { OnOk result (self.new.image.items
@@ -72,14 +74,4 @@ impl Replay {
         }
         Ok(())
     }
-}
-
-// Takes memory, and puts bytes over those that stand from a place on, and past the end.
-pub(crate) fn put_more(target: &mut Vec<u8>, at: usize, bytes: &[u8]) -> Result<(), AllocError>
-    ensures { OnOk result (target.new.items ≡ put target.old.items at bytes.now) }
-{
-    target.reserve(bytes.len())?;
-    let begin = at.min(target.len());
-    put_over(target, begin, bytes);
-    Ok(())
 }

@@ -13,7 +13,7 @@ use crate::images::image_of;
 use crate::torn_images::torn_image_of;
 use outside_io::{Disk, Failed, FaultPlan};
 use policy_types::NoMemory;
-use std::alloc::{AllocError, Global};
+use std::alloc::Global;
 
 /// A disk in memory that follows the disk model. It keeps each call, and fails at the calls whose
 /// numbers, from 1, it is told. Want of memory for a call's record is a fault too, and such a call
@@ -67,10 +67,7 @@ impl MemoryDisk {
         ensures possible { IfOk result (λ image. IsImage (disk_first self.now) (take moment (disk_calls self.now)) image.items) }
     {
         let calls = &self.history.calls[..moment as usize];
-        match image_of(alloc, self.history.first(), calls, keep) {
-            Ok(image) => Ok(image),
-            Err(AllocError) => Err(NoMemory),
-        }
+        image_of(alloc, self.history.first(), calls, keep)
     }
 
     /// An image that a crash after so many of the calls might have left: that in which, of each write since the last sync,
@@ -87,10 +84,7 @@ impl MemoryDisk {
         ensures possible { IfOk result (λ image. IsImage (disk_first self.now) (take moment (disk_calls self.now)) image.items) }
     {
         let calls = &self.history.calls[..moment as usize];
-        match torn_image_of(alloc, self.history.first(), calls, reached) {
-            Ok(image) => Ok(image),
-            Err(AllocError) => Err(NoMemory),
-        }
+        torn_image_of(alloc, self.history.first(), calls, reached)
     }
 
     /// All calls, in order.

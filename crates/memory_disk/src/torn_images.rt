@@ -5,9 +5,10 @@ ghost use Rattle.outside_io.specs.Disks.{put};
 ghost use Rattle.memory_disk.specs.declared.disk_call.DiskCall.{DiskCall as Call};
 
 use crate::DiskCall;
-use crate::history::reaching_part;
-use crate::images::put_more;
-use std::alloc::{AllocError, Global};
+use crate::history::{put_more, reaching_part};
+use memory_requests::{copied, extend};
+use policy_types::NoMemory;
+use std::alloc::Global;
 
 // The image in which, of each write since the last sync, the first `reached` bytes reached the disk.
 pub(crate) fn torn_image_of(
@@ -15,11 +16,11 @@ pub(crate) fn torn_image_of(
     first: &[u8],
     calls: &[DiskCall],
     reached: usize,
-) -> Result<Vec<u8>, AllocError>
+) -> Result<Vec<u8>, NoMemory>
     ensures { IfOk result (λ image. image.items ≡ torn_after first.now first.now reached calls.now) }
 {
-    let mut bytes = Vec::from_slice(alloc, first)?;
-    let mut image = Vec::from_slice(alloc, first)?;
+    let mut bytes = copied(alloc, first)?;
+    let mut image = copied(alloc, first)?;
     for call in calls {
         go_on(&mut bytes, &mut image, call, reached)?;
     }
@@ -32,7 +33,7 @@ fn go_on(
     image: &mut Vec<u8>,
     call: &DiskCall,
     reached: usize,
-) -> Result<(), AllocError>
+) -> Result<(), NoMemory>
     ensures { OnOk result ((rest : List Call) → torn_after bytes.new.items image.new.items reached rest
         ≡ torn_after bytes.old.items image.old.items reached (call.now ∷ rest)) }
 {
@@ -47,7 +48,7 @@ fn go_on(
         }
         DiskCall::Sync { failed: false } => {
             image.clear();
-            image.extend_from_slice(bytes)
+            extend(image, bytes)
         }
         DiskCall::Sync { failed: true } => Ok(()),
         DiskCall::Len { .. } => Ok(()),
@@ -56,7 +57,7 @@ fn go_on(
 }
 
 // Puts as many bytes as are kept on a disk that is long enough for them to begin.
-fn put_front(image: &mut Vec<u8>, at: usize, bytes: &[u8], reached: usize) -> Result<(), AllocError>
+fn put_front(image: &mut Vec<u8>, at: usize, bytes: &[u8], reached: usize) -> Result<(), NoMemory>
     ensures { OnOk result (image.new.items ≡ put_within image.old.items at (take reached bytes.now)) }
 {
     if at <= image.len() {

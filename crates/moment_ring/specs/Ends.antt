@@ -1,5 +1,5 @@
 -- The ends of a ring of moments, of which the first may be missing
-use Rattle.std.specs.Prelude.{◌≡◌, ℕ, ◌<◌, List, [], ◌∷◌, ◌++◌, Option, Some, None}
+use Rattle.std.specs.Prelude.{◌≡◌, ℕ, ◌+◌, ◌≤◌, List, [], ◌∷◌, ◌++◌, Option, Some, None}
 use Rattle.rtrb.specs.Ring.{IsPair, SameProducer, known_free, received, sent}
 use Rattle.rtrb.specs.declared.producer.Producer.{Producer}
 use Rattle.rtrb.specs.declared.consumer.Consumer.{Consumer}
@@ -16,19 +16,15 @@ module _ {A P : Type 0} where
   SameOutlet None None = Unit {0}
   SameOutlet _ _ = ⊥
 
-  -- there is room for one more, or nobody hears it
-  abbrev pub CanTell : Option (Producer ℕ A P) → Type 0
-  CanTell (Some ring) = 0 < known_free ring
-  CanTell None = Unit {0}
+  -- there is room for so many moments more, or nobody hears them
+  abbrev pub HasRoomFor : ℕ → Option (Producer ℕ A P) → Type 0
+  HasRoomFor many (Some ring) = many ≤ known_free ring
+  HasRoomFor many None = Unit {0}
 
-  -- there is none: as many moments were told and not heard as it holds
-  abbrev pub CannotTell : Option (Producer ℕ A P) → Type 0
-  CannotTell (Some ring) = known_free ring ≡ 0
-  CannotTell None = ⊥
-
-  -- one moment more was told, or nobody heard it
+  -- one moment more was told, and took the room of one; or nobody heard it
   abbrev pub TellsOne : Option (Producer ℕ A P) → Option (Producer ℕ A P) → ℕ → Type 0
   TellsOne (Some old) (Some new) moment = SameProducer old new × (sent new ≡ sent old ++ moment ∷ [])
+      × (known_free old ≡ known_free new + 1)
   TellsOne None None moment = Unit {0}
   TellsOne _ _ _ = ⊥
 
@@ -42,8 +38,3 @@ module _ {A P : Type 0} where
     pub paired : ArePaired outlet inlet
     pub untold : told outlet ≡ []
     pub unheard : received inlet ≡ []
-
-  -- there is room for so many moments
-  abbrev pub HasRoomFor : ℕ → Option (Producer ℕ A P) → Type 0
-  HasRoomFor many (Some ring) = known_free ring ≡ many
-  HasRoomFor many None = ⊥

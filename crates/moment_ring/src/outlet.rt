@@ -1,6 +1,6 @@
 // The office's end of the ring.
-ghost use Rattle.std.specs.Prelude.{◌≡◌, None, IsTrue, IsFalse};
-ghost use Rattle.moment_ring.specs.Ends.{CanTell, CannotTell, SameOutlet, TellsOne, told};
+ghost use Rattle.std.specs.Prelude.{◌≡◌, None};
+ghost use Rattle.moment_ring.specs.Ends.{HasRoomFor, TellsOne};
 
 use outside_io::{Disk, Moment};
 use rtrb::Producer;
@@ -20,22 +20,9 @@ impl<D: Disk> MomentOutlet<D> {
         MomentOutlet { ring: None }
     }
 
-    /// Whether one more can be told.
-    pub fn has_room(&mut self) -> bool
-        ensures same { SameOutlet self.old.ring self.new.ring }
-        ensures told { told self.new.ring ≡ told self.old.ring }
-        ensures room { IsTrue result → CanTell self.new.ring }
-        ensures full { IsFalse result → CannotTell self.new.ring }
-    {
-        match &mut self.ring {
-            Some(ring) => !ring.is_full(),
-            None => true,
-        }
-    }
-
     /// Tells a moment.
     pub fn tell(&mut self, moment: Moment<D>)
-        requires room { CanTell self.old.ring }
+        requires room { HasRoomFor 1 self.old.ring }
         ensures { TellsOne self.old.ring self.new.ring moment }
     {
         match &mut self.ring {

@@ -1,24 +1,22 @@
 // Both ends of a ring.
 ghost use Rattle.std.specs.Prelude.{◌≡◌, ◌++◌, IfOk};
 ghost use Rattle.rtrb.specs.Ring.{ConsumerLooked, IsPair, known_items, received};
+ghost use Rattle.policy_types.specs.Limits.{most_commands};
 ghost use Rattle.moment_ring.specs.Ends.{ArePaired, HasRoomFor, IsNewRing, SameOutlet, told};
 
 use crate::inlet::MomentInlet;
 use crate::outlet::MomentOutlet;
+use memory_requests::ring_ends;
 use outside_io::Disk;
-use policy_types::NoMemory;
-use rtrb::RingBuffer;
+use policy_types::{MOST_COMMANDS, NoMemory};
 use std::alloc::Global;
 
-/// A ring with room for so many moments.
-pub fn moment_ring<D: Disk>(
-    alloc: Global,
-    many: usize,
-) -> Result<(MomentOutlet<D>, MomentInlet<D>), NoMemory>
+/// A ring with room for a moment of each command that may be accepted. So it is never full.
+pub fn moment_ring<D: Disk>(alloc: Global) -> Result<(MomentOutlet<D>, MomentInlet<D>), NoMemory>
     ensures ends { IfOk result (λ ends. IsNewRing ends.0.ring ends.1.ring) }
-    ensures room { IfOk result (λ ends. HasRoomFor many ends.0.ring) }
+    ensures room { IfOk result (λ ends. HasRoomFor most_commands ends.0.ring) }
 {
-    let (outlet, inlet) = RingBuffer::new(alloc, many).map_err(|_| NoMemory)?;
+    let (outlet, inlet) = ring_ends(alloc, MOST_COMMANDS as usize)?;
     Ok((
         MomentOutlet { ring: Some(outlet) },
         MomentInlet { ring: inlet },

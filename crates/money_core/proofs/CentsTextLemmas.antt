@@ -1,9 +1,14 @@
 -- The text of an amount: its two parts, which are the last three bytes and what stands before, and that it tells the amount.
 use lib.Dec.{leb-zero}
+use Rattle.std.specs.Prelude.{[]}
 use Rattle.money_core.proofs.Names.{◌∷◌, ℤ, pos, negsuc, false, int_le, unsigned_abs, true≢false, suc, get_or, ◌≡◌, ℕ, ◌+◌, ◌-◌, ◌*◌, ◌/◌, ◌%◌, ◌^◌, ◌<◌, List, length, take, drop, sym, ap, ◌∙◌, refl, arith, length-append, take-append-drop, decimal, decimal_is_IsNumeral_wide, digit_at}
 use Rattle.std.proofs.lemmas.List.{take_at, drop_at, get_or_append_left}
 use Rattle.money_core.proofs.Numerals.{decimal_injective_wide}
-use Rattle.money_core.specs.CentsText.{cents_text, hundredths_text, signed_cents_text}
+use Rattle.money_core.specs.CentsText.{cents_text, signed_cents_text}
+
+-- the last three bytes: a point and two digits
+abbrev pub hundredths_text : ℕ → List ℕ
+hundredths_text n = 46 ∷ (48 + n / 10) ∷ (48 + n % 10) ∷ []
 
 pub hundredths_text_injective : (m n : ℕ) → m < 100 → n < 100 → hundredths_text m ≡ hundredths_text n → m ≡ n
 hundredths_text_injective m n small_m small_n e =

@@ -1,5 +1,5 @@
-ghost use Rattle.std.specs.Prelude.{◌≡◌, ◌≢◌, ℕ, ◌<◌, ◌≤◌, ◌↔◌, IsTrue, IfSome, IfNone};
-ghost use Rattle.money_core.specs.CentsText.{cents_text, hundredths_text};
+ghost use Rattle.std.specs.Prelude.{◌≡◌, ◌+◌, ◌/◌, ◌%◌, [], ◌∷◌, ◌≢◌, ℕ, ◌<◌, ◌≤◌, ◌↔◌, IsTrue, IfSome, IfNone};
+ghost use Rattle.money_core.specs.CentsText.{cents_text};
 
 use crate::number::parse_number;
 
@@ -28,8 +28,8 @@ fn is_amount(cents: u64, most: u64) -> bool
 
 // Reads a point and two digits, from `.00` to `.99`.
 fn parse_hundredths(text: &[u8; 3]) -> Option<u64>
-    ensures hundredths { IfSome result (λ n. (n < 100) × (text.now ≡ hundredths_text n)) }
-    ensures none { IfNone result ((n : ℕ) → n < 100 → text.now ≢ hundredths_text n) }
+    ensures hundredths { IfSome result (λ n. (n < 100) × (text.now ≡ 46 ∷ (48 + n / 10) ∷ (48 + n % 10) ∷ [])) }
+    ensures none { IfNone result ((n : ℕ) → n < 100 → text.now ≢ 46 ∷ (48 + n / 10) ∷ (48 + n % 10) ∷ []) }
 {
     let [point, tens, ones] = *text;
     if point != b'.' || !tens.is_ascii_digit() || !ones.is_ascii_digit() {

@@ -1,5 +1,5 @@
-ghost use Rattle.std.specs.Prelude.{◌≡◌, ◌<◌, ◌≤◌, take, drop};
-ghost use Rattle.money_core.specs.CentsText.{hundredths_text, signed_cents_text};
+ghost use Rattle.std.specs.Prelude.{◌≡◌, ◌+◌, ◌/◌, ◌%◌, [], ◌∷◌, ◌<◌, ◌≤◌, take, drop};
+ghost use Rattle.money_core.specs.CentsText.{signed_cents_text};
 
 use itoa::write_digits;
 
@@ -35,7 +35,7 @@ fn write_at_end(cents: i64, text: &mut [u8; 24]) -> usize
 // Writes a point and two digits as the last three bytes.
 fn write_hundredths(n: u64, text: &mut [u8; 24])
     requires { n < 100 }
-    ensures { drop 21 text.new ≡ hundredths_text n }
+    ensures { drop 21 text.new ≡ 46 ∷ (48 + n / 10) ∷ (48 + n % 10) ∷ [] }
 {
     let (tens, ones) = ((n / 10) as u8, (n % 10) as u8);
     text[21..].copy_from_slice(&[b'.', b'0' + tens, b'0' + ones]);

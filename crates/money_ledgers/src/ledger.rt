@@ -1,6 +1,8 @@
 // What is booked for a command.
-ghost use Rattle.std.specs.Prelude.{◌≡◌, ◌≤◌, false};
-ghost use Rattle.policy_types.specs.Accounts.{nothing_booked, premium_received, benefit_incurred, benefit_paid, booked_at_term, booking_of, added};
+ghost use Rattle.std.specs.Prelude.{◌≡◌, ◌≤◌, false, if◌then◌else◌};
+ghost use Rattle.policy_types.specs.Accounts.{nothing_booked, premium_received, benefit_incurred, benefit_paid, booking_of, added};
+ghost use Rattle.policy_types.specs.contracts.policy.StatusPartialEq.TheImpl.{eq-value as status_eq};
+ghost use Rattle.policy_types.specs.declared.policy.Status.TheVariants.{Matured};
 ghost use Rattle.policy_types.specs.Valid.{IsValid, is_upgrade};
 ghost use Rattle.money_ledgers.specs.Balances.{balances, HasRoom};
 
@@ -61,7 +63,8 @@ impl Ledger {
         requires amount { after.now.amount ≤ 10000000000 }
         requires room { HasRoom self.old }
         ensures { balances self.new
-            ≡ added (balances self.old) (booked_at_term after.now.status after.now.amount) }
+            ≡ added (balances self.old) (if status_eq.it after.now.status Matured then benefit_incurred after.now.amount
+            else nothing_booked) }
     {
         if let Status::Matured = after.status {
             self.incur(after.amount);

@@ -1,5 +1,5 @@
 -- Each file opens to commands, or shows why it doesn't
-use Rattle.office_state.proofs.Names.{◌≡◌, ◌⊎◌, inl, inr, ℕ, ◌+◌, ◌≤◌, ℤ, pos, negsuc, List, [], ◌∷◌, ◌++◌, length, Option, Some, None, refl, sym, ap, ◌∙◌, subst, append-nil, append_assoc, arith, bytes_eq, true≢false, AllByRecursion, cases_Bool, cases_lt, map-append, Command, Issue, Premium, Alter, Lapse, Reinstate, Claim, Settle, Mature, PaidUp, Upgrade, Refusal, AreYears, IsCommandDay, IsValid, IsAccepted, judge, IsAccepted-push, spelling_of, read_fields, read_fields-spelling, IsJournal, bodies_of, CanFollow, IsOfTheFile, IsShown, IsUnfollowed, IsUnspelled, JournalBytes, Opens, StartCause, BadRecord, NotAJournal}
+use Rattle.office_state.proofs.Names.{◌≡◌, ◌⊎◌, inl, inr, ℕ, ◌+◌, ◌≤◌, ℤ, pos, negsuc, List, [], ◌∷◌, ◌++◌, length, Option, Some, None, refl, sym, ap, ◌∙◌, subst, append-nil, append_assoc, arith, bytes_eq, true≢false, AllByRecursion, cases_Bool, cases_lt, map-append, Command, Issue, Premium, Alter, Lapse, Reinstate, Claim, Settle, Mature, PaidUp, Upgrade, Refusal, AreYears, IsCommandDay, IsValid, IsAccepted, judge, IsAccepted-push, spelling_of, read_fields, read_fields-spelling, IsJournal, bodies_of, IsOfTheFile, IsShown, IsUnfollowed, JournalBytes, Opens, StartCause, BadRecord, NotAJournal}
 use Rattle.std.proofs.lemmas.Bool.Decides.{eqb_tells}
 use Rattle.std.proofs.lemmas.Int.{ints}
 use Rattle.std.proofs.lemmas.Slice.Eq.{bytes_eq-Decides}
@@ -98,6 +98,15 @@ same_text xs ys = elim (cases_Bool (bytes_eq xs ys)) [
   | inr other ↦ inr (λ same. true≢false (sym ((bytes_eq-Decides xs ys).1 same) ∙ other))
 ]
 
+-- the command can stand behind these in a journal
+record CanFollow (commands : List Command) (command : Command) : Type 0 where
+  valid : IsValid command
+  accepted : judge commands command ≡ None
+
+-- the body spells no command that can follow these
+abbrev IsUnspelled : List ℕ → List Command → Type 0
+IsUnspelled body commands = (command : Command) → body ≡ spelling_of command → CanFollow commands command → ⊥
+
 -- it spells one command that can follow them, or none
 abbrev Follows : List Command → List ℕ → Type 0
 Follows commands body = ((command : Command) × (body ≡ spelling_of command) × CanFollow commands command) ⊎ IsUnspelled body commands
@@ -137,7 +146,7 @@ commands_or_shown bytes commands (body ∷ rest) records right accepted = elim (
       records = records;
       valid = right;
       accepted = accepted;
-      none = none;
+      none = λ command spelled valid follows. none command spelled (record { valid = valid; accepted = follows });
     },
   )
   | inl is ↦

@@ -1,5 +1,5 @@
 -- What one more turn does to what is known of a history
-use Rattle.office_state.proofs.Names.{◌≡◌, ℕ, ◌+◌, ◌<◌, ◌≤◌, List, [], ◌∷◌, ◌++◌, length, refl, ap, sym, ◌∙◌, subst, Some, None, Option, Ok, Err, append-nil, append_assoc, length-append, arith, inl, inr, filter_map-append, cases_lt, cond-true, cond-false, eq-eqb, ne_eqb, Rose, Command, Policy, Refusal, Full, Reply, Accepted, Faulted, Entry, judged_after, Opening, IsAbove, IsDue, IsFreshFault, IsLegalAfter, accepted_by, accepted_of, commands_after, fault_of, refusal_due, HasFaulted, HasFaultedAt, HasFaultedBefore, HoldsOnce, IsOneMore, IsPending, faults_after, JournalBytes}
+use Rattle.office_state.proofs.Names.{◌≡◌, ℕ, ◌+◌, ◌<◌, ◌≤◌, List, [], ◌∷◌, ◌++◌, length, refl, ap, sym, ◌∙◌, subst, Some, None, Option, Ok, Err, append-nil, append_assoc, length-append, arith, inl, inr, filter_map-append, cases_lt, cond-true, cond-false, eq-eqb, ne_eqb, Rose, Command, Policy, Refusal, Full, Reply, Accepted, Faulted, Entry, judged_after, Opening, IsAbove, IsDue, IsFreshFault, IsLegalAfter, accepted_by, accepted_of, commands_after, fault_of, refusal_due, HoldsOnce, IsPending, IsThere, WasFaulted, faults_after, JournalBytes, Opens}
 use Rattle.std.specs.List.{AllByRecursion, filter_map, last_or}
 use Rattle.std.specs.Option.{unwrap_or}
 use Rattle.policy_types.specs.declared.entry.Call.TheVariants.{Post}
@@ -118,88 +118,81 @@ next_position opening history commands command position kept at =
     ∙ ap (λ n. n + 1) (ap length kept ∙ length-append opening.commands (accepted_of history))
 
 -- a posting that faulted did so in a longer history too
-faulted-push : (history : List Entry) (command : Command) (after : List Entry) (entry : Entry) → HasFaultedBefore history command after
-    → HasFaultedBefore (history ++ entry ∷ []) command (after ++ entry ∷ [])
-faulted-push history command after entry faulted = record {
-  before = faulted.before;
-  caller = faulted.caller;
-  count = faulted.count;
-  turns = ap (λ turns. turns ++ entry ∷ []) faulted.turns
-      ∙ append_assoc faulted.before (posting faulted.caller command (Faulted faulted.count) ∷ after) (entry ∷ []);
+pub faulted-push : (history : List Entry) (held : List Command) (command : Command) (entry : Entry) → WasFaulted history held command
+    → WasFaulted (history ++ entry ∷ []) held command
+faulted-push history held command entry was = record {
+  before = was.before;
+  caller = was.caller;
+  count = was.count;
+  after = was.after ++ entry ∷ [];
+  turns = ap (λ turns. turns ++ entry ∷ []) was.turns
+      ∙ append_assoc was.before (posting was.caller command (Faulted was.count) ∷ was.after) (entry ∷ []);
+  then = was.then;
 }
 
 -- it is pending until a posting is accepted
 pub pending-push : (history : List Entry) (command : Command) (entry : Entry) → accepted_of (entry ∷ []) ≡ []
     → IsPending history command → IsPending (history ++ entry ∷ []) command
-pending-push history command entry none pending = record {
-  after = pending.after ++ entry ∷ [];
-  faulted = faulted-push history command pending.after entry pending.faulted;
-  none = accepted_of-push pending.after entry ∙ ap (λ cs. cs ++ accepted_of (entry ∷ [])) pending.none ∙ none;
-}
+pending-push history command entry none pending =
+    subst (λ held. WasFaulted (history ++ entry ∷ []) held command) (sym (accepted-same history entry none))
+    (faulted-push history (accepted_of history) command entry pending)
 
 pub pending-now : (history : List Entry) (caller : ℕ) (command : Command) (count : ℕ)
     → IsPending (history ++ posting caller command (Faulted count) ∷ []) command
 pending-now history caller command count = record {
+  before = history;
+  caller = caller;
+  count = count;
   after = [];
-  faulted = record { before = history; caller = caller; count = count; turns = refl };
-  none = refl;
+  turns = refl;
+  then = sym (accepted-same history (posting caller command (Faulted count)) refl);
 }
 
-one_more-push : (history : List Entry) (held more : List Command) (entry : Entry) → IsOneMore history held more
-    → IsOneMore (history ++ entry ∷ []) held more
-unfolding faulted-push
-one_more-push history held [] entry one = tt
-one_more-push history held (command ∷ []) entry one =
-    (one.0 ++ entry ∷ [], (faulted-push history command one.0 entry one.1.0, one.1.1))
-one_more-push history held (command ∷ other ∷ more) entry one = absurd one
+-- what is there by a history is there by a longer one
+pub there-push : (Says : List ℕ → List Command → Type 0) (commands : List Command) (history : List Entry) (held : List Command) (entry : Entry)
+    (image : List ℕ) → IsThere Says commands history held image → IsThere Says commands (history ++ entry ∷ []) held image
+there-push Says commands history held entry image (inl all) = inl all
+there-push Says commands history held entry image (inr more) = inr (more.0, faulted-push history held more.0 entry more.1, more.2)
 
 -- what an image held in a history it held in a longer one
 pub holds_once-push : (opening : Opening) (history : List Entry) (entry : Entry) (image : List ℕ)
     → HoldsOnce opening history image → HoldsOnce opening (history ++ entry ∷ []) image
-holds_once-push opening history entry image holds = record {
-  held = holds.held;
-  rest = holds.rest ++ accepted_of (entry ∷ []);
-  more = holds.more;
-  front = accepted_of-push history entry ∙ ap (λ cs. cs ++ accepted_of (entry ∷ [])) holds.front
-      ∙ append_assoc holds.held holds.rest (accepted_of (entry ∷ []));
-  one = one_more-push history holds.held holds.more entry holds.one;
-  opens = holds.opens;
-}
+holds_once-push opening history entry image holds = (
+  holds.0,
+  holds.1 ++ accepted_of (entry ∷ []),
+  accepted_of-push history entry ∙ ap (λ cs. cs ++ accepted_of (entry ∷ [])) holds.2
+      ∙ append_assoc holds.0 holds.1 (accepted_of (entry ∷ [])),
+  there-push Opens opening.commands history holds.0 entry image holds.3,
+)
+
+-- a journal opens to its commands
+pub there_opens : (commands : List Command) (history : List Entry) (held : List Command) (image : List ℕ)
+    → IsThere JournalBytes commands history held image → IsThere Opens commands history held image
+there_opens commands history held image (inl all) = inl (inl all)
+there_opens commands history held image (inr more) = inr (more.0, more.1, inl more.2)
+
+-- what holds now is there with all that was accepted
+pub now_once : (opening : Opening) (history : List Entry) (image : List ℕ) → IsThere JournalBytes opening.commands history (accepted_of history) image
+    → HoldsOnce opening history image
+now_once opening history image now =
+    (accepted_of history, [], sym (append-nil (accepted_of history)), there_opens opening.commands history (accepted_of history) image now)
 
 -- the journal of all commands so far
 pub holds_all : (opening : Opening) (history : List Entry) (image : List ℕ) → JournalBytes image (commands_after opening history)
     → HoldsOnce opening history image
-holds_all opening history image bytes = record {
-  held = accepted_of history;
-  rest = [];
-  more = [];
-  front = sym (append-nil (accepted_of history));
-  one = tt;
-  opens = rw (append-nil (commands_after opening history)) (inl bytes);
-}
-
--- nothing was accepted since a pending posting faulted
-faulted_at : (history : List Entry) (command : Command) → IsPending history command → HasFaultedAt history (accepted_of history) command
-faulted_at history command pending =
-    let f = pending.faulted in
-    let entry = posting f.caller command (Faulted f.count) in
-    let all : accepted_of history ≡ accepted_of f.before ++ accepted_of (entry ∷ pending.after) =
-    ap accepted_of f.turns ∙ filter_map-append (λ (e : Entry). accepted_by e.call e.reply) f.before (entry ∷ pending.after) in (
-      pending.after,
-      (f, sym (all ∙ ap (λ cs. accepted_of f.before ++ cs) pending.none ∙ append-nil (accepted_of f.before))),
-    )
+holds_all opening history image bytes = now_once opening history image (inl bytes)
 
 -- and that of one more, whose posting is pending
+pub there_more : (opening : Opening) (history : List Entry) (command : Command) (image : List ℕ) → IsPending history command
+    → JournalBytes image (commands_after opening history ++ command ∷ [])
+    → IsThere JournalBytes opening.commands history (accepted_of history) image
+there_more opening history command image pending bytes =
+    inr (command, pending, bytes)
+
 pub holds_more : (opening : Opening) (history : List Entry) (command : Command) (image : List ℕ) → IsPending history command
     → JournalBytes image (commands_after opening history ++ command ∷ []) → HoldsOnce opening history image
-holds_more opening history command image pending bytes = record {
-  held = accepted_of history;
-  rest = [];
-  more = command ∷ [];
-  front = sym (append-nil (accepted_of history));
-  one = faulted_at history command pending;
-  opens = inl bytes;
-}
+holds_more opening history command image pending bytes =
+    now_once opening history image (there_more opening history command image pending bytes)
 
 -- each turn of a legal history has its reply
 due_in : (opening : Opening) (done before : List Entry) (entry : Entry) (after : List Entry) → IsLegalAfter opening done (before ++ entry ∷ after)
@@ -218,13 +211,12 @@ all_before P [] ys all = tt
 all_before P (x ∷ xs) ys all = (all.0, all_before P xs ys all.1)
 
 -- so a posting faulted only where the disk's count rose since the opening
-pub rose_in : (opening : Opening) (history : List Entry) (command : Command) (now : ℕ) → IsLegalAfter opening [] history
-    → AllByRecursion (λ n. n ≤ now) (faults_met history) → HasFaulted history command → Rose opening.faults now
-rose_in opening history command now legal met faulted =
-    let this = faulted.1 in
+pub rose_in : (opening : Opening) (history : List Entry) (held : List Command) (command : Command) (now : ℕ) → IsLegalAfter opening [] history
+    → AllByRecursion (λ n. n ≤ now) (faults_met history) → WasFaulted history held command → Rose opening.faults now
+rose_in opening history held command now legal met this =
     let entry = posting this.caller command (Faulted this.count) in
-    let due = due_in opening [] this.before entry faulted.0 (subst (λ turns. IsLegalAfter opening [] turns) this.turns legal) in
-    let numbers : faults_met history ≡ faults_met this.before ++ this.count ∷ faults_met faulted.0 =
-    ap faults_met this.turns ∙ filter_map-append (λ (e : Entry). fault_of e.reply) this.before (entry ∷ faulted.0) in
-    let up_to = all_in (λ n. n ≤ now) (faults_met this.before) (faults_met faulted.0) this.count (subst (AllByRecursion (λ n. n ≤ now)) numbers met) in
+    let due = due_in opening [] this.before entry this.after (subst (λ turns. IsLegalAfter opening [] turns) this.turns legal) in
+    let numbers : faults_met history ≡ faults_met this.before ++ this.count ∷ faults_met this.after =
+    ap faults_met this.turns ∙ filter_map-append (λ (e : Entry). fault_of e.reply) this.before (entry ∷ this.after) in
+    let up_to = all_in (λ n. n ≤ now) (faults_met this.before) (faults_met this.after) this.count (subst (AllByRecursion (λ n. n ≤ now)) numbers met) in
     omega (arith, up_to, due.1.0)

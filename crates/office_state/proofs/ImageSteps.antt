@@ -1,7 +1,7 @@
 -- What one more turn does to what is known of images
 use Rattle.office_state.proofs.Names.{◌≡◌, ℕ, ◌≤◌, Bool, true, false, List, [], ◌∷◌, ◌++◌, refl, subst, inl, inr, map-append, AllByRecursion, Ghosts, Command, Entry, IsValid, IsAccepted, Opening, accepted_of, commands_after, spelling_of, IsJournal, Leaves, IsKept, disk_under, is_clean, Journal, bodies_of, HoldsNow, HoldsOnce, JournalBytes, LeavesSince, IsLeftBehind, JournalHolds}
 use Rattle.posting_journal.proofs.Written.{staged_either}
-use Rattle.office_state.proofs.HistorySteps.{commands-same, holds_all, holds_more, holds_once-push, pending-push}
+use Rattle.office_state.proofs.HistorySteps.{commands-same, holds_once-push, now_once, pending-push, there_more}
 use Rattle.office_state.proofs.KeepingSteps.{all-more}
 use Rattle.office_state.proofs.OpeningSteps.{synced_before}
 
@@ -33,9 +33,7 @@ left_still opening turns entry body none left = record {
 -- an image of a history is one of a longer history
 pub now_later : (opening : Opening) (turns : List Entry) (entry : Entry) (image : List ℕ) → HoldsNow opening turns image
     → HoldsOnce opening (turns ++ entry ∷ []) image
-now_later opening turns entry image (inl all) = holds_once-push opening turns entry image (holds_all opening turns image all)
-now_later opening turns entry image (inr more) =
-    holds_once-push opening turns entry image (holds_more opening turns more.0 image more.1 more.2)
+now_later opening turns entry image now = holds_once-push opening turns entry image (now_once opening turns image now)
 
 module _ {D : Type 0} {g : Ghosts D} where
   -- what a crash now leaves, of a journal that holds the commands of a history
@@ -52,12 +50,9 @@ module _ {D : Type 0} {g : Ghosts D} where
           let behind = holds.pending is in
           elim (staged_either (bodies_of commands) holds.last image kept) [
             | inl old ↦ inl (journal_of image commands valid accepted old)
-            | inr more ↦ inr (
-              behind.command,
-              behind.pending,
-              journal_of_more image commands behind.command valid behind.valid behind.accepted
-                  (subst (λ body. IsJournal image (bodies_of commands ++ body ∷ [])) behind.spelled more),
-            )
+            | inr more ↦ there_more opening turns behind.command image behind.pending
+                (journal_of_more image commands behind.command valid behind.valid behind.accepted
+                (subst (λ body. IsJournal image (bodies_of commands ++ body ∷ [])) behind.spelled more))
           ]
 
   -- what is known of the images since the opening goes on with a turn

@@ -88,11 +88,7 @@ not_longer bytes n at all more valid accepted records = elim (cases_lt n (length
       let found = continues at.commands all at.body at.rest more at.valid valid shorter same in
       let parts : IsAccepted (at.commands ++ found.command ∷ found.others) =
       subst IsAccepted found.parts accepted in
-      absurd (at.none found.command found.spelled
-      (record {
-        valid = found.valid;
-        accepted = accepted_at [] at.commands found.others found.command parts;
-      }))
+      absurd (at.none found.command found.spelled found.valid (accepted_at [] at.commands found.others found.command parts))
 ]
 
 unfollowed_never : (bytes : List ℕ) (n : ℕ) → IsUnfollowed bytes n → OpensToNone bytes
@@ -121,7 +117,7 @@ shown_opens_to_none bytes (BadRecord n) file (inl bad) = λ (commands : List Com
     bad_never bytes n (bodies_of commands) bad (to_bodies bytes commands opens)
 shown_opens_to_none bytes (BadRecord n) file (inr unfollowed) = unfollowed_never bytes n unfollowed
 shown_opens_to_none bytes (DiskFault count) file shown = absurd file
-shown_opens_to_none bytes NoMemory file shown = absurd file
+shown_opens_to_none bytes (NoMemory lack) file shown = absurd file
 
 -- two records of one file that can't follow those before them are one
 unfollowed_once : (bytes : List ℕ) (n m : ℕ) → IsUnfollowed bytes n → IsUnfollowed bytes m → n ≡ m
@@ -152,9 +148,9 @@ one_record bytes n m (inr one) (inr other) = unfollowed_once bytes n m one other
 pub shown_once : (bytes : List ℕ) (cause other : StartCause) → IsOfTheFile cause → IsOfTheFile other → IsShown bytes cause
     → IsShown bytes other → cause ≡ other
 shown_once bytes (DiskFault count) other file also shown too = absurd file
-shown_once bytes NoMemory other file also shown too = absurd file
+shown_once bytes (NoMemory lack) other file also shown too = absurd file
 shown_once bytes cause (DiskFault count) file also shown too = absurd also
-shown_once bytes cause NoMemory file also shown too = absurd also
+shown_once bytes cause (NoMemory lack) file also shown too = absurd also
 shown_once bytes NotAJournal NotAJournal file also shown too = refl
 shown_once bytes NotAJournal (BadRecord n) file also shown too = absurd (foreign_or_shown bytes n shown too)
 shown_once bytes (BadRecord n) NotAJournal file also shown too = absurd (foreign_or_shown bytes n too shown)

@@ -1,6 +1,6 @@
 -- What was accepted stays, from one turn to the next
-use Rattle.office_state.proofs.Names.{◌≡◌, ◌⊎◌, ℕ, ◌≤◌, List, [], ◌∷◌, ◌++◌, refl, ap, sym, ◌∙◌, subst, append-nil, append_assoc, arith, inl, inr, filter_map-append, Ghosts, Command, Entry, Opening, accepted_by, accepted_of, commands_after, Leaves, HasKept, HoldsAtLeast, HoldsNow, KeepsAccepted, JournalBytes, Opens}
-use Rattle.office_state.proofs.HistorySteps.{commands-same, pending-push}
+use Rattle.office_state.proofs.Names.{◌≡◌, ◌⊎◌, ℕ, ◌≤◌, List, [], ◌∷◌, ◌++◌, refl, ap, sym, ◌∙◌, subst, append-nil, append_assoc, arith, inl, inr, filter_map-append, Ghosts, Command, Entry, Opening, accepted_by, accepted_of, commands_after, Leaves, HasKept, HoldsAtLeast, HoldsNow, IsThere, KeepsAccepted, JournalBytes, Opens}
+use Rattle.office_state.proofs.HistorySteps.{accepted-same, commands-same, there-push}
 use Rattle.office_state.proofs.OpeningSteps.{OnlyNow}
 
 -- a beginning of a list with one more behind it is the whole, or one of the list
@@ -53,9 +53,9 @@ least_front opening turns front less image part least =
 -- a turn that accepts nothing leaves what holds now
 now_still : (opening : Opening) (turns : List Entry) (entry : Entry) (image : List ℕ) → accepted_of (entry ∷ []) ≡ []
     → HoldsNow opening turns image → HoldsNow opening (turns ++ entry ∷ []) image
-now_still opening turns entry image none (inl all) = inl (rw (commands-same opening turns entry none) all)
-now_still opening turns entry image none (inr more) =
-    inr (more.0, pending-push turns more.0 entry none more.1, rw (commands-same opening turns entry none) more.2)
+now_still opening turns entry image none now =
+    subst (λ held. IsThere JournalBytes opening.commands (turns ++ entry ∷ []) held image) (sym (accepted-same turns entry none))
+    (there-push JournalBytes opening.commands turns (accepted_of turns) entry image now)
 
 module _ {D : Type 0} (g : Ghosts D) (begun : D) (opening : Opening) where
   -- as a disk stands now

@@ -1,4 +1,5 @@
 pub mod Names
+pub mod Holdings
 pub mod SetSteps
 pub mod PolicyValues
 pub mod Fronts

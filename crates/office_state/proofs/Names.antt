@@ -1,5 +1,5 @@
 -- The names that several proofs cite, passed on from one place. Declares nothing.
-pub use Rattle.std.proofs.Common.{List, ◌≡◌, [], refl, ◌∷◌, ◌∙◌, ℕ, arith, ◌++◌, sym, ap, subst, ◌≤◌, length, inl, inr, None, ◌<◌, Some, Option, take, ◌+◌, false, append-nil, suc, Ok, true, Err, ◌⊎◌, Bool, drop, zero, slice_get, append_assoc, ◌-◌, min, length-append, filter_map, map, nat_eq, get_or, ◌*◌, not, filter, Result, ◌||◌, if◌then◌else◌, ◌^◌, cond, ◌==◌, lit<, lit≤, rules, is_some, ℤ, pos, negsuc, bytes_eq, true≢false, nat_le, ⊎_elim, IsTrue, add-one, nat_lt, vec_capacity, IfSome, IfOk, slice_index_or}
+pub use Rattle.std.proofs.Common.{◌≢◌, List, ◌≡◌, [], refl, ◌∷◌, ◌∙◌, ℕ, arith, ◌++◌, sym, ap, subst, ◌≤◌, length, inl, inr, None, ◌<◌, Some, Option, take, ◌+◌, false, append-nil, suc, Ok, true, Err, ◌⊎◌, Bool, drop, zero, slice_get, append_assoc, ◌-◌, min, length-append, filter_map, map, nat_eq, get_or, ◌*◌, not, filter, Result, ◌||◌, if◌then◌else◌, ◌^◌, cond, ◌==◌, lit<, lit≤, rules, is_some, ℤ, pos, negsuc, bytes_eq, true≢false, nat_le, ⊎_elim, IsTrue, add-one, nat_lt, vec_capacity, IfSome, IfOk, slice_index_or}
 pub use Rattle.std.proofs.lemmas.Bool.{cases_lt, eq-eqb, eqb-true, cases_Bool, cond-true, cond-false, ne_eqb}
 pub use Rattle.std.proofs.lemmas.List.{length_push, take_all, map-append, length-map, take-append-le, length-drop, take-append-drop, take_min, take_more, get_or-drop}
 pub use Rattle.std.proofs.lemmas.List.Elements.{filter_map-append, filter-append}
@@ -7,9 +7,10 @@ pub use Rattle.std.proofs.lemmas.Option.{slice_get_within, same_Some, slice_get-
 pub use Rattle.std.specs.List.{AllByRecursion, cons_option, fold, list_any, Contains, range_with_len}
 pub use Rattle.std.specs.Prelude.{MatchResult, slice_index}
 pub use Rattle.journal_replay.specs.Replays.{bodies_of, IsStoppedAt, Stops, HasReplayCause, IsLookedAt, BodiesHave, Replays}
-pub use Rattle.moment_ring.specs.Ends.{TellsOne, told, SameOutlet, told as moments_told}
-pub use Rattle.office_state.specs.Images.{HoldsOnce, HoldsNow, HoldsAtLeast, AreSafeSince, IsPending, HasKept, KeepsAccepted, IsLeftBy, HasFaulted, HasFaultedAt, HasFaultedBefore, IsOneMore, faults_after, IsLeftAlone, OpensAlike, IsQuietReply}
-pub use Rattle.office_state.specs.Journals.{JournalBytes, Opens, IsShown, IsUnfollowed, IsOfTheFile, IsUnspelled, OpensToNone, CanFollow}
+pub use Rattle.moment_ring.specs.Ends.{TellsOne, told, SameOutlet, HasRoomFor}
+pub use Rattle.office_state.proofs.Holdings.{HoldsAtLeast, HoldsNow, HoldsOnce, IsPending, IsQuietReply, KeepsAccepted}
+pub use Rattle.office_state.specs.Images.{AreSafeSince, HasKept, IsFrontThere, IsThere, WasFaulted, IsLeftBy, faults_after, IsLeftAlone, OpensAlike}
+pub use Rattle.office_state.specs.Journals.{JournalBytes, Opens, IsShown, IsUnfollowed, IsOfTheFile, OpensToNone}
 pub use Rattle.office_state.specs.Pins.{pins_held, held_at, held_in, IsHeldBy, MayRead}
 pub use Rattle.office_state.specs.Standing.{StandsFor, LeavesSince, KeepsFew}
 pub use Rattle.office_state.specs.States.{opening_of, commands_of, begun_of, MomentRing, floor_kept, pins_of}
@@ -28,9 +29,11 @@ pub use Rattle.outside_io.specs.declared.disks.Disk.{Ghosts}
 pub use Rattle.policy_machine.proofs.BookLemmas.{IsAccepted-push, policy_of-sound, policy_of-push_own, policy_of-push_other, policy_of-own}
 pub use Rattle.policy_machine.proofs.HistoryGrowth.{floor_of-kept, live_parts, slice_get-front, slice_get-middle, PinsHold, PinsHold-legal, floor_of-set, least-count}
 pub use Rattle.policy_machine.proofs.JudgeLemmas.{next-no_upgrade, accepted_at, upgrade_from-other, accepted_next, next-upgrade, judged_none, judged_some}
-pub use Rattle.policy_machine.specs.Book.{IsAccepted, policy_of, judge, book, issue_id, judged_after, IsAcceptedAfter, upgrade_of, refusal_in, kept, judged}
-pub use Rattle.policy_machine.specs.History.{accepted_of, Opening, commands_after, IsDue, pin_of, accepted_by, refusal_due, opened_on, gives_up, live_pin, live_positions, floor_set, floor_of, IsAbove, IsFreshFault, IsLegalAfter, fault_of, pinned_position, IsOwnPin, least_or, most_pins, IsLegal}
+pub use Rattle.policy_machine.specs.Book.{IsAccepted, policy_of, judge, book, issue_id, judged_after, IsAcceptedAfter, upgrade_of, judged}
+pub use Rattle.policy_machine.specs.History.{accepted_of, Opening, commands_after, IsDue, refusal_due, opened_on, gives_up, live_pin, live_positions, floor_of, IsFreshFault, IsLegalAfter, fault_of, IsOwnPin, least_or, most_pins, IsLegal}
+pub use Rattle.policy_machine.proofs.Parts.{refusal_in, kept, pin_of, accepted_by, floor_set, IsAbove, pinned_position}
 pub use Rattle.policy_machine.specs.Rules.{next, IsSound}
+pub use Rattle.policy_types.specs.Limits.{most_commands}
 pub use Rattle.policy_types.specs.Valid.{id_of, IsValid, is_upgrade, AreYears, IsCommandDay}
 pub use Rattle.policy_types.specs.declared.command.Command.{Command}
 pub use Rattle.policy_types.specs.declared.command.Command.TheVariants.{Upgrade, Issue, Premium, Alter, Lapse, Reinstate, Claim, Settle, Mature, PaidUp}

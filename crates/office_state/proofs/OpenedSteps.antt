@@ -1,5 +1,5 @@
 -- The office of a journal that was started on a disk, and what is known where there is none
-use Rattle.office_state.proofs.Names.{◌≡◌, inl, inr, ℕ, ◌<◌, ◌≤◌, true, false, List, Option, [], ◌++◌, length, ◌∙◌, sym, subst, refl, append-nil, arith, None, Err, Ghosts, Rose, judge, Opening, opened_on, OpensToBodies, JournalStands, disk_under, is_clean, Journal, WatcherGhosts, HasReplayCause, IsStoppedAt, Stops, bodies_of, told, StartCause, BadRecord, OfficeState, HoldsNow, Opens, IsShown, LeavesSince, StandsFor, JournalHolds, IsOfficeOf, HasNoOffice, MakeJournal, as_replay_cause}
+use Rattle.office_state.proofs.Names.{◌≡◌, inl, inr, ℕ, ◌-◌, ◌<◌, ◌≤◌, true, false, List, Option, [], ◌++◌, length, ◌∙◌, sym, subst, refl, append-nil, arith, None, Err, Ghosts, Rose, judge, Opening, opened_on, OpensToBodies, JournalStands, disk_under, is_clean, Journal, WatcherGhosts, HasReplayCause, IsStoppedAt, Stops, bodies_of, told, HasRoomFor, most_commands, StartCause, BadRecord, OfficeState, HoldsNow, Opens, IsShown, LeavesSince, StandsFor, JournalHolds, IsOfficeOf, HasNoOffice, MakeJournal, as_replay_cause}
 use Rattle.posting_journal.specs.Starting.{HasStarted}
 use Rattle.journal_replay.specs.declared.replaying.ReplayFault.{ReplayFault}
 use Rattle.journal_replay.specs.declared.replaying.ReplayFault.TheVariants as replay
@@ -10,7 +10,7 @@ use Rattle.office_state.proofs.OpeningSteps.{CountsNow, IsStarted, OnlyNow, Read
 use Rattle.office_state.proofs.KeepingSteps.{promised}
 use Rattle.office_state.proofs.ImageSteps.{holds_now}
 use Rattle.office_state.proofs.KeptSteps.{keeps_first, kept_now}
-use Rattle.office_state.proofs.SafeSteps.{untold_safe}
+use Rattle.office_state.proofs.SafeSteps.{room_fewer, untold_safe}
 
 -- the bodies that stop a replay are those of a journal, since there are some
 pub unfollowed : (bytes : List ℕ) (n : ℕ) (bodies : List (List ℕ)) → OpensToBodies bytes bodies
@@ -24,13 +24,13 @@ module _ {D : Type 0} (g : Ghosts D) (old : D) (journal : Journal D g) (started 
       → TellsFault (g.faults old) (g.faults new) (as_replay_cause fault)
   replay_told new (replay.DiskFault count) told = (told.0, subst (λ n. Rose n (g.faults new)) started.quiet told.1)
   replay_told new (replay.BadRecord n) told = told ∙ started.quiet
-  replay_told new replay.NoMemory told = told ∙ started.quiet
+  replay_told new (replay.NoMemory lack) told = told ∙ started.quiet
 
   shown : (new : D) (fault : ReplayFault) → (g.honest new → g.honest (disk_under journal))
       → Stops MakeJournal (λ commands command. judge commands command ≡ None) journal new [] fault
       → g.honest new → IsShown (g.reads old) (as_replay_cause fault)
   shown new (replay.DiskFault count) honesty stops honest = tt
-  shown new replay.NoMemory honesty stops honest = tt
+  shown new (replay.NoMemory lack) honesty stops honest = tt
   shown new (replay.BadRecord n) honesty stops honest =
       let opened = started.opened (honesty honest) in
       unfollowed (g.reads old) n opened.bodies opened.opened (stops.1 opened.bodies [] honest opened.stands refl)
@@ -44,7 +44,7 @@ module _ {D : Type 0} (g : Ghosts D) (old : D) (journal : Journal D g) (started 
     alone = looked_alone g old journal started counts_now reads_image new none.looked;
   }
 
-  module _ {W : Type 0} {w : WatcherGhosts W} (watchers : W) (fresh : (before : ℕ) → w.told watchers before []) (outlet : Option MomentRing) (untold : told outlet ≡ [])
+  module _ {W : Type 0} {w : WatcherGhosts W} (watchers : W) (fresh : (before : ℕ) → w.told watchers before []) (outlet : Option MomentRing) (untold : told outlet ≡ []) (room : HasRoomFor most_commands outlet)
       (state : OfficeState D W g w) (made : IsOfficeOf journal old watchers outlet state) where
     -- the state with what it was opened on in plain sight
     abbrev known : OfficeState D W g w
@@ -107,7 +107,7 @@ module _ {D : Type 0} (g : Ghosts D) (old : D) (journal : Journal D g) (started 
       later : g.honest (disk_of state) → g.clock old ≤ g.clock (disk_of state)
       later honest =
           let looks = made.stays.disk.looks honest in
-          omega (arith, started_later g old journal started counts_now (made.stays.disk.honesty honest), looks.time.later)
+          omega (arith, started_later g old journal started counts_now (made.stays.disk.honesty honest), looks.later)
 
       now : g.honest (disk_of state) → (image : List ℕ) → g.may_leave (disk_of state) image → HoldsNow opening [] image
       now honest = holds_now state.journal opening []
@@ -141,6 +141,8 @@ module _ {D : Type 0} (g : Ghosts D) (old : D) (journal : Journal D g) (started 
                 (kept_now g old opening (disk_of state) [] only_now honest (later honest) (now honest));
             safe = λ (honest : g.honest (disk_of state)).
                 untold_safe g (disk_of state) opening.commands state.outlet.ring (subst (λ ring. told ring ≡ []) (sym made.outlet) untold);
+            room = room_fewer state.outlet.ring most_commands (most_commands - length (commands_of state)) (omega arith)
+                (subst (HasRoomFor most_commands) (sym made.outlet) room);
             fault_count = quiet;
             alone = λ still. looked_alone g old journal started counts_now reads_image (disk_of state) made.stays.disk;
             told = subst (λ these. w.told these (length opening.commands) []) (sym made.watched) (fresh (length opening.commands));

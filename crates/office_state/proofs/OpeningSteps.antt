@@ -30,14 +30,7 @@ opening_keeps before image commands opens (inr creation) =
 
 pub holds_once : (image : List ℕ) (commands : List Command) (faults : ℕ) → Opens image commands
     → HoldsOnce (opened_on commands faults) [] image
-holds_once image commands faults opens = record {
-  held = [];
-  rest = [];
-  more = [];
-  front = refl;
-  one = tt;
-  opens = simp append-nil opens;
-}
+holds_once image commands faults opens = ([], [], refl, inl (simp append-nil opens))
 
 -- a file that opens to no commands is no unfinished creation
 pub finished : (bytes : List ℕ) → OpensToNone bytes → ¬ IsUnfinished bytes
@@ -122,7 +115,7 @@ pub looked_since : {D : Type 0} (g : Ghosts D) → CountsNow g → (mid new : D)
     → (image : List ℕ) → g.left_since new moment image → g.left_since mid moment image
 looked_since g counts_now mid new honest looks moment passed image left =
     ⊎_elim (λ before. before) (λ now. counts_now mid moment image honest passed now)
-    (looks.time.nothing_else moment image passed left)
+    (looks.nothing_else moment image passed left)
 
 -- the end of a sync stays in the past
 pub synced_before : {D : Type 0} (g : Ghosts D) (old synced mid new : D) → IsSynced g old synced mid → g.clock mid ≤ g.clock new
@@ -161,7 +154,7 @@ module _ {D : Type 0} (g : Ghosts D) (old : D) (journal : Journal D g) (started 
       let looks = looked.looks honest in
       let m = (started.opened here).moments in (
         m.synced,
-        synced_before g old m.synced (disk_of journal) new m.at_sync looks.time.later,
+        synced_before g old m.synced (disk_of journal) new m.at_sync looks.later,
         λ (image : List ℕ) (left : g.left_since new (g.clock m.synced) image). m.since image
             (looked_since g counts_now (disk_of journal) new here looks (g.clock m.synced) m.at_sync.passed image left),
       )

@@ -8,7 +8,6 @@ use Rattle.office_state.specs.Turning.{pin_turn, pin_at_turn, read_turn, unpin_t
 use Rattle.office_state.specs.inside.Pinning.{HasTaken, IsFull}
 use Rattle.office_state.proofs.HistorySteps.{faults_met}
 use Rattle.office_state.proofs.PinSteps.{among_held, live_among, pins_held-fewer, pins_held-more, pins_held-same, positions_held}
-use Rattle.office_state.proofs.SafeSteps.{outlet_itself}
 use Rattle.office_state.proofs.TurnSteps.{stands_still}
 
 -- the least of a number and others, from the front on
@@ -62,7 +61,6 @@ module _ {D W : Type 0} {g : Ghosts D} {w : WatcherGhosts W} (old : OfficeState 
   step entry none quiet due unset pins pinned =
       stands_still old turns stands old.books counted entry refl none quiet due pins pinned
       (stands.floor ∙ sym (floor_of-kept turns entry unset)) old.watchers (λ before heard told. told)
-      old.outlet (outlet_itself old.outlet.ring) refl
 
   pins_still : (entry : Entry) (pins : ArrayVec Held) → ((n : ℕ) → gives_up n entry.call ≡ false) → pin_of entry.reply ≡ None
       → pins.items ≡ old.pins.items → pins.items ≡ pins_held (turns ++ entry ∷ [])
@@ -209,7 +207,7 @@ module _ {D W : Type 0} {g : Ghosts D} {w : WatcherGhosts W} (old : OfficeState 
       let entry = trim_turn caller floor in
       stands_still old turns stands books now_counted entry same refl refl (is ∙ least_due) old.pins
       (pins_still entry old.pins (λ n. refl) refl refl) (floored ∙ sym (floor_of-set turns entry floor refl))
-      old.watchers (λ before heard told. told) old.outlet (outlet_itself old.outlet.ring) refl
+      old.watchers (λ before heard told. told)
 
   -- a batch is read
   pub stands_read : (caller pin first : ℕ) (held : Held) (policies : List Policy) → MayRead (pins_of old) caller pin first

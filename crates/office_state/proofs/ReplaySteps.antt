@@ -38,5 +38,5 @@ stopped_shown bytes bodies n journal at = record {
       (parts bodies n at.within ∙ ap (λ front. front ++ get_or bodies n [] ∷ drop (n + 1) bodies) at.front) journal;
   valid = at.kept.0;
   accepted = at.kept.1;
-  none = λ command spelled can. at.none command spelled can.valid can.accepted;
+  none = at.none;
 }

@@ -1,5 +1,5 @@
 -- The moments since which the accepted commands are safe, from one turn to the next
-use Rattle.office_state.proofs.Names.{◌≡◌, ℕ, ◌≤◌, List, [], ◌∷◌, ◌++◌, Option, Some, None, refl, sym, ◌∙◌, subst, append-nil, append_assoc, arith, inl, inr, Ghosts, Command, Leaves, sent, SameOutlet, TellsOne, told, AreSafeSince, HoldsAtLeast, Opens, MomentRing}
+use Rattle.office_state.proofs.Names.{◌≡◌, ℕ, ◌+◌, ◌-◌, ◌≤◌, List, [], ◌∷◌, ◌++◌, Option, Some, None, refl, sym, ◌∙◌, subst, append-nil, append_assoc, arith, inl, inr, Ghosts, Command, Leaves, sent, SameOutlet, TellsOne, HasRoomFor, most_commands, told, AreSafeSince, HoldsAtLeast, Opens, MomentRing}
 use Rattle.std.specs.Prelude.{IfSome}
 
 -- what holds at least some commands holds at least the first of them
@@ -47,14 +47,6 @@ module _ {D : Type 0} (g : Ghosts D) where
         (λ image left. subst (λ all. HoldsAtLeast (all ++ command ∷ []) image) (sym (append_assoc held (first ∷ []) commands)) (since image left)),
   )
 
--- what holds of the moments told, while none is told
-pub told_same : (a b : Option MomentRing) (P : List ℕ → Type 0) → SameOutlet a b → told b ≡ told a → IfSome a (λ ring. P (sent ring))
-    → IfSome b (λ ring. P (sent ring))
-told_same None None P same untold holds = tt
-told_same None (Some q) P same untold holds = absurd same
-told_same (Some p) None P same untold holds = absurd same
-told_same (Some p) (Some q) P same untold holds = subst P (sym untold) holds
-
 -- once one more is told
 pub told_more : (a b : Option MomentRing) (moment : ℕ) (P Q : List ℕ → Type 0) → TellsOne a b moment
     → ((moments : List ℕ) → P moments → Q (moments ++ moment ∷ [])) → IfSome a (λ ring. P (sent ring)) → IfSome b (λ ring. Q (sent ring))
@@ -74,6 +66,28 @@ pub untold_safe : {D : Type 0} (g : Ghosts D) (disk : D) (held : List Command) (
     → IfSome a (λ ring. AreSafeSince g disk held [] (sent ring))
 untold_safe g disk held None none = tt
 untold_safe g disk held (Some p) none = subst (AreSafeSince g disk held []) (sym none) tt
+
+-- once one more is told, there is room for one fewer
+pub room_told : (a b : Option MomentRing) (moment many fewer : ℕ) → TellsOne a b moment → fewer + 1 ≤ many → HasRoomFor many a → HasRoomFor fewer b
+room_told None None moment many fewer tells less room = tt
+room_told None (Some q) moment many fewer tells less room = absurd tells
+room_told (Some p) None moment many fewer tells less room = absurd tells
+room_told (Some p) (Some q) moment many fewer tells less room = omega (arith, tells.2, less, room)
+
+-- and where there is room for many, there is for fewer
+pub room_fewer : (a : Option MomentRing) (many fewer : ℕ) → fewer ≤ many → HasRoomFor many a → HasRoomFor fewer a
+room_fewer None many fewer less room = tt
+room_fewer (Some p) many fewer less room = omega (arith, less, room)
+
+-- one command more was accepted, so one fewer may be
+pub one_fewer : (count more : ℕ) → count ≤ most_commands → (count ≡ 4000000 → ⊥) → more ≡ count + 1
+    → (most_commands - more) + 1 ≤ most_commands - count
+one_fewer count more few full is = omega (arith, few, full, is)
+
+-- while one more may be accepted, there is room for its moment
+pub room_for_one : (a : Option MomentRing) (count : ℕ) → count ≤ most_commands → (count ≡ 4000000 → ⊥) → HasRoomFor (most_commands - count) a
+    → HasRoomFor 1 a
+room_for_one a count few full room = room_fewer a (most_commands - count) 1 (omega (arith, few, full)) room
 
 -- the same end
 pub outlet_itself : (a : Option MomentRing) → SameOutlet a a

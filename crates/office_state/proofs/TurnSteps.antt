@@ -1,16 +1,17 @@
 -- What one more turn does to an office
-use Rattle.office_state.proofs.Names.{◌≡◌, ◌⊎◌, ℕ, ◌+◌, ◌≤◌, Bool, true, false, List, [], ◌∷◌, ◌++◌, length, refl, ap, sym, ◌∙◌, subst, None, Option, Ok, Err, Result, length-append, arith, inl, inr, map-append, AllByRecursion, Ghosts, Rose, Command, Policy, Accepted, Faulted, Entry, IsValid, IsAccepted, judged_after, refusal_in, Opening, IsDue, IsLegal, accepted_of, commands_after, floor_of, refusal_due, IsAccepted-push, spelling_of, IsJournal, Leaves, JournalStands, IsKept, records_in, disk_under, is_clean, Journal, WatcherGhosts, sent, SameOutlet, TellsOne, moments_told, bodies_of, Books, Held, OfficeState, AreSafeSince, HasKept, HoldsAtLeast, HoldsNow, HoldsOnce, IsQuietReply, KeepsAccepted, JournalBytes, pins_held, LeavesSince, StandsFor, commands_in, floor_in, IsLeftBehind, JournalHolds}
+use Rattle.office_state.proofs.Names.{◌≡◌, ◌⊎◌, ℕ, ◌+◌, ◌-◌, ◌≤◌, Bool, true, false, List, [], ◌∷◌, ◌++◌, length, refl, ap, sym, ◌∙◌, subst, None, Option, Ok, Err, Result, length-append, arith, inl, inr, map-append, AllByRecursion, Ghosts, Rose, Command, Policy, Accepted, Faulted, Entry, IsValid, IsAccepted, judged_after, refusal_in, Opening, IsDue, IsLegal, accepted_of, commands_after, floor_of, refusal_due, IsAccepted-push, spelling_of, IsJournal, Leaves, JournalStands, IsKept, records_in, disk_under, is_clean, Journal, WatcherGhosts, sent, TellsOne, HasRoomFor, most_commands, bodies_of, Books, Held, OfficeState, AreSafeSince, HasKept, HoldsAtLeast, HoldsNow, HoldsOnce, IsQuietReply, KeepsAccepted, JournalBytes, pins_held, LeavesSince, StandsFor, commands_in, floor_in, IsLeftBehind, JournalHolds, none-some}
 use Rattle.std.specs.Prelude.{IfSome, OnOk, OnErr}
 use Rattle.policy_machine.proofs.HistoryLemmas.{IsLegalAfter-push, accepted_of-push}
 use Rattle.arrayvec.specs.ArrayVec.{ArrayVec}
 use Rattle.moment_ring.specs.declared.outlet.MomentOutlet.{MomentOutlet}
 use Rattle.office_state.specs.declared.answer.Answer.TheVariants.{Accepted as AcceptedAt, DiskFault}
-use Rattle.office_state.specs.Posting.{CrashesIn}
+use Rattle.office_state.specs.declared.answer.Answer.{Answer}
+use Rattle.office_state.specs.Posting.{CrashesIn, IsAcceptance}
 use Rattle.office_state.specs.States.{begun_of, commands_of, disk_of, opening_of}
 use Rattle.office_state.specs.inside.Records.{Records}
-use Rattle.office_state.proofs.HistorySteps.{accepted-same, all_before, all_in, all_up_to, commands-more, commands-same, faults-same, faults_after-more, faults_after-same, faults_met, faults-more, holds_all, holds_more, is_due, is_fresh, pending-now, posting}
+use Rattle.office_state.proofs.HistorySteps.{accepted-same, all_before, all_in, all_up_to, commands-more, commands-same, faults-same, faults_after-more, faults_after-same, faults_met, faults-more, holds_all, holds_more, is_due, is_fresh, pending-now, posting, there_more}
 use Rattle.office_state.proofs.KeptSteps.{keeps_more, keeps_still, keeps_unaccepted, kept_now, least_now}
-use Rattle.office_state.proofs.SafeSteps.{told_more, told_on, told_same, safe_more, safe_on}
+use Rattle.office_state.proofs.SafeSteps.{one_fewer, room_told, told_more, told_on, safe_more, safe_on}
 use Rattle.office_state.proofs.ImageSteps.{holds_now, journal_of, journal_of_more, left_still, now_later, since_on, since_still}
 use Rattle.office_state.proofs.KeepingSteps.{all-more, promised}
 use Rattle.office_state.proofs.OpeningSteps.{OnlyNow}
@@ -24,6 +25,19 @@ legal-push opening turns entry legal due =
 -- a turn more is counted
 turned_more : (count : ℕ) (turns : List Entry) (entry : Entry) → count ≡ length turns → count + 1 ≡ length (turns ++ entry ∷ [])
 turned_more count turns entry same = ap (λ n. n + 1) same ∙ sym (length-append turns (entry ∷ []))
+
+-- a crash in a posting that was refused before anything was written
+pub crash_refused : {D W : Type 0} {g : Ghosts D} {w : WatcherGhosts W} (old : OfficeState D W g w) (turns : List Entry) (command : Command) (answer : Answer)
+    → OnlyNow g → StandsFor old turns → g.honest (disk_of old) → (IsAcceptance answer → ⊥)
+    → CrashesIn g (disk_of old) (disk_of old) (opening_of old) turns command answer
+crash_refused {g = g} old turns command answer only_now stands honest refused = record {
+  during = record {
+    later = omega arith;
+    each = λ image left. inl (stands.images_now honest image (only_now (disk_of old) image honest left));
+    before = λ moment image passed left. inl left;
+  };
+  accepted = λ yes. absurd (refused yes);
+}
 
 module _ {D W : Type 0} {g : Ghosts D} {w : WatcherGhosts W} where
   -- the commands after the turns are those that the books keep
@@ -46,6 +60,10 @@ module _ {D W : Type 0} {g : Ghosts D} {w : WatcherGhosts W} where
     abbrev behind : ℕ
     behind = length opening.commands
 
+    -- books of the same commands leave as much room for moments
+    room_with : (books : Books) → commands_in books ≡ commands_of old → HasRoomFor (most_commands - length (commands_in books)) old.outlet.ring
+    room_with books as_was = subst (λ (cs : List Command). HasRoomFor (most_commands - length cs) old.outlet.ring) (sym as_was) stands.room
+
     -- a turn that leaves the journal and the commands
     pub stands_still : (books : Books) (counted : records_in old.journal ≡ length (commands_in books)) (entry : Entry)
         → commands_in books ≡ commands_of old → accepted_of (entry ∷ []) ≡ [] → faults_met (entry ∷ []) ≡ []
@@ -53,10 +71,9 @@ module _ {D W : Type 0} {g : Ghosts D} {w : WatcherGhosts W} where
         → (pins : ArrayVec Held) → pins.items ≡ pins_held (turns ++ entry ∷ [])
         → floor_in books ≡ floor_of (turns ++ entry ∷ [])
         → (watchers : W) → ((before : ℕ) (heard : List Command) → w.told old.watchers before heard → w.told watchers before heard)
-        → (outlet : MomentOutlet D) → SameOutlet old.outlet.ring outlet.ring → moments_told outlet.ring ≡ moments_told old.outlet.ring
-        → StandsFor {w = w} (record { journal = old.journal; books = books; watchers = watchers; turns = old.turns + 1; pins = pins; outlet = outlet; begun = old.begun; recovered = old.recovered; counted = counted })
+        → StandsFor {w = w} (record { journal = old.journal; books = books; watchers = watchers; turns = old.turns + 1; pins = pins; outlet = old.outlet; begun = old.begun; recovered = old.recovered; counted = counted })
         (turns ++ entry ∷ [])
-    stands_still books counted entry as_was none quiet due pins pinned floored watchers told outlet same_outlet untold =
+    stands_still books counted entry as_was none quiet due pins pinned floored watchers told =
         let same : commands_after opening (turns ++ entry ∷ []) ≡ commands = commands-same opening turns entry none in
         let kept : commands_in books ≡ commands_after opening (turns ++ entry ∷ []) = as_was ∙ stands.listed ∙ sym same in
         let held = promised books (commands_after opening (turns ++ entry ∷ [])) (floor_of (turns ++ entry ∷ [])) kept floored in
@@ -86,9 +103,9 @@ module _ {D W : Type 0} {g : Ghosts D} {w : WatcherGhosts W} where
           images_kept = λ (honest : g.honest (disk_of old)).
               keeps_still g (begun_of old) opening (disk_of old) turns entry none (stands.images_kept honest);
           safe = λ (honest : g.honest (disk_of old)).
-              told_same old.outlet.ring outlet.ring (AreSafeSince g (disk_of old) opening.commands (accepted_of (turns ++ entry ∷ []))) same_outlet untold
-              (subst (λ cs. IfSome old.outlet.ring (λ ring. AreSafeSince g (disk_of old) opening.commands cs (sent ring)))
-              (sym (accepted-same turns entry none)) (stands.safe honest));
+              subst (λ cs. IfSome old.outlet.ring (λ ring. AreSafeSince g (disk_of old) opening.commands cs (sent ring)))
+              (sym (accepted-same turns entry none)) (stands.safe honest);
+          room = room_with books as_was;
           fault_count = stands.fault_count ∙ sym (faults_after-same opening turns entry quiet);
           alone = λ still. stands.alone (all_before (λ (e : Entry). IsQuietReply e.reply) turns (entry ∷ []) still);
           told = subst (w.told watchers behind) (sym (accepted-same turns entry none)) (told behind (accepted_of turns) stands.told);
@@ -103,9 +120,8 @@ module _ {D W : Type 0} {g : Ghosts D} {w : WatcherGhosts W} where
     -- it stands for the same turns with other books of the same commands, and watchers who were told of the same
     pub stands_with : (books : Books) (counted : records_in old.journal ≡ length (commands_in books)) → commands_in books ≡ commands_of old
         → floor_in books ≡ floor_in old.books → (watchers : W) → ((before : ℕ) (heard : List Command) → w.told old.watchers before heard → w.told watchers before heard)
-        → (outlet : MomentOutlet D) → SameOutlet old.outlet.ring outlet.ring → moments_told outlet.ring ≡ moments_told old.outlet.ring
-        → StandsFor {w = w} (record { journal = old.journal; books = books; watchers = watchers; turns = old.turns; pins = old.pins; outlet = outlet; begun = old.begun; recovered = old.recovered; counted = counted }) turns
-    stands_with books counted as_was still watchers told outlet same_outlet untold =
+        → StandsFor {w = w} (record { journal = old.journal; books = books; watchers = watchers; turns = old.turns; pins = old.pins; outlet = old.outlet; begun = old.begun; recovered = old.recovered; counted = counted }) turns
+    stands_with books counted as_was still watchers told =
         let kept : commands_in books ≡ commands = as_was ∙ stands.listed in
         let floored : floor_in books ≡ floor_of turns = still ∙ stands.floor in
         let held = promised books commands (floor_of turns) kept floored in
@@ -124,8 +140,8 @@ module _ {D W : Type 0} {g : Ghosts D} {w : WatcherGhosts W} where
           images_now = stands.images_now;
           images_since = stands.images_since;
           images_kept = stands.images_kept;
-          safe = λ (honest : g.honest (disk_of old)).
-              told_same old.outlet.ring outlet.ring (AreSafeSince g (disk_of old) opening.commands (accepted_of turns)) same_outlet untold (stands.safe honest);
+          safe = stands.safe;
+          room = room_with books as_was;
           fault_count = stands.fault_count;
           alone = stands.alone;
           told = told behind (accepted_of turns) stands.told;
@@ -145,12 +161,9 @@ module _ {D W : Type 0} {g : Ghosts D} {w : WatcherGhosts W} where
             | inl more ↦ inr (journal_of_more image commands command all valid accepted more)
             | inr earlier ↦
                 let behind = (stands.inside.journal honest).pending earlier.0 in
-                inl (inr (
-                  behind.command,
-                  behind.pending,
-                  journal_of_more image commands behind.command all behind.valid behind.accepted
-                      (subst (λ body. IsJournal image (bodies_of commands ++ body ∷ [])) behind.spelled earlier.1),
-                ))
+                inl (there_more opening turns behind.command image behind.pending
+                (journal_of_more image commands behind.command all behind.valid behind.accepted
+                (subst (λ body. IsJournal image (bodies_of commands ++ body ∷ [])) behind.spelled earlier.1)))
           ]
         ]
 
@@ -226,6 +239,15 @@ module _ {D W : Type 0} {g : Ghosts D} {w : WatcherGhosts W} where
           (sym (accepted_of-push turns entry ∙ ap (λ cs. accepted_of turns ++ cs) one))
           (safe_more g (disk_under journal) opening.commands (accepted_of turns) told command now (safe_still honest told safe) (omega arith) since))
           (stands.safe (honesty honest))
+
+      -- and there is room for the moments of all that may follow it
+      room_accepted : (books : Books) → commands_in books ≡ commands_of old ++ command ∷ [] → (length (commands_of old) ≡ 4000000 → ⊥)
+          → (outlet : MomentOutlet D) → TellsOne old.outlet.ring outlet.ring (g.clock (disk_under journal))
+          → HasRoomFor (most_commands - length (commands_in books)) outlet.ring
+      room_accepted books more few outlet tells =
+          room_told old.outlet.ring outlet.ring (g.clock (disk_under journal)) (most_commands - length (commands_of old)) (most_commands - length (commands_in books))
+          tells (one_fewer (length (commands_of old)) (length (commands_in books)) old.books.kept.few few
+          (ap length more ∙ length-append (commands_of old) (command ∷ []))) stands.room
 
       -- a crash in a posting in which the disk failed
       pub crash_faulted : (count : ℕ) → g.honest (disk_under journal)
@@ -308,8 +330,9 @@ module _ {D W : Type 0} {g : Ghosts D} {w : WatcherGhosts W} where
                   (λ (image : List ℕ) (left : g.left_since (disk_under journal) (g.clock (disk_under journal)) image).
                   subst (λ cs. HoldsAtLeast cs image) grown
                   (least_now opening (turns ++ entry ∷ []) image (now honest image (only_now (disk_under journal) image honest left))));
+              room = room_accepted books more few outlet tells;
               fault_count = quiet ∙ stands.fault_count ∙ sym (faults_after-same opening turns entry refl);
-              alone = λ still. absurd (all_in (λ (e : Entry). IsQuietReply e.reply) turns [] entry still);
+              alone = λ still. absurd ((all_in (λ (e : Entry). IsQuietReply e.reply) turns [] entry still).1 count refl);
               told = subst (w.told watchers behind) (sym (accepted_of-push turns entry)) (told behind (accepted_of turns) stands.told
                   (at ∙ ap (λ n. n + 1) (length-append opening.commands (accepted_of turns))));
               inside = record {
@@ -386,8 +409,9 @@ module _ {D W : Type 0} {g : Ghosts D} {w : WatcherGhosts W} where
                   (sym (accepted-same turns entry refl))
                   (told_on old.outlet.ring (AreSafeSince g (disk_of old) opening.commands (accepted_of turns))
                   (AreSafeSince g (disk_under journal) opening.commands (accepted_of turns)) (safe_still honest) (stands.safe (honesty honest)));
+              room = stands.room;
               fault_count = sym told ∙ sym (faults_after-more opening turns caller command count);
-              alone = λ still. absurd (all_in (λ (e : Entry). IsQuietReply e.reply) turns [] entry still);
+              alone = λ still. absurd (none-some count (sym (all_in (λ (e : Entry). IsQuietReply e.reply) turns [] entry still).0));
               told = subst (w.told old.watchers behind) (sym (accepted-same turns entry refl)) stands.told;
               inside = record {
                 later = later_on;

@@ -1,5 +1,5 @@
 -- What worked files of an office are told by.
-use Rattle.office_state.proofs.Names.{◌≡◌, ◌≤◌, ◌<◌, Option, Some, None, ◌++◌, ◌∷◌, ◌∙◌, ℕ, zero, suc, List, [], length, ap, sym, subst, refl, lit<, lit≤, length-append, arith, Command, Reply, Accepted, Faulted, Blank, Entry, Refusal, Taken, IsValid, judge, accepted_of, spelling_of, one_command, HasRecords, bodies_of, IsPending, IsUnspelled, JournalBytes, hand_issue, hand_premium, issue_body, issue_record, journal_of_two, premium_turn}
+use Rattle.office_state.proofs.Names.{◌≡◌, ◌≢◌, ◌≤◌, ◌<◌, Option, Some, None, ◌++◌, ◌∷◌, ◌∙◌, ℕ, zero, suc, List, [], length, ap, sym, subst, refl, lit<, lit≤, length-append, arith, Command, Reply, Accepted, Faulted, Blank, Entry, Refusal, Taken, IsValid, judge, accepted_of, spelling_of, one_command, HasRecords, bodies_of, IsPending, JournalBytes, hand_issue, hand_premium, issue_body, issue_record, journal_of_two, premium_turn}
 use Rattle.std.proofs.lemmas.Int.{ints}
 use Rattle.life_dates.specs.Anniversary as dates
 use Rattle.policy_types.specs.declared.entry.Call.TheVariants.{Post}
@@ -20,13 +20,13 @@ valid_premium = ((lit≤ tt, lit≤ tt), (omega (arith, ints), omega (arith, int
 -- the record of the issue, whatever stands behind it
 one_record : (behind : List ℕ) → HasRecords (issue_record ++ behind) (bodies_of (hand_issue ∷ []))
 unfolding spelling_of
-one_record behind zero h = record { opened = refl; whole = refl }
+one_record behind zero h = (refl, refl)
 one_record behind (suc n) h = absurd (omega arith)
 
 two_records : HasRecords journal_of_two (bodies_of (hand_issue ∷ hand_premium ∷ []))
 unfolding spelling_of
-two_records zero h = record { opened = refl; whole = refl }
-two_records (suc zero) h = record { opened = refl; whole = refl }
+two_records zero h = (refl, refl)
+two_records (suc zero) h = (refl, refl)
 two_records (suc (suc n)) h = absurd (omega arith)
 
 longer : (front behind : List ℕ) → 82 ≤ length front → 82 < length (front ++ 0 ∷ behind)
@@ -38,7 +38,7 @@ just_the_issue behind = record {
   records = record {
     made = record { finished = refl; header = refl };
     records = one_record (0 ∷ behind);
-    end = record { there = there; closed = λ e. let no : 0 ≡ 1 = e in omega arith };
+    end = (there, λ e. let no : 0 ≡ 1 = e in omega arith);
     few = lit≤ tt;
   };
   valid = (valid_issue, tt);
@@ -54,7 +54,7 @@ both = record {
   records = record {
     made = record { finished = refl; header = refl };
     records = two_records;
-    end = record { there = lit< tt; closed = λ e. let no : 0 ≡ 1 = e in omega arith };
+    end = (lit< tt, λ e. let no : 0 ≡ 1 = e in omega arith);
     few = lit≤ tt;
   };
   valid = (valid_issue, (valid_premium, tt));
@@ -62,11 +62,11 @@ both = record {
 }
 
 -- the issue can't follow itself
-pub not_again : IsUnspelled issue_body (hand_issue ∷ [])
+pub not_again : (command : Command) → issue_body ≡ spelling_of command → IsValid command → judge (hand_issue ∷ []) command ≢ None
 unfolding spelling_of
-not_again command same follows =
-    let it : command ≡ hand_issue = one_command issue_body command hand_issue (record { valid = follows.valid; spelled = same }) (record { valid = valid_issue; spelled = refl }) in
-    let accepted : judge (hand_issue ∷ []) hand_issue ≡ None = subst (λ (c : Command). judge (hand_issue ∷ []) c ≡ None) it follows.accepted in
+not_again command same valid follows =
+    let it : command ≡ hand_issue = one_command issue_body command hand_issue (record { valid = valid; spelled = same }) (record { valid = valid_issue; spelled = refl }) in
+    let accepted : judge (hand_issue ∷ []) hand_issue ≡ None = subst (λ (c : Command). judge (hand_issue ∷ []) c ≡ None) it follows in
     let taken : judge (hand_issue ∷ []) hand_issue ≡ Some Taken = refl in
     let no : ◌≡◌ {A = Option Refusal} (Some Taken) None = sym taken ∙ accepted in
     cc
@@ -79,19 +79,16 @@ tail_of : List Entry → List Entry
 tail_of [] = []
 tail_of (entry ∷ more) = more
 
--- of two turns the first faulted, and the second was accepted
-pub not_pending : (before after : List Entry) (caller count : ℕ) (command : Command)
+-- of two turns the first faulted, before the second was accepted
+pub not_then : (before after : List Entry) (caller count : ℕ) (command : Command)
     → premium_turn (Faulted 4) ∷ premium_turn (Accepted 2) ∷ [] ≡ before ++ (record { caller = caller; call = Post command; reply = Faulted count }) ∷ after
-    → accepted_of after ≡ [] → ⊥
+    → accepted_of before ≡ hand_premium ∷ [] → ⊥
 unfolding tail_of reply_of
-not_pending [] after caller count command e none =
-    let rest : premium_turn (Accepted 2) ∷ [] ≡ after = ap tail_of e in
-    let no : hand_premium ∷ [] ≡ [] = ap (λ (xs : List Entry). accepted_of xs) rest ∙ none in
-    cc
-not_pending (first ∷ []) after caller count command e none =
+not_then [] after caller count command e then = cc
+not_then (first ∷ []) after caller count command e then =
     let no : Accepted 2 ≡ Faulted count = ap (λ (xs : List Entry). reply_of (tail_of xs)) e in
     cc
-not_pending (first ∷ second ∷ before) after caller count command e none =
+not_then (first ∷ second ∷ before) after caller count command e then =
     let no : [] ≡ before ++ (record { caller = caller; call = Post command; reply = Faulted count }) ∷ after = ap (λ (xs : List Entry). tail_of (tail_of xs)) e in
     empty_not before no
   where
@@ -100,8 +97,8 @@ not_pending (first ∷ second ∷ before) after caller count command e none =
     empty_not (x ∷ xs) e = cc
 
 pub no_turns : (command : Command) → IsPending [] command → ⊥
-no_turns command pending = by pending.faulted.before pending.faulted.turns
+no_turns command pending = by pending.before pending.turns
   where
-    by : (xs : List Entry) → [] ≡ xs ++ (record { caller = pending.faulted.caller; call = Post command; reply = Faulted pending.faulted.count }) ∷ pending.after → ⊥
+    by : (xs : List Entry) → [] ≡ xs ++ (record { caller = pending.caller; call = Post command; reply = Faulted pending.count }) ∷ pending.after → ⊥
     by [] e = cc
     by (x ∷ xs) e = cc

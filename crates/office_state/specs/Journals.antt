@@ -1,13 +1,13 @@
 -- The journal of a list of commands, as a whole file
-use Rattle.std.specs.Prelude.{◌≡◌, ◌⊎◌, ℕ, List, [], ◌∷◌, ◌++◌, length, None}
-use Rattle.office_state.specs.Names.{AllByRecursion, Command, IsValid, judge, IsAccepted, bodies_of, IsUnfinished, IsForeign, IsBadAt, spelling_of, IsJournal}
+use Rattle.std.specs.Prelude.{◌≡◌, ◌≢◌, ◌⊎◌, ℕ, List, [], ◌∷◌, ◌++◌, length, map, None}
+use Rattle.office_state.specs.Names.{AllByRecursion, Command, IsValid, judge, IsAccepted, IsUnfinished, IsForeign, IsBadAt, spelling_of, IsJournal}
 use Rattle.office_state.specs.declared.faults.StartCause.{StartCause}
 use Rattle.office_state.specs.declared.faults.StartCause.TheVariants.{DiskFault, NotAJournal, BadRecord, NoMemory}
 
 -- The file is the journal of these commands: they are valid, they are accepted one after the other, and its records
 -- spell just them.
 pub record JournalBytes (bytes : List ℕ) (commands : List Command) : Type 0 where
-  pub records : IsJournal bytes (bodies_of commands)
+  pub records : IsJournal bytes (map spelling_of commands)
   pub valid : AllByRecursion IsValid commands
   pub accepted : IsAccepted commands
 
@@ -19,15 +19,6 @@ Opens bytes commands = JournalBytes bytes commands ⊎ ((commands ≡ []) × IsU
 abbrev pub OpensToNone : List ℕ → Type 0
 OpensToNone bytes = (commands : List Command) → Opens bytes commands → ⊥
 
--- the command can stand behind these in a journal
-pub record CanFollow (commands : List Command) (command : Command) : Type 0 where
-  pub valid : IsValid command
-  pub accepted : judge commands command ≡ None
-
--- the body spells no command that can follow these
-abbrev pub IsUnspelled : List ℕ → List Command → Type 0
-IsUnspelled body commands = (command : Command) → body ≡ spelling_of command → CanFollow commands command → ⊥
-
 -- The records before record n are those of commands, one accepted after the other, and its own body spells none that
 -- can follow them.
 pub record IsUnfollowed (bytes : List ℕ) (n : ℕ) : Type 0 where
@@ -35,21 +26,21 @@ pub record IsUnfollowed (bytes : List ℕ) (n : ℕ) : Type 0 where
   pub body : List ℕ
   pub rest : List (List ℕ)
   pub counted : length commands ≡ n
-  pub records : IsJournal bytes (bodies_of commands ++ body ∷ rest)
+  pub records : IsJournal bytes (map spelling_of commands ++ body ∷ rest)
   pub valid : AllByRecursion IsValid commands
   pub accepted : IsAccepted commands
-  pub none : IsUnspelled body commands
+  pub none : (command : Command) → body ≡ spelling_of command → IsValid command → judge commands command ≢ None
 
 -- the file was refused for what its bytes are
 abbrev pub IsOfTheFile : StartCause → Type 0
 IsOfTheFile NotAJournal = Unit {0}
 IsOfTheFile (BadRecord n) = Unit {0}
 IsOfTheFile (DiskFault count) = ⊥
-IsOfTheFile NoMemory = ⊥
+IsOfTheFile (NoMemory lack) = ⊥
 
 -- what the bytes show of a file that wasn't opened
 abbrev pub IsShown : List ℕ → StartCause → Type 0
 IsShown bytes NotAJournal = IsForeign bytes
 IsShown bytes (BadRecord n) = IsBadAt bytes n ⊎ IsUnfollowed bytes n
 IsShown bytes (DiskFault count) = Unit {0}
-IsShown bytes NoMemory = Unit {0}
+IsShown bytes (NoMemory lack) = Unit {0}

@@ -1,7 +1,7 @@
 -- The names from elsewhere that several rooms cite, passed on from one place. Declares nothing.
 pub use Rattle.std.specs.List.{AllByRecursion, filter_map, Contains, fold, last_or, range_with_len, cons_option, filter}
 pub use Rattle.journal_replay.specs.Replays.{bodies_of, BodiesHave, HasReplayCause, IsLookedAt, IsQuiet, StaysAs, Stops}
-pub use Rattle.moment_ring.specs.Ends.{told, SameOutlet, CanTell}
+pub use Rattle.moment_ring.specs.Ends.{told, SameOutlet, HasRoomFor}
 pub use Rattle.money_ledgers.specs.Balances.{balances}
 pub use Rattle.outside_io.specs.declared.disks.Disk.{Ghosts}
 pub use Rattle.policy_machine.specs.Accounts.{ledger_of}

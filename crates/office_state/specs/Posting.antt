@@ -1,11 +1,11 @@
 -- What posting a command does
 use Rattle.std.specs.Prelude.{◌≡◌, ◌⊎◌, ℕ, List, [], ◌∷◌, ◌++◌}
-use Rattle.office_state.specs.Names.{Ghosts, Command, Post, Reply, Accepted, Refused, Faulted, Blank, Entry, Opening, commands_after, Leaves, SameOutlet, WatcherGhosts}
+use Rattle.office_state.specs.Names.{Ghosts, Command, Post, Reply, Accepted, Refused, Faulted, Blank, Entry, Opening, accepted_of, commands_after, Leaves, SameOutlet, WatcherGhosts}
 use Rattle.office_state.specs.declared.answer.Answer.{Answer}
 use Rattle.office_state.specs.declared.answer.Answer.TheVariants.{Accepted as AcceptedAt, Refused as RefusedFor, DiskFault, NoMemory}
 use Rattle.office_state.specs.Journals.{JournalBytes}
 use Rattle.office_state.specs.declared.state.OfficeState.{OfficeState}
-use Rattle.office_state.specs.Images.{HoldsNow}
+use Rattle.office_state.specs.Images.{IsThere}
 use Rattle.office_state.specs.States.{disk_of, opened_of, outlet_of}
 
 -- the reply of an answer's turn; one that lacked memory is blank
@@ -13,7 +13,7 @@ abbrev pub reply_of : Answer → Reply
 reply_of (AcceptedAt position) = Accepted position
 reply_of (RefusedFor refusal) = Refused refusal
 reply_of (DiskFault count) = Faulted count
-reply_of NoMemory = Blank
+reply_of (NoMemory lack) = Blank
 
 -- the turn in which a caller's posting is answered
 abbrev pub turn_of : ℕ → Command → Answer → Entry
@@ -22,7 +22,7 @@ turn_of caller command answer = record { caller = caller; call = Post command; r
 -- the answers that come before anything is written
 abbrev pub IsBeforeWriting : Answer → Type 0
 IsBeforeWriting (RefusedFor refusal) = Unit {0}
-IsBeforeWriting NoMemory = Unit {0}
+IsBeforeWriting (NoMemory lack) = Unit {0}
 IsBeforeWriting _ = ⊥
 
 abbrev pub IsAcceptance : Answer → Type 0
@@ -30,10 +30,10 @@ IsAcceptance (AcceptedAt position) = Unit {0}
 IsAcceptance _ = ⊥
 
 -- Crash in a posting. At each moment since it began an image holds the commands from before, or these and the posted
--- one, or these and one whose posting faulted earlier and is pending. Once it is accepted each image holds it.
+-- one, or these and one whose posting faulted when just these were accepted. Once it is accepted each image holds it.
 pub record CrashesIn {D : Type 0} (g : Ghosts D) (old new : D) (opening : Opening) (turns : List Entry)
     (command : Command) (answer : Answer) : Type 0 where
-  pub during : Leaves g old new (λ image. HoldsNow opening turns image
+  pub during : Leaves g old new (λ image. IsThere JournalBytes opening.commands turns (accepted_of turns) image
       ⊎ JournalBytes image (commands_after opening turns ++ command ∷ []))
   pub accepted : IsAcceptance answer → (image : List ℕ) → g.may_leave new image
       → JournalBytes image (commands_after opening turns ++ command ∷ [])

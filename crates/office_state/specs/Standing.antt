@@ -1,10 +1,10 @@
 -- The office stands for the history of its turns
-use Rattle.std.specs.Prelude.{◌≡◌, ◌⊎◌, ℕ, ◌+◌, ◌≤◌, List, IfSome, drop, length}
-use Rattle.office_state.specs.Names.{Ghosts, Command, Entry, ledger_of, book, Opening, IsLegal, accepted_of, commands_after, floor_of, own, versions_from, WatcherGhosts, IsSynced, sent}
+use Rattle.std.specs.Prelude.{◌≡◌, ◌⊎◌, ℕ, ◌+◌, ◌-◌, ◌≤◌, ◌++◌, List, IfSome, drop, length}
+use Rattle.office_state.specs.Names.{Ghosts, Command, Entry, ledger_of, book, Opening, IsLegal, accepted_of, commands_after, floor_of, own, versions_from, WatcherGhosts, IsSynced, sent, HasRoomFor, most_commands}
 use Rattle.office_state.specs.versions.Commands.{sets_of}
 use Rattle.office_state.specs.declared.state.OfficeState.{OfficeState}
-use Rattle.office_state.specs.Images.{AreQuiet, AreSafeSince, HoldsNow, HoldsOnce, HoldsSince, IsLeftAlone, KeepsAccepted, faults_after}
-use Rattle.office_state.specs.Journals.{Opens}
+use Rattle.office_state.specs.Images.{AreQuiet, AreSafeSince, HasKept, IsFrontThere, IsLeftAlone, IsThere, faults_after}
+use Rattle.office_state.specs.Journals.{JournalBytes, Opens}
 use Rattle.office_state.specs.Pins.{pins_held}
 use Rattle.office_state.specs.States.{balances_of, begun_of, commands_of, count_of, disk_of, floor_kept, kept_count, opening_of, outlet_of, pins_of, policies_of, turns_of, versions_left}
 use Rattle.office_state.specs.inside.Holding.{Holds}
@@ -19,8 +19,9 @@ pub record IsHistory {D W : Type 0} {g : Ghosts D} {w : WatcherGhosts W} (state 
 -- a sync in the opening the second alone.
 pub record LeavesSince {D : Type 0} (g : Ghosts D) (begun now : D) (opening : Opening) (turns : List Entry) : Type 0 where
   pub since : (image : List ℕ) → g.left_since now (g.clock begun) image → g.may_leave begun image
-      ⊎ HoldsOnce opening turns image
-  pub synced : (mid : D) × IsSynced g begun mid now × HoldsSince g now (g.clock mid) opening turns
+      ⊎ IsFrontThere Opens opening.commands turns image
+  pub synced : (mid : D) × IsSynced g begun mid now
+      × ((image : List ℕ) → g.left_since now (g.clock mid) image → IsFrontThere Opens opening.commands turns image)
 
 -- so many versions are kept at most: one for each policy, and one for each command accepted after the floor
 abbrev pub KeepsFew : ℕ → ℕ → List Command → Type 0
@@ -45,15 +46,17 @@ pub record StandsFor {D W : Type 0} {g : Ghosts D} {w : WatcherGhosts W} (state 
   pub opened : g.honest (disk_of state) → Opens (g.reads (begun_of state)) (opening_of state).commands
   -- what a crash now leaves
   pub images_now : g.honest (disk_of state) → (image : List ℕ) → g.may_leave (disk_of state) image
-      → HoldsNow (opening_of state) turns image
+      → IsThere JournalBytes (opening_of state).commands turns (accepted_of turns) image
   -- what a crash at some moment since the opening began might have left
   pub images_since : g.honest (disk_of state) → LeavesSince g (begun_of state) (disk_of state) (opening_of state) turns
   -- what was accepted stays
   pub images_kept : g.honest (disk_of state)
-      → KeepsAccepted g (begun_of state) (disk_of state) (opening_of state) turns
+      → (front rest : List Entry) → turns ≡ front ++ rest → HasKept g (begun_of state) (disk_of state) (opening_of state) front
   -- the moments told, one for each accepted command, are those since which these are safe
   pub safe : g.honest (disk_of state) → IfSome (outlet_of state)
       (λ ring. AreSafeSince g (disk_of state) (opening_of state).commands (accepted_of turns) (sent ring))
+  -- there is room for a moment of each command that may still be accepted
+  pub room : HasRoomFor (most_commands - length (commands_of state)) (outlet_of state)
   pub fault_count : g.faults (disk_of state) ≡ faults_after (opening_of state) turns
   -- while no posting was accepted or met a fault, the disk is left as opening it left it
   pub alone : AreQuiet turns → IsLeftAlone g (begun_of state) (disk_of state)

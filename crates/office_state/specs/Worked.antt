@@ -6,8 +6,8 @@ use Rattle.policy_types.specs.declared.refusal.Refusal.TheVariants.{NothingDue}
 use Rattle.record_codec.specs.Worked.{first_issue_bytes}
 use Rattle.posting_journal.specs.Worked.{header_by_hand}
 use Rattle.office_state.specs.declared.faults.StartCause.TheVariants.{NotAJournal, BadRecord}
-use Rattle.office_state.specs.Images.{AreQuiet, HoldsAtLeast, HoldsNow, HoldsOnce, IsPending, OpensAlike, faults_after}
-use Rattle.office_state.specs.Journals.{IsShown, JournalBytes}
+use Rattle.office_state.specs.Images.{AreQuiet, IsFrontThere, IsThere, OpensAlike, WasFaulted, faults_after}
+use Rattle.office_state.specs.Journals.{IsShown, JournalBytes, Opens}
 
 abbrev pub hand_issue : Command
 hand_issue = Issue 7001 (pos 18262) Endowment 0 3 100000 40000
@@ -46,7 +46,7 @@ abbrev pub CrashesOfAPosting : Type 0
 CrashesOfAPosting = JournalBytes journal_of_one (hand_issue ∷ [])
     × JournalBytes (issue_record ++ 0 ∷ take 30 premium_body) (hand_issue ∷ [])
     × JournalBytes (issue_record ++ 0 ∷ premium_body ++ 0 ∷ []) (hand_issue ∷ [])
-    × HoldsAtLeast (hand_issue ∷ []) journal_of_two
+    × ((more : List Command) × Opens journal_of_two (hand_issue ∷ more))
 
 abbrev pub premium_turn : Reply → Entry
 premium_turn reply = record { caller = 1; call = Post hand_premium; reply = reply }
@@ -57,21 +57,21 @@ hand_opening = opened_on (hand_issue ∷ []) 3
 
 -- the premium met a fault: with it or without it; no turn, and it can't be there; it was accepted, and then it is
 abbrev pub HeldNow : Type 0
-HeldNow = HoldsNow hand_opening (premium_turn (Faulted 4) ∷ []) journal_of_one
-    × HoldsNow hand_opening (premium_turn (Faulted 4) ∷ []) journal_of_two
-    × (HoldsNow hand_opening [] journal_of_two → ⊥)
-    × HoldsNow hand_opening (premium_turn (Accepted 2) ∷ []) journal_of_two
+HeldNow = IsThere JournalBytes (hand_issue ∷ []) (premium_turn (Faulted 4) ∷ []) [] journal_of_one
+    × IsThere JournalBytes (hand_issue ∷ []) (premium_turn (Faulted 4) ∷ []) [] journal_of_two
+    × (IsThere JournalBytes (hand_issue ∷ []) [] [] journal_of_two → ⊥)
+    × IsThere JournalBytes (hand_issue ∷ []) (premium_turn (Accepted 2) ∷ []) (hand_premium ∷ []) journal_of_two
 
 -- at some moment of the turns: before the premium or with it
 abbrev pub HeldOnce : Type 0
-HeldOnce = HoldsOnce hand_opening (premium_turn (Accepted 2) ∷ []) journal_of_one
-    × HoldsOnce hand_opening (premium_turn (Accepted 2) ∷ []) journal_of_two
-    × HoldsOnce hand_opening (premium_turn (Faulted 4) ∷ []) journal_of_two
+HeldOnce = IsFrontThere Opens (hand_issue ∷ []) (premium_turn (Accepted 2) ∷ []) journal_of_one
+    × IsFrontThere Opens (hand_issue ∷ []) (premium_turn (Accepted 2) ∷ []) journal_of_two
+    × IsFrontThere Opens (hand_issue ∷ []) (premium_turn (Faulted 4) ∷ []) journal_of_two
 
--- a posting that faulted is pending while none is accepted behind it
-abbrev pub PendingOrNot : Type 0
-PendingOrNot = IsPending (premium_turn (Faulted 4) ∷ premium_turn (Refused NothingDue) ∷ []) hand_premium
-    × (IsPending (premium_turn (Faulted 4) ∷ premium_turn (Accepted 2) ∷ []) hand_premium → ⊥)
+-- a posting faulted when just these were accepted, and not when more were
+abbrev pub FaultedThen : Type 0
+FaultedThen = WasFaulted (premium_turn (Faulted 4) ∷ premium_turn (Refused NothingDue) ∷ []) [] hand_premium
+    × (WasFaulted (premium_turn (Faulted 4) ∷ premium_turn (Accepted 2) ∷ []) (hand_premium ∷ []) hand_premium → ⊥)
 
 -- the count is that of the last fault, or of the opening
 abbrev pub FaultsCounted : Type 0

@@ -1,4 +1,5 @@
 use policy_types::Refusal;
+use watcher_set::Lack;
 
 /// What a posting is answered.
 #[derive(Clone, Copy, PartialEq, Eq, Debug)]
@@ -9,6 +10,6 @@ pub enum Answer {
     Refused(Refusal),
     /// The disk failed; its count of faults, which rose in the call.
     DiskFault(u64),
-    /// Memory was refused, before anything else was done.
-    NoMemory,
+    /// Memory was wanting, before anything else was done.
+    NoMemory(Lack),
 }

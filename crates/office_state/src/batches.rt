@@ -10,6 +10,7 @@ ghost use Rattle.office_state.specs.declared.held.Held.{Held as AHeld};
 use crate::filling::POLICIES_PER_READ;
 use crate::held::Held;
 use crate::state::OfficeState;
+use memory_requests::with_room;
 use outside_io::Disk;
 use policy_types::{NoMemory, Policy};
 use std::alloc::Global;
@@ -38,7 +39,7 @@ impl PolicyBatch {
     pub fn new(alloc: Global) -> Result<PolicyBatch, NoMemory>
         ensures { IfOk result (λ batch. batch ≡ []) }
     {
-        let policies = Vec::with_capacity(alloc, POLICIES_PER_READ as usize)?;
+        let policies = with_room(alloc, POLICIES_PER_READ as usize)?;
         Ok(PolicyBatch { policies })
     }
 

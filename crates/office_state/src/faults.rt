@@ -3,6 +3,7 @@ ghost use Rattle.std.specs.Prelude.{◌≡◌};
 ghost use Rattle.office_state.specs.inside.Replays.{as_cause, as_replay_cause};
 
 use journal_replay::ReplayFault;
+use policy_types::NoMemory;
 use posting_journal::JournalCause;
 
 /// Why no office was opened.
@@ -15,7 +16,7 @@ pub enum StartCause {
     /// The record with this number, from 0, is cut short, one too many, or none of an accepted command.
     BadRecord(u32),
     /// Memory was refused.
-    NoMemory,
+    NoMemory(NoMemory),
 }
 
 /// Why no office was opened, and its disk.
@@ -43,6 +44,6 @@ pub fn cause_of_replay(fault: ReplayFault) -> StartCause
     match fault {
         ReplayFault::DiskFault(count) => StartCause::DiskFault(count),
         ReplayFault::BadRecord(n) => StartCause::BadRecord(n),
-        ReplayFault::NoMemory => StartCause::NoMemory,
+        ReplayFault::NoMemory(lack) => StartCause::NoMemory(lack),
     }
 }

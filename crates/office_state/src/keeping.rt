@@ -21,8 +21,8 @@ impl Keeper for Books {
         let Ok(after) = self.judgement(place, command) else {
             return Err(Unkept::Refused);
         };
-        if self.reserve(place).is_err() {
-            return Err(Unkept::NoMemory);
+        if let Err(lack) = self.reserve(place) {
+            return Err(Unkept::NoMemory(lack));
         }
         self.keep(place, command, after);
         Ok(())

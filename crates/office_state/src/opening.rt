@@ -1,6 +1,7 @@
 // An office is opened on a disk: its journal is opened, and each record is decided anew, in order.
 ghost use Rattle.std.specs.Prelude.{◌≡◌, ℕ, [], IfOk, IfErr};
-ghost use Rattle.moment_ring.specs.Ends.{told};
+ghost use Rattle.moment_ring.specs.Ends.{HasRoomFor, told};
+ghost use Rattle.policy_types.specs.Limits.{most_commands};
 ghost use Rattle.office_state.specs.Opening.{HasOpened, HasNotOpened};
 ghost use Rattle.office_state.specs.States.{auditors_of, outlet_of};
 ghost use Rattle.office_state.specs.inside.Replays.{IsOfficeOf, HasNoOffice};
@@ -18,8 +19,8 @@ use std::snapshot::Snapshot;
 use watcher_set::Watching;
 
 impl<D: Disk, W: Watching> OfficeState<D, W> {
-    /// The office of the disk's journal, with watchers who were told of nothing, and an outlet in which no moment was told.
-    /// Over any file but an unfinished creation nothing is written.
+    /// The office of the disk's journal, with watchers who were told of nothing, and an outlet in which no moment was told
+    /// and which has room for one of each command that may be accepted. Over any file but an unfinished creation nothing is written.
     pub fn open(
         alloc: Global,
         disk: D,
@@ -28,6 +29,7 @@ impl<D: Disk, W: Watching> OfficeState<D, W> {
     ) -> Result<OfficeState<D, W>, StartFault<D>>
         requires fresh { (before : ℕ) → W.told watchers before [] }
         requires untold { told outlet.ring ≡ [] }
+        requires room { HasRoomFor most_commands outlet.ring }
         ensures opened { IfOk result (λ state. HasOpened disk state) }
         ensures auditors { IfOk result (λ state. auditors_of state ≡ W.handed watchers) }
         ensures outlet { IfOk result (λ state. outlet_of state ≡ outlet.ring) }

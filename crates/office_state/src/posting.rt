@@ -1,22 +1,22 @@
 // A command is posted.
 ghost use Rattle.std.specs.Prelude.{◌≡◌, ◌≢◌, ◌^◌, ◌<◌, ◌++◌, [], ◌∷◌, OnOk, List, ℕ};
-ghost use Rattle.office_state.specs.Names.{IsValid, ACommand, Entry, CanTell, SameOutlet, told, IsPlaceIn};
+ghost use Rattle.office_state.specs.Names.{IsValid, ACommand, Entry, IsPlaceIn};
 ghost use Rattle.office_state.specs.Posting.{CrashesIn, KeepsOffice, turn_of};
 ghost use Rattle.office_state.specs.Standing.{StandsFor};
-ghost use Rattle.office_state.specs.States.{disk_of, opening_of, outlet_of, turns_of};
+ghost use Rattle.office_state.specs.States.{disk_of, opening_of, turns_of};
 ghost use Rattle.office_state.specs.inside.Books.{CanKeep, IsPlaceOf, commands_in, floor_in};
 ghost use Rattle.office_state.specs.inside.Turns.{one_more};
+ghost use Rattle.watcher_set.specs.Evidence.{a_lack};
 
 use crate::answer::Answer;
 use crate::books::Books;
 use crate::recording::record;
 use crate::state::OfficeState;
-use moment_ring::MomentOutlet;
 use outside_io::{Disk, Moment};
-use policy_types::{Command, MOST_COMMANDS, NoMemory, Refusal};
+use policy_types::{Command, MOST_COMMANDS, Refusal};
 use record_codec::encode;
 use versioned_book::KeyPlace;
-use watcher_set::Watching;
+use watcher_set::{Lack, Watching};
 
 impl<D: Disk, W: Watching> OfficeState<D, W> {
     /// Answers a caller's command. First all memory is taken. The command is accepted only once its record outlives a
@@ -48,8 +48,8 @@ impl<D: Disk, W: Watching> OfficeState<D, W> {
             → CrashesIn D.Disk (disk_of self.old) (disk_of self.new) (opening_of self.old) history command.now result }
     {
         let place = self.books.place_of(command);
-        if take_memory(&mut self.books, place, &mut self.watchers, &mut self.outlet).is_err() {
-            return Answer::NoMemory;
+        if let Err(lack) = take_memory(&mut self.books, place, &mut self.watchers) {
+            return Answer::NoMemory(lack);
         }
         self.decide_ready(place, command)
     }
@@ -62,8 +62,7 @@ impl<D: Disk, W: Watching> OfficeState<D, W> {
         requires stands { (history : List Entry) × StandsFor self.old history }
         requires room { CanKeep self.old.books place.key }
         requires ready { W.has_room self.old.watchers }
-        requires tellable { CanTell (outlet_of self.old) }
-        ensures ample { result ≢ Answer.NoMemory }
+        ensures ample { result ≢ Answer.NoMemory a_lack }
         ensures turns { turns_of self.new ≡ turns_of self.old }
         ensures keeps { KeepsOffice self.old self.new result }
         ensures stands { (history : List Entry) (caller : ℕ) → StandsFor self.old history
@@ -92,14 +91,13 @@ impl<D: Disk, W: Watching> OfficeState<D, W> {
     }
 }
 
-// Takes the memory that a posting to the policy with this place may need: that of the books, that of the watchers, and
-// room for its moment.
-fn take_memory<D: Disk, W: Watching>(
+// Takes the memory that a posting to the policy with this place may need: that of the books, and that of the watchers.
+// The outlet has room for the moment.
+fn take_memory<W: Watching>(
     books: &mut Books,
     place: KeyPlace,
     watchers: &mut W,
-    outlet: &mut MomentOutlet<D>,
-) -> Result<(), NoMemory>
+) -> Result<(), Lack>
     requires place { IsPlaceIn books.old.versions place }
     ensures commands { commands_in books.new ≡ commands_in books.old }
     ensures floor { floor_in books.new ≡ floor_in books.old }
@@ -108,15 +106,7 @@ fn take_memory<D: Disk, W: Watching>(
     ensures place { IsPlaceIn books.new.versions place }
     ensures room { OnOk result (CanKeep books.new place.key) }
     ensures ready { OnOk result (W.has_room watchers.new) }
-    ensures outlet { SameOutlet outlet.old.ring outlet.new.ring }
-    ensures untold { told outlet.new.ring ≡ told outlet.old.ring }
-    ensures tellable { OnOk result (CanTell outlet.new.ring) }
 {
     books.reserve(place)?;
-    watchers.ready()?;
-    if outlet.has_room() {
-        Ok(())
-    } else {
-        Err(NoMemory)
-    }
+    watchers.ready()
 }

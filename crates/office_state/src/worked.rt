@@ -1,6 +1,6 @@
 //! Worked files of an office, each a theorem over the definitions alone.
 
-ghost use Rattle.office_state.specs.Worked.{CrashesOfAPosting, EmptyAlike, FaultsCounted, HeldNow, HeldOnce, JournalOfTwo, PendingOrNot, ShownCauses};
+ghost use Rattle.office_state.specs.Worked.{CrashesOfAPosting, EmptyAlike, FaultedThen, FaultsCounted, HeldNow, HeldOnce, JournalOfTwo, ShownCauses};
 
 /// The journal of two commands, and what a crash leaves of the second posting.
 pub fn offices_by_hand()
@@ -12,7 +12,7 @@ pub fn offices_by_hand()
 
 /// What the turns of a history say of its faults.
 pub fn faults_by_hand()
-    ensures pending { PendingOrNot }
+    ensures then { FaultedThen }
     ensures counted { FaultsCounted }
 {}
 

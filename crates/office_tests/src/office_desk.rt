@@ -103,12 +103,22 @@ pub(crate) fn office_on(
     watched_on(alloc, bytes, failing, NoWatchers)
 }
 
+// What the office answers a command that may be posted.
+pub(crate) fn posted<W: Watching>(desk: &mut Desk<W>, command: &Command) -> Option<Answer> {
+    if MOST_TURNS <= desk.office.turns() || !command.is_valid() {
+        return None;
+    }
+    Some(desk.office.post(1, command))
+}
+
 // Whether the office answers a posting so.
 pub(crate) fn answers_one<W: Watching>(desk: &mut Desk<W>, posting: &Posting) -> bool {
-    if MOST_TURNS <= desk.office.turns() || !posting.command.is_valid() {
-        return false;
-    }
-    desk.office.post(1, &posting.command) == posting.answer
+    posted(desk, &posting.command) == Some(posting.answer)
+}
+
+// Whether a posting of the command lacks memory.
+pub(crate) fn lacks_memory<W: Watching>(desk: &mut Desk<W>, command: &Command) -> bool {
+    matches!(posted(desk, command), Some(Answer::NoMemory(_)))
 }
 
 // Whether it answers so, one after the other.

@@ -1,63 +1,30 @@
-// Watchers of an office: those who find no memory, and the reports of those who do.
-ghost use Rattle.std.specs.Prelude.{ℕ, []};
+// Watchers of an office: one who finds no memory, and the reports of those who do.
+ghost use Rattle.std.specs.Prelude.{ℕ, [], IfOk};
 
 use crate::office_desk::{
-    Posting, accepted, answers, office_on, policy, refused, shows, watched_on,
+    Posting, accepted, answers, lacks_memory, office_on, policy, refused, shows, watched_on,
 };
 use crate::policies::{NEW_YEAR, issue, premium};
 use money_ledgers::Ledger;
 use office_state::Answer;
-use policy_types::{Command, NoMemory, Plan, Refusal, Report, Status, Watcher};
+use policy_types::{Command, Plan, Refusal, Report, Status, Watcher};
 use std::alloc::{AllocError, Global};
-use watcher_set::{CountWatcher, NoWatchers, PremiumWatcher, Reports, Watchers, Watching};
+use watcher_set::{CountWatcher, PremiumWatcher, Reports, TightWatcher, Watchers, Watching};
 
-fn lacking_memory(command: Command) -> Posting {
-    Posting {
-        command,
-        answer: Answer::NoMemory,
-    }
-}
-
-// Watchers who find no memory in one call, and note nothing.
-#[derive(Drop)]
-struct Forgetful {
-    calls: u32,
-    refused: u32,
-    nobody: NoWatchers,
-}
-
-impl Watching for Forgetful {
-    ghost handed = { λ _. [] };
-
-    ghost told = { λ _ _ _. Unit {0} };
-
-    ghost has_room = { λ _. Unit {0} };
-
-    fn ready(&mut self) -> Result<(), NoMemory> {
-        self.calls = self.calls.saturating_add(1);
-        if self.calls == self.refused {
-            return Err(NoMemory);
-        }
-        Ok(())
-    }
-
-    fn note(&mut self, _position: u32, _command: &Command) {}
-
-    fn finish(self) -> Reports {
-        self.nobody.finish()
-    }
+// A set with one auditor, who has no room for the second command of which it is to be told.
+fn tight(alloc: Global) -> Result<Watchers<TightWatcher>, AllocError>
+    ensures { IfOk result (λ watchers. (before : ℕ) → ⟦<Watchers<TightWatcher> as Watching>⟧.told watchers before []) }
+{
+    let mut auditors = Vec::new(alloc);
+    auditors.push(TightWatcher::new(alloc, 2))?;
+    Ok(Watchers::new(auditors))
 }
 
 // The second of three postings lacks the watchers' memory: it changes nothing, and the third has the next position.
 #[test]
 fn watchers_without_memory(rt: HostRuntime) -> Result<(), AllocError> {
     let alloc = rt.alloc();
-    let watchers = Forgetful {
-        calls: 0,
-        refused: 2,
-        nobody: NoWatchers,
-    };
-    let Ok(mut desk) = watched_on(alloc, &[], &[], watchers)? else {
+    let Ok(mut desk) = watched_on(alloc, &[], &[], tight(alloc)?)? else {
         panic!(rt; "no office");
     };
     let first = policy(7001, NEW_YEAR, NEW_YEAR, 0, Status::InForce, 0);
@@ -69,7 +36,7 @@ fn watchers_without_memory(rt: HostRuntime) -> Result<(), AllocError> {
         payable: 0,
     };
     assert!(rt; answers(&mut desk, &[accepted(issue(7001, NEW_YEAR), 1)]));
-    assert!(rt; answers(&mut desk, &[lacking_memory(premium(NEW_YEAR))]));
+    assert!(rt; lacks_memory(&mut desk, &premium(NEW_YEAR)));
     assert!(rt; desk.office.count() == 1 && shows(&desk, 1, &[first]));
     assert!(rt; desk.office.ledger() == nothing && desk.office.turns() == 2);
     assert!(rt; answers(&mut desk, &[accepted(issue(3, NEW_YEAR), 2)]));
@@ -86,19 +53,14 @@ fn watchers_without_memory(rt: HostRuntime) -> Result<(), AllocError> {
 #[test]
 fn postings_that_leave_no_trace(rt: HostRuntime) -> Result<(), AllocError> {
     let alloc = rt.alloc();
-    let watchers = Forgetful {
-        calls: 0,
-        refused: 2,
-        nobody: NoWatchers,
-    };
-    let Ok(mut desk) = watched_on(alloc, &[], &[], watchers)? else {
+    let Ok(mut desk) = watched_on(alloc, &[], &[], tight(alloc)?)? else {
         panic!(rt; "no office");
     };
     let first = policy(1, NEW_YEAR, NEW_YEAR, 0, Status::InForce, 0);
     let second = policy(2, NEW_YEAR, NEW_YEAR, 0, Status::InForce, 0);
     let third = policy(3, NEW_YEAR, NEW_YEAR, 0, Status::InForce, 0);
     assert!(rt; answers(&mut desk, &[accepted(issue(1, NEW_YEAR), 1)]));
-    assert!(rt; answers(&mut desk, &[lacking_memory(issue(3, NEW_YEAR))]));
+    assert!(rt; lacks_memory(&mut desk, &issue(3, NEW_YEAR)));
     assert!(rt; desk.office.kept() == 1 && shows(&desk, 1, &[first]));
     assert!(rt; answers(&mut desk, &[refused(premium(NEW_YEAR), Refusal::Unknown)]));
     assert!(rt; desk.office.kept() == 1 && shows(&desk, 1, &[first]));

@@ -3,7 +3,7 @@ ghost use Rattle.std.specs.Prelude.{◌≡◌, ℕ, [], length, IsTrue};
 ghost use Rattle.std.specs.List.{AllByRecursion};
 
 use crate::policies::{NEW_YEAR, issue};
-use policy_types::{Attention, Command, NoMemory, Report, Watcher};
+use policy_types::{Attention, Command, NotReady, Report, Watcher};
 use std::process::Abort;
 use std::sync::Arc;
 use std::test::Fail;
@@ -32,7 +32,7 @@ impl Watcher for Guest {
 
     ghost number = { λ _ list. length list };
 
-    fn ready(&mut self) -> Result<(), NoMemory> {
+    fn ready(&mut self) -> Result<(), NotReady> {
         self.count.ready()
     }
 

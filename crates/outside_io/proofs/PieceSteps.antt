@@ -1,8 +1,8 @@
 -- Pieces by one moment, one after the other
-use Rattle.std.proofs.Common.{◌≡◌, ℕ, ◌+◌, ◌<◌, ◌≤◌, List, [], ◌∷◌, ◌++◌, length, take, drop, refl, ap, ◌∙◌, sym, arith}
+use Rattle.std.proofs.Common.{◌≡◌, ℕ, ◌+◌, List, [], ◌∷◌, ◌++◌, take, drop, refl, ap, ◌∙◌, sym}
 use Rattle.std.proofs.Math.Seq.{take-add}
 use Rattle.std.specs.List.{AllByRecursion}
-use Rattle.outside_io.specs.Streams.{TakenPiece, taken_bytes, TakesPiece, AddsPieces}
+use Rattle.outside_io.specs.Streams.{TakenPiece, taken_bytes}
 
 -- these bytes were taken by this moment
 pub record HasAdded (before now : List TakenPiece) (since : ℕ) (bytes : List ℕ) : Type 0 where

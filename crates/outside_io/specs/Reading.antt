@@ -1,5 +1,6 @@
 -- What it is to read a source to its end.
 use Rattle.std.specs.Prelude.{◌≡◌, ℕ, ◌<◌, ◌≤◌, Option, List, ◌++◌, length, vec_len, Result, Vec, IfOk, OnOk, IfSome, IsErrOf}
+use Rattle.memory_requests.specs.Evidence.{a_refusal}
 use Rattle.std.specs.Io.KnownBytes.{IsAtEnd}
 use Rattle.std.specs.declared.alloc.Global.{Global}
 use Rattle.outside_io.specs.Faults.{Rose}
@@ -26,7 +27,7 @@ pub record ReadsSource {S : Type 0} (faults : S → ℕ) (left : S → Option (L
   pub counted : faults old < faults new → IsErrOf result cause.ReadFault
   pub later : faults old ≤ faults new
   -- memory is wanted for bytes alone
-  pub memory : IsErrOf result cause.NoMemory → GivesMore 0 (given old) (given new)
+  pub memory : IsErrOf result (cause.NoMemory a_refusal) → GivesMore 0 (given old) (given new)
   -- whatever came of it, what was given is a front of what was left
   pub front : GivesFront (given old) (given new) (left old) (left new)
   pub rest : LosesFront (left old) (left new)

@@ -37,7 +37,7 @@ KeepsAnswer name (Ok bytes) before now = now ≡ record { name = name; told = Fo
 KeepsAnswer name (Err fault.Absent) before now = now ≡ record { name = name; told = Absent } ∷ before
 KeepsAnswer name (Err fault.TooLong) before now = now ≡ record { name = name; told = TooLong } ∷ before
 KeepsAnswer name (Err fault.Failed) before now = now ≡ before
-KeepsAnswer name (Err fault.NoMemory) before now = now ≡ before
+KeepsAnswer name (Err (fault.NoMemory lack)) before now = now ≡ before
 
 -- these are those files
 abbrev pub AreFiles : Files → Files → Type 0

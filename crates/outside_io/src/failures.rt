@@ -1,4 +1,5 @@
 // What the calls of devices answer where they fail.
+use memory_requests::NoMemory;
 
 /// A device failed. Its count of faults rose.
 #[derive(Clone, Copy, PartialEq, Eq, Debug)]
@@ -16,7 +17,7 @@ pub enum ReadAllFault {
     /// The source gave more bytes than the limit.
     TooLong,
     /// There was no memory for the bytes.
-    NoMemory,
+    NoMemory(NoMemory),
 }
 
 /// Why a file wasn't fetched.
@@ -29,5 +30,5 @@ pub enum FetchFault {
     /// The shelf failed.
     Failed,
     /// There was no memory for the bytes.
-    NoMemory,
+    NoMemory(NoMemory),
 }

@@ -1,5 +1,6 @@
 // The files of the folder in which the program runs, as a shelf. It notes its answers, for contracts alone.
 ghost use Rattle.std.specs.Prelude.{◌≡◌, ◌⊎◌, ℕ, ◌<◌, ◌≤◌, ◌++◌, [], None, Some, Option, List, length, vec_len, IfOk, OnOk, IfErr, IsSomeAnd, IsErrOf};
+ghost use Rattle.memory_requests.specs.Evidence.{a_refusal};
 ghost use Rattle.outside_io.specs.Faults.{Rose};
 ghost use Rattle.outside_io.specs.Streams.{GivesMore};
 ghost use Rattle.outside_io.specs.Shelves.{Files, Agrees, KeepsAnswer, no_files};
@@ -70,7 +71,7 @@ impl<R: Files> Shelf for FolderShelf<R> {
             Err(FetchFault::Absent) => self.answers.note_absent(name),
             Err(FetchFault::TooLong) => self.answers.note_too_long(name),
             Err(FetchFault::Failed) => self.faults = self.faults.saturating_add(1),
-            Err(FetchFault::NoMemory) => {}
+            Err(FetchFault::NoMemory(_)) => {}
         }
         answer
     }
@@ -105,12 +106,12 @@ fn read_open<S: Source>(alloc: Global, source: &mut S) -> Result<Vec<u8>, FetchF
         → GivesMore SHELF_LIMIT (S.given source.old) (S.given source.new) }
     ensures failed { IsErrOf result FetchFault.Failed → Rose (S.faults source.old) (S.faults source.new) }
     ensures counted { S.faults source.old < S.faults source.new → IsErrOf result FetchFault.Failed }
-    ensures memory { IsErrOf result FetchFault.NoMemory → GivesMore 0 (S.given source.old) (S.given source.new) }
+    ensures memory { IsErrOf result (FetchFault.NoMemory a_refusal) → GivesMore 0 (S.given source.old) (S.given source.new) }
 {
     match read_all(alloc, source, SHELF_LIMIT) {
         Ok(bytes) => Ok(bytes),
         Err(ReadAllFault::TooLong) => Err(FetchFault::TooLong),
-        Err(ReadAllFault::NoMemory) => Err(FetchFault::NoMemory),
+        Err(ReadAllFault::NoMemory(lack)) => Err(FetchFault::NoMemory(lack)),
         Err(ReadAllFault::ReadFault) => Err(FetchFault::Failed),
     }
 }

@@ -7,6 +7,7 @@ ghost use Rattle.outside_io.specs.Shelves.{Files, AreFiles, same_files};
 
 use crate::shelves::SHELF_LIMIT;
 use crate::{FaultPlan, FetchFault, Shelf};
+use memory_requests::copied;
 use std::alloc::Global;
 use std::collections::BTreeMap;
 
@@ -89,6 +90,9 @@ fn take_copy(
     match files.get(name) {
         None => Err(FetchFault::Absent),
         Some(bytes) if bytes.len() > SHELF_LIMIT as usize => Err(FetchFault::TooLong),
-        Some(bytes) => bytes.to_vec(alloc).map_err(|_| FetchFault::NoMemory),
+        Some(bytes) => match copied(alloc, bytes) {
+            Ok(copy) => Ok(copy),
+            Err(lack) => Err(FetchFault::NoMemory(lack)),
+        },
     }
 }

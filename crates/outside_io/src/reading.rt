@@ -7,6 +7,7 @@ ghost use Rattle.outside_io.specs.Streams.{StillTells, ReadGives, SeesEnd};
 ghost use Rattle.outside_io.specs.declared.failures.ReadAllFault.TheVariants.{ReadFault};
 
 use crate::{Failed, ReadAllFault, Steps};
+use memory_requests::extend;
 use std::alloc::Global;
 use std::marker::Brand;
 use std::sync::ledger::{Blank, Ledger};
@@ -97,8 +98,9 @@ pub fn read_all_counted<S: Source, L: Ledger>(
         if n > room - bytes.len() {
             return Err(ReadAllFault::TooLong);
         }
-        if bytes.extend_from_slice(&piece[..n]).is_err() {
-            return Err(ReadAllFault::NoMemory);
+        match extend(&mut bytes, &piece[..n]) {
+            Ok(()) => {}
+            Err(lack) => return Err(ReadAllFault::NoMemory(lack)),
         }
     }
 }

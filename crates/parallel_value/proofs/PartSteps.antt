@@ -2,7 +2,7 @@
 use Rattle.parallel_value.proofs.Names.{◌≡◌, ◌++◌, ◌∷◌, ◌+◌, ◌<◌, ◌≤◌, List, [], ℕ, zero, suc, min, inl, ap, refl, sym, ◌∙◌, subst, take, drop, set, length, get_or, Result, Ok, Err, IfOk, OnOk, IfSome, Option, Some, None, Bor, Vec, Global, append-nil, arith, append_assoc, length-take, take_min, AllByRecursion, AllZip, IsAmong, AddsBehind, AreBoth, AreValues, IsAsBefore, MayGive, StandBehind, TakeAll, AreMadeParts, IsMadePart, IsOneOf}
 use Rattle.std.proofs.lemmas.List.Elements.{All-from_recursion}
 use Rattle.std.proofs.Math.Seq.{take-add}
-use Rattle.std.specs.declared.alloc.AllocError.{AllocError}
+use Rattle.memory_requests.specs.declared.evidence.NoMemory.{NoMemory}
 use Rattle.parallel_value.specs.declared.sharing.Made.{Made}
 use Rattle.parallel_value.proofs.PieceSteps.{all_front, all_more, as_before_whole, may_alone, may_back, may_front, still_as_before, values_next, zip_append, zip_more}
 
@@ -69,7 +69,7 @@ module _ {I O : Type 0} (Gives : I → O → Type 0) where
   )
 
 -- values that fewer workers may give, as those of more
-pub adds_more : {I O U : Type 0} (G H : I → O → Type 0) (items : List I) (old ys : List O) (result : Result U AllocError)
+pub adds_more : {I O U : Type 0} (G H : I → O → Type 0) (items : List I) (old ys : List O) (result : Result U NoMemory)
     → ((item : I) (value : O) → G item value → H item value) → OnOk result (AddsBehind (AllZip G items) old ys)
     → OnOk result (AddsBehind (AllZip H items) old ys)
 adds_more G H items old ys (Ok u) more adds = (adds.0, adds.1, zip_more G H items adds.0 more adds.2)
@@ -85,7 +85,7 @@ module _ {P I O : Type 0} (takes : P → I → Type 0) (gives : P → I → O �
       → IsMadePart (gives one) size items m
   made_before one two size items m before is = (is.0, zip_more (gives two) (gives one) _ _ (λ item value given. before.gives_only item value given) is.1)
 
-  pub made_alone : (ps : List P) (d : P) (size : ℕ) (items : List I) (result : Result (Vec (Made O) Global) AllocError) → length ps ≡ 1
+  pub made_alone : (ps : List P) (d : P) (size : ℕ) (items : List I) (result : Result (Vec (Made O) Global) NoMemory) → length ps ≡ 1
       → IfOk result (λ made. AllByRecursion (IsMadePart (gives (get_or ps 0 d)) size items) made.items)
       → IfOk result (λ made. AreMadeParts gives ps size items made.items)
   made_alone ps d size items (Ok made) one is = made_more _ _ size items made.items (may_alone takes gives ps d one) is
@@ -96,7 +96,7 @@ module _ {P I O : Type 0} (takes : P → I → Type 0) (gives : P → I → O �
   made_append ps qs size items front back first last =
       all_append _ front back (made_more _ _ size items front (may_front takes gives ps qs) first) (made_more _ _ size items back (may_back takes gives ps qs) last)
 
-  pub made_of_both : (ps qs : List P) (size : ℕ) (items : List I) (left right result : Result (Vec (Made O) Global) AllocError)
+  pub made_of_both : (ps qs : List P) (size : ℕ) (items : List I) (left right result : Result (Vec (Made O) Global) NoMemory)
       → IfOk left (λ one. AreMadeParts gives ps size items one.items) → IfOk right (λ other. AreMadeParts gives qs size items other.items)
       → IfOk result (λ made. AreBoth left right made.items) → IfOk result (λ made. AreMadeParts gives (ps ++ qs) size items made.items)
   made_of_both ps qs size items (Ok one) (Ok other) (Ok made) first last both =

@@ -2,7 +2,7 @@
 use Rattle.std.specs.Prelude.{◌≡◌, ◌⊎◌, List, [], ◌∷◌, ◌++◌, Result, Ok, Vec}
 use Rattle.std.specs.Global.{Global}
 use Rattle.std.specs.List.{AllByRecursion, AllZip}
-use Rattle.std.specs.declared.alloc.AllocError.{AllocError}
+use Rattle.memory_requests.specs.declared.evidence.NoMemory.{NoMemory}
 
 -- every worker takes every item
 abbrev pub TakeAll : {P I : Type 0} → (P → I → Type 0) → List P → List I → Type 0
@@ -32,7 +32,7 @@ module _ {P I O : Type 0} where
   AreAsBefore takes gives old new = AllZip (IsAsBefore takes gives) old new
 
 -- both lists were had, and these are they, one behind the other
-abbrev pub AreBoth : {O : Type 0} → Result (Vec O Global) AllocError → Result (Vec O Global) AllocError → List O → Type 0
+abbrev pub AreBoth : {O : Type 0} → Result (Vec O Global) NoMemory → Result (Vec O Global) NoMemory → List O → Type 0
 AreBoth (Ok front) (Ok back) values = values ≡ front.items ++ back.items
 AreBoth _ _ _ = ⊥
 

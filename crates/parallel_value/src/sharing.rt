@@ -6,12 +6,14 @@
 ghost use Rattle.std.specs.Prelude.{◌≡◌, ◌≤◌, ◌++◌, ℕ, List, IfOk, IfSome, OnErr, OnOk, length, map, take, drop};
 ghost use Rattle.std.specs.List.{AllByRecursion, AllZip, IsAmong};
 ghost use Rattle.std.specs.Thread.{IsSync, IsSend};
+ghost use Rattle.std.specs.Mem.{type_size};
 ghost use Rattle.parallel_value.specs.Pieces.{AddsBehind, AreAsBefore, AreValues, Compute, IsAsBefore, StandBehind, TakeAll};
 ghost use Rattle.parallel_value.specs.inside.Parts.{AreMadeParts, IsMadePart, IsOneOf};
 
 use crate::Piece;
 use crate::mapping::{both, map_alone};
-use std::alloc::{AllocError, Global};
+use memory_requests::{NoMemory, extend, push};
+use std::alloc::Global;
 use std::sync::atomic::{AtomicUsize, Ordering};
 use std::thread::{Threads, join_mut};
 
@@ -29,7 +31,8 @@ pub fn map_in<R: Threads + Sync, I: Sync, O: Copy + Send + Drop, P: Piece<I, O> 
     pieces: &mut [P],
     items: &[I],
     items_in_part: usize,
-) -> Result<Vec<O>, AllocError>
+) -> Result<Vec<O>, NoMemory>
+    requires sized { 1 ≤ type_size O.row }
     requires workers { (1 ≤ length pieces.old) × (length pieces.old ≤ 64) }
     requires taken { TakeAll P.takes pieces.old items.now }
     requires part { 1 ≤ items_in_part }
@@ -42,7 +45,7 @@ pub fn map_in<R: Threads + Sync, I: Sync, O: Copy + Send + Drop, P: Piece<I, O> 
     Ok(values)
 }
 
-/// Adds the values of the items to those that are there, in their order; after `AllocError` those alone are there. A part
+/// Adds the values of the items to those that are there, in their order; after `NoMemory` those alone are there. A part
 /// has so many items, or the last fewer: so few that the last parts take no time, and so many that taking one doesn't
 /// count. No more workers than parts are set going; each but one has a thread of its own, and one alone starts none.
 pub fn map_onto<R: Threads + Sync, I: Sync, O: Copy + Send + Drop, P: Piece<I, O> + Send>(
@@ -52,7 +55,8 @@ pub fn map_onto<R: Threads + Sync, I: Sync, O: Copy + Send + Drop, P: Piece<I, O
     items: &[I],
     items_in_part: usize,
     values: &mut Vec<O>,
-) -> Result<(), AllocError>
+) -> Result<(), NoMemory>
+    requires sized { 1 ≤ type_size O.row }
     requires workers { (1 ≤ length pieces.old) × (length pieces.old ≤ 64) }
     requires taken { TakeAll P.takes pieces.old items.now }
     requires part { 1 ≤ items_in_part }
@@ -76,7 +80,8 @@ fn add_by_few<R: Threads + Sync, I: Sync, O: Copy + Send + Drop, P: Piece<I, O> 
     items: &[I],
     items_in_part: usize,
     values: &mut Vec<O>,
-) -> Result<(), AllocError>
+) -> Result<(), NoMemory>
+    requires sized { 1 ≤ type_size O.row }
     requires workers { (1 ≤ length pieces.old) × (length pieces.old ≤ 64) }
     requires taken { TakeAll P.takes pieces.old items.now }
     requires part { 1 ≤ items_in_part }
@@ -97,7 +102,8 @@ fn add_all<R: Threads + Sync, I: Sync, O: Copy + Send + Drop, P: Piece<I, O> + S
     items: &[I],
     items_in_part: usize,
     values: &mut Vec<O>,
-) -> Result<(), AllocError>
+) -> Result<(), NoMemory>
+    requires sized { 1 ≤ type_size O.row }
     requires workers { (1 ≤ length pieces.old) × (length pieces.old ≤ 64) }
     requires taken { TakeAll P.takes pieces.old items.now }
     requires part { 1 ≤ items_in_part }
@@ -134,7 +140,8 @@ fn make_parts<R: Threads + Sync, I: Sync, O: Copy + Send + Drop, P: Piece<I, O> 
     items: &[I],
     items_in_part: usize,
     next: &AtomicUsize,
-) -> Result<Vec<Made<O>>, AllocError>
+) -> Result<Vec<Made<O>>, NoMemory>
+    requires sized { 1 ≤ type_size O.row }
     requires workers { (1 ≤ length pieces.old) × (length pieces.old ≤ 64) }
     requires taken { TakeAll P.takes pieces.old items.now }
     ensures made { IfOk result (λ made. AreMadeParts P.gives pieces.old items_in_part items.now made.items) }
@@ -157,7 +164,8 @@ fn make_both<R: Threads + Sync, I: Sync, O: Copy + Send + Drop, P: Piece<I, O> +
     items: &[I],
     items_in_part: usize,
     next: &AtomicUsize,
-) -> Result<Vec<Made<O>>, AllocError>
+) -> Result<Vec<Made<O>>, NoMemory>
+    requires sized { 1 ≤ type_size O.row }
     requires front { (1 ≤ length front.old) × (length front.old ≤ 64) }
     requires back { (1 ≤ length back.old) × (length back.old ≤ 64) }
     requires first { TakeAll P.takes front.old items.now }
@@ -168,15 +176,17 @@ fn make_both<R: Threads + Sync, I: Sync, O: Copy + Send + Drop, P: Piece<I, O> +
 {
     let (left, right) = join_mut(
         rt,
-        &mut || -> Result<Vec<Made<O>>, AllocError>
+        &mut || -> Result<Vec<Made<O>>, NoMemory>
             requires sync { IsSync R.row × IsSync I.row × IsSend O.row × IsSend P.row }
+            requires sized { 1 ≤ type_size O.row }
             requires workers { (1 ≤ length front.now) × (length front.now ≤ 64) }
             requires taken { TakeAll P.takes front.now items.now }
             ensures made { IfOk result (λ made. AreMadeParts P.gives front.entry.now items_in_part items.entry.now made.items) }
             ensures pieces { AreAsBefore P.takes P.gives front.entry.now front.exit.now }
         { make_parts(rt, alloc, front, items, items_in_part, next) },
-        &mut || -> Result<Vec<Made<O>>, AllocError>
+        &mut || -> Result<Vec<Made<O>>, NoMemory>
             requires sync { IsSync R.row × IsSync I.row × IsSend O.row × IsSend P.row }
+            requires sized { 1 ≤ type_size O.row }
             requires workers { (1 ≤ length back.now) × (length back.now ≤ 64) }
             requires taken { TakeAll P.takes back.now items.now }
             ensures made { IfOk result (λ made. AreMadeParts P.gives back.entry.now items_in_part items.entry.now made.items) }
@@ -193,7 +203,8 @@ fn make_by_one<I, O: Drop, P: Piece<I, O>>(
     items: &[I],
     items_in_part: usize,
     next: &AtomicUsize,
-) -> Result<Vec<Made<O>>, AllocError>
+) -> Result<Vec<Made<O>>, NoMemory>
+    requires sized { 1 ≤ type_size O.row }
     requires one { length pieces.old ≡ 1 }
     requires taken { TakeAll P.takes pieces.old items.now }
     ensures made { IfOk result (λ made. AreMadeParts P.gives pieces.old items_in_part items.now made.items) }
@@ -209,7 +220,8 @@ fn make_alone<I, O: Drop, P: Piece<I, O>>(
     items: &[I],
     items_in_part: usize,
     next: &AtomicUsize,
-) -> Result<Vec<Made<O>>, AllocError>
+) -> Result<Vec<Made<O>>, NoMemory>
+    requires sized { 1 ≤ type_size O.row }
     requires taken { AllByRecursion (P.takes piece.old) items.now }
     ensures made { IfOk result (λ made. AllByRecursion (IsMadePart (P.gives piece.old) items_in_part items.now) made.items) }
     ensures piece { IsAsBefore P.takes P.gives piece.old piece.new }
@@ -221,7 +233,7 @@ fn make_alone<I, O: Drop, P: Piece<I, O>>(
             break;
         }
         let one = make_part(alloc, piece, items, items_in_part, first)?;
-        made.push(one)?;
+        push(&mut made, one)?;
     }
     Ok(made)
 }
@@ -233,7 +245,8 @@ fn make_part<I, O: Drop, P: Piece<I, O>>(
     items: &[I],
     items_in_part: usize,
     first: usize,
-) -> Result<Made<O>, AllocError>
+) -> Result<Made<O>, NoMemory>
+    requires sized { 1 ≤ type_size O.row }
     requires within { first ≤ length items.now }
     requires taken { AllByRecursion (P.takes piece.old) items.now }
     ensures made { IfOk result (IsMadePart (P.gives piece.old) items_in_part items.now) }
@@ -259,7 +272,8 @@ fn add_parts<I, O: Copy + Drop, P: Piece<I, O>>(
     items_in_part: usize,
     made: &[Made<O>],
     values: &mut Vec<O>,
-) -> Result<(), AllocError>
+) -> Result<(), NoMemory>
+    requires sized { 1 ≤ type_size O.row }
     requires taken { AllByRecursion (P.takes piece.old) items.now }
     requires part { 1 ≤ items_in_part }
     ensures values { (workers : List P) → IsOneOf P.gives workers piece.old → AreMadeParts P.gives workers items_in_part items.now made.now
@@ -282,7 +296,8 @@ fn add_part<I, O: Copy + Drop, P: Piece<I, O>>(
     part: &[I],
     made: Option<&Made<O>>,
     values: &mut Vec<O>,
-) -> Result<(), AllocError>
+) -> Result<(), NoMemory>
+    requires sized { 1 ≤ type_size O.row }
     requires taken { AllByRecursion (P.takes piece.old) part.now }
     ensures values { (workers : List P) → IsOneOf P.gives workers piece.old
         → IfSome made.entry (λ one. AreValues P.gives workers part.now one.now.values.items)
@@ -297,11 +312,12 @@ fn add_part<I, O: Copy + Drop, P: Piece<I, O>>(
 }
 
 // Adds the values of a part that was made.
-fn add_made<O: Copy + Drop>(made: &Made<O>, values: &mut Vec<O>) -> Result<(), AllocError>
+fn add_made<O: Copy + Drop>(made: &Made<O>, values: &mut Vec<O>) -> Result<(), NoMemory>
+    requires sized { 1 ≤ type_size O.row }
     ensures added { OnOk result (values.new.items ≡ values.old.items ++ made.now.values.items) }
     ensures behind { StandBehind values.old.items values.new.items }
 {
-    values.extend_from_slice(made.values.as_slice())
+    extend(values, made.values.as_slice())
 }
 
 // The part of this first item, where it was made.
@@ -321,7 +337,8 @@ fn add_by_one<I, O: Drop, P: Piece<I, O>>(
     pieces: &mut [P],
     items: &[I],
     values: &mut Vec<O>,
-) -> Result<(), AllocError>
+) -> Result<(), NoMemory>
+    requires sized { 1 ≤ type_size O.row }
     requires one { length pieces.old ≡ 1 }
     requires taken { TakeAll P.takes pieces.old items.now }
     ensures values { OnOk result (AddsBehind (AreValues P.gives pieces.old items.now) values.old.items values.new.items) }
@@ -336,14 +353,15 @@ fn add_alone<I, O: Drop, P: Piece<I, O>>(
     piece: &mut P,
     items: &[I],
     values: &mut Vec<O>,
-) -> Result<(), AllocError>
+) -> Result<(), NoMemory>
+    requires sized { 1 ≤ type_size O.row }
     requires taken { AllByRecursion (P.takes piece.old) items.now }
     ensures values { OnOk result (AddsBehind (AllZip (P.gives piece.old) items.now) values.old.items values.new.items) }
     ensures behind { StandBehind values.old.items values.new.items }
     ensures piece { IsAsBefore P.takes P.gives piece.old piece.new }
 {
     for item in items {
-        values.push(piece.one(item))?;
+        push(values, piece.one(item))?;
     }
     Ok(())
 }

@@ -1,5 +1,5 @@
 -- The rates for an age at issue.
-use Rattle.std.proofs.Common.{◌≡◌, ℕ, ◌+◌, ◌<◌, ◌≤◌, length, refl, sym, subst, arith}
+use Rattle.std.proofs.Common.{◌≡◌, ℕ, ◌+◌, refl, subst, arith}
 use Rattle.rate_table.specs.Rates.{Rates, HoldsAge, rate_at}
 use Rattle.select_rates.specs.Along.{IsAlong, IsBelow, IsRateOf, table_along}
 use Rattle.select_rates.specs.declared.any.AnyTable.{AnyTable}

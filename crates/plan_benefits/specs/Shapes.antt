@@ -1,4 +1,4 @@
-use Rattle.std.specs.Prelude.{ℕ, ◌+◌, ◌-◌, ◌||◌, ◌&&◌, Bool, true, false, Result, Ok, Err, min, nat_lt, nat_le, ◌<◌, ◌≤◌, length, if◌then◌else◌}
+use Rattle.std.specs.Prelude.{ℕ, ◌+◌, ◌-◌, ◌||◌, ◌&&◌, Bool, true, false, Result, Ok, Err, min, nat_lt, nat_le, ◌≤◌, length, if◌then◌else◌}
 use Rattle.rate_table.specs.Rates.{Rates, AreRates, HoldsAge, rate_at, last_age_of}
 use Rattle.select_rates.specs.Along.{IsBelow, IsRateOf, table_along}
 use Rattle.select_rates.specs.declared.any.AnyTable.{AnyTable}
@@ -10,48 +10,25 @@ use Rattle.policy_types.specs.Valid.{AreYears}
 use Rattle.plan_benefits.specs.declared.fault.NotValued.{NotValued}
 use Rattle.plan_benefits.specs.declared.fault.NotValued.TheVariants.{BelowTable, PastTable, RateHigh}
 
--- the years to the end of the table
-abbrev pub years_to_end : Rates → ℕ → ℕ
-years_to_end table age = last_age_of table + 1 - age
+-- the years of cover, those in which a premium is due, and whether a survivor is paid; there are so many years to the end
+-- of the table
+abbrev pub terms_of : Plan → (years to_end : ℕ) → ℕ × ℕ × Bool
+terms_of Term years to_end = (years, years, false)
+terms_of Whole years to_end = (to_end, to_end, true)
+terms_of Endowment years to_end = (years, years, true)
+terms_of Limited years to_end = (to_end, min years to_end, true)
 
--- the years of cover
-abbrev pub cover_years : Plan → ℕ → ℕ → Rates → ℕ
-cover_years Term age years table = years
-cover_years Whole age years table = years_to_end table age
-cover_years Endowment age years table = years
-cover_years Limited age years table = years_to_end table age
-
--- the years in which a premium is due
-abbrev pub premium_years : Plan → ℕ → ℕ → Rates → ℕ
-premium_years Term age years table = years
-premium_years Whole age years table = years_to_end table age
-premium_years Endowment age years table = years
-premium_years Limited age years table = min years (years_to_end table age)
-
--- all plans but a term pay a survivor
-abbrev pub pays_survivor : Plan → Bool
-pays_survivor Term = false
-pays_survivor Whole = true
-pays_survivor Endowment = true
-pays_survivor Limited = true
-
--- the first reason for which a cover of n years from an age on has no value, or the shape
-abbrev pub shape_or_fault : Rates → Shape → Result Shape NotValued
-shape_or_fault table shape =
-    if nat_lt shape.age table.first_age
-    then Err BelowTable
-    else if nat_lt (last_age_of table + 1) (shape.age + shape.n) || nat_lt shape.n 2
-    then Err PastTable
-    else if nat_lt 500000000 (rate_at table shape.age) then Err RateHigh else Ok shape
-
--- by the table of the age at issue
+-- by the table of the age at issue: the first reason why the cover has no value, or the shape
 abbrev pub shape_by : Plan → ℕ → ℕ → Rates → Result Shape NotValued
-shape_by plan age years table = shape_or_fault table (record {
-  age = age;
-  n = cover_years plan age years table;
-  h = premium_years plan age years table;
-  matures = pays_survivor plan;
-})
+shape_by plan age years table =
+    let terms = terms_of plan years (last_age_of table + 1 - age) in
+    if nat_lt age table.first_age
+    then Err BelowTable
+    else if nat_lt (last_age_of table + 1) (age + terms.0) || nat_lt terms.0 2
+    then Err PastTable
+    else if nat_lt 500000000 (rate_at table age)
+    then Err RateHigh
+    else Ok (record { age = age; n = terms.0; h = terms.1; matures = terms.2 })
 
 -- what a shape has that is no fault: the table holds its ages, there are at least two years of cover, premiums
 -- fall due in no more years than those, and the rate of death in the first year is at most one half
@@ -64,27 +41,24 @@ pub record FitsTable (plan : Plan) (years : ℕ) (table : Rates) (shape : Shape)
   pub half : rate_at table shape.age ≤ 500000000
   pub within : AreRates table
 
--- no table holds for the age at issue
-abbrev pub lies_below : AnyTable → ℕ → Bool
-lies_below (Aggregate table) age = false
-lies_below (Select table) age = nat_lt age table.first_age
-
-abbrev pub has_age : Rates → ℕ → Bool
-has_age table age = nat_le table.first_age age && nat_lt age (table.first_age + length table.rates)
-
--- the cap of the net premium is by the table of the next issue age: where that doesn't hold the next age, the cover is
--- past the table
-abbrev pub capped : Bool → Result Shape NotValued → Result Shape NotValued
-capped true answer = answer
-capped false (Err BelowTable) = Err BelowTable
-capped false answer = Err PastTable
-
--- by a table of either kind: by the one of its rates that hold for the age at issue
+-- by a table of either kind: by the one of its rates that hold for the age at issue, of which there may be none; the cap of
+-- the net premium is by the table of the next issue age: where that doesn't hold the next age, the cover is past the table
 abbrev pub shape_of : Plan → ℕ → ℕ → AnyTable → Result Shape NotValued
 shape_of plan age years table =
-    if lies_below table age
+    let next = table_along table (age + 1) in
+    if lies_below table
     then Err BelowTable
-    else capped (has_age (table_along table (age + 1)) (age + 1)) (shape_by plan age years (table_along table age))
+    else capped (nat_le next.first_age (age + 1) && nat_lt (age + 1) (next.first_age + length next.rates))
+    (shape_by plan age years (table_along table age))
+  where
+    lies_below : AnyTable → Bool
+    lies_below (Aggregate table) = false
+    lies_below (Select table) = nat_lt age table.first_age
+
+    capped : (holds_next : Bool) → Result Shape NotValued → Result Shape NotValued
+    capped true answer = answer
+    capped false (Err BelowTable) = Err BelowTable
+    capped false answer = Err PastTable
 
 -- there are rates for an age at issue, which hold that age; each is the one of its year since the issue
 pub record HasRates (table : AnyTable) (age : ℕ) : Type 0 where

@@ -1,6 +1,7 @@
 ghost use Rattle.std.specs.Prelude.{◌≡◌, ◌<◌, ◌+◌, IfOk, IsTrue};
 ghost use Rattle.select_rates.specs.Along.{IsBelow, table_along};
-ghost use Rattle.plan_benefits.specs.Shapes.{FitsAny, HasRates, has_age, shape_of};
+ghost use Rattle.plan_benefits.specs.Shapes.{FitsAny, HasRates, shape_of};
+ghost use Rattle.plan_benefits.specs.inside.Ages.{has_age};
 
 use crate::fault::NotValued;
 use crate::shaping::shape;

@@ -1,8 +1,9 @@
 -- What one more command does to the balances
 use Rattle.policy_machine.proofs.Names.{◌≡◌, ℕ, ◌+◌, ◌*◌, ◌≤◌, ◌==◌, true, List, [], ◌∷◌, ◌++◌, length, ℤ, pos, ◌+ℤ◌, refl, sym, ap, ◌∙◌, ◌⊎◌, inl, inr, append_assoc, append-nil, None, Some, Option, Ok, Result, cond, false, subst, suc, arith, rules, fold, AllByRecursion, ints, fold-append, Command, Issue, Premium, Alter, Lapse, Reinstate, Claim, Settle, Mature, MakePaidUp, Upgrade, Policy, Plan, Term, Whole, Endowment, Limited, Status, Refusal, id_of, IsValid, next, decided, changed, matured, checks_of, first_refusal, kept, own, policy_of}
 use Rattle.policy_types.specs.declared.policy.Status.TheVariants.{InForce, Lapsed, Claimed, Matured, Expired, Settled, PaidUp}
-use Rattle.policy_types.specs.Accounts.{Booking, against, added, sum_of, IsWithin, AreWithin, booking_of, booked_at_term, nothing_booked, premium_received, benefit_incurred, benefit_paid}
-use Rattle.policy_machine.specs.Accounts.{booked_on, booked_after, bookings_after, ledger_of}
+use Rattle.policy_types.specs.Accounts.{Booking, against, added, sum_of, IsWithin, AreWithin, booking_of, nothing_booked, premium_received, benefit_incurred, benefit_paid}
+use Rattle.policy_machine.specs.Accounts.{ledger_of}
+use Rattle.policy_machine.proofs.Parts.{booked_at_term, booked_on, booked_after, bookings_after}
 use Rattle.policy_machine.proofs.AcceptedLemmas.{IsIssueHere, NeedsPolicy, issue_or_other}
 use Rattle.policy_machine.proofs.BookLemmas.{policy_of-push_own}
 

@@ -12,3 +12,4 @@ pub mod OldLemmas
 pub mod PaidUpLemmas
 pub mod SoundLemmas
 pub mod Turns
+pub mod Parts

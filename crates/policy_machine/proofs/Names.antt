@@ -8,11 +8,14 @@ unfoldable pub use Rattle.std.specs.List.{IsDistinct}
 pub use Rattle.std.specs.List.{AllByRecursion, fold, cons_option, range_with_len, list_any, last_or, count_by}
 unfoldable pub use Rattle.life_dates.specs.Anniversary.{anniversary_of}
 pub use Rattle.life_dates.specs.Anniversary.{IsCompleted}
-unfoldable pub use Rattle.life_dates.specs.Calendar.{day_number, date_of, date_at, year_of, month_of, days_before, days_before_year, days_of_months}
+unfoldable pub use Rattle.life_dates.specs.Calendar.{day_number, date_of, month_of, days_before_year, days_of_months}
 pub use Rattle.life_dates.specs.Calendar.{IsDay}
-pub use Rattle.policy_machine.specs.Book.{policy_of, own, kept, issue_id, book, judge, IsAccepted, IsAcceptedAfter, upgrade_of, left_by, refusal_in, IsSameContract, upgrade_from, judged}
-pub use Rattle.policy_machine.specs.History.{Opening, IsDue, IsLegalAfter, accepted_by, accepted_of, least_or, commands_after, pin_of, gives_up, live_pin, live_positions, pinned_position, floor_set, floor_of, policies_per_read}
-pub use Rattle.policy_machine.specs.Rules.{next, checks_of, changed, matured, payments_of, first_refusal, decided, IsSound, is_in_force, premiums_missed, issued, due_of, is_paid_up, is_lapsed, Check, refuse, day_before_last, not_in_force, not_insured, term_over, nothing_due, grace_over, grace_end_of, end_of, is_insured, awaits_settlement}
+pub use Rattle.policy_machine.specs.Book.{policy_of, issue_id, book, judge, IsAccepted, IsAcceptedAfter, upgrade_of, IsSameContract, judged}
+pub use Rattle.policy_machine.specs.History.{Opening, IsDue, IsLegalAfter, accepted_of, least_or, commands_after, gives_up, live_pin, live_positions, floor_of, policies_per_read}
+pub use Rattle.policy_machine.specs.Rules.{next, checks_of, changed, matured, payments_of, first_refusal, IsSound, premiums_missed, issued, due_of, Check, refuse, day_before_last, not_in_force, not_insured, term_over, nothing_due, grace_over, grace_end_of, end_of, awaits_settlement}
+pub use Rattle.policy_machine.proofs.Parts.{is_insured}
+pub use Rattle.policy_machine.proofs.Parts.{is_in_force, is_paid_up, is_lapsed}
+pub use Rattle.policy_machine.proofs.Parts.{own, kept, left_by, refusal_in, upgrade_from, accepted_by, pin_of, pinned_position, floor_set, decided}
 pub use Rattle.policy_machine.specs.Worked.Cases.{turn, policy_issue, premium_on, policy_with}
 pub use Rattle.policy_types.specs.Valid.{id_of, IsValid, day_of, is_upgrade, IsIssue, IsAmount, IsCommandDay}
 pub use Rattle.policy_types.specs.declared.command.Command.{Command}

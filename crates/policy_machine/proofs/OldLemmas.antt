@@ -1,9 +1,11 @@
 -- Old journals mean what they meant
-use Rattle.policy_machine.proofs.Names.{◌≡◌, ◌↔◌, ◌&&◌, ◌==◌, Bool, true, false, not, nat_lt, int_lt, nat_le, if◌then◌else◌, cond, List, [], ◌∷◌, ◌++◌, ℕ, ℤ, pos, ◌-ℤ◌, refl, sym, ap, ◌∙◌, Some, None, Option, Command, Issue, Premium, Alter, Lapse, Reinstate, Claim, Settle, Mature, MakePaidUp, Upgrade, Plan, Term, Whole, Endowment, Limited, Policy, Status, Refusal, WrongStatus, TooEarly, GraceOver, WrongAmount, NotAReduction, NotMatured, id_of, refuse, first_refusal, decided, changed, matured, checks_of, day_before_last, not_in_force, not_insured, term_over, nothing_due, grace_over, payments_of, grace_end_of, due_of, end_of, is_paid_up, is_insured, is_in_force, next, own, kept, policy_of, issue_id, book, left_by, judge, refusal_in, IsAccepted, IsAcceptedAfter}
+use Rattle.policy_machine.proofs.Names.{◌≡◌, ◌↔◌, ◌&&◌, ◌==◌, Bool, true, false, not, nat_lt, int_lt, nat_le, if◌then◌else◌, cond, List, [], ◌∷◌, ◌++◌, ℕ, ℤ, pos, ◌-ℤ◌, refl, sym, ap, ◌∙◌, Some, None, Option, Ok, Err, Result, Command, Issue, Premium, Alter, Lapse, Reinstate, Claim, Settle, Mature, MakePaidUp, Upgrade, Plan, Term, Whole, Endowment, Limited, Policy, Status, Refusal, WrongStatus, TooEarly, GraceOver, WrongAmount, NotAReduction, NotMatured, id_of, refuse, first_refusal, decided, changed, matured, checks_of, day_before_last, not_in_force, not_insured, term_over, nothing_due, grace_over, payments_of, grace_end_of, due_of, end_of, is_paid_up, is_insured, is_in_force, next, own, kept, policy_of, issue_id, book, left_by, judge, refusal_in, IsAccepted, IsAcceptedAfter}
 use Rattle.std.specs.List.{AllByRecursion, filter_map, fold}
 use Rattle.policy_types.specs.declared.policy.Status.TheVariants.{InForce, Lapsed, Claimed, Matured, Expired, Settled, PaidUp}
 use Rattle.policy_types.specs.Accounts.{nothing_booked, added}
-use Rattle.policy_machine.specs.Accounts.{booked_on, bookings_after, ledger_of}
+use Rattle.policy_machine.specs.Accounts.{ledger_of}
+use Rattle.policy_machine.proofs.Parts.{booked_on, bookings_after}
+use Rattle.std.specs.Result.{result_err}
 use Rattle.policy_machine.specs.Before.{IsOldCommand, old_grace_over, old_checks, old_changed, old_booked, old_next, old_policy_of, old_book, old_refusal, WereAccepted, WereAcceptedAfter, old_bookings_after, old_ledger}
 use Rattle.policy_machine.proofs.BookLemmas.{filter_map-same}
 
@@ -181,6 +183,10 @@ judged_then before (Mature id day) old = refl
 judged_then before (MakePaidUp id day amount) old = absurd old
 judged_then before Upgrade old = absurd old
 
+refused_so : (decision : Result Policy Refusal) → refusal_in (left_by decision) ≡ result_err decision
+refused_so (Ok after) = refl
+refused_so (Err refusal) = refl
+
 pub judge-old : (before : List Command) (command : Command) → AllByRecursion IsOldCommand before → IsOldCommand command
     → judge before command ≡ old_refusal before command
 judge-old before command old this =
@@ -188,6 +194,7 @@ judge-old before command old this =
     judged_then before command this
     ∙ ap (λ decision. refusal_in (left_by decision)) (next_then (policy_of before (id_of command)) command this policies.1)
     ∙ ap (λ policy. refusal_in (left_by (old_next policy command))) policies.0
+    ∙ refused_so (old_next (old_policy_of before (id_of command)) command)
 
 all_push : (commands : List Command) (command : Command) → AllByRecursion IsOldCommand commands → IsOldCommand command
     → AllByRecursion IsOldCommand (commands ++ command ∷ [])

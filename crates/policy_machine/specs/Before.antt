@@ -1,9 +1,9 @@
 -- The rules as they were before a policy could be made paid up, kept for one law: old journals mean what they meant. Their
 -- numbers, days and bookings are their own: a rule that changes doesn't change them.
 use Rattle.std.specs.Prelude.{◌≡◌, ◌+◌, ◌-◌, ◌*◌, ◌&&◌, ◌==◌, true, not, nat_lt, nat_le, int_lt, int_le, if◌then◌else◌, List, [], ◌∷◌, ◌++◌, ℕ, ℤ, pos, ◌+ℤ◌, ◌-ℤ◌, Some, None, Option, Ok, Err, Result}
-use Rattle.policy_machine.specs.Names.{count_by, filter_map, fold, range_with_len, Command, Issue, Premium, Alter, Lapse, Reinstate, Claim, Settle, Mature, PaidUp, Upgrade, Term, Whole, Endowment, Limited, Policy, InForce, Lapsed, Claimed, Matured, Expired, Settled, Refusal, Taken, Unknown, BeforeLast, WrongStatus, TermOver, NothingDue, TooEarly, GraceOver, NotInArrears, TooLate, WrongAmount, NotAReduction, NotMatured, OverSettled, Booking, nothing_booked, premium_received, benefit_incurred, benefit_paid, booked_at_term, added, id_of, Plan, anniversary_of}
-use Rattle.policy_machine.specs.Rules.{Check, refuse, first_refusal, decided, is_in_force, is_lapsed, awaits_settlement}
-use Rattle.policy_machine.specs.Book.{own, kept, issue_id, left_by, refusal_in}
+use Rattle.policy_machine.specs.Names.{count_by, filter, filter_map, fold, option_map_or, option_or, range_with_len, result_ok, result_err, status_eq, Command, Issue, Premium, Alter, Lapse, Reinstate, Claim, Settle, Mature, PaidUp, Upgrade, Term, Whole, Endowment, Limited, Policy, InForce, Lapsed, Claimed, Matured, Expired, Settled, Refusal, Taken, Unknown, BeforeLast, WrongStatus, TermOver, NothingDue, TooEarly, GraceOver, NotInArrears, TooLate, WrongAmount, NotAReduction, NotMatured, OverSettled, Booking, nothing_booked, premium_received, benefit_incurred, benefit_paid, added, id_of, Plan, anniversary_of}
+use Rattle.policy_machine.specs.Rules.{Check, refuse, first_refusal, awaits_settlement}
+use Rattle.policy_machine.specs.Book.{issue_id}
 
 -- the commands that there were
 abbrev pub IsOldCommand : Command → Type 0
@@ -12,20 +12,26 @@ IsOldCommand Upgrade = ⊥
 IsOldCommand _ = Unit {0}
 
 -- years of insurance, and annual premiums
-abbrev pub old_years_of : Plan → ℕ → ℕ → ℕ
-old_years_of Term age years = years
-old_years_of Whole age years = 131 - age
-old_years_of Endowment age years = years
-old_years_of Limited age years = 131 - age
+abbrev pub old_years_of : Policy → ℕ
+old_years_of p = by_plan p.plan
+  where
+    by_plan : Plan → ℕ
+    by_plan Term = p.years
+    by_plan Whole = 131 - p.age
+    by_plan Endowment = p.years
+    by_plan Limited = 131 - p.age
 
-abbrev pub old_payments_of : Plan → ℕ → ℕ → ℕ
-old_payments_of Term age years = years
-old_payments_of Whole age years = 131 - age
-old_payments_of Endowment age years = years
-old_payments_of Limited age years = years
+abbrev pub old_payments_of : Policy → ℕ
+old_payments_of p = by_plan p.plan
+  where
+    by_plan : Plan → ℕ
+    by_plan Term = p.years
+    by_plan Whole = 131 - p.age
+    by_plan Endowment = p.years
+    by_plan Limited = p.years
 
 abbrev pub old_end_of : Policy → ℤ
-old_end_of p = anniversary_of p.issued (old_years_of p.plan p.age p.years)
+old_end_of p = anniversary_of p.issued (old_years_of p)
 
 abbrev pub old_due_of : Policy → ℤ
 old_due_of p = anniversary_of p.issued p.paid
@@ -38,23 +44,23 @@ old_reinstatement_end_of p = anniversary_of p.issued (p.paid + 3)
 
 abbrev pub old_missed : Policy → ℤ → ℕ
 old_missed p day =
-    count_by (λ j. int_le (anniversary_of p.issued j) day) (range_with_len p.paid (old_payments_of p.plan p.age p.years - p.paid))
+    count_by (λ j. int_le (anniversary_of p.issued j) day) (range_with_len p.paid (old_payments_of p - p.paid))
 
 abbrev pub old_day_before_last : Policy → ℤ → Check
 old_day_before_last p day = refuse (int_lt day p.last) (BeforeLast p.last)
 
 abbrev pub old_not_in_force : Policy → Check
-old_not_in_force p = refuse (not (is_in_force p.status)) (WrongStatus p.status)
+old_not_in_force p = refuse (not (status_eq.it p.status InForce)) (WrongStatus p.status)
 
 abbrev pub old_term_over : Policy → ℤ → Check
 old_term_over p day = refuse (int_le (old_end_of p) day) (TermOver (old_end_of p))
 
 abbrev pub old_nothing_due : Policy → Check
-old_nothing_due p = refuse (p.paid == old_payments_of p.plan p.age p.years) NothingDue
+old_nothing_due p = refuse (p.paid == old_payments_of p) NothingDue
 
 abbrev pub old_grace_over : Policy → ℤ → Check
 old_grace_over p day =
-    refuse (nat_lt p.paid (old_payments_of p.plan p.age p.years) && int_lt (old_grace_end_of p) day) (GraceOver (old_due_of p))
+    refuse (nat_lt p.paid (old_payments_of p) && int_lt (old_grace_end_of p) day) (GraceOver (old_due_of p))
 
 -- the checks of a command by the rules of before, in their order
 abbrev pub old_checks : Policy → Command → List Check
@@ -72,7 +78,7 @@ old_checks p (Lapse id day) =
     ∷ refuse (int_le day (old_grace_end_of p)) (NotInArrears (old_due_of p)) ∷ []
 old_checks p (Reinstate id day amount) =
     old_day_before_last p day
-    ∷ refuse (not (is_lapsed p.status)) (WrongStatus p.status)
+    ∷ refuse (not (status_eq.it p.status Lapsed)) (WrongStatus p.status)
     ∷ old_term_over p day
     ∷ refuse (int_lt (old_reinstatement_end_of p) day) (TooLate (old_reinstatement_end_of p))
     ∷ refuse (not (amount == old_missed p day * p.premium)) (WrongAmount (old_missed p day * p.premium)) ∷ []
@@ -118,16 +124,18 @@ old_next None (Issue number day by_plan at_age for_years sum price) = Ok (record
   outstanding = 0;
 })
 old_next None _ = Err Unknown
-old_next (Some p) command = decided (first_refusal (old_checks p command)) (old_changed p command)
+old_next (Some p) command = option_map_or Err (first_refusal (old_checks p command)) (Ok (old_changed p command))
 
 abbrev pub old_policy_of : List Command → ℕ → Option Policy
-old_policy_of commands id = fold (λ policy command. kept policy (old_next policy command)) None (own commands id)
+old_policy_of commands id =
+    fold (λ policy command. option_or (result_ok (old_next policy command)) policy) None
+    (filter (λ command. id_of command == id) commands)
 
 abbrev pub old_book : List Command → List Policy
 old_book commands = filter_map (old_policy_of commands) (filter_map issue_id commands)
 
 abbrev pub old_refusal : List Command → Command → Option Refusal
-old_refusal before command = refusal_in (left_by (old_next (old_policy_of before (id_of command)) command))
+old_refusal before command = result_err (old_next (old_policy_of before (id_of command)) command)
 
 abbrev pub WereAcceptedAfter : List Command → List Command → Type 0
 WereAcceptedAfter before [] = Unit {0}
@@ -142,7 +150,8 @@ old_booked (Some after) (Premium id day amount) = premium_received amount
 old_booked (Some after) (Reinstate id day amount) = premium_received amount
 old_booked (Some after) (Claim id day) = benefit_incurred after.amount
 old_booked (Some after) (Settle id day amount) = benefit_paid amount
-old_booked (Some after) (Mature id day) = booked_at_term after.status after.amount
+old_booked (Some after) (Mature id day) =
+    if status_eq.it after.status Matured then benefit_incurred after.amount else nothing_booked
 old_booked _ _ = nothing_booked
 
 abbrev pub old_bookings_after : List Command → List Command → List Booking

@@ -1,20 +1,13 @@
 -- The book: the policies that a list of accepted commands leaves
 use Rattle.std.specs.Prelude.{◌≡◌, ℕ, ◌+◌, ◌==◌, if◌then◌else◌, List, [], ◌∷◌, ◌++◌, Some, None, Option, Ok, Err, Result}
-use Rattle.policy_machine.specs.Names.{filter, filter_map, fold, Command, Issue, PaidUp, Upgrade, Policy, Refusal, NotUpgraded, Upgraded, id_of, is_upgrade}
+use Rattle.policy_machine.specs.Names.{filter, filter_map, fold, option_or, result_ok, result_err, result_map_both, Command, Issue, PaidUp, Upgrade, Policy, Refusal, NotUpgraded, Upgraded, id_of, is_upgrade}
 use Rattle.policy_machine.specs.Rules.{next}
 
--- the commands of a list that name a policy's number
-abbrev pub own : List Command → ℕ → List Command
-own commands id = filter (λ command. id_of command == id) commands
-
--- what a decision leaves: the new policy, or where it was refused what was there
-abbrev pub kept : Option Policy → Result Policy Refusal → Option Policy
-kept before (Ok after) = Some after
-kept before (Err refusal) = before
-
--- none, changed in turn by each command of the list that names the number
+-- none, changed in turn by each command of the list that names the number; a refused one leaves what was there
 abbrev pub policy_of : List Command → ℕ → Option Policy
-policy_of commands id = fold (λ policy command. kept policy (next policy command)) None (own commands id)
+policy_of commands id =
+    fold (λ policy command. option_or (result_ok (next policy command)) policy) None
+    (filter (λ command. id_of command == id) commands)
 
 -- the number that an issue gives
 abbrev pub issue_id : Command → Option ℕ
@@ -25,19 +18,13 @@ issue_id _ = None
 abbrev pub book : List Command → List Policy
 book commands = filter_map (policy_of commands) (filter_map issue_id commands)
 
--- the place of the first upgrade, where the first of the commands has this place; 0 where there is none
-abbrev pub upgrade_from : ℕ → List Command → ℕ
-upgrade_from place [] = 0
-upgrade_from place (command ∷ rest) = if is_upgrade command then place else upgrade_from (place + 1) rest
-
 -- the place of the first upgrade, counted from 1; 0 where there is none
 abbrev pub upgrade_of : List Command → ℕ
-upgrade_of commands = upgrade_from 1 commands
-
--- the policy that an accepted command left, or the rule's refusal
-abbrev pub left_by : Result Policy Refusal → Result (Option Policy) Refusal
-left_by (Ok after) = Ok (Some after)
-left_by (Err refusal) = Err refusal
+upgrade_of commands = from 1 commands
+  where
+    from : ℕ → List Command → ℕ
+    from place [] = 0
+    from place (command ∷ rest) = if is_upgrade command then place else from (place + 1) rest
 
 -- What the rules make of a command, by the place of the upgrade before it, or 0, and by the policy that it names: the
 -- refusal that is due, or the policy that it leaves, and none where it is an upgrade. A second upgrade is refused with the
@@ -45,20 +32,16 @@ left_by (Err refusal) = Err refusal
 abbrev pub judged : ℕ → Option Policy → Command → Result (Option Policy) Refusal
 judged upgrade policy Upgrade = if upgrade == 0 then Ok None else Err (Upgraded upgrade)
 judged upgrade policy (PaidUp id day amount) =
-    if upgrade == 0 then Err NotUpgraded else left_by (next policy (PaidUp id day amount))
-judged upgrade policy command = left_by (next policy command)
-
--- what the rules make of a command after these commands
-abbrev pub judged_after : List Command → Command → Result (Option Policy) Refusal
-judged_after before command = judged (upgrade_of before) (policy_of before (id_of command)) command
-
-abbrev pub refusal_in : Result (Option Policy) Refusal → Option Refusal
-refusal_in (Err refusal) = Some refusal
-refusal_in (Ok after) = None
+    if upgrade == 0 then Err NotUpgraded else result_map_both Some (λ refusal. refusal) (next policy (PaidUp id day amount))
+judged upgrade policy command = result_map_both Some (λ refusal. refusal) (next policy command)
 
 -- why the rules refuse a command after these commands, if they do
 abbrev pub judge : List Command → Command → Option Refusal
-judge before command = refusal_in (judged_after before command)
+judge before command = result_err (judged (upgrade_of before) (policy_of before (id_of command)) command)
+
+-- what they make of it, as an office keeps it
+abbrev pub judged_after : List Command → Command → Result (Option Policy) Refusal
+judged_after before command = judged (upgrade_of before) (policy_of before (id_of command)) command
 
 -- the rules accept each command of rest after the commands before it
 abbrev pub IsAcceptedAfter : List Command → List Command → Type 0

@@ -1,6 +1,6 @@
 -- The histories of the office that are legal: every reply is the one due after the turns before it
 use Rattle.std.specs.Prelude.{◌≡◌, ℕ, ◌+◌, ◌-◌, ◌^◌, ◌<◌, ◌≤◌, min, Bool, true, not, ◌==◌, if◌then◌else◌, List, [], ◌∷◌, ◌++◌, length, take, drop, slice_get, Some, None, Option}
-use Rattle.policy_machine.specs.Names.{AllByRecursion, filter_map, list_any, last_or, range_with_len, unwrap_or, Command, Refusal, Full, Call, Post, Pin, PinAt, Read, Unpin, Trim, Reply, Accepted, Refused, Faulted, Pinned, PinRefused, Policies, Unpinned, Floor, Blank, Ahead, Trimmed, PinsFull, Entry, IsValid, most_commands}
+use Rattle.policy_machine.specs.Names.{AllByRecursion, filter_map, list_any, last_or, option_map, option_and_then, range_with_len, unwrap_or, Command, Refusal, Full, Call, Post, Pin, PinAt, Read, Unpin, Trim, Reply, Accepted, Refused, Faulted, Pinned, PinRefused, Policies, Unpinned, Floor, Blank, Ahead, Trimmed, PinsFull, Entry, IsValid, most_commands}
 use Rattle.policy_machine.specs.Book.{book, judge, IsAccepted}
 
 -- what an office was opened on: the commands of its journal, and the disk's count of faults then
@@ -11,14 +11,13 @@ pub record Opening : Type 0 where
 abbrev pub opened_on : List Command → ℕ → Opening
 opened_on commands faults = record { commands = commands; faults = faults }
 
--- the command that a turn posted, where it was accepted
-abbrev pub accepted_by : Call → Reply → Option Command
-accepted_by (Post command) (Accepted position) = Some command
-accepted_by _ _ = None
-
 -- the accepted commands of a history, in order
 abbrev pub accepted_of : List Entry → List Command
 accepted_of history = filter_map (λ entry. accepted_by entry.call entry.reply) history
+  where
+    accepted_by : Call → Reply → Option Command
+    accepted_by (Post command) (Accepted position) = Some command
+    accepted_by _ _ = None
 
 -- all accepted commands after the turns before
 abbrev pub commands_after : Opening → List Entry → List Command
@@ -29,57 +28,44 @@ abbrev pub fault_of : Reply → Option ℕ
 fault_of (Faulted count) = Some count
 fault_of _ = None
 
--- A count of faults is above an earlier one. Where the earlier one is the last value of a count, 2 ^ 64 - 1, nothing is above
--- it: the count is that value again, so there two faults have one number
-abbrev pub IsAbove : ℕ → ℕ → Type 0
-IsAbove earlier count = min (earlier + 1) (2 ^ 64 - 1) ≤ count
-
--- a fault that no earlier turn answered, nor the opening met
+-- A fault that no earlier turn answered, nor the opening met: its count is above theirs. Where an earlier count is the last
+-- value of a count, 2 ^ 64 - 1, nothing is above it: the count is that value again, so there two faults have one number
 abbrev pub IsFreshFault : Opening → List Entry → ℕ → Type 0
 IsFreshFault opening before count =
-    IsAbove opening.faults count
-    × AllByRecursion (λ earlier. IsAbove earlier count) (filter_map (λ entry. fault_of entry.reply) before)
-
--- a pin: its position and number of policies
-abbrev pub pin_of : Reply → Option (ℕ × ℕ)
-pin_of (Pinned position policies) = Some (position, policies)
-pin_of _ = None
+    IsBelow opening.faults × AllByRecursion IsBelow (filter_map (λ entry. fault_of entry.reply) before)
+  where
+    IsBelow : ℕ → Type 0
+    IsBelow earlier = min (earlier + 1) (2 ^ 64 - 1) ≤ count
 
 abbrev pub gives_up : ℕ → Call → Bool
 gives_up pin (Unpin n) = n == pin
 gives_up pin _ = not true
 
--- the pin that the turn at this place took, where it did and no later turn gave it up
+-- the pin that the turn at this place took, its position and number of policies, where it did and no later turn gave it up
 abbrev pub live_pin : List Entry → ℕ → Option (ℕ × ℕ)
 live_pin before pin =
     if list_any (λ entry. gives_up pin entry.call) (drop (pin + 1) before) then None
-    else live_in (slice_get before pin)
+    else option_and_then (λ entry. pin_of entry.reply) (slice_get before pin)
   where
-    live_in : Option Entry → Option (ℕ × ℕ)
-    live_in None = None
-    live_in (Some entry) = pin_of entry.reply
-
--- the position of a pin, if there is one
-abbrev pub pinned_position : Option (ℕ × ℕ) → Option ℕ
-pinned_position None = None
-pinned_position (Some pin) = Some pin.0
+    pin_of : Reply → Option (ℕ × ℕ)
+    pin_of (Pinned position policies) = Some (position, policies)
+    pin_of _ = None
 
 -- the positions of the live pins
 abbrev pub live_positions : List Entry → List ℕ
-live_positions before = filter_map (λ pin. pinned_position (live_pin before pin)) (range_with_len 0 (length before))
+live_positions before = filter_map (λ pin. option_map (λ held. held.0) (live_pin before pin)) (range_with_len 0 (length before))
 
 -- a pin's turn was this caller's
 abbrev pub IsOwnPin : List Entry → ℕ → ℕ → Type 0
 IsOwnPin before caller pin = (entry : Entry) × (slice_get before pin ≡ Some entry) × (entry.caller ≡ caller)
 
--- the floor that a turn set
-abbrev pub floor_set : Reply → Option ℕ
-floor_set (Floor floor) = Some floor
-floor_set _ = None
-
 -- the floor is that of the last turn that set one, else 0
 abbrev pub floor_of : List Entry → ℕ
 floor_of before = unwrap_or (last_or None (filter_map (λ entry. floor_set entry.reply) before)) 0
+  where
+    floor_set : Reply → Option ℕ
+    floor_set (Floor floor) = Some floor
+    floor_set _ = None
 
 -- the least of the numbers, or another where there is none
 abbrev pub least_or : ℕ → List ℕ → ℕ

@@ -1,39 +1,35 @@
 -- The rules of a policy's life: for each command the checks in their order, and what the command changes
-use Rattle.std.specs.Prelude.{ℕ, ◌+◌, ◌-◌, ◌*◌, ◌<◌, ◌≤◌, ◌↔◌, Bool, true, not, ◌&&◌, ◌==◌, nat_lt, nat_le, int_lt, int_le, if◌then◌else◌, List, [], ◌∷◌, ℤ, pos, ◌+ℤ◌, ◌-ℤ◌, ◌≤ℤ◌, IsTrue, Some, None, Option, Ok, Err, Result}
-use Rattle.policy_machine.specs.Names.{count_by, range_with_len, Command, Issue, Premium, Alter, Lapse, Reinstate, Claim, Settle, Mature, MakePaidUp, Upgrade, Term, Whole, Endowment, Limited, Policy, Status, Refusal, Taken, Unknown, BeforeLast, WrongStatus, TermOver, NothingDue, TooEarly, GraceOver, NotInArrears, TooLate, WrongAmount, NotAReduction, NotMatured, OverSettled, IsIssue, IsCommandDay, Plan, anniversary_of}
+use Rattle.std.specs.Prelude.{ℕ, ◌+◌, ◌-◌, ◌*◌, ◌<◌, ◌≤◌, ◌↔◌, Bool, true, not, ◌&&◌, ◌||◌, ◌==◌, nat_lt, nat_le, int_lt, int_le, if◌then◌else◌, List, [], ◌∷◌, ℤ, pos, ◌+ℤ◌, ◌-ℤ◌, ◌≤ℤ◌, IsTrue, Some, None, Option, Ok, Err, Result}
+use Rattle.policy_machine.specs.Names.{count_by, option_map_or, range_with_len, status_eq, Command, Issue, Premium, Alter, Lapse, Reinstate, Claim, Settle, Mature, MakePaidUp, Upgrade, Term, Whole, Endowment, Limited, Policy, Status, Refusal, Taken, Unknown, BeforeLast, WrongStatus, TermOver, NothingDue, TooEarly, GraceOver, NotInArrears, TooLate, WrongAmount, NotAReduction, NotMatured, OverSettled, IsIssue, IsCommandDay, Plan, anniversary_of}
 use Rattle.policy_types.specs.declared.policy.Status.TheVariants.{InForce, Lapsed, Claimed, Matured, Expired, Settled, PaidUp}
 
--- the years of insurance of a plan, from the issue on
-abbrev pub years_in : Plan → ℕ → ℕ → ℕ
-years_in Term age years = years
-years_in Whole age years = 131 - age
-years_in Endowment age years = years
-years_in Limited age years = 131 - age
-
--- the number of annual premiums of a plan
-abbrev pub payments_in : Plan → ℕ → ℕ → ℕ
-payments_in Term age years = years
-payments_in Whole age years = 131 - age
-payments_in Endowment age years = years
-payments_in Limited age years = years
-
+-- the years of insurance, from the issue on
 abbrev pub years_of : Policy → ℕ
-years_of p = years_in p.plan p.age p.years
+years_of p = by_plan p.plan
+  where
+    by_plan : Plan → ℕ
+    by_plan Term = p.years
+    by_plan Whole = 131 - p.age
+    by_plan Endowment = p.years
+    by_plan Limited = 131 - p.age
 
+-- the number of annual premiums
 abbrev pub payments_of : Policy → ℕ
-payments_of p = payments_in p.plan p.age p.years
+payments_of p = by_plan p.plan
+  where
+    by_plan : Plan → ℕ
+    by_plan Term = p.years
+    by_plan Whole = 131 - p.age
+    by_plan Endowment = p.years
+    by_plan Limited = p.years
 
 -- the day on which the insurance ends
 abbrev pub end_of : Policy → ℤ
 end_of p = anniversary_of p.issued (years_of p)
 
-abbrev pub is_paid_up : Status → Bool
-is_paid_up PaidUp = true
-is_paid_up _ = not true
-
 -- a further premium falls due, which it does no more once the policy is paid up
 abbrev pub has_due : Policy → Bool
-has_due p = not (is_paid_up p.status) && nat_lt p.paid (payments_of p)
+has_due p = not (status_eq.it p.status PaidUp) && nat_lt p.paid (payments_of p)
 
 -- the day on which the next premium falls due, while one does
 abbrev pub due_of : Policy → ℤ
@@ -51,24 +47,6 @@ reinstatement_end_of p = anniversary_of p.issued (p.paid + 3)
 abbrev pub premiums_missed : Policy → ℤ → ℕ
 premiums_missed p day =
     count_by (λ j. int_le (anniversary_of p.issued j) day) (range_with_len p.paid (payments_of p - p.paid))
-
--- what reinstating the policy on a day costs
-abbrev pub reinstatement_sum : Policy → ℤ → ℕ
-reinstatement_sum p day = premiums_missed p day * p.premium
-
-abbrev pub is_in_force : Status → Bool
-is_in_force InForce = true
-is_in_force _ = not true
-
--- a death is covered
-abbrev pub is_insured : Status → Bool
-is_insured InForce = true
-is_insured PaidUp = true
-is_insured _ = not true
-
-abbrev pub is_lapsed : Status → Bool
-is_lapsed Lapsed = true
-is_lapsed _ = not true
 
 -- a benefit has fallen due and isn't paid in full
 abbrev pub awaits_settlement : Status → Bool
@@ -93,10 +71,12 @@ abbrev pub day_before_last : Policy → ℤ → Check
 day_before_last p day = refuse (int_lt day p.last) (BeforeLast p.last)
 
 abbrev pub not_in_force : Policy → Check
-not_in_force p = refuse (not (is_in_force p.status)) (WrongStatus p.status)
+not_in_force p = refuse (not (status_eq.it p.status InForce)) (WrongStatus p.status)
 
+-- a death is covered only while the policy is in force or paid up
 abbrev pub not_insured : Policy → Check
-not_insured p = refuse (not (is_insured p.status)) (WrongStatus p.status)
+not_insured p =
+    refuse (not (status_eq.it p.status InForce || status_eq.it p.status PaidUp)) (WrongStatus p.status)
 
 abbrev pub term_over : Policy → ℤ → Check
 term_over p day = refuse (int_le (end_of p) day) (TermOver (end_of p))
@@ -123,10 +103,10 @@ checks_of p (Lapse id day) =
     ∷ refuse (int_le day (grace_end_of p)) (NotInArrears (due_of p)) ∷ []
 checks_of p (Reinstate id day amount) =
     day_before_last p day
-    ∷ refuse (not (is_lapsed p.status)) (WrongStatus p.status)
+    ∷ refuse (not (status_eq.it p.status Lapsed)) (WrongStatus p.status)
     ∷ term_over p day
     ∷ refuse (int_lt (reinstatement_end_of p) day) (TooLate (reinstatement_end_of p))
-    ∷ refuse (not (amount == reinstatement_sum p day)) (WrongAmount (reinstatement_sum p day)) ∷ []
+    ∷ (let sum = premiums_missed p day * p.premium in refuse (not (amount == sum)) (WrongAmount sum)) ∷ []
 checks_of p (Claim id day) =
     day_before_last p day ∷ not_insured p ∷ term_over p day ∷ grace_over p day ∷ []
 checks_of p (Settle id day amount) =
@@ -178,15 +158,11 @@ issued id day plan age years amount premium = record {
   outstanding = 0;
 }
 
-abbrev pub decided : Option Refusal → Policy → Result Policy Refusal
-decided None after = Ok after
-decided (Some refusal) after = Err refusal
-
 -- what a command makes of the policy that it names, or of none: the first refusal that applies, or the new policy
 abbrev pub next : Option Policy → Command → Result Policy Refusal
 next None (Issue id day plan age years amount premium) = Ok (issued id day plan age years amount premium)
 next None _ = Err Unknown
-next (Some p) command = decided (first_refusal (checks_of p command)) (changed p command)
+next (Some p) command = option_map_or Err (first_refusal (checks_of p command)) (Ok (changed p command))
 
 -- what holds of every policy of the books
 pub record IsSound (p : Policy) : Type 0 where

@@ -1,7 +1,7 @@
 // Whether a command is accepted after those before it.
-ghost use Rattle.std.specs.Prelude.{◌≡◌, ◌<◌, ◌++◌, ◌∷◌, [], List, None, IfSome, IfOk, length};
-ghost use Rattle.policy_machine.specs.Names.{option_copied, ACommand, Upgrade, IsValid, id_of, most_commands};
-ghost use Rattle.policy_machine.specs.Book.{judged, left_by, upgrade_of};
+ghost use Rattle.std.specs.Prelude.{◌≡◌, ◌<◌, ◌++◌, ◌∷◌, [], List, Some, None, IfSome, IfOk, length};
+ghost use Rattle.policy_machine.specs.Names.{option_copied, result_map_both, ACommand, Upgrade, IsValid, id_of, most_commands};
+ghost use Rattle.policy_machine.specs.Book.{judged, upgrade_of};
 ghost use Rattle.policy_machine.specs.Rules.{IsSound};
 
 use crate::decision::decide;
@@ -45,7 +45,7 @@ fn once(upgrade: u32) -> Result<Option<Policy>, Refusal>
 }
 
 fn leaving(decision: Result<Policy, Refusal>) -> Result<Option<Policy>, Refusal>
-    ensures { result ≡ left_by decision }
+    ensures { result ≡ result_map_both Some (λ refusal. refusal) decision }
 {
     match decision {
         Ok(after) => Ok(Some(after)),

@@ -1,11 +1,10 @@
 // Laws of the upgrade and of paid-up policies, for callers.
 ghost use Rattle.std.specs.Prelude.{◌≡◌, ◌↔◌, true, ℕ, ◌+◌, ◌≤◌, ℤ, [], ◌∷◌, ◌++◌, List, Some, length};
-ghost use Rattle.policy_machine.specs.Names.{AllByRecursion, Command, PaidUp, Upgrade, Policy, Upgraded};
+ghost use Rattle.policy_machine.specs.Names.{AllByRecursion, Command, PaidUp, Upgrade, Policy, Upgraded, IsPaidUp, status_eq};
 ghost use Rattle.policy_machine.specs.Accounts.{ledger_of};
 ghost use Rattle.policy_machine.specs.Before.{IsOldCommand, WereAccepted, old_book, old_ledger, old_policy_of, old_refusal};
 ghost use Rattle.policy_machine.specs.Book.{IsAccepted, book, judge, policy_of, upgrade_of};
 ghost use Rattle.policy_machine.specs.PaidUp.{StaysPaidUp};
-ghost use Rattle.policy_machine.specs.Rules.{is_paid_up};
 
 /// A journal from before means what it meant: the same commands of it are accepted, and each other is refused for the
 /// same reason; they leave the same policies, book and balances.
@@ -47,5 +46,5 @@ pub fn cover_never_rises()
     ensures amount { (before rest : List Command) (id : ℕ) (p q : Policy) → policy_of before id ≡ Some p
         → policy_of (before ++ rest) id ≡ Some q → q.amount ≤ p.amount }
     ensures paid_up { (before rest : List Command) (id : ℕ) (p q : Policy) → policy_of before id ≡ Some p
-        → policy_of (before ++ rest) id ≡ Some q → is_paid_up p.status ≡ true → StaysPaidUp p q }
+        → policy_of (before ++ rest) id ≡ Some q → status_eq.it p.status IsPaidUp ≡ true → StaysPaidUp p q }
 {}

@@ -1,5 +1,5 @@
 //! Worked cases of the rules, the histories and the merges, each a theorem over the definitions alone.
-#![tactic(auto, unfolding(life_dates::specs::Anniversary::anniversary_of, life_dates::specs::Calendar::day_number, life_dates::specs::Calendar::date_of, life_dates::specs::Calendar::date_at, life_dates::specs::Calendar::year_of, life_dates::specs::Calendar::month_of, life_dates::specs::Calendar::days_before, life_dates::specs::Calendar::days_before_year, life_dates::specs::Calendar::days_of_months))]
+#![tactic(auto, unfolding(life_dates::specs::Anniversary::anniversary_of, life_dates::specs::Calendar::day_number, life_dates::specs::Calendar::date_of, life_dates::specs::Calendar::month_of, life_dates::specs::Calendar::days_before_year, life_dates::specs::Calendar::days_of_months))]
 
 pub mod alterations;
 pub mod balances;

@@ -1,9 +1,9 @@
 -- What an accepted command books on the four accounts, in cents. Every booking adds up to 0
-use Rattle.std.specs.Prelude.{ℕ, ℤ, pos, ◌+ℤ◌, ◌-ℤ◌, ◌≤ℤ◌}
+use Rattle.std.specs.Prelude.{ℕ, ℤ, pos, ◌+ℤ◌, ◌-ℤ◌, ◌≤ℤ◌, if◌then◌else◌}
+use Rattle.policy_types.specs.contracts.policy.StatusPartialEq.TheImpl.{eq-value as status_eq}
 use Rattle.policy_types.specs.declared.command.Command.{Command}
 use Rattle.policy_types.specs.declared.command.Command.TheVariants.{Issue, Premium, Alter, Lapse, Reinstate, Claim, Settle, Mature, PaidUp, Upgrade}
 use Rattle.policy_types.specs.declared.policy.Policy.{Policy}
-use Rattle.policy_types.specs.declared.policy.Status.{Status}
 use Rattle.policy_types.specs.declared.policy.Status.TheVariants.{Matured}
 
 -- what is booked on each account: cash, premiums earned, benefits incurred, benefits payable
@@ -32,12 +32,7 @@ benefit_incurred cents = record { cash = pos 0; premiums = pos 0; incurred = pos
 abbrev pub benefit_paid : ℕ → Booking
 benefit_paid cents = record { cash = against cents; premiums = pos 0; incurred = pos 0; payable = pos cents }
 
--- at the end of its term a policy has matured, and its amount falls due, or it has expired
-abbrev pub booked_at_term : Status → ℕ → Booking
-booked_at_term Matured amount = benefit_incurred amount
-booked_at_term _ amount = nothing_booked
-
--- what a command books that made the policy what it is now
+-- what a command books that made the policy what it is now: at the end of its term it has matured, or it has expired
 abbrev pub booking_of : Command → Policy → Booking
 booking_of (Issue id day plan age years amount premium) after = nothing_booked
 booking_of (Premium id day amount) after = premium_received amount
@@ -46,7 +41,7 @@ booking_of (Lapse id day) after = nothing_booked
 booking_of (Reinstate id day amount) after = premium_received amount
 booking_of (Claim id day) after = benefit_incurred after.amount
 booking_of (Settle id day amount) after = benefit_paid amount
-booking_of (Mature id day) after = booked_at_term after.status after.amount
+booking_of (Mature id day) after = if status_eq.it after.status Matured then benefit_incurred after.amount else nothing_booked
 booking_of (PaidUp id day amount) after = nothing_booked
 booking_of Upgrade after = nothing_booked
 

@@ -1,5 +1,5 @@
 use crate::command::Command;
-use crate::watcher::{Attention, NoMemory, Report, Watcher};
+use crate::watcher::{Attention, NotReady, Report, Watcher};
 
 /// A box of an auditor is an auditor, so auditors of many types can stand in one list.
 impl Watcher for Box<dyn Watcher + Send> {
@@ -13,7 +13,7 @@ impl Watcher for Box<dyn Watcher + Send> {
 
     ghost number = { λ it. (Watcher-box it).number it.value };
 
-    fn ready(&mut self) -> Result<(), NoMemory> {
+    fn ready(&mut self) -> Result<(), NotReady> {
         (**self).ready()
     }
 

@@ -17,7 +17,8 @@ pub use command::{
 };
 pub use entry::{At, Call, Entry, PinRefusal, Reply, Slice};
 pub use listed::Listed;
+pub use memory_requests::NoMemory;
 pub use policy::{Policy, Status};
 pub use refusal::Refusal;
 pub use script::{Lane, Line, Lines, Script};
-pub use watcher::{Attention, NoMemory, Report, Watcher};
+pub use watcher::{Attention, NotReady, Report, Watcher};

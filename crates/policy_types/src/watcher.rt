@@ -4,17 +4,10 @@ ghost use Rattle.policy_types.specs.Limits.{most_commands};
 ghost use Rattle.policy_types.specs.Valid.{IsValid};
 
 use crate::command::Command;
-use std::alloc::AllocError;
 
-/// Memory was refused.
+/// An auditor has no room for one more command.
 #[derive(Clone, Copy, PartialEq, Eq, Debug)]
-pub struct NoMemory;
-
-impl From<AllocError> for NoMemory {
-    fn from(_refused: AllocError) -> NoMemory {
-        NoMemory
-    }
-}
+pub struct NotReady;
 
 /// What an auditor has to say at the end.
 #[derive(Clone, Copy, PartialEq, Eq, Debug)]
@@ -50,7 +43,7 @@ pub trait Watcher: Drop {
     ghost number: { Self → List ACommand → ℕ };
 
     /// Makes room for one command. For want of memory all stays.
-    fn ready(&mut self) -> Result<(), NoMemory>
+    fn ready(&mut self) -> Result<(), NotReady>
         ensures noted { noted self.new ≡ noted self.old }
         ensures last { last self.new ≡ last self.old }
         ensures ok { OnOk result (1 ≤ spare self.new) }

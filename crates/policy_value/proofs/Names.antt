@@ -9,10 +9,11 @@ pub use Rattle.crvm_reserve.specs.declared.premium.Premium.{Premium}
 pub use Rattle.lru.specs.LruCache.{LruCache, lru_cache, promoted, put_entries}
 pub use Rattle.policy_types.specs.declared.policy.Status.TheVariants.{InForce, PaidUp, Lapsed, Claimed, Matured, Expired, Settled}
 pub use Rattle.policy_value.specs.Caches.{IsRightPremium, IsRightPlace, IsRowOf, HasAsked, IsRightColumn, KeepsKeys, IsRightUnit}
-pub use Rattle.policy_value.specs.Measures.{exact_reserve, exact_minimum, exact_mean, rounded_mean_reserve, rounded_reserve, both_bounds, IsExactFor}
+pub use Rattle.policy_value.specs.Measures.{exact_reserve, rounded_reserve, IsExactFor}
 pub use Rattle.policy_value.specs.declared.cache.ColumnCache.{ColumnCache}
 pub use Rattle.policy_value.specs.declared.covered.Covered.{Covered}
 pub use Rattle.policy_value.specs.declared.key.CacheKey.{CacheKey}
+pub use Rattle.policy_value.specs.declared.worth.Measure.TheVariants.{Terminal, Mean}
 pub use Rattle.policy_value.specs.inside.Covered.{cap_by, cover_by, IsCoverOf, IsCovered}
 pub use Rattle.policy_value.specs.inside.Kept.{unit_place, HasPut, kept_unit, HasAgeAt}
 pub use Rattle.present_value.specs.Ends.{value_to, AreValuesAt, IsColumn, IsOf}

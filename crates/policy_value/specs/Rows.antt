@@ -1,6 +1,6 @@
 -- The row of a policy in a valuation: its worth on a day by a basis and a measure, or the word why it has none
-use Rattle.std.specs.Prelude.{◌≡◌, ℕ, ◌≤◌, ◌⊎◌, min, ⊤, List, All, ℤ, ◌<ℤ◌, ◌≤ℤ◌, Result, Ok, Err}
-use Rattle.policy_value.specs.Names.{Policy, InForce, PaidUp, Shape, shape_of, Dated, IsPicked, AnyTable, NotValued}
+use Rattle.std.specs.Prelude.{◌≡◌, ℕ, ◌≤◌, ◌⊎◌, min, ⊤, List, All, ℤ, ◌<ℤ◌, ◌≤ℤ◌, MatchResult}
+use Rattle.policy_value.specs.Names.{Policy, InForce, PaidUp, Shape, shape_of, Dated, IsPicked, NotValued}
 use Rattle.life_dates.specs.Anniversary.{IsCompleted}
 use Rattle.plan_benefits.specs.declared.fault.NotValued.TheVariants.{NoBasis}
 use Rattle.policy_value.specs.declared.worth.Row.{Row}
@@ -18,34 +18,26 @@ IsInsured policy on = ((policy.status ≡ InForce) ⊎ (policy.status ≡ PaidUp
 abbrev pub IsYear : (issued on : ℤ) (n t : ℕ) → Type 0
 IsYear issued on n t = (years : ℕ) × IsCompleted issued on years × (t ≡ min years n)
 
--- by a table at an interest: a policy with a shape has its worth by the measure at its year, and one without has the
--- word
-abbrev pub IsReserveOf : Policy → AnyTable → ℕ → ℤ → Measure → Result Shape NotValued → ℕ → Worth → Type 0
-IsReserveOf policy table bp on measure (Ok shape) t worth =
-    IsYear policy.issued on shape.n t
-    × IsWorthOf measure policy (cover_along table shape bp) (cap_along table shape.age bp) t worth
-IsReserveOf policy table bp on measure (Err word) t worth = (t ≡ 0) × (worth ≡ Word word)
+-- What is told of a policy on a day: where it isn't insured then; why it has no value; or by an entry of the basis, which is
+-- the last one that had begun on its day of issue, and its shape
+pub record IsByEntry (basis : List Dated) (on : ℤ) (policy : Policy) (Uninsured : Type 0) (Without : NotValued → Type 0)
+    (With : Dated → Shape → Type 0) : Type 0 where
+  pub uninsured : (IsInsured policy on → ⊥) → Uninsured
+  pub unnamed : IsInsured policy on → All (λ (entry : Dated). policy.issued <ℤ entry.from_day) basis → Without NoBasis
+  pub named : IsInsured policy on → (index : ℕ) → (entry : Dated) → IsPicked basis policy.issued index entry
+      → MatchResult (shape_of policy.plan policy.age policy.years entry.table) (With entry) Without
 
--- the year and the worth of an insured policy: by the last entry of the basis that had begun on its day of issue
-pub record IsValueOf (policy : Policy) (basis : List Dated) (on : ℤ) (measure : Measure) (t : ℕ) (worth : Worth) : Type 0 where
-  pub unnamed : All (λ (entry : Dated). policy.issued <ℤ entry.from_day) basis → (t ≡ 0) × (worth ≡ Word NoBasis)
-  pub named : (index : ℕ) → (entry : Dated) → IsPicked basis policy.issued index entry
-      → IsReserveOf policy entry.table entry.bp on measure (shape_of policy.plan policy.age policy.years entry.table) t worth
-
--- the row of a policy on a day by a measure
-pub record RowOf (policy : Policy) (basis : List Dated) (on : ℤ) (measure : Measure) (row : Row) : Type 0 where
+-- The row of a policy on a day by a measure. Its bounds are those that are rounded by the rates of the age at issue and the
+-- duration, and enclose the exact reserve; or it has a word.
+pub record IsValuedRow (basis : List Dated) (on : ℤ) (measure : Measure) (policy : Policy) (row : Row) : Type 0 where
   pub id : row.id ≡ policy.id
   pub status : row.status ≡ policy.status
-  pub insured : IsInsured policy on → IsValueOf policy basis on measure row.t row.worth
-  pub uninsured : (IsInsured policy on → ⊥) → (row.t ≡ 0) × (row.worth ≡ no_reserve measure)
-
--- the bounds enclose the exact reserve of the policy's amount by the measure, to at most two cents; and it is by the rates
--- of the age at issue and the duration
-abbrev pub IsExact : Measure → Policy → AnyTable → ℕ → ℕ → Worth → Type 0
-IsExact measure policy table bp t worth =
-    (shape : Shape) → shape_of policy.plan policy.age policy.years table ≡ Ok shape
-    → AreByDuration table shape.age (cover_along table shape bp) (cap_along table shape.age bp)
-    × IsExactFor measure policy (cover_along table shape bp) (cap_along table shape.age bp) t worth
+  pub worth : IsByEntry basis on policy ((row.t ≡ 0) × (row.worth ≡ no_reserve measure))
+      (λ why. (row.t ≡ 0) × (row.worth ≡ Word why))
+      (λ entry shape.
+      let c = cover_along entry.table shape entry.bp in let cap = cap_along entry.table shape.age entry.bp in
+      IsYear policy.issued on shape.n row.t × IsWorthOf measure policy c cap row.t row.worth
+      × AreByDuration entry.table shape.age c cap × IsExactFor measure policy c cap row.t row.worth)
 
 -- bounds are in order, and none is above the amount
 abbrev pub IsWithinAmount : ℕ → Worth → Type 0

@@ -11,6 +11,7 @@ use crate::units::UnitStore;
 use basis_book::Basis;
 use crvm_reserve::{Premium, shape_of_cap, unit_reserve};
 use lru::LruCache;
+use memory_requests::sparse_cache;
 use policy_types::NoMemory;
 use present_value::{Pair, Values};
 use rate_table::Shape;
@@ -51,15 +52,13 @@ impl ColumnCache {
         let columns = ColumnStore::new(alloc, columns)?;
         let units = UnitStore::new(alloc, premiums)?;
         let most = NonZeroUsize::new(premiums as usize).unwrap();
-        match LruCache::sparse(alloc, most) {
-            Ok(premiums) => Ok(ColumnCache {
-                premiums,
-                columns,
-                units,
-                unkept: 0,
-            }),
-            Err(_) => Err(NoMemory),
-        }
+        let premiums = sparse_cache(alloc, most)?;
+        Ok(ColumnCache {
+            premiums,
+            columns,
+            units,
+            unkept: 0,
+        })
     }
 
     /// How many keys of policies it holds, or 255 where they are more.

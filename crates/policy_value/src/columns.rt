@@ -8,6 +8,7 @@ ghost use Rattle.policy_value.specs.inside.Kept.{HasAge, HasAgeAt, HasPut, HasCo
 use crate::covered::{Covered, IssueRates};
 use basis_book::Basis;
 use crvm_reserve::{Premium, PremiumParts, premium_by};
+use memory_requests::{filled, with_room};
 use policy_types::NoMemory;
 use present_value::{Column, Pair, Stream, Values};
 use rate_table::{RateTable, Shape};
@@ -92,15 +93,9 @@ impl ColumnStore {
     {
         let most = most as usize;
         let most_kept = (most * NARROW_IN_ONE).min(MOST_KEPT);
-        let Ok(kept) = Vec::with_capacity(alloc, most_kept) else {
-            return Err(NoMemory);
-        };
-        let Ok(pairs) = Vec::with_capacity(alloc, most * AGES) else {
-            return Err(NoMemory);
-        };
-        let Ok(places) = Vec::from_elem(alloc, 0, SLOTS) else {
-            return Err(NoMemory);
-        };
+        let kept = with_room(alloc, most_kept)?;
+        let pairs = with_room(alloc, most * AGES)?;
+        let places = filled(alloc, 0, SLOTS)?;
         Ok(ColumnStore {
             kept,
             most_kept,

@@ -3,8 +3,8 @@ ghost use Rattle.std.specs.Prelude.{◌≡◌, ◌≤◌, ◌*◌};
 ghost use Rattle.policy_value.specs.Names.{Encloses, IsAmount};
 ghost use Rattle.policy_value.specs.Caches.{IsRightFor};
 ghost use Rattle.policy_value.specs.Used.{AsksByStatus, key_of};
-ghost use Rattle.policy_value.specs.Measures.{IsBothOf, IsExactFor, IsWorthOf, exact_mean, exact_reserve, most_worth, rounded_mean_reserve, rounded_reserve};
-ghost use Rattle.policy_value.specs.declared.worth.Measure.TheVariants.{Deficiency};
+ghost use Rattle.policy_value.specs.Measures.{IsBothOf, IsExactFor, IsWorthOf, exact_reserve, most_worth, rounded_reserve};
+ghost use Rattle.policy_value.specs.declared.worth.Measure.TheVariants.{Terminal, Mean, Deficiency};
 ghost use Rattle.policy_value.specs.Rows.{IsWithinAmount};
 ghost use Rattle.policy_value.specs.inside.Covered.{IsCoverOf, cap_by, cover_by};
 
@@ -61,9 +61,9 @@ fn bounds(
     requires cover { IsCoverOf basis.now policy.now.plan policy.now.age policy.now.years covered.now }
     requires year { t ≤ covered.now.shape.n }
     requires right { IsRightFor basis.now cache.old }
-    ensures rounded { result ≡ rounded_reserve policy.now.status (cover_by covered.now) (cap_by covered.now) policy.now.amount t }
+    ensures rounded { result ≡ rounded_reserve Terminal policy.now.status (cover_by covered.now) (cap_by covered.now) policy.now.amount t }
     ensures exact { Encloses result.0 result.1 policy.now.amount
-        (exact_reserve policy.now.status (cover_by covered.now) (cap_by covered.now) t) }
+        (exact_reserve Terminal policy.now.status (cover_by covered.now) (cap_by covered.now) t) }
     ensures most { result.1 ≤ policy.now.amount }
     ensures right { IsRightFor basis.now cache.new }
     ensures keys { AsksByStatus policy.now covered.now.own.basis_row cache.old cache.new }
@@ -89,9 +89,9 @@ fn mean(
     requires cover { IsCoverOf basis.now policy.now.plan policy.now.age policy.now.years covered.now }
     requires year { t ≤ covered.now.shape.n }
     requires right { IsRightFor basis.now cache.old }
-    ensures rounded { result ≡ rounded_mean_reserve policy.now.status (cover_by covered.now) (cap_by covered.now) policy.now.amount t }
+    ensures rounded { result ≡ rounded_reserve Mean policy.now.status (cover_by covered.now) (cap_by covered.now) policy.now.amount t }
     ensures exact { Encloses result.0 result.1 policy.now.amount
-        (exact_mean policy.now.status (cover_by covered.now) (cap_by covered.now) t) }
+        (exact_reserve Mean policy.now.status (cover_by covered.now) (cap_by covered.now) t) }
     ensures most { result.1 ≤ 2 * policy.now.amount }
     ensures right { IsRightFor basis.now cache.new }
     ensures keys { AsksByStatus policy.now covered.now.own.basis_row cache.old cache.new }

@@ -5,6 +5,7 @@ ghost use Rattle.policy_value.specs.Caches.{IsRightPlace, IsRightUnit, IsRightUn
 ghost use Rattle.policy_value.specs.inside.Kept.{HasUnitRoom, HoldsUnit, kept_unit, unit_place};
 
 use crate::key::{CacheKey, plan_number};
+use memory_requests::with_room;
 use policy_types::NoMemory;
 use present_value::Pair;
 use std::alloc::Global;
@@ -50,9 +51,7 @@ impl UnitStore {
         ensures { IfOk result (λ units. (basis : List Dated) → IsRightUnits basis units) }
     {
         let most = (keys as usize * PLACES_FOR_A_KEY).min(MOST_PLACES);
-        let Ok(mut places) = Vec::with_capacity(alloc, most) else {
-            return Err(NoMemory);
-        };
+        let mut places = with_room(alloc, most)?;
         add_places(&mut places, most.min(FIRST_PLACES));
         Ok(UnitStore {
             places,

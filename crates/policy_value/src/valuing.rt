@@ -3,7 +3,8 @@ ghost use Rattle.policy_value.specs.Names.{Dated, IsPicked, shape_of, AShape, Is
 ghost use Rattle.policy_value.specs.Caches.{IsRightFor};
 ghost use Rattle.policy_value.specs.Used.{UsesCache, AsksByBasis, AsksByShape};
 ghost use Rattle.policy_value.specs.Measures.{most_worth};
-ghost use Rattle.policy_value.specs.Rows.{IsInsured, IsValueOf, IsReserveOf, IsWithinAmount, RowOf, IsExact};
+ghost use Rattle.policy_value.specs.Rows.{IsInsured, IsWithinAmount, IsValuedRow};
+ghost use Rattle.policy_value.specs.inside.Valued.{IsExact, IsReserveOf, IsValueOf};
 
 use crate::cache::ColumnCache;
 use crate::covered::{Covered, IssueRates};
@@ -28,10 +29,7 @@ pub fn row(
     requires sound { IsIssue policy.now.id policy.now.issued policy.now.plan policy.now.age policy.now.years
         policy.now.amount policy.now.premium }
     requires right { IsRightFor basis.now cache.old }
-    ensures row { RowOf policy.now basis.now on measure result }
-    ensures exact { IsInsured policy.now on → (index : ℕ) → (entry : Dated)
-        → IsPicked basis.now policy.now.issued index entry
-        → IsExact measure policy.now entry.table entry.bp result.t result.worth }
+    ensures row { IsValuedRow basis.now on measure policy.now result }
     ensures most { IsWithinAmount (most_worth measure policy.now.amount) result.worth }
     ensures right { IsRightFor basis.now cache.new }
     ensures keys { UsesCache policy.now basis.now on cache.old cache.new }

@@ -1,5 +1,5 @@
 -- Each file opens to bodies, or shows why it doesn't
-use Rattle.posting_journal.proofs.Names.{◌≡◌, ◌≢◌, ◌⊎◌, inl, inr, ⊎_elim, ℕ, zero, suc, ◌+◌, ◌<◌, ◌≤◌, true, false, List, [], length, refl, sym, ◌∙◌, subst, arith, bytes_eq, true≢false, cases_Bool, cases_lt, CannotStand, IsBadAt, IsForeign, IsUnfinished, OpensToBodies, IsMade, gate_place, header}
+use Rattle.posting_journal.proofs.Names.{◌≡◌, ◌≢◌, ◌⊎◌, inl, inr, ⊎_elim, ℕ, zero, suc, ◌+◌, ◌<◌, ◌≤◌, List, [], length, refl, sym, ◌∙◌, subst, arith, bytes_eq, true≢false, cases_Bool, cases_lt, IsBadAt, IsForeign, IsUnfinished, OpensToBodies, IsMade, gate_place, header}
 use Rattle.std.specs.Prelude.{take, drop, slice_index}
 use Rattle.std.proofs.lemmas.Bool.Decides.{eqb_tells}
 use Rattle.std.proofs.lemmas.Slice.Eq.{bytes_eq-Decides}
@@ -25,16 +25,16 @@ nearly : (bytes : List ℕ) → length bytes ≡ 18 → slice_index bytes 0 ≢ 
 nearly bytes long not_begun not_made = elim (is_header bytes) [
   | inr other ↦ inr (λ is. elim is [
     | inl short ↦ omega (arith, long, short)
-    | inr (inl begun) ↦ not_begun begun.unfinished
-    | inr (inr near) ↦ other near.ready.header
+    | inr (inl begun) ↦ not_begun begun.1
+    | inr (inr near) ↦ other near.1
   ])
   | inl same ↦ elim (is_byte (slice_index bytes 17) 1) [
     | inl opened ↦ inr (λ is. elim is [
       | inl short ↦ omega (arith, long, short)
-      | inr (inl begun) ↦ not_begun begun.unfinished
-      | inr (inr near) ↦ near.ready.closed opened
+      | inr (inl begun) ↦ not_begun begun.1
+      | inr (inr near) ↦ near.2 opened
     ])
-    | inr closed ↦ inl (inr (inr (record { ready = record { long = long; header = same; closed = closed }; not_begun = not_begun; not_made = not_made })))
+    | inr closed ↦ inl (inr (inr (long, same, closed, not_made)))
   ]
 ]
 
@@ -43,14 +43,14 @@ not_begun_yet : (bytes : List ℕ) → 1 < length bytes → slice_index bytes 0 
 not_begun_yet bytes some not_begun = elim (eqb_tells (length bytes) 18) [
   | inr other ↦ inr (λ is. elim is [
     | inl short ↦ omega (arith, some, short)
-    | inr (inl begun) ↦ not_begun begun.unfinished
-    | inr (inr near) ↦ other.1 near.ready.long
+    | inr (inl begun) ↦ not_begun begun.1
+    | inr (inr near) ↦ other.1 near.0
   ])
   | inl long ↦ elim (is_byte (slice_index bytes 0) 1) [
     | inl made ↦ inr (λ is. elim is [
       | inl short ↦ omega (arith, some, short)
-      | inr (inl begun) ↦ not_begun begun.unfinished
-      | inr (inr near) ↦ near.not_made made
+      | inr (inl begun) ↦ not_begun begun.1
+      | inr (inr near) ↦ near.3 made
     ])
     | inr not_made ↦ nearly bytes long.1 not_begun not_made
   ]
@@ -62,11 +62,11 @@ unfinished bytes = elim (cases_lt 1 (length bytes)) [
   | inl some ↦ elim (is_byte (slice_index bytes 0) 0) [
     | inr not_begun ↦ not_begun_yet bytes some not_begun
     | inl begun ↦ elim (cases_lt 18 (length bytes)) [
-      | inr short ↦ inl (inr (inl (record { some = omega (arith, some); short = short; unfinished = begun })))
+      | inr short ↦ inl (inr (inl (short, begun)))
       | inl long ↦ inr (λ is. elim is [
         | inl short ↦ omega (arith, some, short)
-        | inr (inl is_begun) ↦ (let short = is_begun.short in omega (arith, long, short))
-        | inr (inr near) ↦ near.not_begun begun
+        | inr (inl is_begun) ↦ (let short = is_begun.0 in omega (arith, long, short))
+        | inr (inr near) ↦ (let short = near.0 in omega (arith, long, short))
       ])
     ]
   ]
@@ -78,7 +78,7 @@ unfinished bytes = elim (cases_lt 1 (length bytes)) [
 abbrev Shows : List ℕ → Type 0
 Shows bytes = ((bodies : List (List ℕ)) × OpensToBodies bytes bodies) ⊎ IsForeign bytes ⊎ ((n : ℕ) × IsBadAt bytes n)
 
-module _ (bytes : List ℕ) (finished : ¬ IsUnfinished bytes) (long : 18 ≤ length bytes) (made : IsMade bytes) where
+module _ (bytes : List ℕ) (made : IsMade bytes) where
   -- the gates up to that of record n are open
   upto : (n : ℕ) → slice_index bytes (gate_place n) ≡ 1 → ((k : ℕ) → k < n → slice_index bytes (gate_place k) ≡ 1)
       → (k : ℕ) → k ≤ n → slice_index bytes (gate_place k) ≡ 1
@@ -89,44 +89,33 @@ module _ (bytes : List ℕ) (finished : ¬ IsUnfinished bytes) (long : 18 ≤ le
 
   -- record n, where those before it are open and can stand; it goes on where its gate is open and it is whole
   record_at : (n : ℕ) → n ≤ 4000000 → gate_place n < length bytes
-      → ((k : ℕ) → k < n → slice_index bytes (gate_place k) ≡ 1) → ((k : ℕ) → k < n → ¬ CannotStand bytes k)
+      → ((k : ℕ) → k < n → slice_index bytes (gate_place k) ≡ 1)
       → (slice_index bytes (gate_place n) ≡ 1 → gate_place (n + 1) < length bytes → Shows bytes) → Shows bytes
-  record_at n most there gates stand go_on = elim (is_byte (slice_index bytes (gate_place n)) 1) [
+  record_at n most there gates go_on = elim (is_byte (slice_index bytes (gate_place n)) 1) [
     | inr closed ↦
-        let c = counted bytes n made most (record { gates = gates; end = record { there = there; closed = closed } }) in
+        let c = counted bytes n made most (record { gates = gates; end = (there, closed) }) in
         inl (c.bodies, inl c.journal)
     | inl opened ↦ elim (cases_lt (gate_place (n + 1)) (length bytes)) [
-      | inr cut ↦ inr (inr (n, record { finished = finished; long = long; made = made; gates = upto n opened gates; before = stand; here = inl cut }))
+      | inr cut ↦ inr (inr (n, record { made = made; gates = upto n opened gates; long = there; few = most; here = inl cut }))
       | inl more ↦ go_on opened more
     ]
   ]
 
-  still_stands : (n : ℕ) → n < 4000000 → gate_place (n + 1) < length bytes → ((k : ℕ) → k < n → ¬ CannotStand bytes k)
-      → (k : ℕ) → k < n + 1 → ¬ CannotStand bytes k
-  still_stands n fewer more stand k low cannot = elim (cases_lt k n) [
-    | inl before ↦ stand k before cannot
-    | inr last ↦
-        let same : k ≡ n = omega (arith, low, last) in
-        ⊎_elim (λ cut. omega (arith, cut, more, same)) (λ full. omega (arith, full, fewer, same)) cannot
-  ]
-
   -- so many more records there may be
   scan : (left n : ℕ) → n + left ≡ 4000000 → gate_place n < length bytes
-      → ((k : ℕ) → k < n → slice_index bytes (gate_place k) ≡ 1) → ((k : ℕ) → k < n → ¬ CannotStand bytes k) → Shows bytes
-  scan zero n all there gates stand = record_at n (omega (arith, all)) there gates stand (λ opened more. inr (inr (
+      → ((k : ℕ) → k < n → slice_index bytes (gate_place k) ≡ 1) → Shows bytes
+  scan zero n all there gates = record_at n (omega (arith, all)) there gates (λ opened more. inr (inr (
     n,
     record {
-      finished = finished;
-      long = long;
       made = made;
       gates = upto n opened gates;
-      before = stand;
+      long = there;
+      few = omega (arith, all);
       here = inr (omega (arith, all));
     },
   )))
-  scan (suc left) n all there gates stand = record_at n (omega (arith, all)) there gates stand (λ opened more.
-      scan left (n + 1) (omega (arith, all)) more (λ k low. upto n opened gates k (omega (arith, low)))
-      (still_stands n (omega (arith, all)) more stand))
+  scan (suc left) n all there gates = record_at n (omega (arith, all)) there gates (λ opened more.
+      scan left (n + 1) (omega (arith, all)) more (λ k low. upto n opened gates k (omega (arith, low))))
 
 pub bodies_or_shown : (bytes : List ℕ) → ((bodies : List (List ℕ)) × OpensToBodies bytes bodies) ⊎ IsForeign bytes ⊎ ((n : ℕ) × IsBadAt bytes n)
 bodies_or_shown bytes = elim (unfinished bytes) [
@@ -137,8 +126,8 @@ bodies_or_shown bytes = elim (unfinished bytes) [
       | inr closed ↦ inr (inl (record { finished = finished; other = inr (inl closed) }))
       | inl made ↦ elim (is_header bytes) [
         | inr other ↦ inr (inl (record { finished = finished; other = inr (inr other) }))
-        | inl same ↦ scan bytes finished long (record { finished = made; header = same }) 4000000 0 refl (omega (arith, long))
-            (λ k low. absurd (omega (arith, low))) (λ k low. absurd (omega (arith, low)))
+        | inl same ↦ scan bytes (record { finished = made; header = same }) 4000000 0 refl (omega (arith, long))
+            (λ k low. absurd (omega (arith, low)))
       ]
     ]
   ]

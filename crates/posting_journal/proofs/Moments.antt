@@ -46,15 +46,21 @@ module _ {D : Type 0} (g : Ghosts D) where
     before = λ moment image le left. ⊎_elim (λ was. ⊎_elim (λ before. inl before) (λ now. inr (more image now)) (first.before moment image le was)) (λ now. inr now) (second.before moment image (omega (arith, le, first.later)) left);
   }
 
+  -- what the disk reads and leaves, and then the time
+  looked_in : (old new : D) → Looks (g.reads old) (g.reads new) (g.may_leave old) (g.may_leave new) → Passes g old new (g.may_leave old) → LooksOn g old new
+  looked_in old new facts time = record { reads = facts.reads; images = facts.images; later = time.later; nothing_else = time.nothing_else; keeps = time.keeps }
+
+  pub looks_pass : (old new : D) → LooksOn g old new → Passes g old new (g.may_leave old)
+  looks_pass old new looks = record { later = looks.later; nothing_else = looks.nothing_else; keeps = looks.keeps }
+
   pub looks_none : (disk : D) → LooksOn g disk disk
-  looks_none disk = record { facts = record { reads = refl; images = λ image left. left }; time = at_rest disk (g.may_leave disk) }
+  looks_none disk = looked_in disk disk (record { reads = refl; images = λ image left. left }) (at_rest disk (g.may_leave disk))
 
   -- one call that writes nothing
   pub looked : (old new : D) → Looks (g.reads old) (g.reads new) (g.may_leave old) (g.may_leave new) → Passes g old new (g.may_leave new) → LooksOn g old new
-  looked old new facts time = record { facts = facts; time = wider old new (g.may_leave new) (g.may_leave old) time facts.images }
+  looked old new facts time = looked_in old new facts (wider old new (g.may_leave new) (g.may_leave old) time facts.images)
 
   pub looks_on : (old mid new : D) → LooksOn g old mid → LooksOn g mid new → LooksOn g old new
-  looks_on old mid new first second = record {
-    facts = record { reads = second.facts.reads ∙ first.facts.reads; images = λ image left. first.facts.images image (second.facts.images image left) };
-    time = goes_on old mid new (g.may_leave old) first.time (wider mid new (g.may_leave mid) (g.may_leave old) second.time first.facts.images);
-  }
+  looks_on old mid new first second = looked_in old new
+      (record { reads = second.reads ∙ first.reads; images = λ image left. first.images image (second.images image left) })
+      (goes_on old mid new (g.may_leave old) (looks_pass old mid first) (wider mid new (g.may_leave mid) (g.may_leave old) (looks_pass mid new second) first.images))

@@ -58,30 +58,29 @@ counted bytes n made few ends =
       size = size;
       journal = record {
         made = made;
-        records = λ k lt. let within : k < n = omega (arith, lt, size) in record { opened = ends.gates k within; whole = sym (get_or-bodies_to n bytes k within) };
+        records = λ k lt. let within : k < n = omega (arith, lt, size) in (ends.gates k within, sym (get_or-bodies_to n bytes k within));
         end = subst (λ m. IsClosed bytes m) (sym size) ends.end;
         few = omega (arith, size, few);
       };
     }
 
-pub bad_shown : (bytes : List ℕ) (cause : Unopened) → IsMade bytes → 18 ≤ length bytes → ¬ IsUnfinished bytes → IsBadFrom bytes cause → ShowsWhy bytes cause
-bad_shown bytes Unread made long finished bad = tt
-bad_shown bytes NotAJournal made long finished bad = absurd bad
-bad_shown bytes (BadRecord n) made long finished bad = record {
-  finished = finished;
-  long = long;
+pub bad_shown : (bytes : List ℕ) (cause : Unopened) → IsMade bytes → IsBadFrom bytes cause → ShowsWhy bytes cause
+bad_shown bytes Unread made bad = tt
+bad_shown bytes NotAJournal made bad = absurd bad
+bad_shown bytes (BadRecord n) made bad = record {
   made = made;
   gates = λ k le. elim (cases_eq k n) [
     | inl last ↦ subst (λ m. get_or bytes (gate_place m) 0 ≡ 1) (sym last) bad.1
     | inr other ↦ (bad.0).gates k (omega (arith, le, other))
   ];
-  before = (bad.0).stand;
+  long = (bad.0).long;
+  few = (bad.0).few;
   here = bad.2;
 }
 
 module _ {D : Type 0} (g : Ghosts D) (old new : D) where
   pub safe_stays : LooksOn g old new → IsSafe g old → IsSafe g new
-  safe_stays looks safe image left = safe image (looks.facts.images image left) ∙ sym looks.facts.reads
+  safe_stays looks safe image left = safe image (looks.images image left) ∙ sym looks.reads
 
   -- a journal that was counted
   pub made_opened : (n : ℕ) → LooksOn g old new → IsSafe g old → IsMade (g.reads old) → n ≤ 4000000 → EndsAt (g.reads old) n → OpenedTo g old new n
@@ -90,7 +89,7 @@ module _ {D : Type 0} (g : Ghosts D) (old new : D) where
       record {
         bodies = c.bodies;
         opened = inl c.journal;
-        holds = subst (λ b. IsJournal b c.bodies) (sym looks.facts.reads) c.journal;
+        holds = subst (λ b. IsJournal b c.bodies) (sym looks.reads) c.journal;
         counted = sym c.size;
         safe = safe_stays looks safe;
       }

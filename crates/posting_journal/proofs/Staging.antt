@@ -26,7 +26,7 @@ pub staging : {D T E : Type 0} (g : Ghosts D) (old new : D) (bodies : List (List
     → PutsOn g old new (body_place (length bodies)) (body ++ 0 ∷ []) result → Staging g old new bodies body result
 staging g old new bodies body result fewer size journal images only_now puts =
     let long : length (body ++ 0 ∷ []) ≡ 65 = omega (arith, length-append body (0 ∷ []), size) in
-    let within : body_place (length bodies) ≤ length (g.reads old) = omega (arith, journal.end.there) in
+    let within : body_place (length bodies) ≤ length (g.reads old) = omega (arith, journal.end.0) in
     let keeps : (before after : List ℕ) → IsJournal before bodies → Torn (body_place (length bodies)) (length (body ++ 0 ∷ [])) before after → IsJournal after bodies =
     λ before after was torn. torn_stage bodies before after was (subst (λ many. Torn (body_place (length bodies)) many before after) long torn) in
     record {
@@ -48,7 +48,7 @@ pub gating : {D T E : Type 0} (g : Ghosts D) (old new : D) (bodies : List (List 
     → ((image : List ℕ) → g.may_leave old image → IsStaged image bodies body) → ((image : List ℕ) → g.left_since old (g.clock old) image → g.may_leave old image)
     → PutsOn g old new (gate_place (length bodies)) (byte ∷ []) result → Gating g old new bodies body
 gating g old new bodies body byte result staged images only_now puts =
-    let within : gate_place (length bodies) ≤ length (g.reads old) = omega (arith, staged.end.there) in
+    let within : gate_place (length bodies) ≤ length (g.reads old) = omega (arith, staged.end.0) in
     record {
       reads = torn_gate bodies body (g.reads old) (g.reads new) staged (put_torn g old new (gate_place (length bodies)) (byte ∷ []) result within puts);
       images = λ image left. let from = puts.facts.images image left in torn_gate bodies body from.0 image (images from.0 from.1) from.2;

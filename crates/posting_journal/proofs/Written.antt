@@ -10,11 +10,10 @@ made_stays many old new same long made = record {
 
 pub records_stay : (bodies : List (List ℕ)) (old new : List ℕ) → take (gate_place (length bodies)) new ≡ take (gate_place (length bodies)) old → HasRecords old bodies → HasRecords new bodies
 records_stay bodies old new same records n lt =
-    let was = records n lt in
-    record {
-      opened = same_byte (gate_place (length bodies)) (gate_place n) old new same (omega arith) ∙ was.opened;
-      whole = same_part (gate_place (length bodies)) (body_place n) 64 old new same (omega arith) ∙ was.whole;
-    }
+    let was = records n lt in (
+      same_byte (gate_place (length bodies)) (gate_place n) old new same (omega arith) ∙ was.0,
+      same_part (gate_place (length bodies)) (body_place n) 64 old new same (omega arith) ∙ was.1,
+    )
 
 -- Whatever is written behind the closed gate, the journal stays.
 pub torn_stage : (bodies : List (List ℕ)) (old new : List ℕ) → IsJournal old bodies → Torn (body_place (length bodies)) 65 old new → IsJournal new bodies
@@ -25,7 +24,7 @@ torn_stage bodies old new journal torn =
     record {
       made = made_stays (gate_place n) old new front (omega arith) journal.made;
       records = records_stay bodies old new front journal.records;
-      end = record { there = omega (arith, journal.end.there, torn.no_shorter); closed = λ one. journal.end.closed (sym gate ∙ one) };
+      end = (omega (arith, journal.end.0, torn.no_shorter), λ one. journal.end.1 (sym gate ∙ one));
       few = journal.few;
     }
 
@@ -41,7 +40,7 @@ torn_gate bodies body old new staged torn =
       made = made_stays (gate_place n) old new torn.before (omega arith) staged.made;
       records = records_stay bodies old new torn.before staged.records;
       whole = ap (λ (l : List ℕ). take 64 l) behind ∙ staged.whole;
-      end = record { there = omega (arith, staged.end.there, torn.no_shorter); closed = λ one. staged.end.closed (sym gate ∙ one) };
+      end = (omega (arith, staged.end.0, torn.no_shorter), λ one. staged.end.1 (sym gate ∙ one));
       fewer = staged.fewer;
     }
 
@@ -49,7 +48,7 @@ torn_gate bodies body old new staged torn =
 pub written_stage : (bodies : List (List ℕ)) (body old new : List ℕ) → length bodies < 4000000 → length body ≡ 64 → IsJournal old bodies → Holds old (body_place (length bodies)) (body ++ 0 ∷ []) new → IsStaged new bodies body
 written_stage bodies body old new fewer size journal holds =
     let n = length bodies in
-    let w = written old (body_place n) (body ++ 0 ∷ []) new (omega (arith, journal.end.there)) holds in
+    let w = written old (body_place n) (body ++ 0 ∷ []) new (omega (arith, journal.end.0)) holds in
     let long : length (body ++ 0 ∷ []) ≡ 65 = omega (arith, length-append body (0 ∷ []), size) in
     let front : take (gate_place n) new ≡ take (gate_place n) old = same_shorter (gate_place n) (body_place n) old new w.before (omega arith) in
     let rest = drop (body_place n + length (body ++ 0 ∷ [])) old in
@@ -61,7 +60,7 @@ written_stage bodies body old new fewer size journal holds =
       made = made_stays (gate_place n) old new front (omega arith) journal.made;
       records = records_stay bodies old new front journal.records;
       whole = ap (λ (l : List ℕ). take 64 l) behind ∙ take_at body (0 ∷ rest) 64 size;
-      end = record { there = omega (arith, w.size, long); closed = λ one. let clash : 0 ≡ 1 = sym gate ∙ one in absurd (omega (arith, clash)) };
+      end = (omega (arith, w.size, long), λ one. let clash : 0 ≡ 1 = sym gate ∙ one in absurd (omega (arith, clash)));
       fewer = fewer;
     }
 
@@ -74,11 +73,11 @@ staged_opened bodies body bytes staged gate =
       made = staged.made;
       records = λ k lt. elim (cases_eq k n) [
         | inl last ↦ let is : get_or (bodies ++ body ∷ []) k [] ≡ body = get_or_push bodies body [] k (sym last) in
-            record { opened = subst (λ m. get_or bytes (gate_place m) 0 ≡ 1) (sym last) gate; whole = subst (λ m. take 64 (drop (body_place m) bytes) ≡ body) (sym last) staged.whole ∙ sym is }
+            (subst (λ m. get_or bytes (gate_place m) 0 ≡ 1) (sym last) gate, subst (λ m. take 64 (drop (body_place m) bytes) ≡ body) (sym last) staged.whole ∙ sym is)
         | inr other ↦ let within : k < n = omega (arith, lt, more, other) in
             let is : get_or (bodies ++ body ∷ []) k [] ≡ get_or bodies k [] = get_or_append_left bodies (body ∷ []) [] k within in
             let was = staged.records k within in
-            record { opened = was.opened; whole = was.whole ∙ sym is }
+            (was.0, was.1 ∙ sym is)
       ];
       end = subst (λ m. IsClosed bytes m) (sym more) staged.end;
       few = omega (arith, more, staged.fewer);
@@ -89,7 +88,7 @@ pub staged_closed : (bodies : List (List ℕ)) (body bytes : List ℕ) → IsSta
 staged_closed bodies body bytes staged shut = record {
   made = staged.made;
   records = staged.records;
-  end = record { there = omega (arith, staged.end.there); closed = shut };
+  end = (omega (arith, staged.end.0), shut);
   few = omega (arith, staged.fewer);
 }
 
@@ -108,7 +107,7 @@ written_byte old at byte new within holds =
 
 module _ (bodies : List (List ℕ)) (body old new : List ℕ) (staged : IsStaged old bodies body) where
   pub within : gate_place (length bodies) ≤ length old
-  within = omega (arith, staged.end.there)
+  within = omega (arith, staged.end.0)
 
   -- The gate was opened.
   pub written_opened : Holds old (gate_place (length bodies)) (1 ∷ []) new → IsJournal new (bodies ++ body ∷ [])

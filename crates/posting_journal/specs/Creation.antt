@@ -3,27 +3,13 @@ use Rattle.std.specs.Prelude.{◌≡◌, ◌≢◌, ◌⊎◌, ℕ, ◌+◌, ◌
 use Rattle.posting_journal.specs.Layout.{empty_journal, header, gate_place, most_records}
 use Rattle.posting_journal.specs.Files.{IsMade, IsJournal}
 
--- Byte 0 says that the creation goes on, and nothing stands behind the first gate.
-pub record IsBegun (bytes : List ℕ) : Type 0 where
-  pub some : 0 < length bytes
-  pub short : length bytes ≤ 18
-  pub unfinished : slice_index bytes 0 ≡ 0
-
--- All but byte 0 is that of an empty journal.
-pub record IsReady (bytes : List ℕ) : Type 0 where
-  pub long : length bytes ≡ 18
-  pub header : take 16 (drop 1 bytes) ≡ header
-  pub closed : slice_index bytes 17 ≢ 1
-
--- It is, and byte 0 is being written.
-pub record IsNearlyMade (bytes : List ℕ) : Type 0 where
-  pub ready : IsReady bytes
-  pub not_begun : slice_index bytes 0 ≢ 0
-  pub not_made : slice_index bytes 0 ≢ 1
-
--- an unfinished creation
+-- An unfinished creation: no more than byte 0 is there; or byte 0 says that it goes on, and nothing stands behind the first
+-- gate; or all but byte 0 is that of an empty journal, and byte 0 doesn't say yet that it is made.
 abbrev pub IsUnfinished : List ℕ → Type 0
-IsUnfinished bytes = (length bytes ≤ 1) ⊎ IsBegun bytes ⊎ IsNearlyMade bytes
+IsUnfinished bytes =
+    (length bytes ≤ 1)
+    ⊎ ((length bytes ≤ 18) × (slice_index bytes 0 ≡ 0))
+    ⊎ ((length bytes ≡ 18) × (take 16 (drop 1 bytes) ≡ header) × (slice_index bytes 17 ≢ 1) × (slice_index bytes 0 ≢ 1))
 
 -- the file opens to these bodies
 abbrev pub OpensToBodies : List ℕ → List (List ℕ) → Type 0
@@ -34,22 +20,32 @@ pub record IsForeign (bytes : List ℕ) : Type 0 where
   pub finished : ¬ IsUnfinished bytes
   pub other : (length bytes < 18) ⊎ (slice_index bytes 0 ≢ 1) ⊎ (take 16 (drop 1 bytes) ≢ header)
 
--- an open record that can't stand: its body or the gate behind it lies past the end, or it is one too many
-abbrev pub CannotStand : List ℕ → ℕ → Type 0
-CannotStand bytes n = (length bytes ≤ gate_place (n + 1)) ⊎ (n ≡ most_records)
-
--- the gates up to that of record n are open, and n is the first that can't stand
+-- The gates up to that of record n are there and open, and n is the first record that can't stand: its body or the gate behind
+-- it lies past the end, or it is one too many.
 pub record IsBadAt (bytes : List ℕ) (n : ℕ) : Type 0 where
-  pub finished : ¬ IsUnfinished bytes
-  pub long : 18 ≤ length bytes
   pub made : IsMade bytes
   pub gates : (k : ℕ) → k ≤ n → slice_index bytes (gate_place k) ≡ 1
-  pub before : (k : ℕ) → k < n → ¬ CannotStand bytes k
-  pub here : CannotStand bytes n
+  pub long : gate_place n < length bytes
+  pub few : n ≤ most_records
+  pub here : (length bytes ≤ gate_place (n + 1)) ⊎ (n ≡ most_records)
+
+-- Byte 0 says that the creation goes on, and nothing stands behind the first gate.
+pub record IsBegun (bytes : List ℕ) : Type 0 where
+  pub some : 0 < length bytes
+  pub short : length bytes ≤ 18
+  pub unfinished : slice_index bytes 0 ≡ 0
+
+-- All but byte 0 is that of an empty journal, and byte 0 is being written.
+pub record IsNearlyMade (bytes : List ℕ) : Type 0 where
+  pub long : length bytes ≡ 18
+  pub header : take 16 (drop 1 bytes) ≡ header
+  pub closed : slice_index bytes 17 ≢ 1
+  pub not_begun : slice_index bytes 0 ≢ 0
+  pub not_made : slice_index bytes 0 ≢ 1
 
 -- all but byte 0 is that of an empty journal, and byte 0 says that the creation goes on
 abbrev pub IsReadyAndBegun : List ℕ → Type 0
-IsReadyAndBegun bytes = IsReady bytes × (bytes ≡ 0 ∷ header ++ 0 ∷ [])
+IsReadyAndBegun bytes = bytes ≡ 0 ∷ header ++ 0 ∷ []
 
 -- it has no bodies, and nothing stands behind its first gate
 abbrev pub IsEmptyJournal : List ℕ → Type 0

@@ -7,26 +7,23 @@ pub record IsMade (bytes : List ℕ) : Type 0 where
   pub finished : slice_index bytes 0 ≡ 1
   pub header : take 16 (drop 1 bytes) ≡ header
 
--- record n is open and has this body
-pub record IsRecord (bytes : List ℕ) (n : ℕ) (body : List ℕ) : Type 0 where
-  pub opened : slice_index bytes (gate_place n) ≡ 1
-  pub whole : take 64 (drop (body_place n) bytes) ≡ body
+-- The file is the journal of these bodies: its records are just these, in order, each with its gate open before the body, and a
+-- closed gate ends them.
+pub record IsJournal (bytes : List ℕ) (bodies : List (List ℕ)) : Type 0 where
+  pub made : IsMade bytes
+  pub records : (n : ℕ) → n < length bodies → (slice_index bytes (gate_place n) ≡ 1)
+      × (take 64 (drop (gate_place n + 1) bytes) ≡ slice_index_or bodies n [])
+  pub end : (gate_place (length bodies) < length bytes) × (slice_index bytes (gate_place (length bodies)) ≢ 1)
+  pub few : length bodies ≤ most_records
 
 -- each record has its body, in order
 abbrev pub HasRecords : List ℕ → List (List ℕ) → Type 0
-HasRecords bytes bodies = (n : ℕ) → n < length bodies → IsRecord bytes n (slice_index_or bodies n [])
+HasRecords bytes bodies = (n : ℕ) → n < length bodies → (slice_index bytes (gate_place n) ≡ 1)
+    × (take 64 (drop (body_place n) bytes) ≡ slice_index_or bodies n [])
 
 -- the gate of a record is there, and closed
-pub record IsClosed (bytes : List ℕ) (n : ℕ) : Type 0 where
-  pub there : gate_place n < length bytes
-  pub closed : slice_index bytes (gate_place n) ≢ 1
-
--- The file is the journal of these bodies: its records are just these, and a closed gate ends them.
-pub record IsJournal (bytes : List ℕ) (bodies : List (List ℕ)) : Type 0 where
-  pub made : IsMade bytes
-  pub records : HasRecords bytes bodies
-  pub end : IsClosed bytes (length bodies)
-  pub few : length bodies ≤ most_records
+abbrev pub IsClosed : List ℕ → ℕ → Type 0
+IsClosed bytes n = (gate_place n < length bytes) × (slice_index bytes (gate_place n) ≢ 1)
 
 -- It is that of these bodies, or of these and one more, by whether the gate of this one is open: the body stands whole
 -- behind that gate, and a closed gate behind the body.

@@ -24,4 +24,4 @@ gate_place n = 17 + 65 * n
 
 -- the place of the first byte of its body
 abbrev pub body_place : ℕ → ℕ
-body_place n = 18 + 65 * n
+body_place n = gate_place n + 1

@@ -1,8 +1,8 @@
 -- What opening a file does.
 use Rattle.std.specs.Prelude.{◌≡◌, ◌⊎◌, ℕ, ◌≤◌, List, []}
-use Rattle.outside_io.specs.declared.disks.Disk.{Ghosts}
+use Rattle.posting_journal.specs.Names.{Only, Ghosts}
 use Rattle.posting_journal.specs.Creation.{IsUnfinished, OpensToBodies}
-use Rattle.posting_journal.specs.Runs.{IsSafe, Leaves, LooksOn}
+use Rattle.posting_journal.specs.Runs.{Leaves, LooksOn}
 
 -- while a file is opened: it is as it was, or a creation that goes on or has just ended
 abbrev pub IsOpenedOn : List ℕ → List ℕ → Type 0
@@ -13,7 +13,7 @@ IsOpenedOn before image = (image ≡ before) ⊎ (IsUnfinished before × OpensTo
 pub record IsSynced {D : Type 0} (g : Ghosts D) (old synced new : D) : Type 0 where
   pub honest : g.honest synced
   pub reads : g.reads synced ≡ g.reads old
-  pub safe : IsSafe g synced
+  pub safe : Only (g.reads synced) (g.may_leave synced)
   pub later : g.clock old ≤ g.clock synced
   pub passed : g.clock synced ≤ g.clock new
 

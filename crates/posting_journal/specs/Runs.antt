@@ -1,11 +1,17 @@
 -- What a run of calls does to a disk that is honest after it, and so was before it.
-use Rattle.std.specs.Prelude.{ℕ, List}
-use Rattle.posting_journal.specs.Names.{Only, Looks, Elapses, LeavesOnly, Ghosts}
+use Rattle.std.specs.Prelude.{◌≡◌, ◌⊎◌, ℕ, ◌≤◌, List}
+use Rattle.posting_journal.specs.Names.{Only, Elapses, LeavesOnly, Ghosts}
 
--- nothing was written
+-- Nothing was written: what is read stays, and there is no new image. A crash since a moment might have left what it might have
+-- left before, or what it might leave at old.
 pub record LooksOn {D : Type 0} (g : Ghosts D) (old new : D) : Type 0 where
-  pub facts : Looks (g.reads old) (g.reads new) (g.may_leave old) (g.may_leave new)
-  pub time : Elapses (g.clock old) (g.clock new) (g.left_since old) (g.left_since new) (g.may_leave old)
+  pub reads : g.reads new ≡ g.reads old
+  pub images : (image : List ℕ) → g.may_leave new image → g.may_leave old image
+  pub later : g.clock old ≤ g.clock new
+  pub nothing_else : (moment : ℕ) (image : List ℕ) → moment ≤ g.clock old → g.left_since new moment image
+      → g.left_since old moment image ⊎ g.may_leave old image
+  pub keeps : (moment : ℕ) (image : List ℕ) → moment ≤ g.clock old → g.left_since old moment image
+      → g.left_since new moment image
 
 -- a disk was only looked at, where it comes back honest
 pub record IsLookedAt {D : Type 0} (g : Ghosts D) (old new : D) : Type 0 where

@@ -1,6 +1,6 @@
 -- Worked files: a journal of two bodies, creations that didn't end, and files that are none; the bytes were put down by hand
 -- from the table of the format
-use Rattle.std.specs.Prelude.{◌≡◌, ℕ, List, [], ◌∷◌, ◌++◌, replicate}
+use Rattle.std.specs.Prelude.{ℕ, List, [], ◌∷◌, ◌++◌, replicate}
 use Rattle.posting_journal.specs.Creation.{IsBadAt, IsForeign, IsUnfinished, OpensToBodies}
 use Rattle.posting_journal.specs.Files.{IsJournal}
 

@@ -1,5 +1,5 @@
 -- A column by the attained age, year by year.
-use Rattle.present_value.proofs.Names.{◌≡◌, ℕ, ◌+◌, ◌-◌, ◌*◌, ◌<◌, ◌≤◌, refl, ap, sym, ◌∙◌, arith, List, length, get_or, EachIndex, slice_set, Bool, true, false, if◌then◌else◌, add-zero, length-set, Rates, ONE, rate_at, AreRatesFrom, UNIT, cover_of, rounded_ben, ben_lo, ben_hi, pair_of, pair_at, cover_to, benefits_to, premiums_to, value_to, IsOf, IsStarted, IsColumn, CanEnd}
+use Rattle.present_value.proofs.Names.{◌≡◌, ℕ, ◌+◌, ◌-◌, ◌*◌, ◌<◌, ◌≤◌, refl, ap, sym, ◌∙◌, arith, List, length, get_or, EachIndex, slice_set, Bool, true, false, if◌then◌else◌, add-zero, length-set, Rates, ONE, rate_at, AreRatesFrom, UNIT, cover_of, ben_bound, pair_of, pair_at, cover_to, benefits_to, premiums_to, value_to, IsOf, IsStarted, IsColumn, CanEnd}
 use Rattle.std.proofs.Math.Nat.{le_trans, mul-le-mul_right}
 use Rattle.rate_table.specs.declared.shape.Shape.{Shape}
 use Rattle.present_value.specs.declared.column.Column.{Column}
@@ -41,7 +41,7 @@ value_to-earlier table bp Annuity end age below = premiums_to-earlier table bp e
 -- a stream that ends at once
 benefits_to-end : (table : Rates) (bp : ℕ) (matures : Bool) (end : ℕ)
     → benefits_to table bp matures end end ≡ pair_of (if matures then UNIT else 0) (if matures then UNIT else 0)
-unfolding ben_lo ben_hi rounded_ben
+unfolding ben_bound
 benefits_to-end table bp matures end = let none : end - end - 0 ≡ 0 = omega arith in rw none refl
 
 pub value_to-end : (table : Rates) (bp : ℕ) (stream : Stream) (end : ℕ) → value_to table bp stream end end ≡ pair_of (end_payment stream) (end_payment stream)

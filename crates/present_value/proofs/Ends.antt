@@ -1,5 +1,5 @@
 -- Two covers of which as much is left, with the same interest and the same rates from there on, have the same values.
-use Rattle.present_value.proofs.Names.{true, false, ◌≡◌, ℕ, zero, suc, ◌+◌, ◌-◌, ◌<◌, ◌≤◌, refl, ap, sym, ◌∙◌, arith, add-zero, Bool, true, if◌then◌else◌, Rates, rate_at, UNIT, down, up, Cover, cover_of, rounded_ben, rounded_ann, ben_lo, ben_hi, ann_lo, ann_hi, pair_of, cover_to, benefits_to, premiums_to, value_to, benefit_stream}
+use Rattle.present_value.proofs.Names.{true, false, ◌≡◌, ℕ, zero, suc, ◌+◌, ◌-◌, ◌<◌, ◌≤◌, refl, ap, sym, ◌∙◌, arith, add-zero, Bool, true, if◌then◌else◌, Rates, rate_at, UNIT, down, up, Cover, cover_of, rounded_ben, rounded_ann, ben_is_rounded, ann_is_rounded, ben_lo, ben_hi, ann_lo, ann_hi, pair_of, cover_to, benefits_to, premiums_to, value_to, benefit_stream}
 use Rattle.rate_table.specs.declared.shape.Shape.{Shape}
 use Rattle.present_value.specs.declared.column.Stream.TheVariants.{Annuity}
 use Rattle.present_value.proofs.Steps.{rounded_ben-before, rounded_ann-before, rounded_ann-after}
@@ -58,29 +58,27 @@ table_alike table shape bp matures end t years k below =
 pub benefits_are : (table : Rates) (shape : Shape) (bp t : ℕ) → t ≤ shape.n
     → pair_of (ben_lo (cover_of table shape bp) t) (ben_hi (cover_of table shape bp) t)
     ≡ benefits_to table bp shape.matures (shape.age + shape.n) (shape.age + t)
-unfolding ben_lo ben_hi
 benefits_are table shape bp t within =
     let c = cover_of table shape bp in
     let end = shape.age + shape.n in
     let d = cover_to table bp shape.matures end (shape.age + t) in
     let alike = table_alike table shape bp shape.matures end t (shape.n - t) in
-    let lo = ben_alike down c d t 0 (shape.n - t) (omega arith) (omega arith) refl refl alike in
-    let hi = ben_alike up c d t 0 (shape.n - t) (omega arith) (omega arith) refl refl alike in
-    ap (λ k. pair_of k (rounded_ben up c (c.n - t))) lo ∙ ap (λ k. pair_of (rounded_ben down d (d.n - 0)) k) hi
+    let lo = ben_is_rounded down c t ∙ ben_alike down c d t 0 (shape.n - t) (omega arith) (omega arith) refl refl alike ∙ sym (ben_is_rounded down d 0) in
+    let hi = ben_is_rounded up c t ∙ ben_alike up c d t 0 (shape.n - t) (omega arith) (omega arith) refl refl alike ∙ sym (ben_is_rounded up d 0) in
+    ap (λ k. pair_of k (ben_hi c t)) lo ∙ ap (λ k. pair_of (ben_lo d 0) k) hi
 
 -- the premiums of a cover at a year are those until the age of the last, or nothing
 pub premiums_are : (table : Rates) (shape : Shape) (bp t : ℕ) → shape.h ≤ shape.n → t ≤ shape.h
     → pair_of (ann_lo (cover_of table shape bp) t) (ann_hi (cover_of table shape bp) t)
     ≡ premiums_to table bp (shape.age + shape.h) (shape.age + t)
-unfolding ann_lo ann_hi
 premiums_are table shape bp t covered within =
     let c = cover_of table shape bp in
     let end = shape.age + shape.h in
     let d = cover_to table bp true end (shape.age + t) in
     let alike = table_alike table shape bp true end t (shape.h - t) in
-    let lo = ann_alike down c d t 0 (shape.h - t) (omega arith) (omega arith) covered (omega arith) refl alike in
-    let hi = ann_alike up c d t 0 (shape.h - t) (omega arith) (omega arith) covered (omega arith) refl alike in
-    ap (λ k. pair_of k (rounded_ann up c (c.n - t))) lo ∙ ap (λ k. pair_of (rounded_ann down d (d.n - 0)) k) hi
+    let lo = ann_is_rounded down c t ∙ ann_alike down c d t 0 (shape.h - t) (omega arith) (omega arith) covered (omega arith) refl alike ∙ sym (ann_is_rounded down d 0) in
+    let hi = ann_is_rounded up c t ∙ ann_alike up c d t 0 (shape.h - t) (omega arith) (omega arith) covered (omega arith) refl alike ∙ sym (ann_is_rounded up d 0) in
+    ap (λ k. pair_of k (ann_hi c t)) lo ∙ ap (λ k. pair_of (ann_lo d 0) k) hi
 
 -- the values of a cover at a year, in the columns of its benefits and of its premiums
 pub benefits_in : (table : Rates) (shape : Shape) (bp t : ℕ) → t ≤ shape.n

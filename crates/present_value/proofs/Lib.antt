@@ -1,3 +1,4 @@
+pub mod Recursions
 pub mod Names
 pub mod Quotients
 pub mod Fractions

@@ -1,38 +1,38 @@
 -- Why the mean reserve lies where it does.
-use Rattle.present_value.proofs.Names.{◌≡◌, ℕ, suc, ◌+◌, ◌*◌, ◌<◌, ◌≤◌, refl, inl, inr, arith, leb_tells, Fraction, plus, Cover, survivors, ben, half, net_premium, mean_reserve, paid_up_mean}
+use Rattle.present_value.proofs.Names.{◌≡◌, ℕ, suc, ◌+◌, ◌*◌, ◌<◌, ◌≤◌, refl, inl, inr, arith, leb_tells, Fraction, whole, plus, over, Cover, survivors, ben, net_premium, mean_reserve, paid_up_mean}
 use Rattle.std.proofs.Math.Nat.{mul-le-mul_left}
 use Rattle.present_value.specs.Reserve.{reserve}
 use Rattle.present_value.specs.MeanLaws.{LiesWithin, LiesBetween, LiesBetweenLaw, NoPremiumLaw, paying}
 
 -- half of a sum of three, x over p and y over q around n over d, where x over p is the lesser: as numbers
-above : (x p n d y q : ℕ) → x * q ≤ y * p → (x * (2 * d) + n * p) * (2 * (p * d * q)) ≤ ((x * d + n * p) * q + y * (p * d)) * (p * (2 * d))
+above : (x p n d y q : ℕ) → x * q ≤ y * p → (x * (d * 2) + (n * 1) * p) * ((p * d * q) * 2) ≤ (((x * d + n * p) * q + y * (p * d)) * 1) * (p * (d * 2))
 above x p n d y q order = let wide = mul-le-mul_left (2 * p * d * d) order in omega arith
 
-below : (x p n d y q : ℕ) → x * q ≤ y * p → ((x * d + n * p) * q + y * (p * d)) * (q * (2 * d)) ≤ (y * (2 * d) + n * q) * (2 * (p * d * q))
+below : (x p n d y q : ℕ) → x * q ≤ y * p → (((x * d + n * p) * q + y * (p * d)) * 1) * (q * (d * 2)) ≤ (y * (d * 2) + (n * 1) * q) * ((p * d * q) * 2)
 below x p n d y q order = let wide = mul-le-mul_left (2 * d * d * q) order in omega arith
 
-half_within : (x net y : Fraction) → x.num * y.den ≤ y.num * x.den → LiesWithin (plus x (half net)) (plus y (half net)) (half (plus (plus x net) y))
-unfolding half plus
+half_within : (x net y : Fraction) → x.num * y.den ≤ y.num * x.den → LiesWithin (plus x (over net (whole 2))) (plus y (over net (whole 2))) (over (plus (plus x net) y) (whole 2))
+unfolding over whole plus
 half_within x net y order = record {
   above = above x.num x.den net.num net.den y.num y.den order;
   below = below x.num x.den net.num net.den y.num y.den order;
 }
 
 -- the same, where it is the greater
-falling_above : (x p n d y q : ℕ) → y * p ≤ x * q → (y * (2 * d) + n * q) * (2 * (p * d * q)) ≤ ((x * d + n * p) * q + y * (p * d)) * (q * (2 * d))
+falling_above : (x p n d y q : ℕ) → y * p ≤ x * q → (y * (d * 2) + (n * 1) * q) * ((p * d * q) * 2) ≤ (((x * d + n * p) * q + y * (p * d)) * 1) * (q * (d * 2))
 falling_above x p n d y q order = let wide = mul-le-mul_left (2 * d * d * q) order in omega arith
 
-falling_below : (x p n d y q : ℕ) → y * p ≤ x * q → ((x * d + n * p) * q + y * (p * d)) * (p * (2 * d)) ≤ (x * (2 * d) + n * p) * (2 * (p * d * q))
+falling_below : (x p n d y q : ℕ) → y * p ≤ x * q → (((x * d + n * p) * q + y * (p * d)) * 1) * (p * (d * 2)) ≤ (x * (d * 2) + (n * 1) * p) * ((p * d * q) * 2)
 falling_below x p n d y q order = let wide = mul-le-mul_left (2 * p * d * d) order in omega arith
 
-half_within_falling : (x net y : Fraction) → y.num * x.den ≤ x.num * y.den → LiesWithin (plus y (half net)) (plus x (half net)) (half (plus (plus x net) y))
-unfolding half plus
+half_within_falling : (x net y : Fraction) → y.num * x.den ≤ x.num * y.den → LiesWithin (plus y (over net (whole 2))) (plus x (over net (whole 2))) (over (plus (plus x net) y) (whole 2))
+unfolding over whole plus
 half_within_falling x net y order = record {
   above = falling_above x.num x.den net.num net.den y.num y.den order;
   below = falling_below x.num x.den net.num net.den y.num y.den order;
 }
 
-half_between : (x net y : Fraction) → LiesBetween (plus x (half net)) (plus y (half net)) (half (plus (plus x net) y))
+half_between : (x net y : Fraction) → LiesBetween (plus x (over net (whole 2))) (plus y (over net (whole 2))) (over (plus (plus x net) y) (whole 2))
 half_between x net y = elim (leb_tells (x.num * y.den) (y.num * x.den)) [
   | inl h ↦ inl (half_within x net y h.1)
   | inr h ↦ inr (half_within_falling x net y (omega (arith, h.1)))
@@ -54,20 +54,20 @@ mean_end c cap = elim (leb_tells (suc c.n) c.n) [
 
 -- of a paid-up policy
 
-plain_above : (x p y q : ℕ) → x * q ≤ y * p → x * (2 * (p * q)) ≤ (x * q + y * p) * p
+plain_above : (x p y q : ℕ) → x * q ≤ y * p → x * ((p * q) * 2) ≤ ((x * q + y * p) * 1) * p
 plain_above x p y q order = let wide = mul-le-mul_left p order in omega arith
 
-plain_below : (x p y q : ℕ) → x * q ≤ y * p → (x * q + y * p) * q ≤ y * (2 * (p * q))
+plain_below : (x p y q : ℕ) → x * q ≤ y * p → ((x * q + y * p) * 1) * q ≤ y * ((p * q) * 2)
 plain_below x p y q order = let wide = mul-le-mul_left q order in omega arith
 
-plain_falling_above : (x p y q : ℕ) → y * p ≤ x * q → y * (2 * (p * q)) ≤ (x * q + y * p) * q
+plain_falling_above : (x p y q : ℕ) → y * p ≤ x * q → y * ((p * q) * 2) ≤ ((x * q + y * p) * 1) * q
 plain_falling_above x p y q order = let wide = mul-le-mul_left q order in omega arith
 
-plain_falling_below : (x p y q : ℕ) → y * p ≤ x * q → (x * q + y * p) * p ≤ x * (2 * (p * q))
+plain_falling_below : (x p y q : ℕ) → y * p ≤ x * q → ((x * q + y * p) * 1) * p ≤ x * ((p * q) * 2)
 plain_falling_below x p y q order = let wide = mul-le-mul_left p order in omega arith
 
-plain_between : (x y : Fraction) → LiesBetween x y (half (plus x y))
-unfolding half plus
+plain_between : (x y : Fraction) → LiesBetween x y (over (plus x y) (whole 2))
+unfolding over whole plus
 plain_between x y = elim (leb_tells (x.num * y.den) (y.num * x.den)) [
   | inl h ↦ inl (record { above = plain_above x.num x.den y.num y.den h.1; below = plain_below x.num x.den y.num y.den h.1 })
   | inr h ↦

@@ -1,5 +1,5 @@
 -- The sums of one year from those of the next.
-use Rattle.present_value.proofs.Names.{◌≡◌, ℕ, zero, suc, ◌+◌, ◌-◌, ◌*◌, ◌^◌, ◌<◌, refl, sym, ◌∙◌, arith, true, false, if◌then◌else◌, add-zero, one-mul, mul-one, Cover, year, survival, death, survivors, sum_below, ben, ann}
+use Rattle.present_value.proofs.Names.{◌≡◌, ℕ, zero, suc, ◌+◌, ◌-◌, ◌*◌, ◌^◌, ◌<◌, refl, sym, ◌∙◌, arith, true, false, if◌then◌else◌, add-zero, one-mul, mul-one, Cover, year, survival, death, survivors, sum_below, sum_below-is, ben, ann}
 use Rattle.std.proofs.Math.Nat.{mul-add, mul_assoc, mul-zero}
 
 -- the first term apart, and a factor of all the others
@@ -96,9 +96,9 @@ ann_end c t left = refl
 pub ben_is : (c : Cover) (t left : ℕ) → c.n - t ≡ left
     → ben c t ≡ record { num = ben_num c t left; den = year c ^ left }
 unfolding ben ben_num ben_terms
-ben_is c t left same = rw (sym same) refl
+ben_is c t left same = rw (sym same, sum_below-is (ben_terms c t (c.n - t)) (c.n - t)) refl
 
 pub ann_is : (c : Cover) (t left : ℕ) → c.n - t ≡ left
     → ann c t ≡ record { num = ann_num c t left (c.h - t); den = year c ^ left }
 unfolding ann ann_num ann_terms
-ann_is c t left same = rw (sym same) refl
+ann_is c t left same = rw (sym same, sum_below-is (ann_terms c t (c.n - t)) (c.h - t)) refl

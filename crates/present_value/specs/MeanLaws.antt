@@ -1,9 +1,9 @@
 -- What an actuary asks of the mean reserve.
 use Rattle.std.specs.Prelude.{◌≡◌, ℕ, ◌+◌, ◌*◌, ◌<◌, ◌≤◌, ◌⊎◌}
-use Rattle.present_value.specs.Fractions.{Fraction, plus}
+use Rattle.present_value.specs.Fractions.{Fraction, whole, plus, over}
 use Rattle.present_value.specs.Sums.{Cover, ben}
 use Rattle.present_value.specs.Reserve.{reserve}
-use Rattle.present_value.specs.Mean.{half, net_premium, mean_reserve, paid_up_mean}
+use Rattle.present_value.specs.Mean.{net_premium, mean_reserve, paid_up_mean}
 
 -- a value lies between two others, by cross-multiplying
 pub record LiesWithin (low high value : Fraction) : Type 0 where
@@ -16,8 +16,8 @@ LiesBetween a b value = LiesWithin a b value ⊎ LiesWithin b a value
 
 abbrev pub LiesBetweenLaw : Type 0
 LiesBetweenLaw = (c cap : Cover) → (t : ℕ) → t < c.n
-    → LiesBetween (plus (reserve c cap t) (half (net_premium c cap t))) (plus (reserve c cap (t + 1)) (half (net_premium c cap t)))
-    (mean_reserve c cap t)
+    → let half = over (net_premium c cap t) (whole 2) in
+    LiesBetween (plus (reserve c cap t) half) (plus (reserve c cap (t + 1)) half) (mean_reserve c cap t)
 
 abbrev pub TerminalAtTheEndLaw : Type 0
 TerminalAtTheEndLaw = (c cap : Cover) → mean_reserve c cap c.n ≡ reserve c cap c.n

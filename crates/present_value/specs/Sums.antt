@@ -1,4 +1,5 @@
 use Rattle.std.specs.Prelude.{ℕ, zero, suc, ◌+◌, ◌-◌, ◌*◌, ◌^◌, Bool, if◌then◌else◌}
+use Rattle.std.specs.List.{sum_by, range_with_len}
 use Rattle.rate_table.specs.Rates.{Rates, ONE, rate_at}
 use Rattle.rate_table.specs.declared.shape.Shape.{Shape}
 use Rattle.present_value.specs.Fractions.{Fraction}
@@ -26,31 +27,24 @@ cover_of table shape bp = record {
   matures = shape.matures;
 }
 
--- v = 10000 / (10000 + interest) and p = 1 - q: survival / year is v p, and death / year is v q
+-- v = 10000 / (10000 + interest): death / year is v q
 abbrev pub year : Cover → ℕ
 year c = ONE * (10000 + c.interest)
-
-abbrev pub survival : Cover → ℕ → ℕ
-survival c k = 10000 * (ONE - c.rates k)
 
 abbrev pub death : Cover → ℕ → ℕ
 death c k = 10000 * c.rates k
 
--- v^k times the part of those alive at year t who are alive k years on, over the k-th power of the year
+-- v^k times the part of those alive at year t who are alive k years on, over the k-th power of the year: each year's
+-- factor is v p, where p = 1 - q
 unfoldable pub survivors : Cover → ℕ → ℕ → ℕ
 survivors c t zero = 1
-survivors c t (suc k) = survivors c t k * survival c (t + k)
-
--- f 0 + .. + f (count - 1)
-unfoldable pub sum_below : (ℕ → ℕ) → ℕ → ℕ
-sum_below f zero = 0
-sum_below f (suc count) = sum_below f count + f count
+survivors c t (suc k) = survivors c t k * (10000 * (ONE - c.rates (t + k)))
 
 -- the value at year t of 1 at the end of the year of death within the cover, and of 1 to a survivor of
 -- year n where the cover matures
 unfoldable pub ben : Cover → ℕ → Fraction
 ben c t = record {
-  num = sum_below (λ k. survivors c t k * death c (t + k) * year c ^ (c.n - t - k - 1)) (c.n - t)
+  num = sum_by (λ k. survivors c t k * death c (t + k) * year c ^ (c.n - t - k - 1)) (range_with_len 0 (c.n - t))
       + (if c.matures then survivors c t (c.n - t) else 0);
   den = year c ^ (c.n - t);
 }
@@ -58,6 +52,6 @@ ben c t = record {
 -- the value at year t of 1 at the start of each year from t to h - 1
 unfoldable pub ann : Cover → ℕ → Fraction
 ann c t = record {
-  num = sum_below (λ k. survivors c t k * year c ^ (c.n - t - k)) (c.h - t);
+  num = sum_by (λ k. survivors c t k * year c ^ (c.n - t - k)) (range_with_len 0 (c.h - t));
   den = year c ^ (c.n - t);
 }

@@ -1,6 +1,7 @@
 ghost use Rattle.std.specs.Prelude.{◌≡◌, ◌+◌, ◌*◌, ◌≤◌};
 ghost use Rattle.rate_table.specs.Rates.{ONE};
-ghost use Rattle.present_value.specs.Rounding.{UNIT, down, up, benefit_dividend, annuity_dividend};
+ghost use Rattle.present_value.specs.Rounding.{UNIT, down, up};
+ghost use Rattle.present_value.specs.inside.Earlier.{benefit_dividend, annuity_dividend};
 
 use crate::pair::{Pair, UNITS_IN_ONE};
 use crate::reciprocal::Reciprocal;

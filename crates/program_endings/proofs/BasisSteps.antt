@@ -17,12 +17,12 @@ pub no_basis : (name : List ℕ) (shelf : Shelving) (output : Stream) (ending : 
     → (cause ≡ ShelfFailed → Rose shelf.faults_before shelf.faults_after)
     → SaysNoBasis cause output ending → EndsNoBasis name shelf output ending
 no_basis name shelf output BadBasis (Bad bad) first failed says = (bad, first, says)
-no_basis name shelf output NoMemory (Bad bad) first failed says = says
+no_basis name shelf output (NoMemory lack) (Bad bad) first failed says = says
 no_basis name shelf output ReadFault ShelfFailed first failed says = (failed refl, says)
-no_basis name shelf output NoMemory NoRoom first failed says = says
+no_basis name shelf output (NoMemory lack) (NoRoom other_lack) first failed says = says
 no_basis name shelf output _ (Bad bad) first failed says = absurd says
 no_basis name shelf output _ ShelfFailed first failed says = absurd says
-no_basis name shelf output _ NoRoom first failed says = absurd says
+no_basis name shelf output _ (NoRoom lack) first failed says = absurd says
 
 module _ (output : Stream) (name : List ℕ) (shelf : Shelving) (files : Files) (agrees : shelf.Agrees files)
     (shelf_held : Rose shelf.faults_before shelf.faults_after → ⊥) where
@@ -32,7 +32,7 @@ module _ (output : Stream) (name : List ℕ) (shelf : Shelving) (files : Files) 
   basis_refused BadBasis basis is ends =
       absurd (basis_or_bad files name basis ends.0 is (ends.1 files agrees))
   basis_refused ReadFault basis is ends = absurd (shelf_held ends.0)
-  basis_refused NoMemory basis is ends = refl
+  basis_refused (NoMemory lack) basis is ends = refl
   basis_refused _ basis is ends = absurd ends
 
   -- and one that is bad is
@@ -42,5 +42,5 @@ module _ (output : Stream) (name : List ℕ) (shelf : Shelving) (files : Files) 
       let same : ends.0 ≡ bad = one_first_bad files name ends.0 bad (ends.1 files agrees) first in
       inl (refl, subst (λ (b : ABadBasis). WroteOrFailed output (bad_basis_text b)) same ends.2)
   bad_refused ReadFault bad first ends = absurd (shelf_held ends.0)
-  bad_refused NoMemory bad first ends = inr refl
+  bad_refused (NoMemory lack) bad first ends = inr refl
   bad_refused _ bad first ends = absurd ends

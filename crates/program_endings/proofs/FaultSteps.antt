@@ -1,7 +1,7 @@
 -- Where a posting faulted the disk's count rose
 use Rattle.program_endings.proofs.Names.{◌≡◌, ℕ, List, [], ◌∷◌, ◌++◌, ap, sym, ◌∙◌, subst, Some, None, Option, AllByRecursion, cons_option, filter_map, last_or, filter_map-append, Rose, Command, Call, Post, Pin, PinAt, Read, Unpin, Trim, Reply, Accepted, Refused, Faulted, Pinned, PinRefused, Slice, Unpinned, Floor, Blank, Entry, Opening, IsAbove, IsDue, IsLegalAfter, fault_of}
 use Rattle.std.specs.Option.{unwrap_or}
-use Rattle.office_state.specs.Images.{HasFaulted, faults_after}
+use Rattle.office_state.specs.Images.{WasFaulted, faults_after}
 
 -- the numbers of the faults that were answered
 abbrev faults_met : List Entry → List ℕ
@@ -43,13 +43,12 @@ last_of P other [] n [] least all = all.0
 last_of P other [] n (m ∷ rest) least all = last_of P (Some n) [] m rest least all.1
 last_of P other (first ∷ front) n rest least all = last_of P (Some first) front n rest least all.1
 
-pub rose_in : (opening : Opening) (history : List Entry) (command : Command) → IsLegalAfter opening [] history
-    → HasFaulted history command → Rose opening.faults (faults_after opening history)
-rose_in opening history command legal fault =
-    let before = fault.1.before in
-    let entry : Entry = record { caller = fault.1.caller; call = Post command; reply = Faulted fault.1.count } in
-    let met : faults_met history ≡ faults_met before ++ fault.1.count ∷ faults_met fault.0 =
-    ap faults_met fault.1.turns ∙ filter_map-append (λ (e : Entry). fault_of e.reply) before (entry ∷ fault.0) in
+pub rose_in : (opening : Opening) (history : List Entry) (held : List Command) (command : Command) → IsLegalAfter opening [] history
+    → WasFaulted history held command → Rose opening.faults (faults_after opening history)
+rose_in opening history held command legal fault =
+    let entry : Entry = record { caller = fault.caller; call = Post command; reply = Faulted fault.count } in
+    let met : faults_met history ≡ faults_met fault.before ++ fault.count ∷ faults_met fault.after =
+    ap faults_met fault.turns ∙ filter_map-append (λ (e : Entry). fault_of e.reply) fault.before (entry ∷ fault.after) in
     subst (λ (ns : List ℕ). Rose opening.faults (unwrap_or (last_or None ns) opening.faults)) (sym met)
-    (last_of (IsAbove opening.faults) None (faults_met before) fault.1.count (faults_met fault.0) opening.faults
+    (last_of (IsAbove opening.faults) None (faults_met fault.before) fault.count (faults_met fault.after) opening.faults
     (subst (AllByRecursion (IsAbove opening.faults)) met (all_above opening [] history legal)))

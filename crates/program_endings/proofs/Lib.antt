@@ -1,4 +1,5 @@
 pub mod Names
+pub mod ReplyNames
 pub mod ListSteps
 mod PartSteps
 pub mod TurnSteps

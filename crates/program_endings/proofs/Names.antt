@@ -8,7 +8,8 @@ pub use Rattle.std.specs.Prelude.{slice_get, slice_index, ◌||◌}
 unfoldable pub use Rattle.basis_shelf.specs.Lines.{bad_basis_text}
 pub use Rattle.outside_io.specs.Faults.{Rose}
 pub use Rattle.outside_io.specs.Streams.{AppendsPart}
-pub use Rattle.policy_machine.specs.History.{Opening, IsDue, IsLegalAfter, IsAbove, fault_of, accepted_by, accepted_of}
+pub use Rattle.policy_machine.specs.History.{Opening, IsDue, IsLegalAfter, fault_of, accepted_of}
+pub use Rattle.policy_machine.proofs.Parts.{IsAbove, accepted_by}
 pub use Rattle.policy_types.specs.declared.command.Command.{Command}
 pub use Rattle.policy_types.specs.declared.entry.Call.{Call}
 pub use Rattle.policy_types.specs.declared.entry.Call.TheVariants.{Post, Pin, PinAt, Read, Unpin, Trim, Trim as TrimCall}

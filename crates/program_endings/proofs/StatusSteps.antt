@@ -1,5 +1,6 @@
 -- A status is that of one ending
 use Rattle.program_endings.proofs.Names.{◌≡◌, ℕ, refl, ap, sym, ◌∙◌, Ending, Done, Usage, BadScript, BadBasis, BadJournal, InputFault, WriteFault, DiskFault, NoMemory, Ahead, status_of}
+use Rattle.watcher_set.specs.Evidence.{a_lack}
 use Rattle.std.specs.Prelude.{◌==◌, if◌then◌else◌}
 
 abbrev ending_with : ℕ → Ending
@@ -12,7 +13,7 @@ ending_with status =
     else if status == 6 then InputFault
     else if status == 7 then WriteFault
     else if status == 8 then DiskFault
-    else if status == 9 then NoMemory
+    else if status == 9 then (NoMemory a_lack)
     else Ahead
 
 its_own : (ending : Ending) → ending_with (status_of ending) ≡ ending
@@ -24,7 +25,7 @@ its_own BadJournal = refl
 its_own InputFault = refl
 its_own WriteFault = refl
 its_own DiskFault = refl
-its_own NoMemory = refl
+its_own (NoMemory lack) = refl
 its_own Ahead = refl
 
 -- a status is that of one ending

@@ -5,8 +5,8 @@ use Rattle.policy_types.specs.declared.entry.At.TheVariants.{Now, Position}
 use Rattle.policy_types.specs.declared.script.Line.{Line}
 use Rattle.policy_types.specs.declared.script.Line.TheVariants.{Post as PostLine, Value, Trim}
 use Rattle.policy_machine.specs.Merge.{AnswersLine, FollowsPin, Placed, pin_call, reads_of}
-use Rattle.office_state.specs.Images.{IsQuietReply}
-use Rattle.program_endings.specs.Replies.{IsAnswered, IsUnfaulted}
+use Rattle.office_state.proofs.Holdings.{IsQuietReply}
+use Rattle.program_endings.proofs.ReplyNames.{IsAnswered, IsUnfaulted}
 use Rattle.program_endings.proofs.ListSteps.{Has, all_and, all_map, all_take, of_all}
 
 -- whether the call posts a command
@@ -29,13 +29,13 @@ due_at opening before (first ∷ rest) (suc k) entry legal here =
 -- a reply that is due to no posting is neither a fault nor blank
 pub quiet_reply : (opening : Opening) (before : List Entry) (caller : ℕ) (call : Call) (reply : Reply) → IsDue opening before caller call reply
     → posts call ≡ false → IsAnswered reply
-quiet_reply opening before caller call (Accepted position) due quiet = tt
-quiet_reply opening before caller call (Refused refusal) due quiet = tt
-quiet_reply opening before caller call (Pinned position policies) due quiet = tt
-quiet_reply opening before caller call (PinRefused refusal) due quiet = tt
-quiet_reply opening before caller call (Slice policies) due quiet = tt
-quiet_reply opening before caller call Unpinned due quiet = tt
-quiet_reply opening before caller call (Floor floor) due quiet = tt
+quiet_reply opening before caller call (Accepted position) due quiet = (refl, λ no. cc)
+quiet_reply opening before caller call (Refused refusal) due quiet = (refl, λ no. cc)
+quiet_reply opening before caller call (Pinned position policies) due quiet = (refl, λ no. cc)
+quiet_reply opening before caller call (PinRefused refusal) due quiet = (refl, λ no. cc)
+quiet_reply opening before caller call (Slice policies) due quiet = (refl, λ no. cc)
+quiet_reply opening before caller call Unpinned due quiet = (refl, λ no. cc)
+quiet_reply opening before caller call (Floor floor) due quiet = (refl, λ no. cc)
 quiet_reply opening before caller (Post command) (Faulted count) due quiet = absurd (false≢true (sym quiet))
 quiet_reply opening before caller (Post command) Blank due quiet = absurd (false≢true (sym quiet))
 quiet_reply opening before caller Pin (Faulted count) due quiet = absurd due
@@ -52,13 +52,13 @@ quiet_reply opening before caller TrimCall Blank due quiet = absurd due
 -- nor is it that of an accepted posting
 pub unposted_reply : (opening : Opening) (before : List Entry) (caller : ℕ) (call : Call) (reply : Reply) → IsDue opening before caller call reply
     → posts call ≡ false → IsQuietReply reply
-unposted_reply opening before caller call (Refused refusal) due quiet = tt
-unposted_reply opening before caller call (Pinned position policies) due quiet = tt
-unposted_reply opening before caller call (PinRefused refusal) due quiet = tt
-unposted_reply opening before caller call (Slice policies) due quiet = tt
-unposted_reply opening before caller call Unpinned due quiet = tt
-unposted_reply opening before caller call (Floor floor) due quiet = tt
-unposted_reply opening before caller call Blank due quiet = tt
+unposted_reply opening before caller call (Refused refusal) due quiet = (refl, λ position no. cc)
+unposted_reply opening before caller call (Pinned position policies) due quiet = (refl, λ position no. cc)
+unposted_reply opening before caller call (PinRefused refusal) due quiet = (refl, λ position no. cc)
+unposted_reply opening before caller call (Slice policies) due quiet = (refl, λ position no. cc)
+unposted_reply opening before caller call Unpinned due quiet = (refl, λ position no. cc)
+unposted_reply opening before caller call (Floor floor) due quiet = (refl, λ position no. cc)
+unposted_reply opening before caller call Blank due quiet = (refl, λ position no. cc)
 unposted_reply opening before caller (Post command) (Faulted count) due quiet = absurd (false≢true (sym quiet))
 unposted_reply opening before caller Pin (Faulted count) due quiet = absurd due
 unposted_reply opening before caller (PinAt p) (Faulted count) due quiet = absurd due
@@ -74,15 +74,7 @@ unposted_reply opening before caller TrimCall (Accepted position) due quiet = ab
 
 -- a reply that is no fault and not blank is no fault
 pub unfaulted_if_answered : (reply : Reply) → IsAnswered reply → IsUnfaulted reply
-unfaulted_if_answered (Accepted position) answered = tt
-unfaulted_if_answered (Refused refusal) answered = tt
-unfaulted_if_answered (Faulted count) answered = answered
-unfaulted_if_answered (Pinned position policies) answered = tt
-unfaulted_if_answered (PinRefused refusal) answered = tt
-unfaulted_if_answered (Slice policies) answered = tt
-unfaulted_if_answered Unpinned answered = tt
-unfaulted_if_answered (Floor floor) answered = tt
-unfaulted_if_answered Blank answered = tt
+unfaulted_if_answered reply answered = answered.0
 
 -- What follows the pin of a valuation posts nothing.
 quiet_reads : (pin policies k : ℕ) → AllByRecursion (λ (call : Call). posts call ≡ false) (take k (reads_of pin policies))

@@ -5,7 +5,7 @@ use Rattle.office_state.specs.declared.faults.StartCause.{StartCause}
 use Rattle.office_state.specs.declared.faults.StartCause.TheVariants.{NotAJournal, BadRecord, DiskFault, NoMemory}
 use Rattle.office_state.specs.Journals.{IsShown}
 use Rattle.office_state.proofs.JournalLaws.{shown_once}
-use Rattle.program_endings.specs.Refusals.{IsRefusedJournal, SaysWhy}
+use Rattle.program_endings.specs.Refusals.{SaysWhy}
 use Rattle.program_endings.specs.Worked.{pinned_turn, RefusesHello}
 
 pub no_fault : Rose 3 3 → ⊥
@@ -50,8 +50,8 @@ hello_is_foreign = record {
   finished = λ unfinished. elim unfinished [
     | inl few ↦ let no : 5 ≤ 1 = few in omega arith
     | inr more ↦ elim more [
-      | inl begun ↦ let no : ◌≡◌ {A = ℕ} 104 0 = begun.unfinished in omega arith
-      | inr ready ↦ let no : ◌≡◌ {A = ℕ} 5 18 = ready.ready.long in omega arith
+      | inl begun ↦ let no : ◌≡◌ {A = ℕ} 104 0 = begun.1 in omega arith
+      | inr ready ↦ let no : ◌≡◌ {A = ℕ} 5 18 = ready.0 in omega arith
     ]
   ];
   other = inl (lit< tt);
@@ -64,8 +64,8 @@ said_of_hello : (cause : StartCause) (output : Stream) → SaysWhy cause output 
 said_of_hello NotAJournal output says shown = says
 said_of_hello (BadRecord n) output says shown = absurd (not_a_record n (shown_once (codes "hello") NotAJournal (BadRecord n) tt tt hello_is_foreign shown))
 said_of_hello (DiskFault count) output says shown = absurd says
-said_of_hello NoMemory output says shown = absurd says
+said_of_hello (NoMemory lack) output says shown = absurd says
 
 pub refuses_hello : {D : Type 0} (g : Ghosts D) → RefusesHello g
 refuses_hello g old new output honest reads refused =
-    said_of_hello refused.cause output refused.line (subst (λ (bytes : List ℕ). IsShown bytes refused.cause) reads (refused.shown honest))
+    said_of_hello refused.0 output refused.1 (subst (λ (bytes : List ℕ). IsShown bytes refused.0) reads (refused.2 honest))

@@ -5,5 +5,6 @@ pub mod Replies
 pub mod Refusals
 pub mod WithoutBasis
 pub mod Texts
+pub mod Holding
 pub mod Blocks
 pub mod Worked

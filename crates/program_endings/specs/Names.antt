@@ -1,6 +1,6 @@
 -- The names from elsewhere that several rooms cite, passed on from one place. Declares nothing.
 pub use Rattle.std.specs.Io.KnownBytes.{Appends, IsAtEnd}
-pub use Rattle.office_state.specs.Images.{IsLeftAlone, HasFaulted}
+pub use Rattle.office_state.specs.Images.{IsLeftAlone}
 pub use Rattle.office_state.specs.declared.faults.StartCause.TheVariants.{BadRecord, NotAJournal, DiskFault as FaultyDisk, NoMemory as NoRoom}
 pub use Rattle.outside_io.specs.Faults.{Rose, HasCause}
 pub use Rattle.outside_io.specs.Shelves.{Files}

@@ -1,35 +1,32 @@
 -- How a mode ends that opened no office: the line that says why
 use Rattle.std.specs.Prelude.{◌≡◌, ℕ, List, ◌++◌, codes, decimal}
-use Rattle.program_endings.specs.Names.{Ghosts, IsLeftAlone, NotAJournal, BadRecord, FaultyDisk, NoRoom}
+use Rattle.program_endings.specs.Names.{Ghosts, Rose, NotAJournal, BadRecord, FaultyDisk, NoRoom}
 use Rattle.office_state.specs.Journals.{IsShown}
 use Rattle.office_state.specs.declared.faults.StartCause.{StartCause}
 use Rattle.program_endings.specs.declared.ending.Ending.{Ending}
 use Rattle.program_endings.specs.declared.ending.Ending.TheVariants.{BadJournal, DiskFault, NoMemory}
 use Rattle.program_endings.specs.Writing.{Stream, WroteLine}
 
--- the text of the first record that can't stand
-abbrev pub bad_record_text : ℕ → List ℕ
-bad_record_text n = codes "badjournal,badrecord," ++ decimal n
-
--- the line of a file's refusal
+-- the line of a file's refusal; the second tells the first record that can't stand
 abbrev pub SaysWhy : StartCause → Stream → Type 0
 SaysWhy NotAJournal output = WroteLine output (codes "badjournal,notajournal")
-SaysWhy (BadRecord n) output = WroteLine output (bad_record_text n)
+SaysWhy (BadRecord n) output = WroteLine output (codes "badjournal,badrecord," ++ decimal n)
 SaysWhy _ _ = ⊥
 
--- The file is refused for what its bytes show, with the line of the cause.
-pub record IsRefusedJournal {D : Type 0} (g : Ghosts D) (old new : D) (output : Stream) : Type 0 where
-  pub cause : StartCause
-  pub line : SaysWhy cause output
-  pub shown : g.honest new → IsShown (g.reads old) cause
-  pub quiet : g.faults new ≡ g.faults old
-  pub alone : IsLeftAlone g old new
+-- How a mode ends for which no office was opened, or for which nothing ran on it for want of memory: a line says what the
+-- journal's file shows, that the disk failed, or that there was no memory. But where the disk failed its count is as it was.
+abbrev pub EndsNoOffice : {D : Type 0} → Ghosts D → D → D → Stream → Ending → Type 0
+EndsNoOffice g old new output BadJournal =
+    (cause : StartCause) × SaysWhy cause output × (g.honest new → IsShown (g.reads old) cause) × (g.faults new ≡ g.faults old)
+EndsNoOffice g old new output DiskFault = WroteLine output (codes "diskfault") × Rose (g.faults old) (g.faults new)
+EndsNoOffice g old new output (NoMemory lack) = WroteLine output (codes "nomemory") × (g.faults new ≡ g.faults old)
+EndsNoOffice _ _ _ _ _ = ⊥
 
 -- the line that says why no office was opened
 abbrev pub SaysUnopened : StartCause → Stream → Ending → Type 0
 SaysUnopened (FaultyDisk count) output DiskFault = WroteLine output (codes "diskfault")
 SaysUnopened NotAJournal output BadJournal = WroteLine output (codes "badjournal,notajournal")
-SaysUnopened (BadRecord n) output BadJournal = WroteLine output (bad_record_text n)
-SaysUnopened (BadRecord n) output NoMemory = WroteLine output (codes "nomemory")
-SaysUnopened NoRoom output NoMemory = WroteLine output (codes "nomemory")
+SaysUnopened (BadRecord n) output BadJournal = WroteLine output (codes "badjournal,badrecord," ++ decimal n)
+SaysUnopened (BadRecord n) output (NoMemory lack) = WroteLine output (codes "nomemory")
+SaysUnopened (NoRoom lack) output (NoMemory other_lack) = WroteLine output (codes "nomemory")
 SaysUnopened _ _ _ = ⊥

@@ -12,7 +12,7 @@ status_of BadJournal = 5
 status_of ReadFault = 6
 status_of WriteFault = 7
 status_of DiskFault = 8
-status_of NoMemory = 9
+status_of (NoMemory lack) = 9
 status_of Ahead = 10
 
 -- the statuses that the program ends with

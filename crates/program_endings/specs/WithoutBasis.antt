@@ -13,9 +13,9 @@ use Rattle.program_endings.specs.declared.ending.Ending.TheVariants.{BadBasis as
 -- the line that says why there is no basis
 abbrev pub SaysNoBasis : NoBasis → Stream → Ending → Type 0
 SaysNoBasis (Bad bad) output NoRightBasis = WroteOrFailed output (bad_basis_text bad)
-SaysNoBasis (Bad bad) output NoMemory = WroteLine output (codes "nomemory")
+SaysNoBasis (Bad bad) output (NoMemory lack) = WroteLine output (codes "nomemory")
 SaysNoBasis ShelfFailed output ReadFault = WroteLine output (codes "readfault")
-SaysNoBasis NoRoom output NoMemory = WroteLine output (codes "nomemory")
+SaysNoBasis (NoRoom lack) output (NoMemory other_lack) = WroteLine output (codes "nomemory")
 SaysNoBasis _ _ _ = ⊥
 
 -- how a mode ends without the basis that it needs: the first bad file is named, or the shelf failed, or memory was refused
@@ -24,7 +24,7 @@ EndsNoBasis name shelf output NoRightBasis =
     (bad : BadBasis) × ((files : Files) → shelf.Agrees files → IsFirstBadFile files name bad) × WroteOrFailed output (bad_basis_text bad)
 EndsNoBasis name shelf output ReadFault =
     Rose shelf.faults_before shelf.faults_after × WroteLine output (codes "readfault")
-EndsNoBasis name shelf output NoMemory = WroteLine output (codes "nomemory")
+EndsNoBasis name shelf output (NoMemory lack) = WroteLine output (codes "nomemory")
 EndsNoBasis _ _ _ _ = ⊥
 
 -- this bad file is named

@@ -1,5 +1,6 @@
 -- Worked cases of endings, lines and replies. What was written is compared with what the lines have to be, byte by byte
 use Rattle.std.specs.Prelude.{◌+◌, ◌≡◌, ℕ, List, [], ◌∷◌, ◌++◌, Option, Some, None, codes, pos}
+use Rattle.watcher_set.specs.Evidence.{a_lack}
 use Rattle.program_endings.specs.Names.{Ghosts, Reply, Accepted, Refused, Faulted, Pinned, Blank, Entry, NotAJournal, BadRecord}
 use Rattle.policy_types.specs.declared.command.Command.TheVariants.{Lapse}
 use Rattle.policy_types.specs.declared.entry.Call.TheVariants.{Post, Pin}
@@ -10,8 +11,8 @@ use Rattle.policy_machine.specs.Worked.Pins.{second_issue}
 use Rattle.basis_shelf.specs.declared.fault.BasisWord.TheVariants.{AgeGap}
 use Rattle.program_endings.specs.declared.ending.Ending.TheVariants.{Done, Usage, BadScript, BadBasis as BadBasisFile, BadJournal, ReadFault, WriteFault, DiskFault, NoMemory, Ahead}
 use Rattle.program_endings.specs.Status.{status_of}
-use Rattle.program_endings.specs.Refusals.{IsRefusedJournal, SaysWhy}
-use Rattle.program_endings.specs.Replies.{AreAnswered, ArePins, HasBlank, HaveAFault, LackMemory}
+use Rattle.program_endings.specs.Refusals.{EndsNoOffice, SaysWhy}
+use Rattle.program_endings.specs.Replies.{AreAnswered, ArePins, HaveAFault, LackMemory}
 use Rattle.program_endings.specs.WithoutBasis.{EndsNoBasis, SaysBadFile}
 use Rattle.program_endings.specs.Writing.{GaveAll, Input, Shelving, Stream, WroteLine, WroteNothing, WrotePart}
 
@@ -19,7 +20,7 @@ use Rattle.program_endings.specs.Writing.{GaveAll, Input, Shelving, Stream, Wrot
 abbrev pub StatusesOfEndings : Type 0
 StatusesOfEndings = (status_of Done ≡ 0) × (status_of Usage ≡ 2) × (status_of BadScript ≡ 3) × (status_of BadBasisFile ≡ 4)
     × (status_of BadJournal ≡ 5) × (status_of ReadFault ≡ 6) × (status_of WriteFault ≡ 7) × (status_of DiskFault ≡ 8)
-    × (status_of NoMemory ≡ 9) × (status_of Ahead ≡ 10)
+    × (status_of (NoMemory a_lack) ≡ 9) × (status_of Ahead ≡ 10)
 
 -- an output that held this, and then that, with so many faults in between
 abbrev pub output_with : ℕ → List ℕ → List ℕ → Stream
@@ -65,7 +66,7 @@ WithoutABasis = EndsNoBasis (codes "b.csv") (bare_shelf 0) (output_with 0 [] (co
 -- whatever the disk, five bytes that are no journal are refused as that, and not for a record
 abbrev pub RefusesHello : {D : Type 0} → Ghosts D → Type 0
 RefusesHello {D} g = (old new : D) (output : Stream) → g.honest new → g.reads old ≡ codes "hello"
-    → IsRefusedJournal g old new output → WroteLine output (codes "badjournal,notajournal")
+    → EndsNoOffice g old new output BadJournal → WroteLine output (codes "badjournal,notajournal")
 
 -- an input of four bytes, two of which are given and then the end
 abbrev pub input_of_two : Option (List ℕ) → List ℕ → Input
@@ -103,14 +104,12 @@ AnsweredOrNot = AreAnswered (lapse_turn (Accepted 6) ∷ lapse_turn (Refused Unk
 
 -- a posting or a valuation without memory, and a posting that faulted
 abbrev pub WantsAndFaults : Type 0
-WantsAndFaults = HasBlank (pinned_turn ∷ lapse_turn Blank ∷ [])
-    × (HasBlank (pinned_turn ∷ []) → ⊥)
-    × LackMemory (pinned_turn ∷ []) (0 ∷ [])
+WantsAndFaults = LackMemory (pinned_turn ∷ []) (0 ∷ [])
     × LackMemory (lapse_turn Blank ∷ []) []
     × (LackMemory (pinned_turn ∷ []) [] → ⊥)
     × (LackMemory (lapse_turn Blank ∷ lapse_turn (Faulted 4) ∷ []) [] → ⊥)
-    × HaveAFault (pinned_turn ∷ lapse_turn (Faulted 4) ∷ []) []
-    × (HaveAFault (pinned_turn ∷ []) [] → ⊥)
+    × HaveAFault (pinned_turn ∷ lapse_turn (Faulted 4) ∷ [])
+    × (HaveAFault (pinned_turn ∷ []) → ⊥)
 
 -- an office is opened on one issue: another is the second command
 abbrev pub LegalIssue : Type 0

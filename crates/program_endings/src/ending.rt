@@ -1,4 +1,6 @@
-ghost use Rattle.std.specs.Prelude.{◌≡◌};
+ghost use Rattle.std.specs.Prelude.{◌≡◌, IsSome};
+
+use watcher_set::Lack;
 
 /// How a run of the program ends.
 #[derive(Clone, Copy, PartialEq, Eq, Debug)]
@@ -20,7 +22,7 @@ pub enum Ending {
     /// A disk failed.
     DiskFault,
     /// Memory was refused.
-    NoMemory,
+    NoMemory(Lack),
     /// There are fewer commands than were to be valued.
     Ahead,
 }
@@ -41,8 +43,19 @@ impl Ending {
             Ending::ReadFault => 6,
             Ending::WriteFault => 7,
             Ending::DiskFault => 8,
-            Ending::NoMemory => 9,
+            Ending::NoMemory(_) => 9,
             Ending::Ahead => 10,
+        }
+    }
+
+    /// The evidence that memory was wanting, where the run ends for that. No other ending has one.
+    pub fn lack(self) -> Option<Lack>
+        ensures wanting { status_of self ≡ 9 → IsSome result }
+        ensures others { IsSome result → status_of self ≡ 9 }
+    {
+        match self {
+            Ending::NoMemory(lack) => Some(lack),
+            _ => None,
         }
     }
 }

@@ -1,5 +1,5 @@
 // Why there is no office, and why there is no basis, in a line.
-ghost use Rattle.std.specs.Prelude.{◌≡◌, ◌≤◌};
+ghost use Rattle.std.specs.Prelude.{◌≡◌, ◌≤◌, ◌++◌, [], ◌∷◌, IfOk, codes, decimal};
 ghost use Rattle.basis_shelf.specs.declared.fault.NoBasis.TheVariants.{Bad, ReadFault as ShelfFailed};
 ghost use Rattle.office_state.specs.declared.faults.StartCause.TheVariants.{BadRecord};
 ghost use Rattle.program_endings.specs.Refusals.{SaysUnopened};
@@ -12,7 +12,9 @@ use crate::saying::{end, lack_memory};
 use basis_shelf::{BadBasis, NoBasis, bad_basis_line};
 use office_state::StartCause;
 use outside_io::Sink;
+use policy_types::NoMemory;
 use std::alloc::Global;
+use text_lines::{LineWriter, Text};
 
 /// Says why no office was opened.
 pub fn refuse_journal<K: Sink>(alloc: Global, cause: StartCause, output: &mut K) -> Ending
@@ -23,7 +25,7 @@ pub fn refuse_journal<K: Sink>(alloc: Global, cause: StartCause, output: &mut K)
         StartCause::DiskFault(_) => end(output, b"diskfault\n", Ending::DiskFault),
         StartCause::NotAJournal => end(output, b"badjournal,notajournal\n", Ending::BadJournal),
         StartCause::BadRecord(n) => refuse_record(alloc, n, output),
-        StartCause::NoMemory => lack_memory(output),
+        StartCause::NoMemory(lack) => lack_memory(lack, output),
     }
 }
 
@@ -31,10 +33,22 @@ fn refuse_record<K: Sink>(alloc: Global, n: u32, output: &mut K) -> Ending
     ensures later { K.faults output.old ≤ K.faults output.new }
     ensures says { SaysUnopened (BadRecord n) (between K.faults K.written K.pieces output.old output.new) result }
 {
-    match format!(in alloc; "badjournal,badrecord,{n}\n") {
-        Ok(line) => end(output, line.as_bytes(), Ending::BadJournal),
-        Err(_) => lack_memory(output),
+    match bad_record_line(alloc, n) {
+        Ok(line) => end(output, line.as_slice(), Ending::BadJournal),
+        Err(lack) => lack_memory(lack, output),
     }
+}
+
+// The line of the first record that can't stand.
+fn bad_record_line(alloc: Global, n: u32) -> Result<Text, NoMemory>
+    ensures { IfOk result (λ line. line ≡ codes "badjournal,badrecord," ++ decimal n ++ 10 ∷ []) }
+{
+    let mut line = LineWriter::new(alloc);
+    line.first("badjournal")?;
+    line.word("badrecord")?;
+    line.number(n)?;
+    line.end()?;
+    Ok(line.into_text())
 }
 
 /// Says why there is no basis.
@@ -46,7 +60,7 @@ pub fn refuse_basis<K: Sink>(alloc: Global, cause: NoBasis, output: &mut K) -> E
     match cause {
         NoBasis::Bad(bad) => refuse_file(alloc, &bad, output),
         NoBasis::ReadFault => end(output, b"readfault\n", Ending::ReadFault),
-        NoBasis::NoMemory => lack_memory(output),
+        NoBasis::NoMemory(lack) => lack_memory(lack, output),
     }
 }
 
@@ -56,6 +70,6 @@ fn refuse_file<K: Sink>(alloc: Global, bad: &BadBasis, output: &mut K) -> Ending
 {
     match bad_basis_line(alloc, bad) {
         Ok(line) => end(output, line.as_slice(), Ending::BadBasis),
-        Err(_) => lack_memory(output),
+        Err(lack) => lack_memory(lack, output),
     }
 }

@@ -1,5 +1,6 @@
 // What is written: a line that stands alone, or a whole text.
 ghost use Rattle.std.specs.Prelude.{◌≡◌, ◌≤◌, ◌++◌, codes, OnErr, OnOk};
+ghost use Rattle.watcher_set.specs.Evidence.{a_lack};
 ghost use Rattle.program_endings.specs.Names.{Appends, HasCause, AppendsPart};
 ghost use Rattle.program_endings.specs.Texts.{EndsText};
 ghost use Rattle.program_endings.specs.Writing.{WroteLine, WroteOrFailed, between};
@@ -9,6 +10,7 @@ use crate::ending::Ending;
 use outside_io::{Sink, WriteFault, write_all};
 use policy_types::NoMemory;
 use report_text::TextParts;
+use watcher_set::Lack;
 
 /// Writes a line. Where the output fails, a front of it was written.
 pub fn say<K: Sink>(output: &mut K, line: &[u8])
@@ -29,20 +31,21 @@ pub fn end<K: Sink>(output: &mut K, line: &[u8], ending: Ending) -> Ending
 }
 
 /// Says that there is no memory.
-pub fn lack_memory<K: Sink>(output: &mut K) -> Ending
+pub fn lack_memory<K: Sink>(lack: NoMemory, output: &mut K) -> Ending
     ensures later { K.faults output.old ≤ K.faults output.new }
     ensures wrote { WroteLine (between K.faults K.written K.pieces output.old output.new) (codes "nomemory") }
-    ensures so { result ≡ NoRoom }
+    ensures so { result ≡ (NoRoom a_lack) }
 {
-    end(output, b"nomemory\n", Ending::NoMemory)
+    end(output, b"nomemory\n", Ending::NoMemory(Lack::from(lack)))
 }
 
 /// Writes a text, or says that there was no memory for it.
 pub fn write_text<K: Sink>(text: Result<Vec<u8>, NoMemory>, output: &mut K) -> Ending
     ensures { EndsText text (between K.faults K.written K.pieces output.old output.new) result }
 {
-    let Ok(text) = text else {
-        return lack_memory(output);
+    let text = match text {
+        Ok(text) => text,
+        Err(lack) => return lack_memory(lack, output),
     };
     match write_all(output, text.as_slice()) {
         Ok(()) => Ending::Done,

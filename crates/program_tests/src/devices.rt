@@ -93,7 +93,11 @@ pub(crate) fn run_beside<R: Threads + Wait + Sync, H: Shelf + Drop, G: Gate + Sy
     let bytes = Vec::from_slice(alloc, script.as_bytes())?;
     let mut input = BytesSource::new(bytes, Vec::from_slice(alloc, failing_reads)?);
     let mut output = BytesSink::new(alloc, Vec::from_slice(alloc, failing_writes)?);
-    let Ended { status, disk } = life(
+    let Ended {
+        status,
+        lack: _lack,
+        disk,
+    } = life(
         rt,
         alloc,
         &words,

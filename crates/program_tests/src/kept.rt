@@ -33,6 +33,7 @@ pub(crate) fn keep_beside<R: Threads + Wait + Sync>(
     let mut output = BytesSink::new(alloc, Vec::from_slice(alloc, failing_writes)?);
     let EndedKept {
         status,
+        lack: _lack,
         disk,
         second,
     } = life_kept(

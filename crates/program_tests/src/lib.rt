@@ -10,8 +10,6 @@ mod disk_tests;
 #[cfg(test)]
 mod fault_tests;
 #[cfg(test)]
-mod full_shelf_tests;
-#[cfg(test)]
 mod gate_tests;
 #[cfg(test)]
 mod gates;

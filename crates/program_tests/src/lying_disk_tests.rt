@@ -74,7 +74,11 @@ fn is_told<R: Threads + Wait + Sync>(rt: &R, alloc: Global, lie: &Lie) -> Result
     let mut input = BytesSource::new(Vec::new(alloc), Vec::new(alloc));
     let mut output = BytesSink::new(alloc, Vec::new(alloc));
     let mut shelf = shelf_of(alloc, &[], &[])?;
-    let Ended { status, disk } = life(
+    let Ended {
+        status,
+        lack: _lack,
+        disk,
+    } = life(
         rt,
         alloc,
         &words,

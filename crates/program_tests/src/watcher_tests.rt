@@ -3,7 +3,7 @@
 ghost use Rattle.std.specs.Prelude.{◌≤◌, vec_len};
 
 use crate::devices::{Finished, disk_of, run_watched};
-use policy_types::{Attention, Command, NoMemory, Report, Watcher};
+use policy_types::{Attention, Command, NotReady, Report, Watcher};
 use std::alloc::{AllocError, Global};
 use std::snapshot::Snapshot;
 use std::sync::atomic::{AtomicU32, Ordering};
@@ -128,7 +128,7 @@ impl Watcher for Guest {
 
     ghost number = { λ _ list. length list };
 
-    fn ready(&mut self) -> Result<(), NoMemory> {
+    fn ready(&mut self) -> Result<(), NotReady> {
         self.count.ready()
     }
 
@@ -291,11 +291,11 @@ impl Watcher for Called {
 
     ghost number = { λ w h. 0 };
 
-    fn ready(&mut self) -> Result<(), NoMemory> {
+    fn ready(&mut self) -> Result<(), NotReady> {
         self.calls.fetch_add(1, Ordering::SeqCst);
         match self.heard.reserve(1) {
             Ok(()) => Ok(()),
-            Err(_) => Err(NoMemory),
+            Err(_) => Err(NotReady),
         }
     }
 

@@ -23,7 +23,7 @@ fn answer(alloc: Global, script: &[u8]) -> Result<(u64, u64), Fail>
             Ok((0, count))
         }
         Err(ScriptFault::BadRow { row, field }) => Ok((u64::from(row), u64::from(field))),
-        Err(ScriptFault::NoMemory) => Err("no memory")?,
+        Err(ScriptFault::NoMemory(_)) => Err("no memory")?,
     }
 }
 

@@ -70,7 +70,7 @@ fn asked(alloc: Global, line: &str) -> Result<String, Fail> {
             },
         ) => Ok(format!(in alloc; "load {} {} {} {}", seed, count, lanes, workers)?),
         Err(WordsFault::Usage) => Ok(format!(in alloc; "usage")?),
-        Err(WordsFault::NoMemory) => Ok(format!(in alloc; "nomemory")?),
+        Err(WordsFault::NoMemory(_)) => Ok(format!(in alloc; "nomemory")?),
     }
 }
 

@@ -1,14 +1,13 @@
 // The bytes of the fields at their places.
-ghost use Rattle.std.specs.Prelude.{◌≡◌, ◌+◌, ◌≤◌, [], ◌∷◌, slice_index};
+ghost use Rattle.std.specs.Prelude.{◌≡◌, ◌+◌, ◌≤◌, [], ◌∷◌, take, slice_index};
 ghost use Rattle.std.specs.Int.{w32, w64, from_be_bytes};
 ghost use Rattle.record_codec.specs.declared.fields.RecordFields.{RecordFields};
-ghost use Rattle.record_codec.specs.Spelling.{field_bytes, body_of};
-ghost use Rattle.record_codec.specs.inside.Reading.{AreInRange};
+ghost use Rattle.record_codec.specs.inside.Reading.{AreInRange, bytes_of};
 
 use crate::fields::RecordFields;
 
 pub fn body_with(fields: RecordFields) -> [u8; 64]
-    ensures { result ≡ body_of fields }
+    ensures { result ≡ bytes_of fields }
 {
     let mut body = [0; 64];
     body[..28].copy_from_slice(&bytes_with(fields));
@@ -17,7 +16,7 @@ pub fn body_with(fields: RecordFields) -> [u8; 64]
 
 // The fields that stand in a body. What else it holds isn't tested.
 pub fn fields_at(body: &[u8; 64]) -> RecordFields
-    ensures { (fields : RecordFields) → AreInRange fields → body.now ≡ body_of fields
+    ensures { (fields : RecordFields) → AreInRange fields → body.now ≡ bytes_of fields
         → result ≡ fields }
 {
     RecordFields {
@@ -33,7 +32,7 @@ pub fn fields_at(body: &[u8; 64]) -> RecordFields
 }
 
 fn bytes_with(fields: RecordFields) -> [u8; 28]
-    ensures { result ≡ field_bytes fields }
+    ensures { result ≡ take 28 (bytes_of fields) }
 {
     let RecordFields {
         kind,

@@ -1,7 +1,7 @@
 // The fields of a record, and the command that has them.
 ghost use Rattle.std.specs.Prelude.{◌≡◌};
-ghost use Rattle.record_codec.specs.Fields.{fields_of, short_fields, plan_byte};
-ghost use Rattle.record_codec.specs.inside.Reading.{plan_at, command_at};
+ghost use Rattle.record_codec.specs.Spelling.{plan_byte};
+ghost use Rattle.record_codec.specs.inside.Reading.{fields_of, short_fields, plan_at, command_at};
 
 use policy_types::{Command, Plan};
 

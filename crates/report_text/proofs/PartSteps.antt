@@ -6,7 +6,7 @@ use Rattle.std.proofs.lemmas.List.Concat.{flat_map-append}
 use Rattle.std.proofs.lemmas.Slice.Zip.{AllZip-long}
 use Rattle.parallel_value.specs.Pieces.{AreValues, MayGive, TakeAll}
 use Rattle.parallel_value.proofs.PieceSteps.{zip_more}
-use Rattle.policy_types.specs.declared.watcher.NoMemory.{NoMemory}
+use Rattle.memory_requests.specs.declared.evidence.NoMemory.{NoMemory}
 use Rattle.policy_value.specs.declared.worth.Row.{Row}
 use Rattle.report_text.specs.declared.printer.RowPart.{RowPart}
 use Rattle.report_text.specs.declared.printer.RowPrinter.{RowPrinter}

@@ -1,7 +1,7 @@
 -- The rows of a valuation in parts, and what the workers write of them
 use Rattle.std.specs.Prelude.{◌≡◌, ℕ, List, [], ◌∷◌, ◌++◌, Result, Ok, Err, IfOk}
 use Rattle.report_text.specs.Names.{flat_map, Row}
-use Rattle.policy_types.specs.declared.watcher.NoMemory.{NoMemory}
+use Rattle.memory_requests.specs.declared.evidence.NoMemory.{NoMemory}
 use Rattle.report_text.specs.Block.{row_text}
 use Rattle.report_text.specs.declared.printer.RowPart.{RowPart}
 

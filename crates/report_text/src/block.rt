@@ -1,7 +1,8 @@
 // The whole text of a valuation.
 ghost use Rattle.std.specs.Prelude.{◌≡◌, ◌≤◌, ◌++◌, length, IfOk, OnOk};
 ghost use Rattle.report_text.specs.Names.{IsDay, most_commands, behind_commas};
-ghost use Rattle.report_text.specs.Block.{heading_text, measure_fields, block_text, AreSummable};
+ghost use Rattle.report_text.specs.Block.{heading_text, block_text, AreSummable};
+ghost use Rattle.report_text.specs.inside.Fields.{measure_fields};
 
 use crate::rows::write_row;
 use crate::totals::write_total;

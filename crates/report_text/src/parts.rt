@@ -2,6 +2,7 @@
 ghost use Rattle.std.specs.Prelude.{◌≡◌, ◌++◌, [], OnOk};
 ghost use Rattle.std.specs.List.{flat_map};
 
+use memory_requests::push;
 use policy_types::NoMemory;
 use std::alloc::Global;
 use std::marker::Model;
@@ -35,7 +36,7 @@ impl TextParts {
     pub(crate) fn push(&mut self, part: Text) -> Result<(), NoMemory>
         ensures { OnOk result (self.new ≡ self.old ++ part) }
     {
-        self.parts.push(part).map_err(|_| NoMemory)
+        push(&mut self.parts, part)
     }
 
     /// The parts, in their order.

@@ -1,7 +1,8 @@
 // The rows of a valuation, each written from its end to its start.
 ghost use Rattle.std.specs.Prelude.{◌≡◌, ◌≤◌, ◌+◌, ◌++◌, ◌∷◌, [], length, IfOk};
-ghost use Rattle.report_text.specs.Names.{cents_text, behind_commas};
-ghost use Rattle.report_text.specs.Block.{adequacy_word, reason_word, row_text, worth_fields};
+ghost use Rattle.report_text.specs.Names.{cents_text, behind_commas, Word};
+ghost use Rattle.report_text.specs.Block.{row_text, worth_fields};
+ghost use Rattle.report_text.specs.inside.Fields.{adequacy_word};
 
 use policy_types::NoMemory;
 use policy_value::{Adequacy, NotValued, Row, Worth};
@@ -83,7 +84,7 @@ fn write_adequacy(line: &mut LineEnd, test: Adequacy)
 // The word for why a policy has no value.
 fn write_reason(line: &mut LineEnd, reason: NotValued)
     requires room { 11 + length line.old ≤ 256 }
-    ensures written { line.new ≡ 44 ∷ (reason_word reason ++ line.old) }
+    ensures written { line.new ≡ behind_commas (worth_fields (Word reason)) ++ line.old }
     ensures short { length line.new ≤ length line.old + 11 }
 {
     match reason {

@@ -8,6 +8,7 @@ use crate::block::{print_block, print_heading};
 use crate::parts::TextParts;
 use crate::printer::{RowPart, RowPrinter};
 use crate::totals::print_total;
+use memory_requests::{filled, with_room};
 use parallel_value::map_into;
 use policy_types::NoMemory;
 use policy_value::{Measure, Row, Rows};
@@ -64,7 +65,7 @@ fn add_rows<R: Threads + Sync>(
     requires { (1 ≤ many) × (many ≤ 64) }
     ensures { OnOk result (parts.new ≡ parts.old ++ flat_map row_text rows.now) }
 {
-    let mut printers = Vec::from_elem(alloc, RowPrinter { alloc }, many)?;
+    let mut printers = filled(alloc, RowPrinter { alloc }, many)?;
     let shares = shares_of(alloc, rows, many)?;
     let mut texts = unwritten(alloc, many)?;
     map_into(
@@ -78,12 +79,12 @@ fn add_rows<R: Threads + Sync>(
 
 // So many parts, as long as one another or with a longer last, which are the rows one behind the other.
 fn shares_of<'a>(alloc: Global, rows: &'a [Row], many: usize) -> Result<Vec<RowPart<'a>>, NoMemory>
-    requires { 1 ≤ many }
+    requires { (1 ≤ many) × (many ≤ 64) }
     ensures many { IfOk result (λ shares. length shares.items ≡ many) }
     ensures whole { IfOk result (λ shares. rows_of_parts shares.items ≡ rows.now) }
 {
     let size = rows.len() / many;
-    let mut shares = Vec::with_capacity(alloc, many)?;
+    let mut shares = with_room(alloc, many)?;
     let mut rest = rows;
     for _ in 0..many - 1 {
         let (front, back) = rest.split_at(size.min(rest.len()));
@@ -94,13 +95,14 @@ fn shares_of<'a>(alloc: Global, rows: &'a [Row], many: usize) -> Result<Vec<RowP
     Ok(shares)
 }
 
-// Places for so many texts.
+// Places for so many texts, which are still to be written.
 fn unwritten(alloc: Global, many: usize) -> Result<Vec<Result<Text, NoMemory>>, NoMemory>
+    requires { many ≤ 64 }
     ensures { IfOk result (λ texts. length texts.items ≡ many) }
 {
-    let mut texts = Vec::with_capacity(alloc, many)?;
+    let mut texts = with_room(alloc, many)?;
     for _ in 0..many {
-        texts.push_reserved(Err(NoMemory));
+        texts.push_reserved(Ok(Text::new(Vec::new(alloc))));
     }
     Ok(texts)
 }

@@ -1,7 +1,7 @@
 // What the rows of a valuation add up to.
-ghost use Rattle.std.specs.Prelude.{◌≡◌, ◌+◌, ◌<◌, ◌≤◌, ◌++◌, ◌^◌, length, IfOk, OnOk, if◌then◌else◌};
+ghost use Rattle.std.specs.Prelude.{◌≡◌, ◌+◌, ◌<◌, ◌≤◌, ◌++◌, ◌^◌, length, IfOk, OnOk};
 ghost use Rattle.report_text.specs.Names.{most_commands, behind_commas};
-ghost use Rattle.report_text.specs.Block.{lower_bound, upper_bound, lower_minimum, upper_minimum, is_unvalued, lower_sum, upper_sum, lower_minimum_sum, upper_minimum_sum, unvalued_count, sum_fields, total_text, IsSummable, AreSummable};
+ghost use Rattle.report_text.specs.Block.{total_of, totals_by, sum_fields, total_text, IsSummable, AreSummable};
 
 use policy_types::NoMemory;
 use policy_value::{Measure, Rows, Worth};
@@ -23,11 +23,11 @@ impl Totals {
     pub fn of(rows: &Rows) -> Totals
         requires few { length rows.now ≤ most_commands }
         requires bounded { AreSummable rows.now }
-        ensures lower { result.lower ≡ lower_sum rows.now }
-        ensures upper { result.upper ≡ upper_sum rows.now }
-        ensures lower_minimum { result.lower_minimum ≡ lower_minimum_sum rows.now }
-        ensures upper_minimum { result.upper_minimum ≡ upper_minimum_sum rows.now }
-        ensures unvalued { result.unvalued ≡ unvalued_count rows.now }
+        ensures lower { result.lower ≡ total_of (λ t. t.lower) rows.now }
+        ensures upper { result.upper ≡ total_of (λ t. t.upper) rows.now }
+        ensures lower_minimum { result.lower_minimum ≡ total_of (λ t. t.lower_minimum) rows.now }
+        ensures upper_minimum { result.upper_minimum ≡ total_of (λ t. t.upper_minimum) rows.now }
+        ensures unvalued { result.unvalued ≡ total_of (λ t. t.unvalued) rows.now }
         ensures most { (result.lower ≤ 80000000000000000) × (result.upper ≤ 80000000000000000) }
         ensures most_minimum { (result.lower_minimum ≤ 80000000000000000) × (result.upper_minimum ≤ 80000000000000000) }
     {
@@ -50,11 +50,11 @@ impl Totals {
         requires sums { (self.old.lower < 2 ^ 63) × (self.old.upper < 2 ^ 63) }
         requires minimums { (self.old.lower_minimum < 2 ^ 63) × (self.old.upper_minimum < 2 ^ 63) }
         requires count { self.old.unvalued < most_commands }
-        ensures lower { self.new.lower ≡ self.old.lower + lower_bound worth }
-        ensures upper { self.new.upper ≡ self.old.upper + upper_bound worth }
-        ensures lower_minimum { self.new.lower_minimum ≡ self.old.lower_minimum + lower_minimum worth }
-        ensures upper_minimum { self.new.upper_minimum ≡ self.old.upper_minimum + upper_minimum worth }
-        ensures unvalued { self.new.unvalued ≡ self.old.unvalued + (if is_unvalued worth then 1 else 0) }
+        ensures lower { self.new.lower ≡ self.old.lower + (totals_by worth).lower }
+        ensures upper { self.new.upper ≡ self.old.upper + (totals_by worth).upper }
+        ensures lower_minimum { self.new.lower_minimum ≡ self.old.lower_minimum + (totals_by worth).lower_minimum }
+        ensures upper_minimum { self.new.upper_minimum ≡ self.old.upper_minimum + (totals_by worth).upper_minimum }
+        ensures unvalued { self.new.unvalued ≡ self.old.unvalued + (totals_by worth).unvalued }
     {
         let (reserve, minimum) = match worth {
             Worth::Bounds { lo, hi } => ((lo, hi), (lo, hi)),

@@ -13,7 +13,10 @@ use Rattle.policy_types.specs.declared.refusal.Refusal.{Refusal}
 use Rattle.policy_types.specs.declared.refusal.Refusal.TheVariants.{Taken}
 use Rattle.policy_types.specs.Accounts.{Booking, against, booking_of}
 use Rattle.policy_types.specs.Valid.{id_of}
-use Rattle.policy_machine.specs.Rules.{next, decided, changed, matured, checks_of, first_refusal, issued, is_in_force, is_insured, is_lapsed, awaits_settlement}
+use Rattle.policy_machine.specs.Rules.{next, changed, matured, checks_of, first_refusal, issued, awaits_settlement}
+use Rattle.policy_machine.proofs.Parts.{is_insured}
+use Rattle.policy_machine.proofs.Parts.{is_in_force, is_lapsed}
+use Rattle.policy_machine.proofs.Parts.{decided}
 use Rattle.policy_machine.specs.Accounts.{ledger_of}
 use Rattle.policy_machine.proofs.AcceptedLemmas.{IsIssueHere, NeedsPolicy, issue_or_other}
 use Rattle.policy_machine.proofs.BookLemmas.{policy_of-push_own, policy_of-push_other, policy_of-upgrade, book-upgrade, IsAccepted-push}

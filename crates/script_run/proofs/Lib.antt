@@ -1,4 +1,5 @@
 pub mod Names
+pub mod LaneNames
 pub mod ScriptSteps
 pub mod RunSteps
 pub mod ScriptStatus

@@ -1,7 +1,7 @@
 -- The names that several proofs cite, passed on from one place. Declares nothing.
 pub use Rattle.std.proofs.Common.{◌≡◌, ℕ, refl, List, ap, ◌∙◌, [], length, subst, inl, ◌≤◌, sym, inr, arith, ◌++◌, Option, Some, Err, ◌∷◌, ◌⊎◌, map, Result, ◌<◌, zero, suc, ◌+◌, take, true, false, Ok, None, append-nil, Bool, append_assoc, length-append, rules, codes, lit≤}
 pub use Rattle.std.specs.Io.KnownBytes.{Appends}
-pub use Rattle.std.specs.List.{AllZip, AllByRecursion, filter, flat_map, take-map}
+pub use Rattle.std.specs.List.{concat, AllZip, AllByRecursion, filter, flat_map, take-map}
 pub use Rattle.std.specs.Prelude.{IfSome, IfOk, OnErr, if◌then◌else◌, slice_get}
 pub use Rattle.basis_book.specs.Dated.{Dated}
 pub use Rattle.command_csv.specs.Reads.{Reads, IsFirstScriptFault, IsScriptLine, is_valuation}
@@ -18,7 +18,8 @@ pub use Rattle.program_endings.specs.Writing.{Stream, Input, IsWholeInput, Shelv
 pub use Rattle.program_endings.specs.declared.ending.Ending.{Ending}
 pub use Rattle.program_endings.specs.declared.ending.Ending.TheVariants.{NoMemory, Done, BadJournal, WriteFault, DiskFault, BadScript, ReadFault as InputFault, Usage, BadBasis, Ahead, WriteFault as Failed, NoMemory as NoRoom}
 pub use Rattle.rtrb.specs.Ring.{sent, SameConsumer, known_items, received}
-pub use Rattle.script_run.specs.Script.{IsReadAs, IsUnreadable, asks_for_values, EndsUnread, GaveTooMany, GaveBadRow, IsReadable, IsRefused, most_script_bytes}
-pub use Rattle.script_run.specs.Texts.{texts_joined, WroteFront, WroteUpTo, WroteWhole}
-pub use Rattle.script_run.specs.inside.Ran.{AddsBy, EndsTold, output_until, EndsRan, IsWritten}
+pub use Rattle.script_run.specs.Script.{IsReadAs, IsUnreadable, asks_for_values, EndsUnread, IsReadable, IsRefused, most_script_bytes}
+pub use Rattle.script_run.specs.Texts.{WroteAsEnded}
+pub use Rattle.script_run.specs.inside.Unread.{GaveTooMany, GaveBadRow}
+pub use Rattle.script_run.specs.inside.Ran.{WroteUpTo, AddsBy, EndsTold, output_until, EndsRan, IsWritten}
 pub use Rattle.transcript_text.specs.Told.{told_text, run_text, told_texts}

@@ -1,67 +1,93 @@
 -- What the exit status tells of a run of a script
-use Rattle.script_run.proofs.Names.{◌≡◌, ℕ, ◌≤◌, ◌⊎◌, List, [], length, refl, ap, sym, ◌∙◌, subst, inl, inr, Ghosts, Rose, GivesMore, Entry, Lane, Dated, Reads, Opens, OpensToNone, Ending, Done, Usage, BadBasis, BadJournal, WriteFault, DiskFault, NoMemory, Ahead, Input, IsWholeInput, Shelving, Stream, IsReadAs, IsUnreadable, asks_for_values}
+use Rattle.script_run.proofs.Names.{◌≡◌, ℕ, ◌≤◌, ◌⊎◌, List, [], length, refl, ap, sym, ◌∙◌, subst, inl, inr, Ghosts, Rose, GivesMore, Entry, Lane, Dated, Reads, Opens, OpensToNone, Ending, Done, Usage, BadBasis, BadJournal, WriteFault, DiskFault, NoMemory, Ahead, Input, IsWholeInput, Shelving, Stream, IsReadAs, IsUnreadable, asks_for_values, WroteAsEnded}
 use Rattle.std.specs.Prelude.{true}
 use Rattle.std.proofs.lemmas.Bool.{false≢true}
 use Rattle.outside_io.specs.Shelves.{Files}
 use Rattle.policy_types.specs.declared.command.Command.{Command}
-use Rattle.watcher_set.specs.Noted.{Auditor}
+use Rattle.policy_machine.specs.History.{accepted_of}
+use Rattle.transcript_text.specs.Lines.{reports_text}
+use Rattle.watcher_set.specs.Noted.{Auditor, reports_of}
 use Rattle.basis_shelf.specs.FirstBad.{IsFirstBadFile}
 use Rattle.basis_shelf.specs.declared.fault.BadBasis.{BadBasis as ABadBasis}
 use Rattle.basis_shelf.proofs.OneBasis.{basis_or_bad}
 use Rattle.command_csv.proofs.OneReading.{one_reading}
 use Rattle.office_state.proofs.OpeningSteps.{finished}
+use Rattle.program_endings.specs.Refusals.{EndsNoOffice}
 use Rattle.program_endings.specs.Status.{status_of}
 use Rattle.program_endings.specs.WithoutBasis.{EndsNoBasis, SaysBadFile}
 use Rattle.program_endings.proofs.BasisSteps.{bad_refused, basis_refused}
 use Rattle.program_endings.proofs.ReadOnlySteps.{opens_to_none}
 use Rattle.script_run.specs.Outcome.{EndsScript, IsRunOf}
-use Rattle.script_run.specs.Running.{EndsLanes, EndsRun, HasItsBasis, ReadsForValues}
+use Rattle.script_run.proofs.LaneNames.{EndsLanes}
+use Rattle.script_run.specs.Running.{EndsRun, HasItsBasis, ReadsForValues}
 use Rattle.script_run.proofs.ScriptStatus.{never_long, never_readable, one_whole, unread_readable, unread_refused}
 
 module _ {D : Type 0} (g : Ghosts D) (old new : D) (auditors : List Auditor) where
   -- no run goes on over a file that opens to none
-  ran_nowhere : {A : Type 0} (lanes : List Lane) (basis : List Dated) (output : Stream) (Wrote : List (List ℕ) → List ℕ → Type 0) (Replies : List Entry → List ℕ → Type 0)
-      → IsRunOf g old new lanes basis auditors output Wrote Replies → g.honest new → OpensToNone (g.reads old) → A
-  ran_nowhere lanes basis output Wrote Replies ran honest none = absurd (none ran.commands (ran.opened honest))
+  ran_nowhere : {A : Type 0} (lanes : List Lane) (basis : List Dated) (output : Stream) (ending : Ending)
+      → IsRunOf g old new lanes basis auditors output ending → g.honest new → OpensToNone (g.reads old) → A
+  ran_nowhere lanes basis output ending ran honest none = absurd (none ran.commands (ran.opened honest))
 
   reads_as_before : (lanes : List Lane) (basis : List Dated) (output : Stream) (ending : Ending) → EndsScript g old new lanes basis auditors output ending
       → g.honest new → OpensToNone (g.reads old) → g.reads new ≡ g.reads old
-  reads_as_before lanes basis output Done ends honest none = ran_nowhere _ _ _ _ _ ends honest none
-  reads_as_before lanes basis output BadJournal ends honest none = (ends.alone.unwritten honest (finished (g.reads old) none)).facts.reads
-  reads_as_before lanes basis output WriteFault ends honest none = ran_nowhere _ _ _ _ _ ends.1 honest none
-  reads_as_before lanes basis output DiskFault ends honest none = elim ends.1 [
-    | inl said ↦ (said.1.unwritten honest (finished (g.reads old) none)).facts.reads
-    | inr ran ↦ ran_nowhere _ _ _ _ _ ran honest none
+  reads_as_before lanes basis output ending ends honest none = elim ends [
+    | inl ran ↦ ran_nowhere lanes basis output ending ran honest none
+    | inr said ↦ (said.1.unwritten honest (finished (g.reads old) none)).reads
   ]
-  reads_as_before lanes basis output NoMemory ends honest none = elim ends [
-    | inl said ↦ (said.1.unwritten honest (finished (g.reads old) none)).facts.reads
-    | inr (inl ran) ↦ ran_nowhere _ _ _ _ _ ran honest none
-    | inr (inr ran) ↦ ran_nowhere _ _ _ _ _ ran honest none
-  ]
-  reads_as_before lanes basis output _ ends honest none = absurd ends
 
   -- the statuses of a script's run over a file that opens to some commands, and over one that opens to none
+  wrote_to_end : (history : List Entry) (dry : List ℕ) (texts : List (List ℕ)) (reports : List ℕ) (output : Stream) (ending : Ending)
+      → WroteAsEnded g old new history dry texts reports output ending
+      → (Rose output.faults_before output.faults_after → ⊥) → (Rose (g.faults old) (g.faults new) → ⊥)
+      → (status_of ending ≡ 0) ⊎ (status_of ending ≡ 9)
+  wrote_to_end history dry texts reports output Done wrote output_held disk_held = inl refl
+  wrote_to_end history dry texts reports output (NoMemory lack) wrote output_held disk_held = inr refl
+  wrote_to_end history dry texts reports output WriteFault wrote output_held disk_held = absurd (output_held wrote.0)
+  wrote_to_end history dry texts reports output DiskFault wrote output_held disk_held = absurd (disk_held wrote.2)
+  wrote_to_end history dry texts reports output _ wrote output_held disk_held = absurd wrote
+
+  unopened_to_end : (output : Stream) (ending : Ending) (commands : List Command)
+      → EndsNoOffice g old new output ending → g.honest new → Opens (g.reads old) commands
+      → (Rose (g.faults old) (g.faults new) → ⊥) → (status_of ending ≡ 0) ⊎ (status_of ending ≡ 9)
+  unopened_to_end output (NoMemory lack) commands ends honest opens disk_held = inr refl
+  unopened_to_end output DiskFault commands ends honest opens disk_held = absurd (disk_held ends.1)
+  unopened_to_end output BadJournal commands ends honest opens disk_held =
+      absurd (opens_to_none g old new output ends honest commands opens)
+  unopened_to_end output _ commands ends honest opens disk_held = absurd ends
+
+  unopened_refused : (output : Stream) (ending : Ending) → EndsNoOffice g old new output ending
+      → (Rose (g.faults old) (g.faults new) → ⊥) → (status_of ending ≡ 5) ⊎ (status_of ending ≡ 9)
+  unopened_refused output BadJournal ends disk_held = inl refl
+  unopened_refused output (NoMemory lack) ends disk_held = inr refl
+  unopened_refused output DiskFault ends disk_held = absurd (disk_held ends.1)
+  unopened_refused output _ ends disk_held = absurd ends
+
   ran_to_end : (lanes : List Lane) (basis : List Dated) (output : Stream) (ending : Ending) (commands : List Command)
       → EndsScript g old new lanes basis auditors output ending → g.honest new → Opens (g.reads old) commands
       → (Rose output.faults_before output.faults_after → ⊥) → (Rose (g.faults old) (g.faults new) → ⊥)
       → (status_of ending ≡ 0) ⊎ (status_of ending ≡ 9)
-  ran_to_end lanes basis output Done commands ends honest opens output_held disk_held = inl refl
-  ran_to_end lanes basis output NoMemory commands ends honest opens output_held disk_held = inr refl
-  ran_to_end lanes basis output WriteFault commands ends honest opens output_held disk_held = absurd (output_held ends.0)
-  ran_to_end lanes basis output DiskFault commands ends honest opens output_held disk_held = absurd (disk_held ends.0)
-  ran_to_end lanes basis output BadJournal commands ends honest opens output_held disk_held =
-      absurd (opens_to_none g old new output ends honest commands opens)
-  ran_to_end lanes basis output _ commands ends honest opens output_held disk_held = absurd ends
+  ran_to_end lanes basis output ending commands ends honest opens output_held disk_held = elim ends [
+    | inl ran ↦ wrote_to_end ran.history ran.dry ran.texts (reports_text (reports_of auditors (accepted_of ran.history))) output ending ran.wrote output_held disk_held
+    | inr said ↦ unopened_to_end output ending commands said.0 honest opens disk_held
+  ]
 
   refused_at_opening : (lanes : List Lane) (basis : List Dated) (output : Stream) (ending : Ending) → EndsScript g old new lanes basis auditors output ending
       → g.honest new → OpensToNone (g.reads old) → (Rose (g.faults old) (g.faults new) → ⊥)
       → (status_of ending ≡ 5) ⊎ (status_of ending ≡ 9)
-  refused_at_opening lanes basis output BadJournal ends honest none disk_held = inl refl
-  refused_at_opening lanes basis output NoMemory ends honest none disk_held = inr refl
-  refused_at_opening lanes basis output DiskFault ends honest none disk_held = absurd (disk_held ends.0)
-  refused_at_opening lanes basis output Done ends honest none disk_held = ran_nowhere _ _ _ _ _ ends honest none
-  refused_at_opening lanes basis output WriteFault ends honest none disk_held = ran_nowhere _ _ _ _ _ ends.1 honest none
-  refused_at_opening lanes basis output _ ends honest none disk_held = absurd ends
+  refused_at_opening lanes basis output ending ends honest none disk_held = elim ends [
+    | inl ran ↦ ran_nowhere lanes basis output ending ran honest none
+    | inr said ↦ unopened_refused output ending said.0 disk_held
+  ]
+
+  -- no script's run ends so
+  script_usage : (lanes : List Lane) (basis : List Dated) (output : Stream) → EndsScript g old new lanes basis auditors output Usage → ⊥
+  script_usage lanes basis output ends = elim ends [ inl ran ↦ ran.wrote | inr said ↦ said.0 ]
+
+  script_ahead : (lanes : List Lane) (basis : List Dated) (output : Stream) → EndsScript g old new lanes basis auditors output Ahead → ⊥
+  script_ahead lanes basis output ends = elim ends [ inl ran ↦ ran.wrote | inr said ↦ said.0 ]
+
+  script_unfit : (lanes : List Lane) (basis : List Dated) (output : Stream) → EndsScript g old new lanes basis auditors output BadBasis → ⊥
+  script_unfit lanes basis output ends = elim ends [ inl ran ↦ ran.wrote | inr said ↦ said.0 ]
 
   -- the same of lanes with the basis that they need
   module _ (lanes : List Lane) (name : List ℕ) (shelf : Shelving) (output : Stream) (ShelfStays : Type 0) where
@@ -115,23 +141,23 @@ module _ {D : Type 0} (g : Ghosts D) (old new : D) (auditors : List Auditor) whe
     -- no script's run ends so
     lanes_usage : EndsLanes g old new lanes name auditors shelf output ShelfStays Usage → ⊥
     lanes_usage ends = elim ends [
-      | inl without ↦ without.2
-      | inr (asks, inl by) ↦ by.ends
+      | inl without ↦ script_usage lanes [] output without.2
+      | inr (asks, inl by) ↦ script_usage lanes by.basis output by.ends
       | inr (asks, inr no_basis) ↦ no_basis.1
     ]
 
     lanes_ahead : EndsLanes g old new lanes name auditors shelf output ShelfStays Ahead → ⊥
     lanes_ahead ends = elim ends [
-      | inl without ↦ without.2
-      | inr (asks, inl by) ↦ by.ends
+      | inl without ↦ script_ahead lanes [] output without.2
+      | inr (asks, inl by) ↦ script_ahead lanes by.basis output by.ends
       | inr (asks, inr no_basis) ↦ no_basis.1
     ]
 
     lanes_bad_file : EndsLanes g old new lanes name auditors shelf output ShelfStays BadBasis
         → (asks_for_values lanes ≡ true) × EndsNoBasis name shelf output BadBasis
     lanes_bad_file ends = elim ends [
-      | inl without ↦ absurd without.2
-      | inr (asks, inl by) ↦ absurd by.ends
+      | inl without ↦ absurd (script_unfit lanes [] output without.2)
+      | inr (asks, inl by) ↦ absurd (script_unfit lanes by.basis output by.ends)
       | inr (asks, inr no_basis) ↦ (asks, no_basis.1)
     ]
 

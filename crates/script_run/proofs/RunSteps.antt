@@ -1,5 +1,6 @@
 -- How a run ends, by what its parts did
-use Rattle.script_run.proofs.Names.{◌≡◌, ℕ, Bool, true, false, List, [], ◌++◌, length, map, refl, ap, sym, ◌∙◌, subst, inl, inr, Some, Result, Ok, Err, Option, IfOk, IfSome, OnErr, if◌then◌else◌, Rose, AllZip, sent, AppendsPart, TakenPiece, Ghosts, Dated, Lane, Entry, Opens, TranscriptLine, Ending, Done, BadScript, BadJournal, InputFault, WriteFault, DiskFault, NoMemory, Input, Shelving, Stream, WroteAll, Unwritten, run_text, told_text, EndsUnread, GaveBadRow, GaveTooMany, asks_for_values, WroteFront, WroteUpTo, WroteWhole, texts_joined, AddsBy, EndsRan, EndsTold}
+use Rattle.script_run.proofs.Names.{◌≡◌, ℕ, Bool, true, false, List, [], ◌++◌, length, map, refl, ap, sym, ◌∙◌, subst, inl, inr, Some, Result, Ok, Err, Option, IfOk, IfSome, OnErr, if◌then◌else◌, Rose, sent, AppendsPart, TakenPiece, Ghosts, Dated, Lane, Opens, TranscriptLine, Ending, Done, BadScript, InputFault, WriteFault, DiskFault, NoMemory, Input, Shelving, Stream, WroteAll, Unwritten, run_text, told_text, EndsUnread, GaveBadRow, GaveTooMany, asks_for_values, concat, AddsBy, EndsRan, EndsTold, WroteAsEnded}
+use Rattle.watcher_set.specs.Evidence.{a_lack}
 use Rattle.std.specs.Global.{Global}
 use Rattle.std.specs.Bool.{then_some}
 use Rattle.std.specs.Borrow.{Bor}
@@ -8,13 +9,12 @@ use Rattle.rtrb.specs.declared.AnyItems.{AnyItems}
 use Rattle.rtrb.specs.declared.consumer.Consumer.{Consumer}
 use Rattle.moment_ring.specs.Ends.{ArePaired, IsNewRing, SameOutlet, told}
 use Rattle.policy_types.specs.Accounts.{Booking}
-use Rattle.policy_types.specs.declared.watcher.NoMemory.{NoMemory as Lack}
+use Rattle.memory_requests.specs.declared.evidence.NoMemory.{NoMemory as Refusal}
 use Rattle.policy_types.specs.declared.watcher.Report.{Report}
 use Rattle.policy_machine.specs.History.{IsLegal, accepted_of, opened_on}
 use Rattle.watcher_set.specs.Noted.{Auditor, reports_of}
 use Rattle.watcher_set.specs.declared.watching.Watching.{Ghosts as WatcherGhosts}
 use Rattle.office_state.specs.declared.faults.StartCause.{StartCause}
-use Rattle.office_state.specs.declared.faults.StartCause.TheVariants.{DiskFault as FaultyDisk, NotAJournal, BadRecord, NoMemory as NoRoom}
 use Rattle.office_state.specs.Images.{AreSafeSince, IsLeftAlone, IsLeftBy}
 use Rattle.office_state.specs.Opening.{HasNotOpened}
 use Rattle.shared_office.specs.Offices.{IsOfficeHistory, OfficeOpening}
@@ -24,20 +24,21 @@ use Rattle.turn_lock.specs.Passes.{Holding, PassFacts}
 use Rattle.lane_runner.specs.Transcripts.{HasAnsweredLanes, dry_of}
 use Rattle.lane_runner.specs.declared.running.Ran.{Ran}
 use Rattle.lane_runner.specs.declared.transcript.Transcript.{Transcript}
-use Rattle.program_endings.specs.Replies.{AreAnswered, AreAny, HaveAFault, LackMemory}
 use Rattle.program_endings.specs.Refusals.{SaysUnopened}
 use Rattle.program_endings.proofs.FaultSteps.{rose_in}
+use Rattle.program_endings.proofs.ReadOnlySteps.{no_office}
 use Rattle.program_endings.proofs.ListSteps.{same_opened}
 use Rattle.lone_office.specs.Beginning.{HasFirstPass, HasNotBegun, IsAskedBasis, IsUnopened}
 use Rattle.lone_office.proofs.BeginningSteps.{ends_not_begun}
-use Rattle.transcript_text.specs.Transcript.{IsLineText, reports_text}
+use Rattle.transcript_text.specs.Lines.{reports_text}
 use Rattle.transcript_text.specs.Lanes.{AreScriptLanes}
 use Rattle.lane_runner.specs.Shown.{HasShown}
 use Rattle.lane_runner.specs.Tallies.{accepted_lines, any_faulted, any_lacked}
 use Rattle.transcript_text.proofs.Telling.{Telling, telling}
 use Rattle.script_run.specs.declared.intake.Unread.{Unread}
 use Rattle.script_run.specs.declared.intake.Unread.TheVariants.{TooLong, BadRow, ReadFault, NoMemory as OutOfMemory}
-use Rattle.script_run.specs.Running.{EndsLanes, EndsRun}
+use Rattle.script_run.proofs.LaneNames.{EndsLanes}
+use Rattle.script_run.specs.Running.{EndsRun}
 use Rattle.script_run.specs.Outcome.{EndsScript, IsRunOf}
 use Rattle.script_run.specs.inside.Unread.{SaysUnread}
 use Rattle.script_run.specs.Shown.{AreSafeWhenShown}
@@ -47,13 +48,13 @@ use Rattle.script_run.proofs.ShownSteps.{all_heard, all_texts, safe_when_shown, 
 -- a text that is written whole ends a run by what is told of its lines
 by_lines : (lines : List TranscriptLine) (reports : List Report) (output : Stream) (faulted lacked : Bool) → any_faulted lines ≡ faulted
     → any_lacked lines ≡ lacked → WroteAll output (run_text lines reports)
-    → EndsTold lines reports output (if faulted then DiskFault else if lacked then NoMemory else Done)
+    → EndsTold lines reports output (if faulted then DiskFault else if lacked then (NoMemory a_lack) else Done)
 by_lines lines reports output true lacked failed short wrote = (failed, wrote)
 by_lines lines reports output false true whole short wrote = inr (whole, short, wrote)
 by_lines lines reports output false false whole found wrote = (whole, found, wrote)
 
 pub ends_as_told : (lines : List TranscriptLine) (reports : List Report) (output : Stream) (ending : Ending)
-    → ending ≡ (if any_faulted lines then DiskFault else if any_lacked lines then NoMemory else Done)
+    → ending ≡ (if any_faulted lines then DiskFault else if any_lacked lines then (NoMemory a_lack) else Done)
     → WroteAll output (run_text lines reports) → EndsTold lines reports output ending
 ends_as_told lines reports output ending is wrote =
     subst (EndsTold lines reports output) (sym is) (by_lines lines reports output (any_faulted lines) (any_lacked lines) refl refl wrote)
@@ -91,52 +92,51 @@ module _ {D W : Type 0} (g : Ghosts D) (w : WatcherGhosts W) (old disk : D) (lan
     Shown output = g.honest disk → (run : List TakenPiece) × (output.pieces_after ≡ run ++ output.pieces_before)
         × AreSafeWhenShown g Opens disk started.opening.commands closing.seen ran.answered (map told_text transcript.lines) run
 
-    run_of : (output : Stream) → Shown output → (Wrote : List (List ℕ) → List ℕ → Type 0) (Replies : List Entry → List ℕ → Type 0)
-        → Wrote (map told_text transcript.lines) (reports_text reports) → Replies closing.seen (dry_of transcript.lines)
-        → IsRunOf g old disk lanes basis auditors output Wrote Replies
-    run_of output shown Wrote Replies wrote replies = record {
+    run_of : (output : Stream) (ending : Ending) → Shown output
+        → WroteAsEnded g old disk closing.seen (dry_of transcript.lines) (map told_text transcript.lines) (reports_text reports) output ending
+        → IsRunOf g old disk lanes basis auditors output ending
+    run_of output ending shown wrote = record {
       commands = started.opening.commands;
+      history = closing.seen;
+      opened = (left_from all_told.opening).opened;
+      legal = subst (λ (n : ℕ). IsLegal (opened_on started.opening.commands n) closing.seen) started.faults all_told.history.legal;
       callers = transcript.callers;
       dry = dry_of transcript.lines;
-      history = closing.seen;
-      answered = ran.answered;
-      texts = map told_text transcript.lines;
-      opened = (left_from all_told.opening).opened;
-      merge = all_told.merge;
-      legal = subst (λ (n : ℕ). IsLegal (opened_on started.opening.commands n) closing.seen) started.faults all_told.history.legal;
+      lines = ran.answered;
+      distinct = all_told.merge.distinct;
+      theirs = all_told.merge.theirs;
+      answered = ran.lines;
       pins = all_told.pins;
-      lines = ran.lines;
-      tells = subst (λ (n : ℕ). AllZip (IsLineText (opened_on started.opening.commands n) closing.seen basis (dry_of transcript.lines)) ran.answered (map told_text transcript.lines))
-          started.faults all_told.tells;
-      wrote = subst (λ (rs : List Report). Wrote (map told_text transcript.lines) (reports_text rs)) (reports_from all_told.opening) wrote;
+      texts = map told_text transcript.lines;
+      told = all_told.tells;
+      wrote = subst (λ (rs : List Report). WroteAsEnded g old disk closing.seen (dry_of transcript.lines) (map told_text transcript.lines) (reports_text rs) output ending)
+          (reports_from all_told.opening) wrote;
       shown = shown;
-      replies = replies;
       disk = left_from all_told.opening;
     }
 
     -- the text of the lines is their texts, one after the other
-    joined_texts : (P : List ℕ → Type 0) → P (run_text transcript.lines reports) → P (texts_joined (map told_text transcript.lines) ++ reports_text reports)
+    joined_texts : (P : List ℕ → Type 0) → P (run_text transcript.lines reports) → P (concat (map told_text transcript.lines) ++ reports_text reports)
     joined_texts P is = subst (λ (front : List ℕ). P (front ++ reports_text reports)) (sym (all_texts told_text transcript.lines)) is
 
-    ends_told : (output : Stream) (ending : Ending) → Shown output → EndsTold transcript.lines reports output ending
-        → EndsScript g old disk lanes basis auditors output ending
-    ends_told output Done shown ends =
-        run_of output shown (WroteWhole output) AreAnswered (joined_texts (WroteAll output) ends.2) (all_told.answered ends.0 ends.1, all_told.none_dry ends.1)
-    ends_told output WriteFault shown ends = (
-      ends.0,
-      run_of output shown (WroteFront output) AreAny (joined_texts (AppendsPart output.before output.after) ends.1) tt,
-    )
-    ends_told output DiskFault shown ends =
+    wrote_told : (output : Stream) (ending : Ending) → EndsTold transcript.lines reports output ending
+        → WroteAsEnded g old disk closing.seen (dry_of transcript.lines) (map told_text transcript.lines) (reports_text reports) output ending
+    wrote_told output Done ends = (joined_texts (WroteAll output) ends.2, (all_told.answered ends.0 ends.1, all_told.none_dry ends.1))
+    wrote_told output WriteFault ends = (ends.0, joined_texts (AppendsPart output.before output.after) ends.1)
+    wrote_told output DiskFault ends =
         let fault = all_told.fault ends.0 in
         let left = left_from all_told.opening in
         let legal = subst (λ (n : ℕ). IsLegal (opened_on started.opening.commands n) closing.seen) started.faults all_told.history.legal in
-        let rose = rose_in (opened_on started.opening.commands (g.faults old)) closing.seen fault.0 legal.due fault.1 in
-        (subst (Rose (g.faults old)) (sym left.faults) rose, inr (run_of output shown (WroteWhole output) HaveAFault (joined_texts (WroteAll output) ends.1) fault))
-    ends_told output NoMemory shown (inl unwritten) =
-        inr (inl (run_of output shown (WroteUpTo output) AreAny unwritten tt))
-    ends_told output NoMemory shown (inr short) =
-        inr (inr (run_of output shown (WroteWhole output) LackMemory (joined_texts (WroteAll output) short.2) (all_told.unfaulted short.0, all_told.some_lacked short.1)))
-    ends_told output _ shown ends = absurd ends
+        let rose = rose_in (opened_on started.opening.commands (g.faults old)) closing.seen fault.0 fault.1.0 legal.due fault.1.1 in
+        (joined_texts (WroteAll output) ends.1, fault, subst (Rose (g.faults old)) (sym left.faults) rose)
+    wrote_told output (NoMemory lack) (inl unwritten) = inr (unwritten.held, unwritten.part, (unwritten.many, unwritten.upto, unwritten.wrote))
+    wrote_told output (NoMemory lack) (inr short) =
+        inl (joined_texts (WroteAll output) short.2, (all_told.unfaulted short.0, all_told.some_lacked short.1))
+    wrote_told output _ ends = absurd ends
+
+    ends_told : (output : Stream) (ending : Ending) → Shown output → EndsTold transcript.lines reports output ending
+        → EndsScript g old disk lanes basis auditors output ending
+    ends_told output ending shown ends = inl (run_of output ending shown (wrote_told output ending ends))
 
     -- each moment that was heard is that of an accepted command, since which it is safe
     all_safe : g.honest disk → (moments rest : List ℕ) → moments ++ rest ≡ told outlet → length moments ≡ accepted_lines transcript.lines
@@ -172,18 +172,18 @@ module _ {D W : Type 0} (g : Ghosts D) (w : WatcherGhosts W) (old disk : D) (lan
       (left.alone tt, left.faults)
 
   -- the office's outlet is the one with which it was opened
-  pub same_outlet : (ran : Result (Ran D) Lack) → IfOk ran (λ (done : Ran D). HasAnsweredLanes basis lanes first closing done.transcript)
+  pub same_outlet : (ran : Result (Ran D) Refusal) → IfOk ran (λ (done : Ran D). HasAnsweredLanes basis lanes first closing done.transcript)
       → OnErr ran (closing ≡ first) → SameOutlet started.outlet outlet
   same_outlet ran answered same =
       let is : closing.opening ≡ Some opened = still ran answered same ∙ started.first.opened in
       subst (λ (o : OfficeOpening D W). SameOutlet o.outlet outlet) (same_opened closed.opening opened (sym closed.opened ∙ is)) closed.same
     where
-      still : (ran : Result (Ran D) Lack) → IfOk ran (λ (done : Ran D). HasAnsweredLanes basis lanes first closing done.transcript)
+      still : (ran : Result (Ran D) Refusal) → IfOk ran (λ (done : Ran D). HasAnsweredLanes basis lanes first closing done.transcript)
           → OnErr ran (closing ≡ first) → closing.opening ≡ first.opening
       still (Ok done) answered same = answered.pass.opening
       still (Err lack) answered same = ap (λ (p : Holding (OfficeOpening D W)). p.opening) same
 
-  pub ends_ran : (ran : Result (Ran D) Lack) (output : Stream) (ending : Ending) (mid : List TakenPiece) (moments rest : List ℕ)
+  pub ends_ran : (ran : Result (Ran D) Refusal) (output : Stream) (ending : Ending) (mid : List TakenPiece) (moments rest : List ℕ)
       → IfOk ran (λ (done : Ran D). HasAnsweredLanes basis lanes first closing done.transcript)
       → IfOk ran (λ (done : Ran D). HasShown told_text output.pieces_before mid done.transcript.lines moments done.latest done.written)
       → IfOk ran (λ (done : Ran D). AddsBy mid output.pieces_after done.latest)
@@ -192,8 +192,8 @@ module _ {D W : Type 0} (g : Ghosts D) (w : WatcherGhosts W) (old disk : D) (lan
   ends_ran (Ok ran) output ending mid moments rest answered shown more split inlet paired same ends =
       ends_told ran.transcript answered output ending
       (shows ran.transcript answered output.pieces_before mid output.pieces_after moments rest ran.latest ran.written shown more split inlet paired) ends
-  ends_ran (Err lack) output NoMemory mid moments rest answered shown more split inlet paired same ends =
-      let left = untouched same in inl (ends, left.0, left.1)
+  ends_ran (Err lack) output (NoMemory other_lack) mid moments rest answered shown more split inlet paired same ends =
+      let left = untouched same in inr ((ends, left.1), left.0)
   ends_ran (Err lack) output _ mid moments rest answered shown more split inlet paired same ends = absurd ends
 
 -- what is known of an input that gave no script
@@ -206,12 +206,7 @@ pub record StopsReading (input : Input) (unread : Unread) : Type 0 where
 pub ends_unopened : {D : Type 0} (g : Ghosts D) (old new : D) (lanes : List Lane) (basis : List Dated) (auditors : List Auditor)
     (output : Stream) (cause : StartCause) (ending : Ending) → HasNotOpened g old new cause → SaysUnopened cause output ending
     → EndsScript g old new lanes basis auditors output ending
-ends_unopened g old new lanes basis auditors output (FaultyDisk count) DiskFault not said = (not.told.1, inl (said, not.alone))
-ends_unopened g old new lanes basis auditors output NotAJournal BadJournal not said = record { cause = NotAJournal; line = said; shown = not.shown; quiet = not.told; alone = not.alone }
-ends_unopened g old new lanes basis auditors output (BadRecord n) BadJournal not said = record { cause = BadRecord n; line = said; shown = not.shown; quiet = not.told; alone = not.alone }
-ends_unopened g old new lanes basis auditors output (BadRecord n) NoMemory not said = inl (said, not.alone, not.told)
-ends_unopened g old new lanes basis auditors output NoRoom NoMemory not said = inl (said, not.alone, not.told)
-ends_unopened g old new lanes basis auditors output _ _ not said = absurd said
+ends_unopened g old new lanes basis auditors output cause ending not said = inr (no_office g old new output cause ending not said)
 
 -- one that read none leaves the shelf and the disk
 pub ends_unread : {D : Type 0} (g : Ghosts D) (disk : D) (name : List ℕ) (auditors : List Auditor) (input : Input) (output : Stream)
@@ -220,11 +215,12 @@ pub ends_unread : {D : Type 0} (g : Ghosts D) (disk : D) (name : List ℕ) (audi
 ends_unread g disk name auditors input output shelf ShelfStays unread ending stays is says = inr (refl, stays, by unread ending is says)
   where
     by : (unread : Unread) (ending : Ending) → StopsReading input unread → SaysUnread unread output ending → EndsUnread input output ending
-    by TooLong BadScript is said = inl (is.too_long refl, said)
-    by (BadRow row field) BadScript is said = inr (row, (field, is.bad_row row field refl, said))
-    by (BadRow row field) NoMemory is said = said
+    by TooLong BadScript is said = (let many = is.too_long refl in inl (many.more, many.left, said))
+    by (BadRow row field) BadScript is said =
+        (let bad = is.bad_row row field refl in inr (bad.bytes, bad.gave, bad.short, (row, (field, bad.fault, said))))
+    by (BadRow row field) (NoMemory lack) is said = said
     by ReadFault InputFault is said = (is.fault refl, said)
-    by OutOfMemory NoMemory is said = said
+    by (OutOfMemory lack) (NoMemory other_lack) is said = said
     by _ _ is said = absurd said
 
 -- what is asked for, by a test of the lanes

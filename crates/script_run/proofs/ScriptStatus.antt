@@ -1,5 +1,5 @@
 -- What the exit status tells of a script
-use Rattle.script_run.proofs.Names.{◌≡◌, ℕ, ◌≤◌, ◌<◌, ◌⊎◌, List, [], ◌∷◌, ◌++◌, length, refl, sym, ◌∙◌, subst, inl, inr, Option, arith, IfSome, Rose, GivesMore, Lane, IsFirstScriptFault, Reads, Ending, BadScript, InputFault, NoMemory, GaveAll, Input, IsWholeInput, Stream, EndsUnread, GaveTooMany, IsReadAs, IsReadable, IsRefused, IsUnreadable}
+use Rattle.script_run.proofs.Names.{◌≡◌, ℕ, ◌≤◌, ◌<◌, ◌⊎◌, List, [], ◌∷◌, ◌++◌, length, refl, sym, ◌∙◌, subst, inl, inr, Option, arith, IfSome, Rose, GivesMore, Lane, IsFirstScriptFault, Reads, Ending, BadScript, InputFault, NoMemory, GaveAll, Input, IsWholeInput, Stream, EndsUnread, most_script_bytes, IsReadAs, IsReadable, IsRefused, IsUnreadable}
 use Rattle.std.proofs.lemmas.Bool.{cases_lt}
 use Rattle.command_csv.proofs.Faults.{fault_excludes}
 use Rattle.command_csv.proofs.Judging.{judged}
@@ -16,20 +16,21 @@ one_whole input gave bytes all (inl left) = sym (subst (λ (told : Option (List 
 one_whole input gave bytes all (inr given) = same_behind input.given_before gave bytes (sym all.given ∙ given.0)
 
 -- and it isn't more than it gave
-too_many : (input : Input) (bytes : List ℕ) → GaveTooMany input → IsWholeInput input bytes → 16777216 < length bytes
-too_many input bytes many (inl left) = subst (λ (told : Option (List ℕ)). IfSome told (λ t. 16777216 < length t)) left many.left
-too_many input bytes many (inr given) =
-    subst (λ (bs : List ℕ). 16777216 < length bs) (same_behind input.given_before many.more.0 bytes (sym many.more.1 ∙ given.0)) many.more.2
+too_many : (input : Input) (bytes : List ℕ) → GivesMore most_script_bytes input.given_before input.given_after
+    → IfSome input.left_before (λ told. most_script_bytes < length told) → IsWholeInput input bytes → 16777216 < length bytes
+too_many input bytes more told (inl left) = subst (λ (told : Option (List ℕ)). IfSome told (λ t. 16777216 < length t)) left told
+too_many input bytes more told (inr given) =
+    subst (λ (bs : List ℕ). 16777216 < length bs) (same_behind input.given_before more.0 bytes (sym more.1 ∙ given.0)) more.2
 
 -- none that can be read is refused
 not_refused : (input : Input) (bytes : List ℕ) (lanes : List Lane) (output : Stream) → IsWholeInput input bytes → length bytes ≤ 16777216
     → Reads bytes lanes → IsRefused input output → ⊥
 not_refused input bytes lanes output whole short reads refused = elim refused [
-  | inl long ↦ absurd (let many = too_many input bytes long.0 whole in omega (arith, many))
-  | inr fault ↦
-      let bad = fault.1.1 in
-      let same = one_whole input bad.bytes bytes bad.gave whole in
-      fault_excludes bytes fault.0 fault.1.0 lanes (subst (λ (bs : List ℕ). IsFirstScriptFault bs fault.0 fault.1.0) same bad.fault) reads
+  | inl long ↦ absurd (let many = too_many input bytes long.0 long.1 whole in omega (arith, many))
+  | inr bad ↦
+      let same = one_whole input bad.0 bytes bad.1 whole in
+      let fault = bad.3 in
+      fault_excludes bytes fault.0 fault.1.0 lanes (subst (λ (bs : List ℕ). IsFirstScriptFault bs fault.0 fault.1.0) same fault.1.1) reads
 ]
 
 -- and none is read that can't be
@@ -69,7 +70,7 @@ not_both bytes readable unreadable = never_read bytes readable.0 readable.1 unre
 pub unread_readable : (input : Input) (output : Stream) (ending : Ending) (bytes : List ℕ) (lanes : List Lane)
     → EndsUnread input output ending → IsWholeInput input bytes → length bytes ≤ 16777216 → Reads bytes lanes
     → (Rose input.faults_before input.faults_after → ⊥) → status_of ending ≡ 9
-unread_readable input output NoMemory bytes lanes ends whole short reads held = refl
+unread_readable input output (NoMemory lack) bytes lanes ends whole short reads held = refl
 unread_readable input output InputFault bytes lanes ends whole short reads held = absurd (held ends.0)
 unread_readable input output BadScript bytes lanes ends whole short reads held = absurd (not_refused input bytes lanes output whole short reads ends)
 unread_readable input output _ bytes lanes ends whole short reads held = absurd ends
@@ -78,6 +79,6 @@ unread_readable input output _ bytes lanes ends whole short reads held = absurd 
 pub unread_refused : (input : Input) (output : Stream) (ending : Ending) → EndsUnread input output ending
     → (Rose input.faults_before input.faults_after → ⊥) → (status_of ending ≡ 3) ⊎ (status_of ending ≡ 9)
 unread_refused input output BadScript ends held = inl refl
-unread_refused input output NoMemory ends held = inr refl
+unread_refused input output (NoMemory lack) ends held = inr refl
 unread_refused input output InputFault ends held = absurd (held ends.0)
 unread_refused input output _ ends held = absurd ends

@@ -1,5 +1,5 @@
 -- What is shown of the lines of a run is safe by then
-use Rattle.script_run.proofs.Names.{◌≡◌, ◌⊎◌, ℕ, zero, suc, ◌+◌, ◌<◌, ◌≤◌, true, false, List, [], ◌∷◌, ◌++◌, length, map, take, Option, Some, refl, ap, sym, ◌∙◌, subst, inl, inr, append-nil, append_assoc, length-append, arith, None, Result, slice_get, IfSome, AllByRecursion, AllZip, flat_map, Dated, TakenPiece, taken_bytes, Ghosts, SameConsumer, sent, Entry, Opens, line_texts, TranscriptLine, Unwritten, AddsBy}
+use Rattle.script_run.proofs.Names.{concat, ◌≡◌, ◌⊎◌, ℕ, zero, suc, ◌+◌, ◌<◌, ◌≤◌, true, List, [], ◌∷◌, ◌++◌, length, map, take, Option, Some, refl, ap, sym, ◌∙◌, subst, append-nil, append_assoc, length-append, arith, None, Result, slice_get, IfSome, AllByRecursion, AllZip, flat_map, Dated, TakenPiece, taken_bytes, Ghosts, SameConsumer, sent, Entry, Opens, line_texts, TranscriptLine, Unwritten, AddsBy}
 use Rattle.std.proofs.lemmas.Option.{same_Some}
 use Rattle.rtrb.specs.declared.consumer.Consumer.{Consumer}
 use Rattle.rtrb.specs.declared.producer.Producer.{Producer}
@@ -10,7 +10,8 @@ use Rattle.policy_types.specs.declared.entry.Reply.TheVariants.{Accepted}
 use Rattle.policy_types.specs.declared.script.Line.{Line}
 use Rattle.policy_types.specs.declared.script.Line.TheVariants.{Post, Value, Trim}
 use Rattle.policy_machine.specs.History.{Opening, accepted_of, commands_after}
-use Rattle.office_state.specs.Images.{AreSafeSince, HoldsAtLeast}
+use Rattle.office_state.proofs.Holdings.{HoldsAtLeast}
+use Rattle.office_state.specs.Images.{AreSafeSince}
 use Rattle.office_state.specs.declared.answer.Answer.TheVariants.{Accepted as AcceptedAt, Refused, DiskFault, NoMemory}
 use Rattle.lane_runner.specs.AnsweredLines.{AnsweredLine}
 use Rattle.lane_runner.specs.Shown.{AreShown, HasShown}
@@ -19,7 +20,7 @@ use Rattle.lane_runner.specs.Transcripts.{IsOutcome, IsTold}
 use Rattle.lane_runner.specs.declared.transcript.Outcome.{Outcome}
 use Rattle.lane_runner.specs.declared.transcript.Outcome.TheVariants.{Posted, Trimmed, Valued, ValueRefused, ValueNoMemory}
 use Rattle.transcript_text.proofs.AcceptedSteps.{accepted_turns, many_turns, split_turns}
-use Rattle.script_run.specs.Shown.{AreSafeWhenShown, IsAcceptedReply}
+use Rattle.script_run.specs.Shown.{AreSafeWhenShown}
 
 -- an accepted line among others is one of as many as are accepted
 one_of_accepted : (lines before after : List TranscriptLine) (line : TranscriptLine) → lines ≡ before ++ line ∷ after
@@ -151,15 +152,19 @@ zip_split {A} {B} R (z ∷ xs) (y ∷ ys) (b ∷ before) after x all split =
 
 -- the text of the lines of a front
 front_text : (text : TranscriptLine → List ℕ) (front back : List TranscriptLine)
-    → flat_map (λ (t : List ℕ). t) (take (length front) (map text (front ++ back))) ≡ line_texts text front
+    → concat (take (length front) (map text (front ++ back))) ≡ line_texts text front
 front_text text [] back = refl
 front_text text (line ∷ front) back = ap (λ (rest : List ℕ). text line ++ rest) (front_text text front back)
 
 -- the texts of all lines, one after the other
 pub all_texts : (text : TranscriptLine → List ℕ) (lines : List TranscriptLine)
-    → flat_map (λ (t : List ℕ). t) (map text lines) ≡ flat_map text lines
+    → concat (map text lines) ≡ flat_map text lines
 all_texts text [] = refl
 all_texts text (line ∷ lines) = ap (λ (rest : List ℕ). text line ++ rest) (all_texts text lines)
+
+abbrev IsAcceptedReply : Reply → Type 0
+IsAcceptedReply (Accepted position) = Unit {0}
+IsAcceptedReply _ = ⊥
 
 -- what is told of an accepted posting says so
 told_accepted : (line : Line) (reply : Reply) (outcome : Outcome) (commands : List Command) (basis : List Dated)
@@ -167,19 +172,19 @@ told_accepted : (line : Line) (reply : Reply) (outcome : Outcome) (commands : Li
 told_accepted (Post command) reply (Posted (AcceptedAt position)) commands basis said is = refl
 told_accepted (Post command) reply (Posted (Refused refusal)) commands basis said is = absurd (subst IsAcceptedReply said is)
 told_accepted (Post command) reply (Posted (DiskFault count)) commands basis said is = absurd (subst IsAcceptedReply said is)
-told_accepted (Post command) reply (Posted NoMemory) commands basis said is = absurd (subst IsAcceptedReply said is)
+told_accepted (Post command) reply (Posted (NoMemory lack)) commands basis said is = absurd (subst IsAcceptedReply said is)
 told_accepted Trim reply (Trimmed floor) commands basis said is = absurd (subst IsAcceptedReply said is)
 told_accepted (Value on at workers) reply (ValueRefused refusal) commands basis said is = absurd (subst IsAcceptedReply said is)
 told_accepted (Value on at workers) reply (Valued valuation) commands basis said is = absurd (subst IsAcceptedReply said.1.1 is)
-told_accepted (Value on at workers) reply ValueNoMemory commands basis said is = absurd (subst IsAcceptedReply said.1.1 is)
+told_accepted (Value on at workers) reply (ValueNoMemory lack) commands basis said is = absurd (subst IsAcceptedReply said.1.1 is)
 told_accepted (Post command) reply (Trimmed floor) commands basis said is = absurd said
 told_accepted (Post command) reply (Valued valuation) commands basis said is = absurd said
 told_accepted (Post command) reply (ValueRefused refusal) commands basis said is = absurd said
-told_accepted (Post command) reply ValueNoMemory commands basis said is = absurd said
+told_accepted (Post command) reply (ValueNoMemory lack) commands basis said is = absurd said
 told_accepted Trim reply (Posted answer) commands basis said is = absurd said
 told_accepted Trim reply (Valued valuation) commands basis said is = absurd said
 told_accepted Trim reply (ValueRefused refusal) commands basis said is = absurd said
-told_accepted Trim reply ValueNoMemory commands basis said is = absurd said
+told_accepted Trim reply (ValueNoMemory lack) commands basis said is = absurd said
 told_accepted (Value on at workers) reply (Posted answer) commands basis said is = absurd said
 told_accepted (Value on at workers) reply (Trimmed floor) commands basis said is = absurd said
 
@@ -194,7 +199,7 @@ module _ {D : Type 0} (g : Ghosts D) (new : D) (opening : Opening) (history : Li
     (safe : AreSafeSince g new opening.commands (accepted_of history) moments) where
   pub safe_when_shown : (run : List TakenPiece) → AreShown text run lines moments
       → AreSafeWhenShown g Opens new opening.commands history answered (map text lines) run
-  safe_when_shown run shown later earlier piece split before after line where_is accepted reached image left =
+  safe_when_shown run shown later earlier piece split before after line where_is position accepted reached image left =
       let pair = zip_split (IsTold opening history basis) answered lines before after line are_told where_is in
       let front = pair.0 in
       let back = pair.1 in
@@ -202,10 +207,10 @@ module _ {D : Type 0} (g : Ghosts D) (new : D) (opening : Opening) (history : Li
       let there = pair.2.1 in
       let is_told = pair.2.3 in
       let is : tells_accepted told_line.outcome ≡ true =
-      told_accepted line.line line.first.1.reply told_line.outcome (commands_after opening (take line.first.0 history)) basis is_told.outcome accepted in
-      let front_is : flat_map (λ (t : List ℕ). t) (take (length before) (map text lines)) ≡ line_texts text front =
-      ap (λ (ls : List TranscriptLine). flat_map (λ (t : List ℕ). t) (take (length before) (map text ls))) there
-      ∙ ap (λ (n : ℕ). flat_map (λ (t : List ℕ). t) (take n (map text (front ++ told_line ∷ back)))) (sym pair.2.2)
+      told_accepted line.line line.first.1.reply told_line.outcome (commands_after opening (take line.first.0 history)) basis is_told.outcome (subst IsAcceptedReply (sym accepted) tt) in
+      let front_is : concat (take (length before) (map text lines)) ≡ line_texts text front =
+      ap (λ (ls : List TranscriptLine). concat (take (length before) (map text ls))) there
+      ∙ ap (λ (n : ℕ). concat (take n (map text (front ++ told_line ∷ back)))) (sym pair.2.2)
       ∙ front_text text front (told_line ∷ back) in
       let past : length (line_texts text front) < length (taken_bytes (piece ∷ earlier)) =
       subst (λ (bytes : List ℕ). length bytes < length (taken_bytes (piece ∷ earlier))) front_is reached in

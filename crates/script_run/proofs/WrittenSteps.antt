@@ -1,18 +1,20 @@
 -- How a run ends by what was written of the text of its lines
-use Rattle.script_run.proofs.Names.{◌≡◌, ℕ, ◌+◌, ◌≤◌, ◌<◌, List, [], ◌++◌, length, map, take, Option, Result, Ok, Err, refl, sym, ap, ◌∙◌, subst, inl, inr, append-nil, arith, IfOk, OnErr, Appends, Rose, AppendsPart, TakenPiece, TranscriptLine, Unwritten, HasEnded, take-map, Stream, Failed, NoRoom, run_text, told_text, told_texts, WroteFront, texts_joined, EndsTold, IsWritten, output_until}
+use Rattle.script_run.proofs.Names.{◌≡◌, ℕ, ◌+◌, ◌≤◌, ◌<◌, List, [], ◌++◌, length, map, take, Option, Result, Ok, Err, refl, sym, ap, ◌∙◌, subst, inl, append-nil, arith, IfOk, OnErr, Appends, Rose, AppendsPart, TakenPiece, TranscriptLine, HasEnded, take-map, Stream, Failed, NoRoom, run_text, told_text, told_texts, concat, EndsTold, IsWritten, output_until}
+use Rattle.watcher_set.specs.Evidence.{a_lack}
+use Rattle.memory_requests.specs.Evidence.{a_refusal}
 use Rattle.std.proofs.KnownBytes.{Appends-trans}
-use Rattle.policy_types.specs.declared.watcher.NoMemory.{NoMemory as Lack}
+use Rattle.memory_requests.specs.declared.evidence.NoMemory.{NoMemory as Refusal}
 use Rattle.policy_types.specs.declared.watcher.Report.{Report}
 use Rattle.office_state.proofs.HistorySteps.{rose_since}
 use Rattle.lane_runner.specs.declared.running.Ran.{Ran}
 use Rattle.lane_runner.specs.declared.wording.Unwritten.TheVariants.{WriteFault, NoMemory}
 use Rattle.std.proofs.lemmas.List.{length-map}
 use Rattle.lane_runner.proofs.GatherSteps.{part_behind, part_more, part_whole, take_past}
-use Rattle.transcript_text.specs.Transcript.{reports_text}
+use Rattle.transcript_text.specs.Lines.{reports_text}
 use Rattle.script_run.proofs.ShownSteps.{all_texts}
 
 -- what was written of the lines' text, or nothing where they weren't run
-pub written_of : {K P D : Type 0} (Other : Type 0) (faults : K → ℕ) (written : K → Option (List ℕ)) (old new : K) (first closing : P) (ran : Result (Ran D) Lack) (output : Stream)
+pub written_of : {K P D : Type 0} (Other : Type 0) (faults : K → ℕ) (written : K → Option (List ℕ)) (old new : K) (first closing : P) (ran : Result (Ran D) Refusal) (output : Stream)
     → output.faults_before ≡ faults old → output.before ≡ written old → faults old ≤ faults new
     → IfOk ran (λ (done : Ran D). HasEnded (faults old) (faults new) (written old) (written new) told_text done.transcript.lines done.written)
     → OnErr ran ((closing ≡ first) × (new ≡ old) × Other) → IsWritten output (faults new) (written new) ran
@@ -24,17 +26,17 @@ written_of Other faults written old new first closing (Ok done) output count byt
 written_of Other faults written old new first closing (Err lack) output count bytes passed wrote same =
     (ap faults same.1 ∙ sym count, ap written same.1 ∙ sym bytes)
 
-pub stays : {D : Type 0} (P Q S : Type 0) (ran : Result (Ran D) Lack) → OnErr ran (P × Q × S) → OnErr ran P
+pub stays : {D : Type 0} (P Q S : Type 0) (ran : Result (Ran D) Refusal) → OnErr ran (P × Q × S) → OnErr ran P
 stays P Q S (Ok done) same = tt
 stays P Q S (Err lack) same = same.0
 
 module _ (lines : List TranscriptLine) (reports : List Report) (first : Stream) (faults later : ℕ) (mid last : Option (List ℕ))
     (pieces : List TakenPiece) where
   -- the texts of the first lines
-  texts_of : (many : ℕ) → texts_joined (take many (map told_text lines)) ≡ told_texts (take many lines)
-  texts_of many = ap texts_joined (take-map told_text many lines) ∙ all_texts told_text (take many lines)
+  texts_of : (many : ℕ) → concat (take many (map told_text lines)) ≡ told_texts (take many lines)
+  texts_of many = ap concat (take-map told_text many lines) ∙ all_texts told_text (take many lines)
 
-  front : AppendsPart first.before mid (run_text lines reports) → WroteFront (output_until first faults mid pieces) (map told_text lines) (reports_text reports)
+  front : AppendsPart first.before mid (run_text lines reports) → AppendsPart first.before mid (concat (map told_text lines) ++ reports_text reports)
   front part = subst (λ (all : List ℕ). AppendsPart first.before mid (all ++ reports_text reports)) (sym (all_texts told_text lines)) part
 
   -- the output failed in the lines
@@ -43,8 +45,8 @@ module _ (lines : List TranscriptLine) (reports : List Report) (first : Stream) 
   told_failed ended = (ended.0, part_more first.before mid (told_texts lines) (reports_text reports) ended.1)
 
   -- memory was wanting for a line
-  pub told_short : HasEnded first.faults_before faults first.before mid told_text lines (Err NoMemory)
-      → EndsTold lines reports (output_until first faults mid pieces) NoRoom
+  pub told_short : HasEnded first.faults_before faults first.before mid told_text lines (Err (NoMemory a_refusal))
+      → EndsTold lines reports (output_until first faults mid pieces) (NoRoom a_lack)
   told_short ended = inl (record {
     held = ended.held;
     many = ended.many;
@@ -55,7 +57,7 @@ module _ (lines : List TranscriptLine) (reports : List Report) (first : Stream) 
 
   -- or for the reports
   pub reports_short : faults ≡ first.faults_before → Appends first.before mid (told_texts lines) → 0 < length (reports_text reports)
-      → EndsTold lines reports (output_until first faults mid pieces) NoRoom
+      → EndsTold lines reports (output_until first faults mid pieces) (NoRoom a_lack)
   reports_short held whole some = inl (record {
     held = held;
     many = length lines + 0;

@@ -7,22 +7,17 @@ use Rattle.lone_office.specs.Beginning.{EndsOverBasis}
 use Rattle.script_run.specs.Outcome.{EndsScript}
 use Rattle.script_run.specs.Script.{EndsUnread, IsReadAs, asks_for_values}
 
--- How a script's run ends. Where no line asks for values, no basis is needed and the shelf stays.
-abbrev pub EndsLanes : {D : Type 0} → Ghosts D → D → D → List Lane → List ℕ → List Auditor → Shelving → Stream
-    → (ShelfStays : Type 0) → Ending → Type 0
-EndsLanes g old new lanes name auditors shelf output ShelfStays ending =
-    ((asks_for_values lanes ≡ false) × ShelfStays × EndsScript g old new lanes [] auditors output ending)
-    ⊎ ((asks_for_values lanes ≡ true)
-    × EndsOverBasis old new (λ basis. EndsScript g old new lanes basis auditors output ending) name shelf output ending)
-
--- what the input gave up to its end was read as a script, whose run ended so
+-- What the input gave up to its end was read as a script, whose run ended so. Where no line asks for values, no basis is
+-- needed and the shelf stays.
 pub record EndsRead {D : Type 0} (g : Ghosts D) (old new : D) (name : List ℕ) (auditors : List Auditor)
     (input : Input) (output : Stream) (shelf : Shelving) (ShelfStays : Type 0) (ending : Ending) : Type 0 where
   pub bytes : List ℕ
   pub gave : GaveAll input bytes
   pub lanes : List Lane
   pub read : IsReadAs bytes lanes
-  pub ends : EndsLanes g old new lanes name auditors shelf output ShelfStays ending
+  pub ends : ((asks_for_values lanes ≡ false) × ShelfStays × EndsScript g old new lanes [] auditors output ending)
+      ⊎ ((asks_for_values lanes ≡ true)
+      × EndsOverBasis old new (λ basis. EndsScript g old new lanes basis auditors output ending) name shelf output ending)
 
 -- a run that read no script leaves the shelf and the disk as they were
 abbrev pub EndsRun : {D : Type 0} → Ghosts D → D → D → List ℕ → List Auditor → Input → Stream → Shelving

@@ -1,7 +1,7 @@
 -- The script that the input gave, and how a run ends that has none
 use Rattle.std.specs.Prelude.{ℕ, ◌<◌, ◌≤◌, ◌⊎◌, Bool, List, ◌∷◌, ◌++◌, length, codes, decimal, IfSome}
-use Rattle.script_run.specs.Names.{list_any, Rose, GivesMore, Lane, GaveAll, Input, Stream, WroteLine, Ending, BadScript, ReadFault, NoMemory, is_value}
-use Rattle.command_csv.specs.Reads.{Reads, IsFirstScriptFault}
+use Rattle.script_run.specs.Names.{list_any, Rose, GivesMore, Lane, GaveAll, Input, Stream, WroteLine, Ending, BadScript, ReadFault, NoMemory}
+use Rattle.command_csv.specs.Reads.{Reads, IsFirstScriptFault, is_valuation}
 
 abbrev pub most_script_bytes : ℕ
 most_script_bytes = 16777216
@@ -12,7 +12,7 @@ IsReadAs bytes lanes = (length bytes ≤ most_script_bytes) × Reads bytes lanes
 
 -- a line of a lane asks for values
 abbrev pub asks_for_values : List Lane → Bool
-asks_for_values lanes = list_any (λ (lane : Lane). list_any is_value lane.lines) lanes
+asks_for_values lanes = list_any (λ (lane : Lane). list_any is_valuation lane.lines) lanes
 
 abbrev pub IsReadable : List ℕ → Type 0
 IsReadable bytes = (lanes : List Lane) × IsReadAs bytes lanes
@@ -21,33 +21,20 @@ IsReadable bytes = (lanes : List Lane) × IsReadAs bytes lanes
 abbrev pub IsUnreadable : List ℕ → Type 0
 IsUnreadable bytes = (most_script_bytes < length bytes) ⊎ ((row : ℕ) × ((field : ℕ) × IsFirstScriptFault bytes row field))
 
--- the text of the first row that is no line, and of its first bad field
-abbrev pub bad_row_text : ℕ → ℕ → List ℕ
-bad_row_text row field = codes "badscript," ++ (decimal row ++ (44 ∷ decimal field))
-
--- the input gave more bytes in the call than a script may have; where it tells what is left in it, that was more
-pub record GaveTooMany (input : Input) : Type 0 where
-  pub more : GivesMore most_script_bytes input.given_before input.given_after
-  pub left : IfSome input.left_before (λ told. most_script_bytes < length told)
-
--- it gave a script that isn't too long, up to its end, and this is its first row that is no line, and that row's first
--- bad field
-pub record GaveBadRow (input : Input) (row field : ℕ) : Type 0 where
-  pub bytes : List ℕ
-  pub gave : GaveAll input bytes
-  pub short : length bytes ≤ most_script_bytes
-  pub fault : IsFirstScriptFault bytes row field
-
--- the script is longer than it may be, or its first row that is no line, and that row's first bad field, are named
+-- The input gave more bytes in the call than a script may have, and where it tells what is left in it, that was more; or it gave
+-- a script that isn't too long, up to its end, whose first row that is no line, and that row's first bad field, are named.
 abbrev pub IsRefused : Input → Stream → Type 0
 IsRefused input output =
-    (GaveTooMany input × WroteLine output (codes "badscript,toolong"))
-    ⊎ ((row : ℕ) × ((field : ℕ) × GaveBadRow input row field × WroteLine output (bad_row_text row field)))
+    (GivesMore most_script_bytes input.given_before input.given_after
+    × IfSome input.left_before (λ told. most_script_bytes < length told) × WroteLine output (codes "badscript,toolong"))
+    ⊎ ((bytes : List ℕ) × GaveAll input bytes × (length bytes ≤ most_script_bytes)
+    × ((row : ℕ) × ((field : ℕ) × IsFirstScriptFault bytes row field
+    × WroteLine output (codes "badscript," ++ decimal row ++ 44 ∷ decimal field))))
 
 -- how a run ends that read no script
 abbrev pub EndsUnread : Input → Stream → Ending → Type 0
 EndsUnread input output BadScript = IsRefused input output
 EndsUnread input output ReadFault =
     Rose input.faults_before input.faults_after × WroteLine output (codes "readfault")
-EndsUnread input output NoMemory = WroteLine output (codes "nomemory")
+EndsUnread input output (NoMemory lack) = WroteLine output (codes "nomemory")
 EndsUnread _ _ _ = ⊥

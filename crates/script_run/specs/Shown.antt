@@ -1,11 +1,6 @@
 -- What is safe of a run by the time that a line of it is shown
 use Rattle.std.specs.Prelude.{◌≡◌, ℕ, ◌+◌, ◌<◌, List, ◌∷◌, ◌++◌, length, take}
-use Rattle.script_run.specs.Names.{flat_map, TakenPiece, taken_bytes, Ghosts, Command, Entry, Accepted, accepted_of, AnsweredLine}
-use Rattle.policy_types.specs.declared.entry.Reply.{Reply}
-
-abbrev pub IsAcceptedReply : Reply → Type 0
-IsAcceptedReply (Accepted position) = Unit {0}
-IsAcceptedReply _ = ⊥
+use Rattle.script_run.specs.Names.{concat, TakenPiece, taken_bytes, Ghosts, Command, Entry, Accepted, accepted_of, AnsweredLine}
 
 -- Told once safe. Of the pieces that the output took, newest first, each that reaches past where the text of an accepted line
 -- begins was handed on at a moment of the disk since which whatever a crash leaves opens to the commands from before, those
@@ -15,7 +10,7 @@ abbrev pub AreSafeWhenShown : {D : Type 0} → Ghosts D → (List ℕ → List C
 AreSafeWhenShown g Opens new commands history lines texts pieces =
     (later earlier : List TakenPiece) (piece : TakenPiece) → pieces ≡ later ++ piece ∷ earlier
     → (before after : List AnsweredLine) (line : AnsweredLine) → lines ≡ before ++ line ∷ after
-    → IsAcceptedReply line.first.1.reply
-    → length (flat_map (λ (text : List ℕ). text) (take (length before) texts)) < length (taken_bytes (piece ∷ earlier))
+    → (position : ℕ) → line.first.1.reply ≡ Accepted position
+    → length (concat (take (length before) texts)) < length (taken_bytes (piece ∷ earlier))
     → (image : List ℕ) → g.left_since new piece.since image
     → (more : List Command) × Opens image (commands ++ accepted_of (take (line.first.0 + 1) history) ++ more)

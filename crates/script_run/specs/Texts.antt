@@ -1,24 +1,19 @@
 -- What was written of the texts of a run's lines, and of the auditors' reports behind them
-use Rattle.std.specs.Prelude.{◌≡◌, ◌≤◌, ℕ, List, ◌++◌, length, take}
-use Rattle.script_run.specs.Names.{flat_map, AppendsPart, Stream, WroteAll}
+use Rattle.std.specs.Prelude.{◌≡◌, ◌⊎◌, ◌≤◌, ℕ, List, ◌++◌, length, take}
+use Rattle.script_run.specs.Names.{concat, AppendsPart, Rose, Ghosts, Entry, Stream, WroteAll, WrotePart, Ending, Done, WriteFault, DiskFault, NoMemory}
+use Rattle.program_endings.specs.Replies.{AreAnswered, HaveAFault, LackMemory}
 
--- the texts, one after the other
-abbrev pub texts_joined : List (List ℕ) → List ℕ
-texts_joined texts = flat_map (λ (text : List ℕ). text) texts
-
--- all was written
-abbrev pub WroteWhole : Stream → List (List ℕ) → List ℕ → Type 0
-WroteWhole output texts reports = WroteAll output (texts_joined texts ++ reports)
-
--- a front was written, and not all
-abbrev pub WroteFront : Stream → List (List ℕ) → List ℕ → Type 0
-WroteFront output texts reports = AppendsPart output.before output.after (texts_joined texts ++ reports)
-
--- The texts of the first so many lines were written, and no more: memory was wanting for the next one, or for the reports. The
--- output had no fault.
-pub record WroteUpTo (output : Stream) (texts : List (List ℕ)) (reports : List ℕ) : Type 0 where
-  pub held : output.faults_after ≡ output.faults_before
-  pub many : ℕ
-  pub upto : many ≤ length texts
-  pub wrote : WroteAll output (texts_joined (take many texts))
-  pub part : WroteFront output texts reports
+-- What was written of the lines' texts and of the reports behind them, and why no more: all, and each posting and valuation
+-- was answered, or the disk failed in a posting, or memory was lacking for one; or a front and not all, since the output
+-- failed; or the texts before one for which memory was lacking, and the output had no fault.
+abbrev pub WroteAsEnded : {D : Type 0} → Ghosts D → D → D → List Entry → List ℕ → List (List ℕ) → List ℕ → Stream → Ending → Type 0
+WroteAsEnded g old new history dry texts reports output Done =
+    WroteAll output (concat texts ++ reports) × AreAnswered history dry
+WroteAsEnded g old new history dry texts reports output DiskFault =
+    WroteAll output (concat texts ++ reports) × HaveAFault history × Rose (g.faults old) (g.faults new)
+WroteAsEnded g old new history dry texts reports output WriteFault = WrotePart output (concat texts ++ reports)
+WroteAsEnded g old new history dry texts reports output (NoMemory lack) =
+    (WroteAll output (concat texts ++ reports) × LackMemory history dry)
+    ⊎ ((output.faults_after ≡ output.faults_before) × AppendsPart output.before output.after (concat texts ++ reports)
+    × ((many : ℕ) × (many ≤ length texts) × WroteAll output (concat (take many texts))))
+WroteAsEnded _ _ _ _ _ _ _ _ _ = ⊥

@@ -1,12 +1,12 @@
 -- Worked cases of scripts as an input gives them, and of how a run ends that read none
 use Rattle.std.specs.Prelude.{◌≡◌, ℕ, true, false, List, [], ◌∷◌, ◌++◌, None, codes, pos, length}
 use Rattle.policy_types.specs.declared.entry.At.TheVariants.{Now}
-use Rattle.script_run.specs.Names.{taken_bytes, BadScript, ReadFault, Input, Accepted, Blank, Faulted}
+use Rattle.script_run.specs.Names.{taken_bytes, BadScript, ReadFault, Input}
 use Rattle.policy_types.specs.declared.script.Line.TheVariants.{Value, Trim}
 use Rattle.program_endings.specs.Worked.{output_with}
-use Rattle.script_run.specs.Script.{EndsUnread, GaveTooMany, asks_for_values, bad_row_text}
-use Rattle.script_run.specs.Shown.{IsAcceptedReply}
-use Rattle.script_run.specs.Texts.{WroteFront, WroteUpTo}
+use Rattle.script_run.specs.Script.{EndsUnread, asks_for_values}
+use Rattle.script_run.specs.inside.Ran.{WroteUpTo}
+use Rattle.script_run.specs.inside.Unread.{GaveTooMany, bad_row_text}
 
 -- a valuation in the second lane, and none
 abbrev pub AskedForValues : Type 0
@@ -44,19 +44,17 @@ abbrev pub FailedInput : Type 0
 FailedInput = EndsUnread (input_that_gave (codes "1,tr") ⊥ 1) (output_with 0 [] (codes "readfault" ++ 10 ∷ [])) ReadFault
     × (EndsUnread (input_that_gave (codes "1,tr") ⊥ 0) (output_with 0 [] (codes "readfault" ++ 10 ∷ [])) ReadFault → ⊥)
 
--- only an accepted posting's reply is to be safe, and pieces are put together from the first one on
+-- pieces are put together from the first one on
 abbrev pub ShownInOrder : Type 0
-ShownInOrder = IsAcceptedReply (Accepted 3) × (IsAcceptedReply (Faulted 1) → ⊥) × (IsAcceptedReply Blank → ⊥)
-    × (taken_bytes ((record { bytes = codes "cd"; since = 7 }) ∷ (record { bytes = codes "ab"; since = 4 }) ∷ []) ≡ codes "abcd")
+ShownInOrder = taken_bytes ((record { bytes = codes "cd"; since = 7 }) ∷ (record { bytes = codes "ab"; since = 4 }) ∷ []) ≡ codes "abcd"
 
 abbrev pub two_texts : List (List ℕ)
 two_texts = codes "ab" ∷ codes "cd" ∷ []
 
 -- Of two lines and the reports the first line was written, as where memory lacked for the second. That isn't so where a part of
--- the second stands there, or the output had a fault; but a front was written then too.
+-- the second stands there, or the output had a fault.
 abbrev pub StoppedShort : Type 0
 StoppedShort = WroteUpTo (output_with 0 [] (codes "ab")) two_texts (codes "e")
     × WroteUpTo (output_with 0 [] (codes "abcd")) two_texts (codes "e")
     × (WroteUpTo (output_with 0 [] (codes "abc")) two_texts (codes "e") → ⊥)
     × (WroteUpTo (output_with 1 [] (codes "ab")) two_texts (codes "e") → ⊥)
-    × WroteFront (output_with 1 [] (codes "abc")) two_texts (codes "e")

@@ -1,12 +1,13 @@
 // What is read from the input.
 ghost use Rattle.std.specs.Prelude.{◌≡◌, ◌<◌, ◌≤◌, ℕ, List, Err, IfOk, IsErrOf};
 ghost use Rattle.script_run.specs.Names.{Rose, GaveAll, input_between};
-ghost use Rattle.script_run.specs.Script.{GaveBadRow, GaveTooMany, IsReadAs};
+ghost use Rattle.script_run.specs.Script.{IsReadAs};
+ghost use Rattle.script_run.specs.inside.Unread.{GaveBadRow, GaveTooMany};
 ghost use Rattle.script_run.specs.declared.intake.Unread.TheVariants.{BadRow};
 
 use command_csv::{ScriptFault, read_script};
 use outside_io::{ReadAllFault, Source, read_all};
-use policy_types::Script;
+use policy_types::{NoMemory, Script};
 use std::alloc::Global;
 
 /// The most bytes of a script.
@@ -19,7 +20,7 @@ pub enum Unread {
     /// The first row that is no line, and its first bad field.
     BadRow { row: u32, field: u32 },
     ReadFault,
-    NoMemory,
+    NoMemory(NoMemory),
 }
 
 /// The script on the input, which is read to its end.
@@ -38,11 +39,11 @@ pub fn read_lanes<S: Source>(alloc: Global, input: &mut S) -> Result<Script, Unr
         Ok(bytes) => bytes,
         Err(ReadAllFault::ReadFault) => return Err(Unread::ReadFault),
         Err(ReadAllFault::TooLong) => return Err(Unread::TooLong),
-        Err(ReadAllFault::NoMemory) => return Err(Unread::NoMemory),
+        Err(ReadAllFault::NoMemory(lack)) => return Err(Unread::NoMemory(lack)),
     };
     match read_script(alloc, &bytes) {
         Ok(lanes) => Ok(lanes),
         Err(ScriptFault::BadRow { row, field }) => Err(Unread::BadRow { row, field }),
-        Err(ScriptFault::NoMemory) => Err(Unread::NoMemory),
+        Err(ScriptFault::NoMemory(lack)) => Err(Unread::NoMemory(lack)),
     }
 }

@@ -1,13 +1,15 @@
 // Why there is no script, in a line.
-ghost use Rattle.std.specs.Prelude.{◌≤◌};
+ghost use Rattle.std.specs.Prelude.{◌≡◌, ◌≤◌, ◌++◌, ◌∷◌, [], IfOk};
 ghost use Rattle.program_endings.specs.Writing.{between};
-ghost use Rattle.script_run.specs.inside.Unread.{SaysUnread};
+ghost use Rattle.script_run.specs.inside.Unread.{SaysUnread, bad_row_text};
 ghost use Rattle.script_run.specs.declared.intake.Unread.TheVariants.{BadRow};
 
 use crate::intake::Unread;
 use outside_io::Sink;
+use policy_types::NoMemory;
 use program_endings::{Ending, end, lack_memory};
 use std::alloc::Global;
+use text_lines::{LineWriter, Text};
 
 /// Says why there is no script.
 pub fn refuse<K: Sink>(alloc: Global, unread: Unread, output: &mut K) -> Ending
@@ -18,7 +20,7 @@ pub fn refuse<K: Sink>(alloc: Global, unread: Unread, output: &mut K) -> Ending
         Unread::TooLong => end(output, b"badscript,toolong\n", Ending::BadScript),
         Unread::BadRow { row, field } => refuse_row(alloc, row, field, output),
         Unread::ReadFault => end(output, b"readfault\n", Ending::ReadFault),
-        Unread::NoMemory => lack_memory(output),
+        Unread::NoMemory(lack) => lack_memory(lack, output),
     }
 }
 
@@ -26,8 +28,20 @@ fn refuse_row<K: Sink>(alloc: Global, row: u32, field: u32, output: &mut K) -> E
     ensures later { K.faults output.old ≤ K.faults output.new }
     ensures says { SaysUnread (BadRow row field) (between K.faults K.written K.pieces output.old output.new) result }
 {
-    match format!(in alloc; "badscript,{row},{field}\n") {
-        Ok(line) => end(output, line.as_bytes(), Ending::BadScript),
-        Err(_) => lack_memory(output),
+    match bad_row_line(alloc, row, field) {
+        Ok(line) => end(output, line.as_slice(), Ending::BadScript),
+        Err(lack) => lack_memory(lack, output),
     }
+}
+
+// The line that names it, as `badscript,17,2`.
+fn bad_row_line(alloc: Global, row: u32, field: u32) -> Result<Text, NoMemory>
+    ensures { IfOk result (λ line. line ≡ bad_row_text row field ++ 10 ∷ []) }
+{
+    let mut line = LineWriter::new(alloc);
+    line.first("badscript")?;
+    line.number(row)?;
+    line.number(field)?;
+    line.end()?;
+    Ok(line.into_text())
 }

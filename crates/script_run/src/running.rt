@@ -1,7 +1,7 @@
 // A run of a script: the basis is fetched where a line asks for values, the office is opened, each lane of the script is run
 // by a caller of its own while the transcript is written, and the office is closed.
 ghost use Rattle.std.specs.Prelude.{◌≡◌, ℕ, ◌<◌, ◌≤◌, [], length, IfOk};
-ghost use Rattle.script_run.specs.Names.{list_any, Stream, between, input_between, shelf_between, ReadFault, is_value, HasEnded, IsOfficeHistory, PassFacts, told_text, told_texts};
+ghost use Rattle.script_run.specs.Names.{list_any, Stream, between, input_between, shelf_between, ReadFault, is_valuation, HasEnded, IsOfficeHistory, PassFacts, told_text, told_texts};
 ghost use Rattle.std.specs.Io.KnownBytes.{Appends};
 ghost use Rattle.script_run.specs.Running.{EndsRun};
 ghost use Rattle.script_run.specs.Outcome.{EndsScript};
@@ -13,7 +13,7 @@ ghost use Rattle.script_run.specs.inside.Hearing.{StartsHeard};
 use crate::intake::read_lanes;
 use crate::refusing::refuse;
 use basis_book::Name;
-use lane_runner::{Ran, TranscriptLines, Unwritten, count_postings, run_lanes};
+use lane_runner::{Ran, TranscriptLines, Unwritten, run_lanes};
 use lone_office::{Begun, begin};
 use moment_ring::{MomentInlet, beside, moment_ring};
 use outside_io::{Disk, Gate, Moment, Shelf, Sink, Source, write_all_since};
@@ -24,7 +24,7 @@ use std::alloc::Global;
 use std::sync::Wait;
 use std::thread::Threads;
 use transcript_text::{ScriptWords, ending_of, report_lines};
-use watcher_set::Watching;
+use watcher_set::{Lack, Watching};
 
 /// Reads a script, opens the office on the disk, answers the script's lines, and writes the transcript meanwhile, and behind
 /// it what the watchers report of the accepted postings. The basis of the valuations is that of this name; where there are none the
@@ -68,11 +68,14 @@ pub fn run<
     };
     let lanes = script.as_slice();
     // By this ring the writer hears since which moment each accepted line is safe.
-    let Ok((outlet, moments)) = moment_ring(alloc, count_postings(lanes)) else {
-        return Finished {
-            ending: lack_memory(output),
-            disk,
-        };
+    let (outlet, moments) = match moment_ring(alloc) {
+        Ok(ends) => ends,
+        Err(lack) => {
+            return Finished {
+                ending: lack_memory(lack, output),
+                disk,
+            };
+        }
     };
     let asked = needs_basis(lanes).then_some(name);
     match begin(alloc, asked, shelf, output, disk, watchers, outlet) {
@@ -143,7 +146,7 @@ fn end_ran<D: Disk, K: Sink<Beside = D>>(
 {
     match ran {
         Ok(ran) => end_told(alloc, &ran, reports, output),
-        Err(_) => lack_memory(output),
+        Err(lack) => lack_memory(lack, output),
     }
 }
 
@@ -165,7 +168,7 @@ fn end_told<D: Disk, K: Sink<Beside = D>>(
     match ran.written {
         Ok(()) => write_reports(alloc, &ran.transcript.lines, reports, &ran.latest, output),
         Err(Unwritten::WriteFault) => Ending::WriteFault,
-        Err(Unwritten::NoMemory) => Ending::NoMemory,
+        Err(Unwritten::NoMemory(lack)) => Ending::NoMemory(Lack::from(lack)),
     }
 }
 
@@ -184,8 +187,9 @@ fn write_reports<D: Disk, K: Sink<Beside = D>>(
         (output_until first (K.faults output.new) (K.written output.new) (K.pieces output.new)) result }
     ensures pieces { AddsBy (K.pieces output.old) (K.pieces output.new) latest.now }
 {
-    let Ok(text) = report_lines(alloc, reports) else {
-        return Ending::NoMemory;
+    let text = match report_lines(alloc, reports) {
+        Ok(text) => text,
+        Err(lack) => return Ending::NoMemory(Lack::from(lack)),
     };
     match write_all_since(output, text.as_slice(), latest) {
         Ok(()) => ending_of(lines),
@@ -201,7 +205,7 @@ fn needs_basis(lanes: &[Lane]) -> bool
 }
 
 fn has_value(lines: &[Line]) -> bool
-    ensures { result ≡ list_any is_value lines.now }
+    ensures { result ≡ list_any is_valuation lines.now }
 {
     lines.iter().any(|line| matches!(*line, Line::Value { .. }))
 }

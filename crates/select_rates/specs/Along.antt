@@ -1,6 +1,6 @@
-use Rattle.std.specs.Prelude.{◌≡◌, ℕ, ◌+◌, ◌<◌}
+use Rattle.std.specs.Prelude.{◌≡◌, ℕ, ◌+◌, ◌<◌, ◌⊎◌, length, slice_index_or}
 use Rattle.rate_table.specs.Rates.{Rates, HoldsAge, rate_at}
-use Rattle.select_rates.specs.Select.{SelectRate}
+use Rattle.select_rates.specs.Select.{select_rates}
 use Rattle.select_rates.specs.Table.{IsTableOf, select_table}
 use Rattle.select_rates.specs.declared.any.AnyTable.{AnyTable}
 use Rattle.select_rates.specs.declared.any.AnyTable.TheVariants.{Aggregate, Select}
@@ -20,7 +20,11 @@ abbrev pub table_along : AnyTable → ℕ → Rates
 table_along (Aggregate table) age = table
 table_along (Select table) age = select_table table age
 
--- this is the rate of an issue age at a duration, from 0; of an aggregate table the one of the attained age
+-- there is a rate of an issue age at a duration, from 0, and this is it: of an aggregate table the one of the attained age;
+-- of a select table q_[x]+k, the select rate within the select period, behind it the ultimate one of the attained age
 abbrev pub IsRateOf : AnyTable → ℕ → ℕ → ℕ → Type 0
 IsRateOf (Aggregate table) age duration rate = HoldsAge table (age + duration) × (rate ≡ rate_at table (age + duration))
-IsRateOf (Select table) age duration rate = SelectRate table age duration rate
+IsRateOf (Select table) age duration rate =
+    let select = select_rates table age in
+    (duration < length select ⊎ HoldsAge table.ultimate (age + duration))
+    × (rate ≡ slice_index_or select duration (rate_at table.ultimate (age + duration)))

@@ -19,22 +19,16 @@ IsSelectAge table age = (table.first_age ≤ age) × (age < table.first_age + le
 abbrev pub select_rates : Selected → ℕ → List ℕ
 select_rates table age = slice_index_or table.rows (age - table.first_age) []
 
--- the select period of an issue age, in years
-abbrev pub select_period : Selected → ℕ → ℕ
-select_period table age = length (select_rates table age)
-
 -- there is a rate of an issue age at a duration: a select one within the select period, or an ultimate one
 abbrev pub HasSelectRate : Selected → ℕ → ℕ → Type 0
-HasSelectRate table age duration = (duration < select_period table age) ⊎ HoldsAge table.ultimate (age + duration)
+HasSelectRate table age duration =
+    (duration < length (select_rates table age)) ⊎ HoldsAge table.ultimate (age + duration)
 
--- q_[x]+k, where there is one: the select rate within the select period, behind it the ultimate rate at the attained age
-abbrev pub select_rate : Selected → ℕ → ℕ → ℕ
-select_rate table age duration =
-    slice_index_or (select_rates table age) duration (rate_at table.ultimate (age + duration))
-
--- this is the rate of an issue age at a duration
+-- this is q_[x]+k: the select rate within the select period, behind it the ultimate rate at the attained age
 abbrev pub SelectRate : Selected → ℕ → ℕ → ℕ → Type 0
-SelectRate table age duration rate = HasSelectRate table age duration × (rate ≡ select_rate table age duration)
+SelectRate table age duration rate =
+    HasSelectRate table age duration
+    × (rate ≡ slice_index_or (select_rates table age) duration (rate_at table.ultimate (age + duration)))
 
 -- the select rates of an issue age make a table with the ultimate one behind them: there is a select rate, none is above
 -- 1 or past age 130, and where the ultimate table goes on behind the select period, it has a rate for the age right

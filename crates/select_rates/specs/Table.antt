@@ -1,6 +1,6 @@
-use Rattle.std.specs.Prelude.{◌≡◌, ℕ, ◌+◌, ◌-◌, ◌≤◌, ◌++◌, List, max, length, drop, nat_lt, if◌then◌else◌}
+use Rattle.std.specs.Prelude.{◌≡◌, ℕ, ◌+◌, ◌-◌, ◌≤◌, ◌++◌, max, length, drop, nat_lt, if◌then◌else◌}
 use Rattle.rate_table.specs.Rates.{Rates, HoldsAge, rate_at, last_age_of}
-use Rattle.select_rates.specs.Select.{Selected, IsSelectAge, select_rates, select_period, HasSelectRate, SelectRate}
+use Rattle.select_rates.specs.Select.{Selected, IsSelectAge, select_rates, HasSelectRate, SelectRate}
 
 -- the table of an issue age from the first select age on: at each attained age that it holds it has the rate of that
 -- issue age at that duration, and it holds each for which there is such a rate. At a select age it goes from this age to
@@ -12,16 +12,13 @@ pub record IsTableOf (table : Selected) (age : ℕ) (given : Rates) : Type 0 whe
   pub holds : (duration : ℕ) → HasSelectRate table age duration → HoldsAge given (age + duration)
   pub first : IsSelectAge table age → given.first_age ≡ age
   pub last : IsSelectAge table age
-      → last_age_of given ≡ max (age + select_period table age - 1) (last_age_of table.ultimate)
+      → last_age_of given ≡ max (age + length (select_rates table age) - 1) (last_age_of table.ultimate)
   pub above : table.first_age + length table.rows ≤ age → given ≡ table.ultimate
 
--- the rates of a select age by duration: its select rates, and behind them the ultimate ones of the attained ages
-abbrev pub joined_rates : Rates → ℕ → List ℕ → List ℕ
-joined_rates ultimate age select = select ++ drop (age + length select - ultimate.first_age) ultimate.rates
-
--- that table
+-- that table: the select rates of a select age, and behind them the ultimate ones of the attained ages
 abbrev pub select_table : Selected → ℕ → Rates
 select_table table age =
+    let select = select_rates table age in
     if nat_lt age (table.first_age + length table.rows)
-    then record { first_age = age; rates = joined_rates table.ultimate age (select_rates table age) }
+    then record { first_age = age; rates = select ++ drop (age + length select - table.ultimate.first_age) table.ultimate.rates }
     else table.ultimate

@@ -4,8 +4,9 @@ ghost use Rattle.select_rates.specs.Select.{IsSelectPeriod, AreSelected};
 ghost use Rattle.select_rates.specs.inside.Joined.{AreJoined, IsJoined, AreJoinedTables};
 
 use crate::rows::SelectRows;
+use memory_requests::{NoMemory, copied, extend, push};
 use rate_table::RateTable;
-use std::alloc::{AllocError, Global};
+use std::alloc::Global;
 
 /// The table of each select age.
 pub fn prepare(
@@ -13,7 +14,7 @@ pub fn prepare(
     first_age: u8,
     rows: &SelectRows,
     ultimate: &RateTable,
-) -> Result<Vec<RateTable>, AllocError>
+) -> Result<Vec<RateTable>, NoMemory>
     requires { AreSelected (record { first_age = first_age; rows = rows.now; ultimate = ultimate.now }) }
     ensures count { IfOk result (λ tables. length tables.items ≡ length rows.now) }
     ensures each { IfOk result (λ tables. AreJoinedTables ultimate.now first_age rows.now tables.items) }
@@ -21,7 +22,7 @@ pub fn prepare(
     let mut tables = Vec::new(alloc);
     for index in 0..rows.len() {
         let table = table_at(alloc, first_age, rows, index, ultimate)?;
-        tables.push(table)?;
+        push(&mut tables, table)?;
     }
     Ok(tables)
 }
@@ -34,7 +35,7 @@ fn table_at(
     rows: &SelectRows,
     index: usize,
     ultimate: &RateTable,
-) -> Result<RateTable, AllocError>
+) -> Result<RateTable, NoMemory>
     requires selected { AreSelected (record { first_age = first_age; rows = rows.now; ultimate = ultimate.now }) }
     requires within { index < length rows.now }
     ensures { IfOk result (IsJoined ultimate.now (first_age + index) (slice_index_or rows.now index [])) }
@@ -43,12 +44,7 @@ fn table_at(
 }
 
 /// The table of an issue age.
-fn join(
-    alloc: Global,
-    age: u8,
-    select: &[u32],
-    ultimate: &RateTable,
-) -> Result<RateTable, AllocError>
+fn join(alloc: Global, age: u8, select: &[u32], ultimate: &RateTable) -> Result<RateTable, NoMemory>
     requires { IsSelectPeriod ultimate.now age select.now }
     ensures { IfOk result (IsJoined ultimate.now age select.now) }
 {
@@ -65,16 +61,16 @@ fn join_rates(
     age: u8,
     select: &[u32],
     ultimate: &RateTable,
-) -> Result<Vec<u32>, AllocError>
+) -> Result<Vec<u32>, NoMemory>
     requires { IsSelectPeriod ultimate.now age select.now }
     ensures joined { IfOk result (λ rates. AreJoined ultimate.now age select.now rates.items) }
     ensures bound { IfOk result (λ rates. EachIndex rates.items (λ k. slice_index rates.items k ≤ ONE)) }
     ensures ages { IfOk result (λ rates. age + length rates.items ≤ 131) }
 {
     let behind = age as usize + select.len();
-    let mut rates = select.to_vec(alloc)?;
+    let mut rates = copied(alloc, select)?;
     if behind <= ultimate.last_age() as usize {
-        rates.extend_from_slice(ultimate.rates_from(behind as u8))?;
+        extend(&mut rates, ultimate.rates_from(behind as u8))?;
     }
     Ok(rates)
 }

@@ -5,8 +5,9 @@ ghost use Rattle.select_rates.specs.Table.{IsTableOf, select_table};
 
 use crate::joining::prepare;
 use crate::rows::SelectRows;
+use memory_requests::NoMemory;
 use rate_table::RateTable;
-use std::alloc::{AllocError, Global};
+use std::alloc::Global;
 use std::marker::Model;
 use std::snapshot::Snapshot;
 
@@ -41,7 +42,7 @@ impl SelectTable {
         first_age: u8,
         rows: SelectRows,
         ultimate: RateTable,
-    ) -> Result<SelectTable, AllocError>
+    ) -> Result<SelectTable, NoMemory>
         requires { AreSelected (record { first_age = first_age; rows = rows; ultimate = ultimate }) }
         ensures { let given : Selected = record { first_age = first_age; rows = rows; ultimate = ultimate } in
             IfOk result (λ table. table ≡ given) }

@@ -1,5 +1,6 @@
 -- From the opening of an office to its end
 use Rattle.shared_office.proofs.Names.{◌≡◌, ℕ, ◌≤◌, List, Option, [], ap, refl, sym, ◌∙◌, subst, Some, Ghosts, Entry, WatcherGhosts, MomentRing, auditors_of, begun_of, commands_of, disk_of, opening_of, outlet_of}
+use Rattle.memory_requests.specs.Evidence.{a_refusal}
 use Rattle.std.specs.Prelude.{IfSome}
 use Rattle.policy_types.specs.Accounts.{Booking}
 use Rattle.policy_types.specs.declared.watcher.Report.{Report}
@@ -43,7 +44,7 @@ module _ {D W : Type 0} (g : Ghosts D) (w : WatcherGhosts W) where
 
   -- an office that was closed again for want of memory, before any turn
   pub unopened : (old : D) (office : OfficeState D W g w) → HasOpened old office → (disk : D)
-      → IsLeftBy g (begun_of office) disk (opening_of office) [] → HasNotOpened g old disk NoMemory
+      → IsLeftBy g (begun_of office) disk (opening_of office) [] → HasNotOpened g old disk (NoMemory a_refusal)
   unopened old office opened disk closed =
       let left = subst (λ (begun : D). IsLeftBy g begun disk (opened_on (opening_of office).commands (g.faults begun)) []) opened.begun closed in
       record { told = left.faults; shown = λ honest. tt; alone = left.alone tt }

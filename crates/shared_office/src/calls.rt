@@ -1,7 +1,7 @@
 // The calls of an office, each through a shared reference and a caller's pass.
 ghost use Rattle.std.specs.Prelude.{◌≡◌, ℕ, ◌≤◌, [], IfOk, IfErr};
 ghost use Rattle.money_ledgers.specs.Balances.{balances};
-ghost use Rattle.shared_office.specs.Names.{IsValid, moments_told, PassFacts, TableId, TakesTurn, all_shares, PinCall, PinAt};
+ghost use Rattle.shared_office.specs.Names.{HasRoomFor, IsValid, moments_told, most_commands, PassFacts, TableId, TakesTurn, all_shares, PinCall, PinAt};
 ghost use Rattle.office_state.specs.Opening.{HasNotOpened, HasOpened};
 ghost use Rattle.office_state.specs.Posting.{turn_of};
 ghost use Rattle.office_state.specs.Turning.{read_turn, trim_turn, unpin_turn};
@@ -18,7 +18,7 @@ use moment_ring::MomentOutlet;
 use money_ledgers::Ledger;
 use office_state::{Answer, Held, OfficeState, PinInfo, StartCause, StartFault};
 use outside_io::Disk;
-use policy_types::{Command, PinRefusal};
+use policy_types::{Command, NoMemory, PinRefusal};
 use std::alloc::Global;
 use std::snapshot::Snapshot;
 use std::sync::Wait;
@@ -186,8 +186,9 @@ impl<D: Disk, W: Watching> OfficeCalls<D, W> for Office<D, W> {
     }
 }
 
-/// The office of the disk's journal, with watchers who were told of nothing yet and an outlet in which no moment was told,
-/// and its first pass. Both are dropped where no office is opened.
+/// The office of the disk's journal, with watchers who were told of nothing yet and an outlet in which no moment was told
+/// and which has room for one of each command that may be accepted, and its first pass. Both are dropped where no office
+/// is opened.
 pub fn start_telling<D: Disk, W: Watching>(
     alloc: Global,
     disk: D,
@@ -196,6 +197,7 @@ pub fn start_telling<D: Disk, W: Watching>(
 ) -> Result<(Office<D, W>, OfficePass<D, W>), StartFault<D>>
     requires told { (before : ℕ) → W.told watchers before [] }
     requires untold { moments_told outlet.ring ≡ [] }
+    requires room { HasRoomFor most_commands outlet.ring }
     ensures started { IfOk result (λ made. ((started : HasStartedOffice D.Disk disk watchers made.1) × (started.outlet ≡ outlet.ring))
         × (made.1.turnstile ≡ made.0) × PassFacts IsOfficeHistory made.1) }
     ensures refused { IfErr result (λ fault. HasNotOpened D.Disk disk fault.disk fault.cause) }
@@ -210,7 +212,7 @@ pub fn start_telling<D: Disk, W: Watching>(
     };
     match Turnstile::new(alloc, shared) {
         Ok(made) => Ok(made),
-        Err(NoRoom { value }) => Err(without_memory(value.into_state())),
+        Err(NoRoom { value, lack }) => Err(without_memory(value.into_state(), lack)),
     }
 }
 
@@ -228,12 +230,12 @@ pub fn close<D: Disk, W: Watching>(
 }
 
 // The disk of an office for which there was no memory. Nobody hears what the watchers have to say.
-fn without_memory<D: Disk, W: Watching>(state: OfficeState<D, W>) -> StartFault<D>
+fn without_memory<D: Disk, W: Watching>(state: OfficeState<D, W>, lack: NoMemory) -> StartFault<D>
     ensures { (old : D) → HasOpened old state → HasNotOpened D.Disk old result.disk result.cause }
 {
     let (disk, _, _, _) = state.close();
     StartFault {
-        cause: StartCause::NoMemory,
+        cause: StartCause::NoMemory(lack),
         disk,
     }
 }

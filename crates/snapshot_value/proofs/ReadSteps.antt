@@ -1,5 +1,6 @@
 -- The reads of a pin and what is made of its policies, put together
 use Rattle.snapshot_value.proofs.Names.{◌≡◌, ◌≢◌, false, true, Result, Ok, Err, IfOk, IsErr, ℕ, ◌+◌, ◌*◌, ◌≤◌, ◌<◌, List, [], ◌∷◌, ◌++◌, length, take, drop, refl, sym, ap, ◌∙◌, subst, append-nil, append_assoc, length-append, lit<, arith, AllByRecursion, length-map, length-take, map-append, take_all, take-append-le, most_commands, Policy, Entry, accepted_of, commands_after, policies_per_read, FollowsPin, Placed, pin_call, reads_of, IsSound, Holding, PassFacts, TakesTurn, IsOfficeHistory, OfficeOpening, HoldsPin, KeepsOtherPins, KeepsPins, pinning_turn, Grows, FollowsReads, HasMadeOfPin, HasMadeOfReads, HasReadEach, HasReadFirst, HasReadPart, HasReadSome, calls_of, policies_at, reads_needed}
+use Rattle.memory_requests.specs.Evidence.{a_refusal}
 use Rattle.std.proofs.lemmas.Option.{slice_get_within}
 use Rattle.policy_types.specs.declared.entry.At.{At}
 use Rattle.policy_types.specs.declared.entry.At.TheVariants.{Now, Position}
@@ -7,7 +8,7 @@ use Rattle.policy_types.specs.declared.entry.Call.{Call}
 use Rattle.policy_types.specs.declared.entry.Call.TheVariants.{Unpin}
 use Rattle.policy_types.specs.declared.entry.PinRefusal.{PinRefusal}
 use Rattle.policy_types.specs.declared.entry.Reply.TheVariants.{Pinned}
-use Rattle.policy_types.specs.declared.watcher.NoMemory.{NoMemory as Lack}
+use Rattle.memory_requests.specs.declared.evidence.NoMemory.{NoMemory as Refusal}
 use Rattle.policy_machine.specs.Book.{book}
 use Rattle.policy_machine.proofs.HistoryGrowth.{commands_after-append}
 use Rattle.office_state.specs.Turning.{unpin_turn}
@@ -132,18 +133,18 @@ module _ {D W : Type 0} (pin : Held) where
 
   module _ {Made : Type 0} (IsOf : ℕ → List Policy → Made → Type 0) where
     -- something was made of all policies, or memory was wanting for it
-    pub made_of_reads : (old new : Holding (OfficeOpening D W)) (result : Result Made Lack) → HasReadEach pin old new
+    pub made_of_reads : (old new : Holding (OfficeOpening D W)) (result : Result Made Refusal) → HasReadEach pin old new
         → IfOk result (IsOf pin.position (policies_at old pin.position)) → HasMadeOfReads IsOf pin old new result
     made_of_reads old new (Ok made) read is = (read, is)
     made_of_reads old new (Err lack) read is = some_each old new read
 
     -- memory was wanting
-    pub lacking : (old new : Holding (OfficeOpening D W)) (result : Result Made Lack) → HasReadSome pin old new → IsErr result
+    pub lacking : (old new : Holding (OfficeOpening D W)) (result : Result Made Refusal) → HasReadSome pin old new → IsErr result
         → HasMadeOfReads IsOf pin old new result
     lacking old new (Ok made) some failed = let no : false ≡ true = failed in absurd (cc)
     lacking old new (Err lack) some failed = some
 
-    pub left_to_unpin : (old mid : Holding (OfficeOpening D W)) (read : Result Made Lack) → PassFacts IsOfficeHistory old → HoldsPin old pin
+    pub left_to_unpin : (old mid : Holding (OfficeOpening D W)) (read : Result Made Refusal) → PassFacts IsOfficeHistory old → HoldsPin old pin
         → HasMadeOfReads IsOf pin old mid read → 15999 ≤ old.left → 1 ≤ mid.left
     left_to_unpin old mid (Ok made) facts holds read left = some_left old mid (known old pin facts holds) (some_each old mid read.0) left
     left_to_unpin old mid (Err lack) facts holds read left = some_left old mid (known old pin facts holds) read left
@@ -175,7 +176,7 @@ module _ {D W : Type 0} (pin : Held) where
       }
 
       -- or after some
-      pub lacking_then : HasReadSome pin old mid → HasMadeOfPin IsOf pin old new (Err NoMemory)
+      pub lacking_then : HasReadSome pin old mid → HasMadeOfPin IsOf pin old new (Err (NoMemory a_refusal))
       lacking_then read = record {
         later = read.reads ++ last ∷ [];
         grows = some_then read;
@@ -231,7 +232,7 @@ module _ {D W Made : Type 0} (IsOf : ℕ → List Policy → Made → Type 0) (a
               ∙ ap (λ (reads : List Call). reads ++ Unpin turn ∷ []) (sym all),
           λ _. all,
         )
-    reads_follow calls (Err NoMemory) follows = (
+    reads_follow calls (Err (NoMemory lack)) follows = (
       follows.0,
       follows.1 ∙ ap (λ n. take follows.0 (reads_of n pin.policies) ++ Unpin n ∷ []) number,
       λ wet. absurd (wet (0, lit< tt, refl)),
@@ -267,7 +268,7 @@ module _ {D W Made : Type 0} (IsOf : ℕ → List Policy → Made → Type 0) (a
       answers_pinned : (calls : List Call) (answer : Result Made ValueFault) → FollowsReads IsOf pin mid calls answer
           → AnswersPinned IsOf (commands_after is.opened.opening (take turn new.seen)) (Pinned pin.position pin.policies) answer
       answers_pinned calls (Ok made) follows = subst (λ policies. IsOf pin.position policies made) policies_same follows.1
-      answers_pinned calls (Err NoMemory) follows = tt
+      answers_pinned calls (Err (NoMemory lack)) follows = tt
       answers_pinned calls (Err (Pin refusal)) follows = absurd follows
 
     -- the position was pinned

@@ -6,7 +6,8 @@ use Rattle.policy_value.specs.Rows.{IsWithinAmount}
 use Rattle.policy_value.specs.declared.worth.Measure.TheVariants.{Terminal, Mean, Deficiency}
 use Rattle.policy_value.specs.declared.worth.Worth.{Worth}
 use Rattle.policy_value.specs.declared.worth.Worth.TheVariants.{Bounds, Both, Word}
-use Rattle.snapshot_value.specs.Valuing.{IsValuedRow, most_amount}
+use Rattle.policy_value.specs.Rows.{IsValuedRow}
+use Rattle.snapshot_value.specs.Valuing.{most_amount}
 
 pub all_append : {A : Type 0} (P : A → Type 0) (xs more : List A) → AllByRecursion P xs → AllByRecursion P more → AllByRecursion P (xs ++ more)
 all_append P [] more all then = then

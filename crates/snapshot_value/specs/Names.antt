@@ -12,7 +12,7 @@ pub use Rattle.policy_types.specs.declared.entry.At.{At}
 pub use Rattle.policy_types.specs.declared.entry.Reply.{Reply}
 pub use Rattle.policy_types.specs.declared.policy.Policy.{Policy, Policy as APolicy}
 pub use Rattle.policy_value.specs.Measures.{most_worth}
-pub use Rattle.policy_value.specs.Rows.{IsWithinAmount, IsExact, IsInsured, RowOf}
+pub use Rattle.policy_value.specs.Rows.{IsWithinAmount, IsValuedRow}
 pub use Rattle.policy_value.specs.declared.worth.Measure.{Measure, Measure as AMeasure}
 pub use Rattle.policy_value.specs.declared.worth.Row.{Row}
 pub use Rattle.shared_office.specs.Offices.{OfficeOpening, IsOfficeHistory}

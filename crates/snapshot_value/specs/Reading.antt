@@ -12,7 +12,7 @@ most_turns = 16000
 
 -- the pins whose valuation or list found no memory: the one that was taken in this turn, or none
 abbrev pub dry_pins : {Made : Type 0} → ℕ → Result Made ValueFault → List ℕ
-dry_pins turn (Err NoMemory) = turn ∷ []
+dry_pins turn (Err (NoMemory lack)) = turn ∷ []
 dry_pins turn _ = []
 
 module _ {Made : Type 0} (IsOf : ℕ → List Policy → Made → Type 0) where
@@ -21,7 +21,7 @@ module _ {Made : Type 0} (IsOf : ℕ → List Policy → Made → Type 0) where
   abbrev pub AnswersPinned : List Command → Reply → Result Made ValueFault → Type 0
   AnswersPinned commands (PinRefused refusal) (Err (Pin why)) = why ≡ refusal
   AnswersPinned commands (Pinned position policies) (Ok made) = IsOf position (book (take position commands)) made
-  AnswersPinned commands (Pinned position policies) (Err NoMemory) = Unit {0}
+  AnswersPinned commands (Pinned position policies) (Err (NoMemory lack)) = Unit {0}
   AnswersPinned _ _ _ = ⊥
 
   -- A caller's turns are the pin's, then those of the reads of its policies and of giving it up; the answer is of the

@@ -1,6 +1,6 @@
 -- A valuation: the rows of the policies at a pinned position, whatever other callers do between its reads
 use Rattle.std.specs.Prelude.{◌≡◌, ℕ, ◌≤◌, ℤ, List, ◌∷◌, length, take, All, Some, Result}
-use Rattle.snapshot_value.specs.Names.{AllZip, Dated, IsPicked, most_commands, Policy, At, commands_after, AnswersLine, Placed, most_worth, IsExact, IsInsured, IsWithinAmount, RowOf, Measure, Row, Holding, OfficeOpening, Command, Reply, book}
+use Rattle.snapshot_value.specs.Names.{AllZip, Dated, most_commands, Policy, At, commands_after, AnswersLine, Placed, most_worth, IsValuedRow, IsWithinAmount, Measure, Row, Holding, OfficeOpening, Command, Reply, book}
 use Rattle.policy_types.specs.declared.script.Line.TheVariants.{Value}
 use Rattle.snapshot_value.specs.Growing.{Grows}
 use Rattle.snapshot_value.specs.Reading.{AnswersPinned}
@@ -11,12 +11,6 @@ use Rattle.snapshot_value.specs.declared.valuation.ValueFault.{ValueFault}
 -- the most that a policy may insure, in cents
 abbrev pub most_amount : ℕ
 most_amount = 10000000000
-
--- the policy's row on the day by the basis and the measure; where the policy is insured then, its bounds enclose the exact reserve
-pub record IsValuedRow (basis : List Dated) (on : ℤ) (measure : Measure) (policy : Policy) (row : Row) : Type 0 where
-  pub valued : RowOf policy basis on measure row
-  pub exact : IsInsured policy on → (index : ℕ) → (entry : Dated) → IsPicked basis policy.issued index entry
-      → IsExact measure policy entry.table entry.bp row.t row.worth
 
 -- the rows of the policies, one for each and in their order; they are not more than policies may be, and no bound is
 -- above what a policy may insure, or of a mean reserve twice that

@@ -7,8 +7,9 @@ ghost use Rattle.snapshot_value.specs.Valuing.{most_turns};
 use crate::reader::Reader;
 use crate::reading::read_pinned;
 use crate::valuation::{Policies, ValueFault};
+use memory_requests::{extend, with_room};
 use outside_io::{Disk, Gate};
-use policy_types::{At, NoMemory, Policy, Slice};
+use policy_types::{At, MOST_COMMANDS, NoMemory, Policy, Slice};
 use shared_office::{Office, OfficePass};
 use std::alloc::Global;
 use std::sync::Wait;
@@ -34,7 +35,7 @@ impl Reader for Lister {
     ghost gives = { λ plan position policies listed. IsBookAt position policies listed };
 
     fn begin(alloc: Global, _plan: (), policies: usize) -> Result<Lister, NoMemory> {
-        let book = Vec::with_capacity(alloc, policies)?;
+        let book = with_room(alloc, policies.min(MOST_COMMANDS as usize))?;
         Ok(Lister { book })
     }
 
@@ -44,8 +45,7 @@ impl Reader for Lister {
         _alloc: Global,
         part: &[Policy],
     ) -> Result<(), NoMemory> {
-        self.book.extend_from_slice(part)?;
-        Ok(())
+        extend(&mut self.book, part)
     }
 
     fn made<R: Threads + Sync>(

@@ -95,7 +95,7 @@ fn read_pin<D: Disk, W: Watching, G: Gate, R: Threads + Wait + Sync, T: Reader +
     office.unpin(rt, pass, pin);
     match read {
         Ok(made) => Ok(made),
-        Err(_) => Err(ValueFault::NoMemory),
+        Err(lack) => Err(ValueFault::NoMemory(lack)),
     }
 }
 

@@ -1,5 +1,5 @@
 use basis_book::Basis;
-use policy_types::{PinRefusal, Slice};
+use policy_types::{NoMemory, PinRefusal, Slice};
 use policy_value::{Measure, Rows};
 
 /// By what policies are valued.
@@ -39,5 +39,5 @@ pub struct Policies {
 pub enum ValueFault {
     /// The position couldn't be pinned.
     Pin(PinRefusal),
-    NoMemory,
+    NoMemory(NoMemory),
 }

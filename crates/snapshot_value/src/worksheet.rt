@@ -8,8 +8,9 @@ ghost use Rattle.snapshot_value.specs.inside.Workers.{GivesRow, IsReadyWorker, T
 use crate::shares::POLICIES_TO_A_WORKER;
 use crate::worker::Worker;
 use basis_book::Basis;
+use memory_requests::{extend, with_room};
 use parallel_value::map_onto;
-use policy_types::{NoMemory, Policy};
+use policy_types::{MOST_COMMANDS, NoMemory, Policy};
 use policy_value::{ColumnCache, Measure, Row};
 use std::alloc::Global;
 use std::thread::Threads;
@@ -61,8 +62,8 @@ impl<'a> Worksheet<'a> {
             usize::from(workers.min(MOST_VALUERS)),
         );
         let workers = workers_for(alloc, basis, on, measure, many)?;
-        let read = Vec::with_capacity(alloc, together(many).min(policies))?;
-        let rows = Vec::with_capacity(alloc, policies)?;
+        let read = with_room(alloc, together(many).min(policies))?;
+        let rows = with_room(alloc, policies.min(MOST_COMMANDS as usize))?;
         Ok(Worksheet {
             workers,
             read,
@@ -128,8 +129,7 @@ impl<'a> Worksheet<'a> {
             → OnOk result (HasMade basis on measure (policies ++ part.now) self.new) }
         ensures longer { OnOk result (length self.new.read.items ≡ length self.old.read.items + length part.now) }
     {
-        self.read.extend_from_slice(part)?;
-        Ok(())
+        extend(&mut self.read, part)
     }
 
     /// The rows of the policies that were valued.
@@ -163,7 +163,7 @@ fn workers_for<'a>(
     ensures by { IfOk result (λ workers. AllByRecursion (ValuesBy basis.now on measure) workers.items) }
 {
     let share = many as u32;
-    let mut workers = Vec::with_capacity(alloc, many)?;
+    let mut workers = with_room(alloc, many)?;
     for _ in 0..many {
         let cache = ColumnCache::with_room(alloc, COLUMNS_KEPT / share, PREMIUMS_KEPT / share)?;
         workers.push_reserved(Worker {

@@ -1,7 +1,8 @@
 // The balances of the accounts.
 ghost use Rattle.std.specs.Prelude.{◌≡◌, ◌++◌, IfOk, OnOk};
 ghost use Rattle.money_ledgers.specs.Balances.{balances};
-ghost use Rattle.statements.specs.Statements.{account_line, balance_text, count_text};
+ghost use Rattle.statements.specs.Statements.{balance_text};
+ghost use Rattle.statements.specs.inside.Balances.{account_line, count_text};
 
 use money_ledgers::Ledger;
 use policy_types::NoMemory;
@@ -22,7 +23,7 @@ pub fn balance(alloc: Global, ledger: &Ledger, count: u32) -> Result<Text, NoMem
 }
 
 // Adds the line of an account.
-#[tactic(auto, unfolding(crate::specs::Statements::account_line))]
+#[tactic(auto, unfolding(crate::specs::inside::Balances::account_line))]
 fn write_account(lines: &mut LineWriter, account: &str, balance: i64) -> Result<(), NoMemory>
     ensures { OnOk result (lines.new ≡ lines.old ++ account_line account.now balance) }
 {
@@ -33,7 +34,7 @@ fn write_account(lines: &mut LineWriter, account: &str, balance: i64) -> Result<
 }
 
 // Adds the line of the number of accepted commands.
-#[tactic(auto, unfolding(crate::specs::Statements::count_text))]
+#[tactic(auto, unfolding(crate::specs::inside::Balances::count_text))]
 fn write_count(lines: &mut LineWriter, count: u32) -> Result<(), NoMemory>
     ensures { OnOk result (lines.new ≡ lines.old ++ count_text count) }
 {

@@ -1,6 +1,7 @@
 // The lines of accepted commands.
-ghost use Rattle.std.specs.Prelude.{◌≡◌, ◌++◌, IfOk, OnOk};
-ghost use Rattle.statements.specs.Names.{IsValid, day_of, day_fields, term_fields, behind_commas};
+ghost use Rattle.std.specs.Prelude.{◌≡◌, ◌≤◌, ◌++◌, [], ◌∷◌, IfOk, OnOk};
+ghost use Rattle.money_core.specs.CentsText.{cents_text};
+ghost use Rattle.statements.specs.Names.{IsCommandDay, IsValid, day_text, entry_fields, behind_commas};
 ghost use Rattle.statements.specs.Statements.{entry_text};
 
 use policy_types::{Command, NoMemory};
@@ -26,49 +27,54 @@ pub fn write_entry(lines: &mut LineWriter, position: u32, command: &Command) -> 
     lines.first("entry")?;
     lines.number(position)?;
     lines.word(kind_word(command))?;
-    write_day(lines, command)?;
-    write_terms(lines, command)?;
+    write_fields(lines, command)?;
     lines.end()
 }
 
-// Adds a command's day, where it has one.
-fn write_day(lines: &mut LineWriter, command: &Command) -> Result<(), NoMemory>
+// Adds what a command holds beside its kind and its policy's number: its day, where it has one, and its terms.
+fn write_fields(lines: &mut LineWriter, command: &Command) -> Result<(), NoMemory>
     requires { IsValid command.now }
-    ensures { OnOk result (lines.new ≡ lines.old ++ behind_commas (day_fields (day_of command.now))) }
-{
-    match command.day() {
-        Some(day) => lines.day(day),
-        None => Ok(()),
-    }
-}
-
-// Adds what a command holds beside its kind, its policy's number and its day.
-fn write_terms(lines: &mut LineWriter, command: &Command) -> Result<(), NoMemory>
-    requires { IsValid command.now }
-    ensures { OnOk result (lines.new ≡ lines.old ++ behind_commas (term_fields command.now)) }
+    ensures { OnOk result (lines.new ≡ lines.old ++ behind_commas (entry_fields command.now)) }
 {
     match *command {
         Command::Issue {
+            day,
             plan,
             age,
             years,
             amount,
             premium,
             ..
-        } => lines.insurance(plan, age, years, amount, premium),
+        } => {
+            lines.day(day)?;
+            lines.insurance(plan, age, years, amount, premium)
+        }
         Command::Alter {
+            day,
             amount,
             premium,
             ..
         } => {
+            lines.day(day)?;
             lines.cents(amount as i64)?;
             lines.cents(premium as i64)
         }
-        Command::Premium { amount, .. }
-        | Command::Reinstate { amount, .. }
-        | Command::Settle { amount, .. }
-        | Command::PaidUp { amount, .. } => lines.cents(amount as i64),
-        Command::Lapse { .. } | Command::Claim { .. } | Command::Mature { .. } | Command::Upgrade =>
-            Ok(()),
+        Command::Premium { day, amount, .. } => write_amount(lines, day, amount),
+        Command::Reinstate { day, amount, .. } => write_amount(lines, day, amount),
+        Command::Settle { day, amount, .. } => write_amount(lines, day, amount),
+        Command::PaidUp { day, amount, .. } => write_amount(lines, day, amount),
+        Command::Lapse { day, .. } => lines.day(day),
+        Command::Claim { day, .. } => lines.day(day),
+        Command::Mature { day, .. } => lines.day(day),
+        Command::Upgrade => Ok(()),
     }
+}
+
+// Adds a day, and an amount of that day.
+fn write_amount(lines: &mut LineWriter, day: i32, amount: u64) -> Result<(), NoMemory>
+    requires { IsCommandDay day × (amount ≤ 40000000000) }
+    ensures { OnOk result (lines.new ≡ lines.old ++ behind_commas (day_text day ∷ cents_text amount ∷ [])) }
+{
+    lines.day(day)?;
+    lines.cents(amount as i64)
 }

@@ -1,10 +1,12 @@
 // Policies as their commands left them.
-ghost use Rattle.std.specs.Prelude.{◌≡◌, ◌+◌, ◌++◌, ◌≤◌, [], ◌∷◌, ℕ, length, IfOk, OnErr, OnOk};
+ghost use Rattle.std.specs.Prelude.{◌≡◌, ◌+◌, ◌++◌, ◌≤◌, [], ◌∷◌, ℕ, length, IfOk, OnErr, OnOk, decimal};
+ghost use Rattle.money_core.specs.CentsText.{cents_text};
 ghost use Rattle.statements.specs.Names.{All, IsCommandDay, IsValid, plan_word, ACommand, day_text, insurance_fields, behind_commas};
-ghost use Rattle.statements.specs.Statements.{policy_text, progress_fields, statement_text};
+ghost use Rattle.statements.specs.Statements.{policy_text, statement_text};
 
 use crate::entries::write_entry;
 use crate::last_day::LastDay;
+use memory_requests::extend;
 use policy_types::{Command, NoMemory, Plan, Policy};
 use std::alloc::Global;
 use std::marker::Model;
@@ -73,8 +75,7 @@ impl PolicyLines {
     {
         let issued = self.issued.text_of(policy.issued);
         write_policy(&mut self.line, policy, &issued);
-        self.bytes.extend_from_slice(self.line.as_slice())?;
-        Ok(())
+        extend(&mut self.bytes, self.line.as_slice())
     }
 
     /// The lines.
@@ -104,7 +105,8 @@ fn write_policy(line: &mut LineEnd, policy: &Policy, issued: &[u8; 10])
 fn write_progress(line: &mut LineEnd, policy: &Policy, issued: &[u8; 10])
     requires issued { issued.now ≡ day_text policy.now.issued }
     requires room { 56 + length line.old ≤ 256 }
-    ensures written { line.new ≡ behind_commas (progress_fields policy.now) ++ line.old }
+    ensures written { line.new ≡ behind_commas
+        (day_text policy.now.issued ∷ decimal policy.now.paid ∷ cents_text policy.now.outstanding ∷ []) ++ line.old }
     ensures short { length line.new ≤ length line.old + 56 }
 {
     line.cents(policy.outstanding);

@@ -1,9 +1,12 @@
 -- How the two modes end, by what their parts did
-use Rattle.stating_modes.proofs.Names.{◌≡◌, inl, inr, ℕ, List, subst, sym, refl, ap, ap₂, ◌∙◌, Result, Ok, Err, Vec, Global, IfOk, Rose, AppendsPart, Ghosts, disk_of, store_disk, Snapshot, Store, StartCause, FaultyDisk, NotAJournal, BadRecord, NoRoom, OnlyNow, Ending, EndsText, Stream, WroteAll, EndsStateKept, IsStateTold, ReadsFew, snapshot_text, AreBothQuiet, IsHeldWhereTrue, TwoDisks, disks_of, EndsSaving, HasSaved, HasTried}
-use Rattle.policy_types.specs.declared.watcher.NoMemory.{NoMemory as Lack}
+use Rattle.stating_modes.proofs.Names.{◌≡◌, inl, inr, ℕ, List, subst, sym, refl, ap, ap₂, ◌∙◌, Result, Ok, Err, Vec, Global, IfOk, Rose, AppendsPart, Ghosts, disk_of, store_disk, Snapshot, Store, StartCause, FaultyDisk, NotAJournal, BadRecord, NoRoom, OnlyNow, Ending, EndsText, Stream, WroteAll, EndsStateKept, IsStateTold, ReadsFew, snapshot_text, AreBothQuiet, IsHeldWhereTrue, TwoDisks, disks_of, EndsSaving, HasSaved, HasTried, Saves, Writes}
+use Rattle.stating_modes.specs.inside.Saving.{checkpoint_text}
+use Rattle.watcher_set.specs.Evidence.{a_lack}
+use Rattle.memory_requests.specs.declared.evidence.NoMemory.{NoMemory as Refusal}
 use Rattle.program_endings.specs.declared.ending.Ending.TheVariants.{Done, BadJournal, WriteFault, DiskFault, NoMemory}
 use Rattle.program_endings.specs.Refusals.{SaysUnopened}
-use Rattle.stating_modes.specs.Saved.{EndsCheckpoint, IsSaved, checkpoint_text}
+use Rattle.stating_modes.specs.Saved.{EndsCheckpoint}
+use Rattle.stating_modes.specs.inside.Saving.{checkpoint_text}
 use Rattle.stating_modes.specs.Telling.{EndsTelling, TellsSnapshot}
 use Rattle.stating_modes.specs.declared.finished.FinishedKept.{FinishedKept}
 use Rattle.stating_modes.specs.declared.reopened.Reopened.{Reopened}
@@ -12,26 +15,26 @@ use Rattle.stating_modes.proofs.SavingSteps.{now_read, now_tried, since_read, si
 
 module _ {D E : Type 0} (g : Ghosts D) (e : Ghosts E) (disks : TwoDisks D E) (output : Stream) where
   -- no snapshot was read
-  pub ends_unopened : (Tells : (List ℕ → Type 0) → Type 0) (cause : StartCause) (ending : Ending) → HasNoSnapshot g e disks cause → SaysUnopened cause output ending
+  pub ends_unopened : (Tells : (List ℕ → Type 0) → Snapshot → Type 0) (cause : StartCause) (ending : Ending) → HasNoSnapshot g e disks cause → SaysUnopened cause output ending
       → EndsTelling g e disks Tells output ending
   ends_unopened Tells (FaultyDisk count) DiskFault none said = (none.told, said)
-  ends_unopened Tells NotAJournal BadJournal none said = record { cause = NotAJournal; line = said; shown = none.shown; quiet = none.told }
-  ends_unopened Tells (BadRecord n) BadJournal none said = record { cause = BadRecord n; line = said; shown = none.shown; quiet = none.told }
-  ends_unopened Tells (BadRecord n) NoMemory none said = (said, none.told)
-  ends_unopened Tells NoRoom NoMemory none said = (said, none.told)
+  ends_unopened Tells NotAJournal BadJournal none said = (NotAJournal, said, none.shown, none.told)
+  ends_unopened Tells (BadRecord n) BadJournal none said = (BadRecord n, said, none.shown, none.told)
+  ends_unopened Tells (BadRecord n) (NoMemory lack) none said = (said, none.told)
+  ends_unopened Tells (NoRoom lack) (NoMemory other_lack) none said = (said, none.told)
   ends_unopened Tells _ _ none said = absurd said
 
   -- the text of a snapshot was made and written
-  pub ends_told : (snapshot : Snapshot) (text_of : Snapshot → List ℕ) (text : Result (Vec ℕ Global) Lack) (ending : Ending)
+  pub ends_told : (snapshot : Snapshot) (text_of : Snapshot → List ℕ) (text : Result (Vec ℕ Global) Refusal) (ending : Ending)
       → IsHeldWhereTrue g e disks snapshot → AreBothQuiet g e disks → IfOk text (λ t. t.items ≡ text_of snapshot)
-      → EndsText text output ending → EndsTelling g e disks (TellsSnapshot g e disks text_of) output ending
+      → EndsText text output ending → EndsTelling g e disks (Writes text_of) output ending
   ends_told snapshot text_of (Ok text) Done held quiet same ends =
-      record { snapshot = snapshot; wrote = subst (WroteAll output) same ends; held = held; quiet = quiet }
+      record { snapshot = snapshot; so = subst (WroteAll output) same ends; held = held; quiet = quiet }
   ends_told snapshot text_of (Ok text) WriteFault held quiet same ends = (
     ends.0,
-    record { snapshot = snapshot; wrote = subst (AppendsPart output.before output.after) same ends.1; held = held; quiet = quiet },
+    record { snapshot = snapshot; so = subst (AppendsPart output.before output.after) same ends.1; held = held; quiet = quiet },
   )
-  ends_told snapshot text_of (Err lack) NoMemory held quiet same ends = (ends, quiet)
+  ends_told snapshot text_of (Err lack) (NoMemory other_lack) held quiet same ends = (ends, quiet)
   ends_told snapshot text_of (Ok text) _ held quiet same ends = absurd ends
   ends_told snapshot text_of (Err lack) _ held quiet same ends = absurd ends
 
@@ -50,7 +53,7 @@ few_read g e disk second opened finished before now first kept few =
 
 module _ {D E : Type 0} (g : Ghosts D) (e : Ghosts E) (disk : D) (second : E) (opened : Reopened D E g e) (reopened : HasReopened disk second opened)
     (output : Stream) where
-  pub ends_state : (finished : FinishedKept D E) (text : Result (Vec ℕ Global) Lack) (ending : Ending)
+  pub ends_state : (finished : FinishedKept D E) (text : Result (Vec ℕ Global) Refusal) (ending : Ending)
       → finished.disk ≡ disk_of opened.journal → finished.second ≡ store_disk opened.store → finished.ending ≡ ending
       → IfOk text (λ t. t.items ≡ snapshot_text opened.books) → EndsText text output ending
       → EndsStateKept g e (disks_of disk second finished) output finished.ending
@@ -72,7 +75,7 @@ module _ {D E : Type 0} (g : Ghosts D) (e : Ghosts E) (disk : D) (second : E) (o
       still_held are =
           reopened.held (record { first_honest = are.first_honest; second_honest = tried.honesty are.second_honest; truth = are.truth })
 
-      checkpoint_ends : (ending : Ending) → EndsTelling g e saved_disks (IsSaved g e saved_disks) output ending
+      checkpoint_ends : (ending : Ending) → EndsTelling g e saved_disks (Saves e saved_disks) output ending
           → EndsCheckpoint g e saved_disks output ending
       checkpoint_ends ending telling = record {
         telling = telling;
@@ -84,15 +87,12 @@ module _ {D E : Type 0} (g : Ghosts D) (e : Ghosts E) (disk : D) (second : E) (o
       }
 
     saved_so : (saved : HasSaved opened.store after opened.books) (Wrote : List ℕ → Type 0) → Wrote (checkpoint_text opened.books)
-        → IsSaved g e saved_disks Wrote
+        → TellsSnapshot g e saved_disks (Saves e saved_disks Wrote)
     saved_so saved Wrote wrote = record {
-      told = record {
-        snapshot = opened.books;
-        wrote = wrote;
-        held = still_held saved.tried;
-        quiet = record { first = reopened.quiet.first; second = saved.quiet ∙ reopened.quiet.second };
-      };
-      saved = λ honest image left. saved.saved honest (reopened.looked (saved.tried.honesty honest)).knows image left;
+      snapshot = opened.books;
+      so = (wrote, λ honest image left. saved.saved honest (reopened.looked (saved.tried.honesty honest)).knows image left);
+      held = still_held saved.tried;
+      quiet = record { first = reopened.quiet.first; second = saved.quiet ∙ reopened.quiet.second };
     }
 
     saving_ends : (ending : Ending) → EndsSaving opened.store after opened.books output ending → EndsCheckpoint g e saved_disks output ending
@@ -101,11 +101,11 @@ module _ {D E : Type 0} (g : Ghosts D) (e : Ghosts E) (disk : D) (second : E) (o
         checkpoint_ends ends.0.tried WriteFault (ends.1, saved_so ends.0 (AppendsPart output.before output.after) ends.2)
     saving_ends DiskFault ends =
         checkpoint_ends ends.0 DiskFault (inr (subst (λ n. Rose n (e.faults (store_disk after))) reopened.quiet.second ends.1), ends.2)
-    saving_ends NoMemory ends = by after ends.0
+    saving_ends (NoMemory lack) ends = by after ends.0
       where
-        by : (s : Store E e) → s ≡ opened.store → EndsCheckpoint g e (record { old = disk; new = disk_of opened.journal; second = second; kept = store_disk s }) output NoMemory
+        by : (s : Store E e) → s ≡ opened.store → EndsCheckpoint g e (record { old = disk; new = disk_of opened.journal; second = second; kept = store_disk s }) output (NoMemory a_lack)
         by s same =
-            subst (λ s. EndsCheckpoint g e (record { old = disk; new = disk_of opened.journal; second = second; kept = store_disk s }) output NoMemory) (sym same)
+            subst (λ s. EndsCheckpoint g e (record { old = disk; new = disk_of opened.journal; second = second; kept = store_disk s }) output (NoMemory a_lack)) (sym same)
             (record {
               telling = (ends.1, reopened.quiet);
               first = reopened.alone;
@@ -130,8 +130,8 @@ pub untold : (cause : StartCause) (output : Stream) (ending : Ending) → SaysUn
 untold (FaultyDisk count) output DiskFault said told = told
 untold NotAJournal output BadJournal said told = told
 untold (BadRecord n) output BadJournal said told = told
-untold (BadRecord n) output NoMemory said told = told
-untold NoRoom output NoMemory said told = told
+untold (BadRecord n) output (NoMemory lack) said told = told
+untold (NoRoom lack) output (NoMemory other_lack) said told = told
 untold _ output _ said told = said
 
 -- no snapshot was read, so both disks are as they were opened
@@ -139,14 +139,14 @@ module _ {D E : Type 0} (g : Ghosts D) (e : Ghosts E) (only_now : OnlyNow e) (di
     (none : HasNoSnapshot g e disks cause) where
   pub state_unopened : (ending : Ending) → SaysUnopened cause output ending → EndsStateKept g e disks output ending
   state_unopened ending said = record {
-    telling = ends_unopened g e disks output (TellsSnapshot g e disks snapshot_text) cause ending none said;
+    telling = ends_unopened g e disks output (Writes snapshot_text) cause ending none said;
     first = none.first;
     second = none.second;
   }
 
   pub checkpoint_unopened : (ending : Ending) → SaysUnopened cause output ending → EndsCheckpoint g e disks output ending
   checkpoint_unopened ending said = record {
-    telling = ends_unopened g e disks output (IsSaved g e disks) cause ending none said;
+    telling = ends_unopened g e disks output (Saves e disks) cause ending none said;
     first = none.first;
     honesty = none.second.honesty;
     order = λ honest second_honest. inl none.second;

@@ -1,4 +1,5 @@
 pub mod Names
+pub mod Parts
 pub mod LookSteps
 pub mod ReadingSteps
 pub mod StateSteps

@@ -21,7 +21,7 @@ module _ {D : Type 0} (g : Ghosts D) (counts_now : CountsNow g) (old mid new : D
       | inl looked ↦ inl (looks_on g old mid new looked (looks honest))
       | inr at ↦ inr (
         at.0,
-        synced_before g old at.0 mid new at.1 (looks honest).time.later,
+        synced_before g old at.0 mid new at.1 (looks honest).later,
         λ image was. at.2 image (since_before honest (g.clock at.0) image at.1.passed was),
       )
     ];
@@ -32,7 +32,7 @@ module _ {D : Type 0} (g : Ghosts D) (counts_now : CountsNow g) (old mid new : D
     stood = kept.stood;
     honest = kept.honest;
     later = kept.later;
-    passed = omega (arith, kept.passed, (looks honest).time.later);
+    passed = omega (arith, kept.passed, (looks honest).later);
     images = kept.images;
     since = λ image was. kept.since image (since_before honest (g.clock kept.stood) image kept.passed was);
   }
@@ -43,14 +43,14 @@ module _ {D : Type 0} (g : Ghosts D) (counts_now : CountsNow g) (old mid new : D
     honesty = λ honest. left.honesty (honesty honest);
     faults = quiet ∙ left.faults;
     opened = λ honest. left.opened (honesty honest);
-    now = λ honest image was. left.now (honesty honest) image ((looks honest).facts.images image was);
+    now = λ honest image was. left.now (honesty honest) image ((looks honest).images image was);
     since = λ honest image was.
         let at_sync = (left.synced (honesty honest)).1 in
         left.since (honesty honest) image (since_before honest (g.clock old) image (omega (arith, at_sync.later, at_sync.passed)) was);
     synced = λ honest.
         let at = left.synced (honesty honest) in (
           at.0,
-          synced_before g old at.0 mid new at.1 (looks honest).time.later,
+          synced_before g old at.0 mid new at.1 (looks honest).later,
           λ image was. at.2 image (since_before honest (g.clock at.0) image at.1.passed was),
         );
     kept = λ honest front rest parts. kept_still opening front honest (left.kept (honesty honest) front rest parts);
@@ -75,7 +75,7 @@ module _ {D : Type 0} (g : Ghosts D) (old mid : D) (commands : List Command)
 
       by : HoldsNow (opened_on commands (g.faults old)) [] (g.reads mid) → JournalBytes (g.reads mid) (commands ++ [])
       by (inl all) = all
-      by (inr more) = nothing more.1.faulted.before _ _ more.1.faulted.turns
+      by (inr more) = nothing more.1.before _ _ more.1.turns
 
   pub finished_left : ReadsImage g → g.honest mid → ¬ IsUnfinished (g.reads mid)
   finished_left reads_image honest = journal_finished (g.reads mid) _ (file_left reads_image honest).records

@@ -1,5 +1,5 @@
 -- What is known of the two disks once the journal and the store were opened, and of the snapshot that was read from them
-use Rattle.stating_modes.proofs.Names.{◌≡◌, inl, inr, ℕ, ◌≤◌, true, false, List, [], ◌∙◌, sym, subst, refl, append-nil, None, arith, Ghosts, Rose, Command, judge, Opening, opened_on, OpensToBodies, StandsFor, count_of, disk_of, is_clean, looks_none, looks_on, IsSoundSnapshot, store_disk, Snapshot, Store, StartCause, DiskFault, HoldsNow, HoldsOnce, IsLeftAlone, IsLeftBy, IsShown, Opens, HasNotOpened, CountsNow, IsStarted, OnlyNow, ReadsImage, holds_once, looked_alone, looked_ever, not_started, opening_keeps, opens_commands, started_later, synced_images, ReadsFew, AreBothQuiet, AreTrue, IsHeldWhereTrue, IsMadeSafe, IsOnlyRead, IsSnapshotHeld, TwoDisks}
+use Rattle.stating_modes.proofs.Names.{◌≡◌, inl, inr, ℕ, ◌≤◌, true, false, List, [], ◌∙◌, sym, subst, refl, append-nil, None, arith, Ghosts, Rose, Command, judge, Opening, opened_on, OpensToBodies, StandsFor, count_of, disk_of, is_clean, looks_none, looks_on, IsSoundSnapshot, store_disk, Snapshot, Store, StartCause, DiskFault, HoldsNow, HoldsOnce, IsLeftAlone, IsLeftBy, IsShown, Opens, HasNotOpened, CountsNow, IsStarted, OnlyNow, ReadsImage, holds_once, looked_alone, looked_ever, not_started, opening_keeps, opens_commands, started_later, synced_images, ReadsFew, AreBothQuiet, AreTrue, IsHeldWhereTrue, IsMadeSafe, IsOnlyRead, TwoDisks, HoldsStill, IsSnapshotOf}
 use Rattle.posting_journal.specs.Starting.{HasStarted, ShowsCause, TellsCause}
 use Rattle.posting_journal.specs.Opening.{IsOpenedOn, OpensOn}
 use Rattle.posting_journal.specs.declared.faults.JournalCause.{JournalCause}
@@ -123,7 +123,7 @@ module _ {D : Type 0} (g : Ghosts D) (reads_image : ReadsImage g) (counts_now : 
     later : g.honest (disk_of now) → g.clock disk ≤ g.clock (disk_of now)
     later honest =
         let looks = stays.disk.looks honest in
-        omega (arith, started_later g disk journal (started on) counts_now (stays.disk.honesty honest), looks.time.later)
+        omega (arith, started_later g disk journal (started on) counts_now (stays.disk.honesty honest), looks.later)
 
     held : g.honest (disk_of now) → (image : List ℕ) → IsOpenedOn (g.reads disk) image → HoldsOnce opening [] image
     held honest image in_opening =
@@ -153,11 +153,11 @@ module _ {D : Type 0} (g : Ghosts D) (reads_image : ReadsImage g) (counts_now : 
 
   module _ (only_now : OnlyNow g) (quiet : g.faults (disk_of now) ≡ g.faults disk) (snapshot : Snapshot) where
     -- of an honest disk whose bodies are all decided
-    snapshot_held : (here : g.honest (disk_of now)) → IsSnapshotOfAll (opened_so here).bodies snapshot → IsSnapshotHeld g disk (disk_of now) snapshot
+    snapshot_held : (here : g.honest (disk_of now)) → IsSnapshotOfAll (opened_so here).bodies snapshot
+        → HoldsStill g disk (disk_of now) (λ commands. IsSnapshotOf commands snapshot)
     snapshot_held here all = record {
       commands = all.commands;
-      opened = opens only_now quiet all.commands (all.valid, all.accepted) (λ honest. (opened_so here, all.spelled)) here;
-      leave = all.snapshot;
+      so = all.snapshot;
       disk = left_by only_now quiet all.commands (all.valid, all.accepted) (λ honest. (opened_so here, all.spelled));
     }
 
@@ -184,7 +184,7 @@ module _ {D : Type 0} (g : Ghosts D) (reads_image : ReadsImage g) (counts_now : 
           → HasReplayCause {T = Unit {0}} journal (disk_of now) (Err fault)
       by (replay.DiskFault count) told = told
       by (replay.BadRecord n) told = told
-      by replay.NoMemory told = told
+      by (replay.NoMemory lack) told = told
 
 -- the store behind it
 module _ {E : Type 0} (e : Ghosts E) (second : E) (store after : Store E e) (under : HasStoreOn second store) (keeps : KeepsAsBefore store after) where
@@ -199,13 +199,13 @@ module _ {E : Type 0} (e : Ghosts E) (second : E) (store after : Store E e) (und
       let was = under.looked (keeps.honesty honest) in
       let looks = keeps.looks honest in
       record {
-        safe = λ image left. was.safe image (looks.facts.images image left) ∙ sym looks.facts.reads;
+        safe = λ image left. was.safe image (looks.images image left) ∙ sym looks.reads;
         knows = keeps.knows honest was.knows;
         earlier = λ image left. was.earlier image (keeps.leaves image honest left);
       }
 
   same_file : e.honest (store_disk after) → e.reads (store_disk store) ≡ e.reads second
-  same_file honest = (under.read.looks (keeps.honesty honest)).facts.reads
+  same_file honest = (under.read.looks (keeps.honesty honest)).reads
 
 module _ {D E : Type 0} (g : Ghosts D) (e : Ghosts E) (reads_image : ReadsImage g) (counts_now : CountsNow g)
     (disk : D) (journal now : Journal D g) (on : HasJournalOn disk journal) (stays : StaysAs journal now)
@@ -271,13 +271,13 @@ module _ {D E : Type 0} (g : Ghosts D) (e : Ghosts E) (reads_image : ReadsImage 
       told (why.DiskFault count) (inl one) = inr (subst (λ n. Rose n (e.faults (store_disk after))) under.quiet one.1)
       told (why.DiskFault count) (inr one) = inl (subst (λ n. Rose n (g.faults (disk_of now))) on.quiet one.1)
       told (why.BadRecord n) cause = both_quiet cause.0 cause.1
-      told why.NoMemory cause = both_quiet cause.0 cause.1
+      told (why.NoMemory lack) cause = both_quiet cause.0 cause.1
 
       shown : (fault : ReopenFault) → {bodies : List (List ℕ)} → IsReopened (e.reads (store_disk store)) bodies (Err fault)
           → OpensToBodies (g.reads disk) bodies → IsShown (g.reads disk) (as_start_cause fault)
       shown (why.DiskFault count) answer opened = tt
       shown (why.BadRecord n) {bodies} answer opened = unfollowed (g.reads disk) n bodies opened (stopped_at bodies n answer.bad)
-      shown why.NoMemory answer opened = tt
+      shown (why.NoMemory lack) answer opened = tt
 
 -- the same disks and the same cause by other names
 pub renamed : {D E : Type 0} (g : Ghosts D) (e : Ghosts E) (old new first : D) (second kept other : E) (cause why : StartCause)

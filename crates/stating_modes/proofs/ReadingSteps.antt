@@ -196,7 +196,7 @@ module _ {D : Type 0} (g : Ghosts D) (old : D) (journal : Journal D g) (started 
       → Stops (AllByRecursion IsValid) CanBeNext journal new [] fault → g.honest new
       → IsOfTheFile (as_replay_cause fault) → OpensToNone (g.reads old)
   opens_to_none new looked (replay.DiskFault count) stops honest of = absurd of
-  opens_to_none new looked replay.NoMemory stops honest of = absurd of
+  opens_to_none new looked (replay.NoMemory lack) stops honest of = absurd of
   opens_to_none new looked (replay.BadRecord n) stops honest of =
       let opened = started.opened (looked.honesty honest) in
       stopped_none (g.reads old) opened.bodies n opened.opened (stops.1 opened.bodies [] honest opened.stands refl)

@@ -1,5 +1,5 @@
 -- What a crash leaves of the second disk, from the store's start to the end of the saving
-use Rattle.stating_modes.proofs.Names.{◌≡◌, ◌⊎◌, inl, inr, ⊎_elim, ℕ, List, subst, sym, Ghosts, Leaves, LooksOn, leaves, leaves_more, leaves_on, IsNoCheckpoint, IsKeptOrSavedBy, MightLeave, store_disk, Snapshot, Store, OnlyNow, IsHeldWhereTrue, IsOnlyRead, TwoDisks, HasTried}
+use Rattle.stating_modes.proofs.Names.{◌≡◌, ◌⊎◌, inl, inr, ⊎_elim, ℕ, List, subst, sym, Ghosts, Leaves, LooksOn, looks_pass, leaves, leaves_more, leaves_on, IsNoCheckpoint, IsKeptOrSavedBy, MightLeave, store_disk, Snapshot, Store, OnlyNow, IsHeldWhereTrue, IsOnlyRead, TwoDisks, HasTried}
 use Rattle.checkpoint_store.specs.Starts.{HasLookedAt}
 use Rattle.stating_modes.specs.Saved.{IsNoneOrEarlierOrHeld}
 
@@ -14,7 +14,7 @@ module _ {D E : Type 0} (g : Ghosts D) (e : Ghosts E) (disks : TwoDisks D E) (sn
 
 -- a disk that was only read leaves what it might have left before
 only_read_leaves : {E : Type 0} (e : Ghosts E) → OnlyNow e → (old new : E) → e.honest old → LooksOn e old new → Leaves e old new (e.may_leave old)
-only_read_leaves e only_now old new honest looks = leaves e old new (e.may_leave old) (λ image left. only_now old image honest left) looks.time
+only_read_leaves e only_now old new honest looks = leaves e old new (e.may_leave old) (λ image left. only_now old image honest left) (looks_pass e old new looks)
 
 module _ {D E : Type 0} (g : Ghosts D) (e : Ghosts E) (only_now : OnlyNow e) (disks : TwoDisks D E) where
   -- nothing was saved
@@ -26,7 +26,7 @@ module _ {D E : Type 0} (g : Ghosts D) (e : Ghosts E) (only_now : OnlyNow e) (di
 
   pub now_read : IsOnlyRead e disks.second disks.kept → e.honest disks.kept → (image : List ℕ) → e.may_leave disks.kept image
       → IsNoneOrEarlierOrHeld g e disks image
-  now_read read honest image left = inr (inl ((read.looks honest).facts.images image left))
+  now_read read honest image left = inr (inl ((read.looks honest).images image left))
 
   module _ (snapshot : Snapshot) (held : IsHeldWhereTrue g e disks snapshot) (before after : Store E e)
       (read : IsOnlyRead e disks.second (store_disk before)) (looked : e.honest (store_disk before) → HasLookedAt disks.second before)

@@ -6,7 +6,7 @@ module _ {D : Type 0} (g : Ghosts D) (old new : D) (text_of : List Command → L
     (ends : EndsState g old new text_of output ending) where
   -- nothing is told of a file that opens to none
   never_stated : g.honest new → OpensToNone (g.reads old) → (Wrote : List ℕ → Type 0) → IsStated g old new text_of Wrote → ⊥
-  never_stated honest none Wrote stated = none stated.commands (stated.opened honest)
+  never_stated honest none Wrote stated = none stated.commands (stated.disk.opened honest)
 
   pub state_as_before : g.honest new → OpensToNone (g.reads old) → g.reads new ≡ g.reads old
   state_as_before honest none = read_as_before g old new (IsStated g old new text_of) output ending ends (never_stated honest none) honest none

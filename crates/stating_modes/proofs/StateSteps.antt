@@ -4,7 +4,7 @@ use Rattle.std.proofs.Math.Seq.{take-length}
 use Rattle.std.proofs.lemmas.Grind.{flat_map-append}
 use Rattle.std.proofs.lemmas.List.{take_more}
 use Rattle.std.proofs.lemmas.Option.{slice_get-get_or}
-use Rattle.policy_types.specs.declared.watcher.NoMemory.{NoMemory as Lack}
+use Rattle.memory_requests.specs.declared.evidence.NoMemory.{NoMemory as Refusal}
 use Rattle.policy_machine.proofs.LedgerLemmas.{sum_of-ledger}
 use Rattle.std.proofs.lemmas.List.Elements.{All-from_recursion}
 use Rattle.policy_machine.proofs.BookLemmas.{book-sound}
@@ -34,14 +34,12 @@ module _ {D : Type 0} (g : Ghosts D) (old disk : D) (text_of : List Command → 
       → Wrote (text_of commands) → IsStated g old disk text_of Wrote
   stated commands Wrote left wrote = record {
     commands = commands;
-    opened = left.opened;
-    wrote = wrote;
-    balanced = sum_of-ledger commands;
+    so = (wrote, sum_of-ledger commands);
     disk = left;
   }
 
   -- an office that was opened, whose text was made and written
-  pub ends_text : (commands : List Command) (ending : Ending) (text : Result (Vec ℕ Global) Lack)
+  pub ends_text : (commands : List Command) (ending : Ending) (text : Result (Vec ℕ Global) Refusal)
       → IsLeftBy g old disk (opened_on commands (g.faults old)) []
       → IfOk text (λ t. t.items ≡ text_of commands) → EndsText text output ending → EndsState g old disk text_of output ending
   ends_text commands Done (Ok text) left same ends =
@@ -50,13 +48,13 @@ module _ {D : Type 0} (g : Ghosts D) (old disk : D) (text_of : List Command → 
     ends.0,
     stated commands (AppendsPart output.before output.after) left (subst (AppendsPart output.before output.after) same ends.1),
   )
-  ends_text commands NoMemory (Err lack) left same ends = (ends, left.alone tt, left.faults)
+  ends_text commands (NoMemory other_lack) (Err lack) left same ends = ((ends, left.faults), left.alone tt)
   ends_text commands _ (Ok text) left same ends = absurd ends
   ends_text commands _ (Err lack) left same ends = absurd ends
 
 -- an account that was read, whose text was made and written
 module _ {D : Type 0} (g : Ghosts D) (old new : D) (id : ℕ) (output : Stream) where
-  pub reading_ends : (account : Account) (ending : Ending) (text : Result (Vec ℕ Global) Lack) → HasRead g old new account id
+  pub reading_ends : (account : Account) (ending : Ending) (text : Result (Vec ℕ Global) Refusal) → HasRead g old new account id
       → IfOk text (λ t. t.items ≡ account_text account.entries.items account.id account.policy)
       → EndsText text output ending → EndsReading g old new id output ending
   reading_ends account Done (Ok text) read same ends =
@@ -65,7 +63,7 @@ module _ {D : Type 0} (g : Ghosts D) (old new : D) (id : ℕ) (output : Stream) 
     ends.0,
     record { account = account; read = read; wrote = subst (AppendsPart output.before output.after) (same ∙ account_is account read) ends.1 },
   )
-  reading_ends account NoMemory (Err lack) read same ends = (ends, read.honesty, read.quiet, read.unwritten)
+  reading_ends account (NoMemory other_lack) (Err lack) read same ends = (ends, read.honesty, read.quiet, read.unwritten)
   reading_ends account _ (Ok text) read same ends = absurd ends
   reading_ends account _ (Err lack) read same ends = absurd ends
 
@@ -75,8 +73,8 @@ module _ {D : Type 0} (g : Ghosts D) (old new : D) (id : ℕ) (output : Stream) 
   reading_refused (FaultyDisk count) DiskFault not said = (count, said, not)
   reading_refused NotAJournal BadJournal not said = (NotAJournal, said, not)
   reading_refused (BadRecord n) BadJournal not said = (BadRecord n, said, not)
-  reading_refused (BadRecord n) NoMemory not said = (said, not.honesty, not.told, not.unwritten)
-  reading_refused NoRoom NoMemory not said = (said, not.honesty, not.told, not.unwritten)
+  reading_refused (BadRecord n) (NoMemory lack) not said = (said, not.honesty, not.told, not.unwritten)
+  reading_refused (NoRoom lack) (NoMemory other_lack) not said = (said, not.honesty, not.told, not.unwritten)
   reading_refused _ _ not said = absurd said
 
 -- a second reading, on the disk that an office left
@@ -108,30 +106,31 @@ module _ {D : Type 0} (g : Ghosts D) (counts_now : CountsNow g) (reads_image : R
   never_refused NotAJournal output said not honest = not.shown honest tt commands (opens_still (not.honesty honest))
   never_refused (BadRecord n) output said not honest = not.shown honest tt commands (opens_still (not.honesty honest))
   never_refused (FaultyDisk count) output said not honest = said
-  never_refused NoRoom output said not honest = said
+  never_refused (NoRoom lack) output said not honest = said
 
   still : (cause : StartCause) → SaysWhy cause output → TellsFault (g.faults mid) (g.faults new) cause → g.faults new ≡ g.faults mid
   still NotAJournal said told = told
   still (BadRecord n) said told = told
   still (FaultyDisk count) said told = absurd said
-  still NoRoom said told = absurd said
+  still (NoRoom lack) said told = absurd said
 
   pub ends_reading : (ending : Ending) → EndsReading g mid new id output ending → EndsState g old new (policy_account id) output ending
   ends_reading Done ends = read_stated (WroteAll output) ends
   ends_reading WriteFault ends = (ends.0, read_stated (AppendsPart output.before output.after) ends.1)
-  ends_reading BadJournal ends = record {
-    cause = ends.0;
-    line = ends.1;
-    shown = λ honest. absurd (never_refused ends.0 output ends.1 ends.2 honest);
-    quiet = still ends.0 ends.1 ends.2.told ∙ left.faults;
-    alone = read_alone ends.2.honesty ends.2.unwritten;
-  }
-  ends_reading DiskFault ends = (
-    subst (λ n. Rose n (g.faults new)) left.faults ends.2.told.1,
-    ends.1,
+  ends_reading BadJournal ends = (
+    (
+      ends.0,
+      ends.1,
+      (λ honest. absurd (never_refused ends.0 output ends.1 ends.2 honest)),
+      still ends.0 ends.1 ends.2.told ∙ left.faults,
+    ),
     read_alone ends.2.honesty ends.2.unwritten,
   )
-  ends_reading NoMemory ends = (ends.0, read_alone ends.1 ends.3, ends.2 ∙ left.faults)
+  ends_reading DiskFault ends = (
+    (ends.1, subst (λ n. Rose n (g.faults new)) left.faults ends.2.told.1),
+    read_alone ends.2.honesty ends.2.unwritten,
+  )
+  ends_reading (NoMemory lack) ends = ((ends.0, ends.2 ∙ left.faults), read_alone ends.1 ends.3)
   ends_reading _ ends = absurd ends
 
 -- one more line

@@ -1,18 +1,15 @@
 -- What `state` writes of a snapshot, and how it ends over two disks
-use Rattle.std.specs.Prelude.{ℕ, List, ◌++◌, length}
-use Rattle.stating_modes.specs.Names.{flat_map, Ghosts, balance_text, policy_text, OpensToBodies, Snapshot, IsLeftAlone, Stream, Ending, Done, WriteFault, TakesSteps}
+use Rattle.std.specs.Prelude.{ℕ, List, length}
+use Rattle.stating_modes.specs.Names.{Ghosts, OpensToBodies, IsLeftAlone, Stream, Ending, Done, WriteFault, TakesSteps}
 use Rattle.money_ledgers.specs.Balances.{balances}
-use Rattle.stating_modes.specs.Telling.{EndsTelling, TellsSnapshot}
+use Rattle.stating_modes.specs.Books.{books_text}
+use Rattle.stating_modes.specs.Telling.{EndsTelling}
 use Rattle.stating_modes.specs.TwoDisks.{IsOnlyRead, TwoDisks}
-
--- all policies in order of issue, the four balances, and the number of commands
-abbrev pub snapshot_text : Snapshot → List ℕ
-snapshot_text s = flat_map policy_text s.book ++ balance_text (balances s.ledger) s.position
 
 -- the snapshot's books were written, or it is told why not; and the second disk was not written to
 pub record EndsStateKept {D E : Type 0} (g : Ghosts D) (e : Ghosts E) (disks : TwoDisks D E) (output : Stream)
     (ending : Ending) : Type 0 where
-  pub telling : EndsTelling g e disks (TellsSnapshot g e disks snapshot_text) output ending
+  pub telling : EndsTelling g e disks (λ Wrote s. Wrote (books_text s.book (balances s.ledger) s.position)) output ending
   pub first : IsLeftAlone g disks.old disks.new
   pub second : IsOnlyRead e disks.second disks.kept
 

@@ -1,6 +1,6 @@
 -- The journal's disk and a second one, which may hold a checkpoint of its journal
-use Rattle.std.specs.Prelude.{◌≡◌, ◌⊎◌, ℕ, List, []}
-use Rattle.stating_modes.specs.Names.{Rose, Ghosts, Command, opened_on, OpensToBodies, LooksOn, IsSnapshotOf, Snapshot, IsLeftBy, Opens, IsOpenedOn, IsSynced, IsTrueWhereUsed}
+use Rattle.std.specs.Prelude.{◌≡◌, ◌⊎◌, ℕ, ◌≤◌, List, [], length}
+use Rattle.stating_modes.specs.Names.{Ghosts, OpensToBodies, LooksOn, IsSnapshotOf, Snapshot, IsUnfinished, IsSynced, CheckpointBytes, IsSnapshotOfFront, HoldsStill}
 use Rattle.stating_modes.specs.declared.finished.FinishedKept.{FinishedKept}
 
 -- the two disks as a call gets them and as it gives them back
@@ -17,7 +17,9 @@ disks_of disk second finished = record { old = disk; new = finished.disk; second
 -- A checkpoint in the file tells the truth of the journal in these bytes: it has more commands than the journal, or is
 -- the snapshot of the journal's first ones. Every file that is no checkpoint does so.
 abbrev pub TellsTruth : List ℕ → List ℕ → Type 0
-TellsTruth file bytes = (bodies : List (List ℕ)) → OpensToBodies bytes bodies → IsTrueWhereUsed file bodies
+TellsTruth file bytes =
+    (bodies : List (List ℕ)) → OpensToBodies bytes bodies
+    → (s : Snapshot) → CheckpointBytes file s → s.position ≤ length bodies → IsSnapshotOfFront bodies s
 
 -- both disks come back honest, and what the second one held told the truth
 pub record AreTrue {D E : Type 0} (g : Ghosts D) (e : Ghosts E) (disks : TwoDisks D E) : Type 0 where
@@ -25,16 +27,10 @@ pub record AreTrue {D E : Type 0} (g : Ghosts D) (e : Ghosts E) (disks : TwoDisk
   pub second_honest : e.honest disks.kept
   pub truth : TellsTruth (e.reads disks.second) (g.reads disks.old)
 
--- The snapshot is that of the commands to which the journal's file opens, and its disk holds them still.
-pub record IsSnapshotHeld {D : Type 0} (g : Ghosts D) (old new : D) (snapshot : Snapshot) : Type 0 where
-  pub commands : List Command
-  pub opened : Opens (g.reads old) commands
-  pub leave : IsSnapshotOf commands snapshot
-  pub disk : IsLeftBy g old new (opened_on commands (g.faults old)) []
-
--- it is so wherever the two disks are true
+-- Wherever the two disks are true, the snapshot is that of the commands of the journal's file, and its disk holds them still.
 abbrev pub IsHeldWhereTrue : {D E : Type 0} → Ghosts D → Ghosts E → TwoDisks D E → Snapshot → Type 0
-IsHeldWhereTrue g e disks snapshot = AreTrue g e disks → IsSnapshotHeld g disks.old disks.new snapshot
+IsHeldWhereTrue g e disks snapshot =
+    AreTrue g e disks → HoldsStill g disks.old disks.new (λ commands. IsSnapshotOf commands snapshot)
 
 -- a disk was not written to: it was synced and read at most
 pub record IsOnlyRead {E : Type 0} (e : Ghosts E) (old new : E) : Type 0 where
@@ -46,14 +42,10 @@ pub record IsOnlyRead {E : Type 0} (e : Ghosts E) (old new : E) : Type 0 where
 abbrev pub IsMadeSafe : {D : Type 0} → Ghosts D → D → D → Type 0
 IsMadeSafe {D} g old new =
     (mid : D) × IsSynced g old mid new
-    × ((image : List ℕ) → g.left_since new (g.clock mid) image → IsOpenedOn (g.reads old) image)
+    × ((image : List ℕ) → g.left_since new (g.clock mid) image
+    → (image ≡ g.reads old) ⊎ (IsUnfinished (g.reads old) × OpensToBodies image []))
 
 -- neither disk failed
 pub record AreBothQuiet {D E : Type 0} (g : Ghosts D) (e : Ghosts E) (disks : TwoDisks D E) : Type 0 where
   pub first : g.faults disks.new ≡ g.faults disks.old
   pub second : e.faults disks.kept ≡ e.faults disks.second
-
--- one of them did
-abbrev pub HasOneFailed : {D E : Type 0} → Ghosts D → Ghosts E → TwoDisks D E → Type 0
-HasOneFailed g e disks =
-    Rose (g.faults disks.old) (g.faults disks.new) ⊎ Rose (e.faults disks.second) (e.faults disks.kept)

@@ -1,24 +1,23 @@
 -- Worked texts of an empty file, over one disk and over two, put down by hand from the format
-use Rattle.std.specs.Prelude.{◌≡◌, [], ◌∷◌, ◌++◌, codes, pos, negsuc, ◌⊎◌, ℕ, List}
-use Rattle.stating_modes.specs.Names.{Ghosts, Stream, WroteAll, WroteLine, CheckpointBytes, IsNoCheckpoint, Snapshot, BadJournal, DiskFault, Done, sum_of}
+use Rattle.std.specs.Prelude.{◌≡◌, [], ◌∷◌, ◌++◌, codes, pos, negsuc, ◌⊎◌, ℕ, List, length}
+use Rattle.stating_modes.specs.Names.{Ghosts, book, ledger_of, Stream, WroteAll, WroteLine, CheckpointBytes, IsNoCheckpoint, Snapshot, BadJournal, DiskFault, Done, sum_of}
 use Rattle.stating_modes.specs.Books.{books_text, policy_account}
-use Rattle.stating_modes.specs.Stating.{IsStated}
-use Rattle.stating_modes.specs.Saved.{EndsCheckpoint, IsSaved}
-use Rattle.stating_modes.specs.Stated.{EndsStateKept, snapshot_text}
-use Rattle.stating_modes.specs.Telling.{TellsSnapshot}
+use Rattle.stating_modes.specs.Saved.{EndsCheckpoint}
+use Rattle.stating_modes.specs.Stated.{EndsStateKept}
+use Rattle.stating_modes.specs.Stating.{EndsState}
 use Rattle.stating_modes.specs.TwoDisks.{AreTrue, TellsTruth, TwoDisks}
 
 -- whatever the disk, of an empty file `state` writes four balances of 0.00 and no commands
 abbrev pub StatesAnEmptyFile : {D : Type 0} → Ghosts D → Type 0
 StatesAnEmptyFile {D} g = (old new : D) (output : Stream) → g.honest new → g.reads old ≡ []
-    → IsStated g old new books_text (WroteAll output)
+    → EndsState g old new (λ commands. books_text (book commands) (ledger_of commands) (length commands)) output Done
     → WroteAll output (codes "balance,cash,0.00" ++ (10 ∷ []) ++ codes "balance,premiums,0.00" ++ (10 ∷ [])
     ++ codes "balance,incurred,0.00" ++ (10 ∷ []) ++ codes "balance,payable,0.00" ++ (10 ∷ []) ++ codes "count,0" ++ 10 ∷ [])
 
 -- and `state 7` that there is no policy of this number
 abbrev pub KnowsNobody : {D : Type 0} → Ghosts D → Type 0
 KnowsNobody {D} g = (old new : D) (output : Stream) → g.honest new → g.reads old ≡ []
-    → IsStated g old new (λ commands. policy_account 7 commands) (WroteAll output) → WroteAll output (codes "unknown,7" ++ 10 ∷ [])
+    → EndsState g old new (policy_account 7) output Done → WroteAll output (codes "unknown,7" ++ 10 ∷ [])
 
 -- each of the four balances is added, by its sign: 400.00 paid, 1000.00 claimed, of which 250.00 are settled
 abbrev pub FourBalances : Type 0
@@ -28,10 +27,10 @@ FourBalances = (sum_of (record { cash = pos 15000; premiums = negsuc 39999; incu
 -- whatever the disks, of an empty file `state` writes four balances of 0.00 and no commands, and `checkpoint` saves none
 abbrev pub KeepsAnEmptyFile : {D E : Type 0} → Ghosts D → Ghosts E → Type 0
 KeepsAnEmptyFile {D} {E} g e = (disks : TwoDisks D E) (output : Stream) → AreTrue g e disks → g.reads disks.old ≡ []
-    → (TellsSnapshot g e disks snapshot_text (WroteAll output)
+    → (EndsStateKept g e disks output Done
     → WroteAll output (codes "balance,cash,0.00" ++ (10 ∷ []) ++ codes "balance,premiums,0.00" ++ (10 ∷ [])
     ++ codes "balance,incurred,0.00" ++ (10 ∷ []) ++ codes "balance,payable,0.00" ++ (10 ∷ []) ++ codes "count,0" ++ 10 ∷ []))
-    × (IsSaved g e disks (WroteAll output) → WroteAll output (codes "checkpoint,0" ++ 10 ∷ []))
+    × (EndsCheckpoint g e disks output Done → WroteAll output (codes "checkpoint,0" ++ 10 ∷ []))
 
 -- an empty second file is no checkpoint, so it tells the truth of any journal
 abbrev pub TellsNoLie : Type 0

@@ -1,3 +1,4 @@
+pub mod Accounts
 pub mod Rereading
 pub mod Reopened
 pub mod Saving

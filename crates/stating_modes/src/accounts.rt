@@ -1,8 +1,9 @@
 // One policy's entries, and the policy as they left it. The journal's records are read again for them.
 ghost use Rattle.std.specs.Prelude.{◌≡◌, ◌≤◌, List, [], ◌∷◌, codes, decimal, IfOk};
 ghost use Rattle.stating_modes.specs.Names.{ACommand, line_of, between};
-ghost use Rattle.stating_modes.specs.Books.{account_text, policy_account};
+ghost use Rattle.stating_modes.specs.Books.{policy_account};
 ghost use Rattle.stating_modes.specs.Stating.{EndsState};
+ghost use Rattle.stating_modes.specs.inside.Accounts.{account_text};
 ghost use Rattle.stating_modes.specs.inside.Rereading.{EndsReading, IsAccount};
 
 use crate::rereading::{Account, read_again};

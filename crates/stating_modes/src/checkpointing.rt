@@ -1,9 +1,10 @@
 // The journal's snapshot is saved on the second disk.
 ghost use Rattle.std.specs.Prelude.{◌≡◌, ◌≢◌, ◌<◌, IfOk};
+ghost use Rattle.watcher_set.specs.Evidence.{a_lack};
 ghost use Rattle.stating_modes.specs.Names.{IsSoundSnapshot, between};
-ghost use Rattle.stating_modes.specs.Saved.{EndsCheckpoint, checkpoint_text};
+ghost use Rattle.stating_modes.specs.Saved.{EndsCheckpoint};
 ghost use Rattle.stating_modes.specs.TwoDisks.{disks_of};
-ghost use Rattle.stating_modes.specs.inside.Saving.{EndsSaving};
+ghost use Rattle.stating_modes.specs.inside.Saving.{EndsSaving, checkpoint_text};
 
 use crate::finished::FinishedKept;
 use crate::reopened::reopen_both;
@@ -72,7 +73,7 @@ fn save_books<K: Sink, E: Disk>(
 {
     match books.snapshot(alloc) {
         Ok(snapshot) => save(alloc, &snapshot, store, output),
-        Err(_) => lack_memory(output),
+        Err(lack) => lack_memory(lack, output),
     }
 }
 
@@ -87,10 +88,10 @@ fn save<K: Sink, E: Disk>(
     ensures { EndsSaving store.old store.new snapshot.now
         (between K.faults K.written K.pieces output.old output.new) result }
 {
-    let Ok(line) = line_of(alloc, snapshot) else {
-        return lack_memory(output);
-    };
-    save_with_line(snapshot, line, store, output)
+    match line_of(alloc, snapshot) {
+        Ok(line) => save_with_line(snapshot, line, store, output),
+        Err(lack) => lack_memory(lack, output),
+    }
 }
 
 // The same, once its memory is taken: so no more can be wanting.
@@ -102,7 +103,7 @@ fn save_with_line<K: Sink, E: Disk>(
 ) -> Ending
     requires sound { IsSoundSnapshot snapshot.now }
     requires line { line.items ≡ checkpoint_text snapshot.now }
-    ensures ample { result ≢ Ending.NoMemory }
+    ensures ample { result ≢ Ending.NoMemory a_lack }
     ensures ends { EndsSaving store.old store.new snapshot.now
         (between K.faults K.written K.pieces output.old output.new) result }
 {

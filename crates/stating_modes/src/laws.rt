@@ -1,5 +1,6 @@
 // What the definitions have to mean, as a function that does nothing.
-ghost use Rattle.stating_modes.specs.Names.{Rose, Stream, Ending};
+ghost use Rattle.std.specs.Prelude.{length};
+ghost use Rattle.stating_modes.specs.Names.{Rose, Stream, Ending, book, ledger_of};
 ghost use Rattle.stating_modes.specs.Books.{books_text};
 ghost use Rattle.stating_modes.specs.Stating.{EndsState};
 ghost use Rattle.stating_modes.specs.Stated.{EndsStateKept};
@@ -12,5 +13,6 @@ use outside_io::Disk;
 pub fn states_the_same<D: Disk, E: Disk>()
     ensures { (disks : TwoDisks D E) (output : Stream) (ending : Ending) → AreTrue D.Disk E.Disk disks
         → ¬ Rose (E.faults disks.second) (E.faults disks.kept) → EndsStateKept D.Disk E.Disk disks output ending
-        → EndsState D.Disk disks.old disks.new books_text output ending }
+        → EndsState D.Disk disks.old disks.new
+        (λ commands. books_text (book commands) (ledger_of commands) (length commands)) output ending }
 {}

@@ -127,7 +127,7 @@ fn start_cause(fault: ReopenFault) -> StartCause
     match fault {
         ReopenFault::DiskFault(count) => StartCause::DiskFault(count),
         ReopenFault::BadRecord(n) => StartCause::BadRecord(n),
-        ReopenFault::NoMemory => StartCause::NoMemory,
+        ReopenFault::NoMemory(lack) => StartCause::NoMemory(lack),
     }
 }
 

@@ -4,6 +4,7 @@ ghost use Rattle.policy_types.specs.declared.command.Command.{Command as AComman
 ghost use Rattle.stating_modes.specs.inside.Rereading.{CanBeNext, HasRead, HasNotRead, IsAccount, IsReadFrom, IsStoppedFrom};
 
 use journal_replay::{Keeper, Unkept, replay_all};
+use memory_requests::push;
 use office_state::{StartFault, cause_of, cause_of_replay};
 use outside_io::Disk;
 use policy_machine::decide;
@@ -45,9 +46,10 @@ impl Keeper for Account {
         let Ok(policy) = decide(self.policy.as_ref(), command) else {
             return Err(Unkept::Refused);
         };
-        let Ok(()) = self.entries.push((n + 1, *command)) else {
-            return Err(Unkept::NoMemory);
-        };
+        match push(&mut self.entries, (n + 1, *command)) {
+            Ok(()) => (),
+            Err(lack) => return Err(Unkept::NoMemory(lack)),
+        }
         self.policy = Some(policy);
         Ok(())
     }

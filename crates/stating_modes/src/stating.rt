@@ -1,9 +1,10 @@
 // What an administrator reads: all policies, and the balances.
-ghost use Rattle.std.specs.Prelude.{◌≡◌, IfOk};
-ghost use Rattle.stating_modes.specs.Names.{AllByRecursion, flat_map, policy_text, IsSoundSnapshot, between, IsSound};
+ghost use Rattle.std.specs.Prelude.{◌≡◌, IfOk, length};
+ghost use Rattle.stating_modes.specs.Names.{AllByRecursion, flat_map, policy_text, IsSoundSnapshot, between, IsSound, book, ledger_of};
+ghost use Rattle.money_ledgers.specs.Balances.{balances};
 ghost use Rattle.stating_modes.specs.Books.{books_text};
 ghost use Rattle.stating_modes.specs.Stating.{EndsState};
-ghost use Rattle.stating_modes.specs.Stated.{EndsStateKept, IsStateTold, ReadsFew, snapshot_text};
+ghost use Rattle.stating_modes.specs.Stated.{EndsStateKept, IsStateTold, ReadsFew};
 ghost use Rattle.stating_modes.specs.TwoDisks.{disks_of};
 
 use crate::alone::read_alone;
@@ -20,7 +21,8 @@ use text_lines::{Text, add};
 
 /// Writes all policies in order of issue, and the balances.
 pub fn state<K: Sink, D: Disk>(alloc: Global, output: &mut K, disk: D) -> Finished<D>
-    ensures { EndsState D.Disk disk result.disk books_text
+    ensures { EndsState D.Disk disk result.disk
+        (λ commands. books_text (book commands) (ledger_of commands) (length commands))
         (between K.faults K.written K.pieces output.old output.new) result.ending }
 {
     match read_alone(alloc, disk) {
@@ -66,7 +68,7 @@ pub fn state_kept<K: Sink, D: Disk, E: Disk, L: Ledger>(
 // The text of the books.
 fn text_of(alloc: Global, books: &Books) -> Result<Vec<u8>, NoMemory>
     requires { IsSoundSnapshot books.now }
-    ensures { IfOk result (λ text. text.items ≡ snapshot_text books.now) }
+    ensures { IfOk result (λ text. text.items ≡ books_text books.now.book (balances books.now.ledger) books.now.position) }
 {
     let mut text = policies_of(alloc, books.policies())?.into_vec();
     let balances = balance(alloc, &books.ledger(), books.position())?;

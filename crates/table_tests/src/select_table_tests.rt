@@ -67,12 +67,9 @@ pub fn file_of(alloc: Global, first: &[u8], second: &[u8]) -> Result<Vec<u8>, Fa
     Ok(file)
 }
 
+/// What is read of a file, none of which here is longer.
 fn any_of(alloc: Global, bytes: &[u8]) -> Result<AnyTable, TableFault> {
-    if bytes.len() > LONGEST {
-        Err(TableFault::NoMemory)
-    } else {
-        read_any(alloc, bytes)
-    }
+    read_any(alloc, &bytes[..bytes.len().min(LONGEST)])
 }
 
 /// Whether the bytes are read as a select table.

@@ -1,5 +1,6 @@
 ghost use Rattle.std.specs.Prelude.{◌≡◌, ◌+◌, ◌<◌, ◌++◌, ℕ, List, OnErr, OnOk, length, vec_capacity, vec_len};
 
+use memory_requests::extend;
 use policy_types::NoMemory;
 use std::marker::Model;
 
@@ -43,6 +44,5 @@ pub fn add(text: &mut Vec<u8>, more: &[u8]) -> Result<(), NoMemory>
     ensures refused { OnErr result (text.new.items ≡ text.old.items) }
     ensures full { OnErr result (vec_capacity text.old < vec_len text.old + length more.now) }
 {
-    text.extend_from_slice(more)?;
-    Ok(())
+    extend(text, more)
 }

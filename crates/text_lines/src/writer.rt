@@ -11,6 +11,7 @@ use crate::line_end::LineEnd;
 use crate::words::plan_word;
 use itoa::Buffer;
 use life_dates::print_day;
+use memory_requests::extend;
 use money_core::print_cents;
 use policy_types::{NoMemory, Plan};
 use std::alloc::Global;
@@ -131,7 +132,6 @@ impl LineWriter {
         ensures written { OnOk result (self.new ≡ self.old ++ bytes.now) }
         ensures refused { OnErr result (self.new ≡ self.old) }
     {
-        self.bytes.extend_from_slice(bytes)?;
-        Ok(())
+        extend(&mut self.bytes, bytes)
     }
 }

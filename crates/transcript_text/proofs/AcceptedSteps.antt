@@ -1,5 +1,5 @@
 -- The accepted lines that are told of a run are the accepted commands of its history, in order
-use Rattle.transcript_text.proofs.Names.{◌≡◌, ℕ, zero, suc, ◌+◌, ◌<◌, Bool, true, false, cond, List, [], ◌∷◌, ◌++◌, length, map, take, Some, refl, ap, sym, ◌∙◌, subst, inl, inr, arith, slice_get, AllZip, cons_option, count_by, enumerate_from, cond-false, cond-true, false≢true, Dated, AreRising, Command, Call, PostCall, Pin, PinAt, Read, Unpin, TrimCall, Entry, Reply, Line, accepted_by, accepted_of, AnAccepted, ARefused, DiskFault, NoMemory, accepted_lines, tells_accepted, IsOutcome, TranscriptLine, Outcome, Posted, Trimmed, Valued, ValueRefused, ValueNoMemory, Has, front_back}
+use Rattle.transcript_text.proofs.Names.{◌≡◌, ℕ, zero, suc, ◌+◌, Bool, true, false, cond, List, [], ◌∷◌, ◌++◌, length, map, take, Some, refl, ap, sym, ◌∙◌, subst, inl, inr, arith, slice_get, cons_option, count_by, enumerate_from, cond-false, cond-true, false≢true, Dated, AreRising, Command, Call, PostCall, Pin, PinAt, Read, Unpin, TrimCall, Entry, Reply, Line, accepted_by, accepted_of, AnAccepted, ARefused, DiskFault, NoMemory, accepted_lines, tells_accepted, IsOutcome, TranscriptLine, Outcome, Posted, Trimmed, Valued, ValueRefused, ValueNoMemory, Has, front_back}
 use Rattle.std.proofs.lemmas.List.{take_at}
 use Rattle.std.proofs.lemmas.List.Elements.{filter_map-append}
 use Rattle.std.proofs.lemmas.List.Sums.{sum_by-cons}
@@ -45,11 +45,11 @@ pub accepted_told : (command : Command) (reply : Reply) (outcome : Outcome) (com
 accepted_told command reply (Posted (AnAccepted position)) commands basis told = ap (is_acceptance (PostCall command)) told
 accepted_told command reply (Posted (ARefused refusal)) commands basis told = ap (is_acceptance (PostCall command)) told
 accepted_told command reply (Posted (DiskFault count)) commands basis told = ap (is_acceptance (PostCall command)) told
-accepted_told command reply (Posted NoMemory) commands basis told = ap (is_acceptance (PostCall command)) told
+accepted_told command reply (Posted (NoMemory lack)) commands basis told = ap (is_acceptance (PostCall command)) told
 accepted_told command reply (Trimmed floor) commands basis told = absurd told
 accepted_told command reply (Valued valuation) commands basis told = absurd told
 accepted_told command reply (ValueRefused refusal) commands basis told = absurd told
-accepted_told command reply ValueNoMemory commands basis told = absurd told
+accepted_told command reply (ValueNoMemory lack) commands basis told = absurd told
 
 -- no other line is told to be accepted
 pub posting_told : (line : Line) (reply : Reply) (outcome : Outcome) (commands : List Command) (basis : List Dated)
@@ -60,7 +60,7 @@ posting_told (Value on at workers) reply (Posted answer) commands basis told acc
 posting_told line reply (Trimmed floor) commands basis told accepted = absurd (false≢true accepted)
 posting_told line reply (Valued valuation) commands basis told accepted = absurd (false≢true accepted)
 posting_told line reply (ValueRefused refusal) commands basis told accepted = absurd (false≢true accepted)
-posting_told line reply ValueNoMemory commands basis told accepted = absurd (false≢true accepted)
+posting_told line reply (ValueNoMemory lack) commands basis told accepted = absurd (false≢true accepted)
 
 -- an accepted posting posts
 pub posts_accepted : (call : Call) (reply : Reply) → is_acceptance call reply ≡ true → (command : Command) × (call ≡ PostCall command)

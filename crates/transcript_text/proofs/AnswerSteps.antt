@@ -8,4 +8,4 @@ pub is_told : (opening : Opening) (before : List Entry) (caller : ℕ) (command 
 is_told opening before caller command (Accepted position) valid due = tt
 is_told opening before caller command (Refused refusal) valid due = due_printable (commands_after opening before) command refusal valid due
 is_told opening before caller command (DiskFault count) valid due = tt
-is_told opening before caller command NoMemory valid due = tt
+is_told opening before caller command (NoMemory lack) valid due = tt

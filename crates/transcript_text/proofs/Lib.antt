@@ -1,4 +1,5 @@
 pub mod Names
+pub mod TextNames
 pub mod RefusalSteps
 pub mod AnswerSteps
 pub mod TextSteps

@@ -10,7 +10,8 @@ use Rattle.policy_types.specs.Limits.{most_commands}
 use Rattle.life_dates.proofs.AnniversaryLemmas.{anniversary_in}
 use Rattle.command_csv.proofs.FieldTexts.{term_day}
 use Rattle.policy_machine.specs.Book.{judge, policy_of, upgrade_of}
-use Rattle.policy_machine.specs.Rules.{Check, IsSound, changed, checks_of, decided, due_of, end_of, first_refusal, issued, next, payments_in, payments_of, premiums_missed, reinstatement_end_of, reinstatement_sum, years_in, years_of}
+use Rattle.policy_machine.specs.Rules.{Check, IsSound, changed, checks_of, due_of, end_of, first_refusal, issued, next, payments_of, premiums_missed, reinstatement_end_of, years_of}
+use Rattle.policy_machine.proofs.Parts.{decided, payments_in, years_in}
 use Rattle.policy_machine.proofs.AcceptedLemmas.{IsIssueHere, NeedsPolicy, issue_or_other}
 use Rattle.policy_machine.proofs.BookLemmas.{policy_of-sound}
 use Rattle.policy_machine.proofs.JudgeLemmas.{judged_refusal}
@@ -50,7 +51,7 @@ module _ (p : Policy) (sound : IsSound p) where
   limit_day : IsTermDay (reinstatement_end_of p)
   limit_day = anniversary_in p.issued (p.paid + 3) sound.issue_in.day_in (omega (arith, most_payments, sound.paid_in))
 
-  small_sum : (day : ℤ) → reinstatement_sum p day < 9223372036854775808
+  small_sum : (day : ℤ) → premiums_missed p day * p.premium < 9223372036854775808
   small_sum day =
       let missed : premiums_missed p day ≤ 131 = omega (arith, premiums_missed-le p day, most_payments) in
       let premium : p.premium ≤ 10000000000 = sound.issue_in.premium_in.1 in

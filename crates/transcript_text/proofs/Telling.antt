@@ -3,12 +3,12 @@ use Rattle.transcript_text.proofs.Names.{◌≡◌, ◌⊎◌, ℕ, ◌+◌, ◌
 use Rattle.policy_types.specs.declared.script.Line.TheVariants.{Post}
 use Rattle.policy_types.specs.declared.script.Lane.{Lane}
 use Rattle.policy_machine.specs.Merge.{AnswersLine, IsMerge, Placed}
-use Rattle.office_state.specs.Images.{HasFaulted}
 use Rattle.shared_office.specs.Offices.{IsOfficeHistory, OfficeOpening}
 use Rattle.turn_lock.specs.History.{entries_of}
 use Rattle.turn_lock.specs.Passes.{Holding, IsFirst, OwnsAll, Page, PassFacts, callers as numbers_of}
 use Rattle.lane_runner.specs.declared.transcript.Transcript.{Transcript}
-use Rattle.program_endings.specs.Replies.{ArePins, HasBlank, IsAnswered, IsPinned, IsUnfaulted}
+use Rattle.program_endings.specs.Replies.{ArePins, HaveAFault}
+use Rattle.program_endings.proofs.ReplyNames.{HasBlank, IsAnswered, IsPinned, IsUnfaulted}
 use Rattle.program_endings.proofs.TurnSteps.{due_at, posted_first, posts, quiet_reply, unfaulted_if_answered}
 use Rattle.transcript_text.specs.Lanes.{AreScriptLanes}
 use Rattle.transcript_text.proofs.AcceptedSteps.{accepted_in_all, accepted_to, accepted_told, accepted_turns, accepts, enumerated, has_turns, is_acceptance, posting_told, posts_accepted}
@@ -31,7 +31,7 @@ pub record Telling {D W : Type 0} (basis : List Dated) (lanes : List Lane) (clos
       → tells_accepted line.outcome ≡ true
       → accepted_of (take (line.turn + 1) closing.seen) ≡ take (accepted_lines before + 1) (accepted_of closing.seen)
   pub all_accepted : accepted_lines transcript.lines ≡ length (accepted_of closing.seen)
-  pub fault : any_faulted transcript.lines ≡ true → (command : Command) × HasFaulted closing.seen command
+  pub fault : any_faulted transcript.lines ≡ true → HaveAFault closing.seen
   pub unfaulted : any_faulted transcript.lines ≡ false → AllByRecursion (λ (entry : Entry). IsUnfaulted entry.reply) closing.seen
   pub answered : any_faulted transcript.lines ≡ false → any_lacked transcript.lines ≡ false
       → AllByRecursion (λ (entry : Entry). IsAnswered entry.reply) closing.seen
@@ -157,7 +157,7 @@ module _ {D W : Type 0} (basis : List Dated) (lanes : List Lane) (first closing 
             inr (line.0.turn, contains_of_has dry line.0.turn (has_map (λ (line : TranscriptLine). line.turn) _ line.0 kept))
       ]
 
-  a_fault : any_faulted transcript.lines ≡ true → (command : Command) × HasFaulted closing.seen command
+  a_fault : any_faulted transcript.lines ≡ true → HaveAFault closing.seen
   a_fault some =
       let line = any_some (λ (line : TranscriptLine). has_faulted line.outcome) transcript.lines some in
       let pair = zip_right (IsToldOf opened.opening closing.seen basis) ran.answered transcript.lines line.0 told line.1 in
@@ -169,14 +169,16 @@ module _ {D W : Type 0} (basis : List Dated) (lanes : List Lane) (first closing 
       let entry : one.first.1 ≡ record { caller = one.first.1.caller; call = PostCall fault.0; reply = Faulted fault.1.0 } =
       ap (λ (c : Call). let made : Entry = record { caller = one.first.1.caller; call = c; reply = one.first.1.reply } in made) call
       ∙ ap (λ (r : Reply). let made : Entry = record { caller = one.first.1.caller; call = PostCall fault.0; reply = r } in made) fault.1.2 in (
-        fault.0,
+        accepted_of (take one.first.0 closing.seen),
         (
-          parts.0,
+          fault.0,
           record {
             before = take one.first.0 closing.seen;
             caller = one.first.1.caller;
             count = fault.1.0;
+            after = parts.0;
             turns = parts.1 ∙ ap (λ (e : Entry). take one.first.0 closing.seen ++ e ∷ parts.0) entry;
+            then = refl;
           },
         ),
       )

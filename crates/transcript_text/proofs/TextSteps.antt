@@ -8,7 +8,7 @@ use Rattle.report_text.specs.Block.{block_text}
 pub value_day : (on : ℤ) (at : At) (workers : ℕ) (outcome : Outcome) → IsWritableOutcome (Value on at workers) outcome → IsDay on
 value_day on at workers (ValueRefused refusal) can = can
 value_day on at workers (Valued valuation) can = can.0
-value_day on at workers ValueNoMemory can = can
+value_day on at workers (ValueNoMemory lack) can = can
 value_day on at workers (Posted answer) can = absurd can
 value_day on at workers (Trimmed floor) can = absurd can
 
@@ -27,16 +27,16 @@ reply_text clerk (Value on at workers) reply (Valued valuation) commands basis I
       (valuation.value.rows, snapshot.rows.each, ap₂ (λ p m. block_text clerk on p m valuation.value.rows) snapshot.pinned snapshot.measured),
     ) in
     subst (λ (r : Reply). IsReplyText clerk (Value on at workers) r commands basis IsDry (block_text clerk on valuation.value.position valuation.value.measure valuation.value.rows)) (sym pinned) valued
-reply_text clerk (Value on at workers) reply ValueNoMemory commands basis IsDry (position, (policies, pinned)) dry =
+reply_text clerk (Value on at workers) reply (ValueNoMemory lack) commands basis IsDry (position, (policies, pinned)) dry =
     subst (λ (r : Reply). IsReplyText clerk (Value on at workers) r commands basis IsDry (unvalued_text clerk on)) (sym pinned) (inl (dry.1 refl, refl))
 reply_text clerk (Post command) reply (Trimmed floor) commands basis IsDry told dry = absurd told
 reply_text clerk (Post command) reply (Valued valuation) commands basis IsDry told dry = absurd told
 reply_text clerk (Post command) reply (ValueRefused refusal) commands basis IsDry told dry = absurd told
-reply_text clerk (Post command) reply ValueNoMemory commands basis IsDry told dry = absurd told
+reply_text clerk (Post command) reply (ValueNoMemory lack) commands basis IsDry told dry = absurd told
 reply_text clerk Trim reply (Posted answer) commands basis IsDry told dry = absurd told
 reply_text clerk Trim reply (Valued valuation) commands basis IsDry told dry = absurd told
 reply_text clerk Trim reply (ValueRefused refusal) commands basis IsDry told dry = absurd told
-reply_text clerk Trim reply ValueNoMemory commands basis IsDry told dry = absurd told
+reply_text clerk Trim reply (ValueNoMemory lack) commands basis IsDry told dry = absurd told
 reply_text clerk (Value on at workers) reply (Posted answer) commands basis IsDry told dry = absurd told
 reply_text clerk (Value on at workers) reply (Trimmed floor) commands basis IsDry told dry = absurd told
 

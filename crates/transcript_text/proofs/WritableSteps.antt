@@ -1,11 +1,14 @@
 -- What is told of a line that a legal history answers can be written, and its text is not empty
-use Rattle.transcript_text.proofs.Names.{◌≡◌, ℕ, ℤ, ◌<◌, List, [], ◌∷◌, ◌++◌, length, take, Some, Result, Ok, Err, sym, subst, length-append, arith, OnErr, codes, decimal, flat_map, id_of, Command, Call, PostCall, Reply, Line, IsDue, commands_after, reply_of, Answer, TranscriptLine, Outcome, Posted, Trimmed, Valued, ValueRefused, ValueNoMemory, IsToldAnswer, IsWritable, IsWritableOutcome, outcome_text, told_text, pin_refusal_fields, reply_fields, reports_text, watcher_text, watcher_texts}
+use Rattle.transcript_text.proofs.Names.{◌≡◌, ℕ, ℤ, ◌<◌, List, [], ◌∷◌, ◌++◌, length, take, Result, Ok, Err, sym, subst, length-append, arith, OnErr, codes, decimal, flat_map, id_of, Call, PostCall, Reply, Line, IsDue, commands_after, reply_of, TranscriptLine, Outcome, Posted, Trimmed, Valued, ValueRefused, ValueNoMemory, IsWritable, IsWritableOutcome, outcome_text, told_text, reply_fields, reports_text, watcher_texts}
 use Rattle.life_dates.specs.DayText.{day_text}
 use Rattle.policy_types.specs.Words.{kind_word}
+use Rattle.transcript_text.specs.Lines.{watcher_text}
+use Rattle.policy_types.specs.declared.entry.Reply.TheVariants.{PinRefused}
 use Rattle.policy_types.specs.declared.script.Line.TheVariants.{Post, Value, Trim}
 use Rattle.policy_types.specs.declared.watcher.Report.{Report}
 use Rattle.policy_value.specs.declared.worth.Measure.{Measure}
-use Rattle.report_text.specs.Block.{heading_text, measure_fields, row_text, total_text}
+use Rattle.report_text.specs.Block.{heading_text, row_text, total_text}
+use Rattle.report_text.specs.inside.Fields.{measure_fields}
 use Rattle.text_lines.specs.Lines.{behind_commas, line_of}
 use Rattle.program_endings.proofs.TurnSteps.{due_at}
 use Rattle.lane_runner.specs.Lanes.{IsRightLine}
@@ -49,17 +52,17 @@ some_text clerk (Value on at workers) (Valued valuation) can =
     (front_some (heading_text clerk on valuation.value.position (length valuation.value.rows) valuation.value.measure) (flat_map row_text valuation.value.rows)
     (heading_some clerk on valuation.value.position (length valuation.value.rows) valuation.value.measure))
 some_text clerk (Value on at workers) (ValueRefused refusal) can =
-    line_some (decimal clerk) (codes "value" ∷ day_text on ∷ codes "refused" ∷ pin_refusal_fields refusal)
-some_text clerk (Value on at workers) ValueNoMemory can =
+    line_some (decimal clerk) (codes "value" ∷ day_text on ∷ reply_fields (PinRefused refusal))
+some_text clerk (Value on at workers) (ValueNoMemory lack) can =
     line_some (decimal clerk) (codes "value" ∷ day_text on ∷ codes "nomemory" ∷ [])
 some_text clerk (Post command) (Trimmed floor) can = absurd can
 some_text clerk (Post command) (Valued valuation) can = absurd can
 some_text clerk (Post command) (ValueRefused refusal) can = absurd can
-some_text clerk (Post command) ValueNoMemory can = absurd can
+some_text clerk (Post command) (ValueNoMemory lack) can = absurd can
 some_text clerk Trim (Posted answer) can = absurd can
 some_text clerk Trim (Valued valuation) can = absurd can
 some_text clerk Trim (ValueRefused refusal) can = absurd can
-some_text clerk Trim ValueNoMemory can = absurd can
+some_text clerk Trim (ValueNoMemory lack) can = absurd can
 some_text clerk (Value on at workers) (Posted answer) can = absurd can
 some_text clerk (Value on at workers) (Trimmed floor) can = absurd can
 

@@ -7,7 +7,7 @@ use Rattle.lane_runner.specs.declared.transcript.TranscriptLine.{TranscriptLine}
 use Rattle.lane_runner.specs.declared.transcript.Outcome.{Outcome}
 use Rattle.lane_runner.specs.declared.transcript.Outcome.TheVariants.{Posted, Trimmed, Valued, ValueRefused, ValueNoMemory}
 use Rattle.program_endings.specs.Blocks.{IsWritableBlock}
-use Rattle.transcript_text.specs.Transcript.{posting_text, reports_text, trim_text, unpinned_text, unvalued_text}
+use Rattle.transcript_text.specs.Lines.{posting_text, reports_text, trim_text, unpinned_text, unvalued_text}
 
 -- the day or amount of the refusal can be written
 abbrev pub IsPrintable : Refusal → Type 0
@@ -40,7 +40,7 @@ IsWritableOutcome (Post command) (Posted answer) = IsToldAnswer answer
 IsWritableOutcome Trim (Trimmed floor) = Unit {0}
 IsWritableOutcome (Value on at workers) (Valued valuation) = IsDay on × IsWritableBlock valuation.value
 IsWritableOutcome (Value on at workers) (ValueRefused refusal) = IsDay on
-IsWritableOutcome (Value on at workers) ValueNoMemory = IsDay on
+IsWritableOutcome (Value on at workers) (ValueNoMemory lack) = IsDay on
 IsWritableOutcome _ _ = ⊥
 
 abbrev pub IsWritable : TranscriptLine → Type 0
@@ -53,7 +53,7 @@ outcome_text clerk Trim (Trimmed floor) = trim_text clerk floor
 outcome_text clerk (Value on at workers) (Valued valuation) =
     block_text clerk on valuation.value.position valuation.value.measure valuation.value.rows
 outcome_text clerk (Value on at workers) (ValueRefused refusal) = unpinned_text clerk on refusal
-outcome_text clerk (Value on at workers) ValueNoMemory = unvalued_text clerk on
+outcome_text clerk (Value on at workers) (ValueNoMemory lack) = unvalued_text clerk on
 outcome_text clerk _ _ = []
 
 abbrev pub told_text : TranscriptLine → List ℕ

@@ -1,8 +1,10 @@
 // The text of an answered line.
 ghost use Rattle.std.specs.Prelude.{◌≡◌, ◌++◌, ◌<◌, ◌^◌, ℕ, [], ◌∷◌, decimal, IfOk, OnOk};
 ghost use Rattle.policy_types.specs.declared.entry.At.{At as AnAt};
+ghost use Rattle.policy_types.specs.declared.entry.Reply.TheVariants.{PinRefused};
 ghost use Rattle.transcript_text.specs.Names.{ValueLine, IsDay, IsTermDay, day_text, cents_text, reply_of, behind_commas};
-ghost use Rattle.transcript_text.specs.Transcript.{pin_refusal_fields, posting_text, refusal_fields, reply_fields, trim_text, unpinned_text, unvalued_text};
+ghost use Rattle.transcript_text.specs.Transcript.{refusal_fields, reply_fields};
+ghost use Rattle.transcript_text.specs.Lines.{posting_text, trim_text, unpinned_text, unvalued_text};
 ghost use Rattle.transcript_text.specs.Told.{IsPrintable, IsToldAnswer, IsWritable, IsWritableOutcome, outcome_text, told_text};
 
 use itoa::Buffer;
@@ -91,7 +93,7 @@ fn value_text(alloc: Global, clerk: u8, on: i32, outcome: &Outcome) -> Result<Te
             print_block(alloc, clerk, on, found.position, found.measure, &found.rows)
         }
         Outcome::ValueRefused(refusal) => unpinned(alloc, clerk, on, *refusal),
-        Outcome::ValueNoMemory => unvalued(alloc, clerk, on),
+        Outcome::ValueNoMemory(_) => unvalued(alloc, clerk, on),
         _ => unreachable!(),
     }
 }
@@ -103,16 +105,16 @@ fn unpinned(alloc: Global, clerk: u8, on: i32, refusal: PinRefusal) -> Result<Te
 {
     let mut text = begun(alloc, clerk, "value")?;
     text.day(on)?;
-    text.word("refused")?;
     write_pin_refusal(&mut text, refusal)?;
     text.end()?;
     Ok(text.into_text())
 }
 
-// Adds why a position wasn't pinned.
+// Adds that a position wasn't pinned, and why.
 fn write_pin_refusal(text: &mut LineWriter, refusal: PinRefusal) -> Result<(), NoMemory>
-    ensures { OnOk result (text.new ≡ text.old ++ behind_commas (pin_refusal_fields refusal)) }
+    ensures { OnOk result (text.new ≡ text.old ++ behind_commas (reply_fields (PinRefused refusal))) }
 {
+    text.word("refused")?;
     match refusal {
         PinRefusal::Ahead(count) => write_number(text, "ahead", count),
         PinRefusal::Trimmed(floor) => write_number(text, "trimmed", floor),
@@ -147,7 +149,7 @@ fn write_answer(text: &mut LineWriter, answer: Answer) -> Result<(), NoMemory>
             write_refusal(text, refusal)
         }
         Answer::DiskFault(_) => text.word("fault"),
-        Answer::NoMemory => text.word("nomemory"),
+        Answer::NoMemory(_) => text.word("nomemory"),
     }
 }
 

@@ -1,6 +1,7 @@
 // The lines of the auditors' reports.
 ghost use Rattle.std.specs.Prelude.{◌≡◌, ◌≤◌, ◌<◌, IfOk, OnErr, length};
-ghost use Rattle.transcript_text.specs.Transcript.{reports_text, watcher_text};
+ghost use Rattle.transcript_text.specs.Lines.{watcher_text};
+ghost use Rattle.transcript_text.specs.Lines.{reports_text};
 
 use itoa::Buffer;
 use policy_types::{NoMemory, Report};

@@ -1,5 +1,6 @@
 // What the answers of lanes say of how their run ends.
 ghost use Rattle.std.specs.Prelude.{◌≡◌, if◌then◌else◌};
+ghost use Rattle.watcher_set.specs.Evidence.{a_lack};
 ghost use Rattle.lane_runner.specs.Tallies.{any_faulted, any_lacked};
 ghost use Rattle.program_endings.specs.declared.ending.Ending.TheVariants.{DiskFault, Done, NoMemory as NoRoom};
 
@@ -9,13 +10,13 @@ use program_endings::Ending;
 /// The ending of a run whose transcript is written.
 pub fn ending_of(lines: &TranscriptLines) -> Ending
     ensures { result ≡ (if any_faulted lines.now then DiskFault
-        else if any_lacked lines.now then NoRoom else Done) }
+        else if any_lacked lines.now then (NoRoom a_lack) else Done) }
 {
     if lines.any_faulted() {
-        Ending::DiskFault
-    } else if lines.any_lacked() {
-        Ending::NoMemory
-    } else {
-        Ending::Done
+        return Ending::DiskFault;
+    }
+    match lines.lack() {
+        Some(lack) => Ending::NoMemory(lack),
+        None => Ending::Done,
     }
 }

@@ -1,12 +1,13 @@
 -- What a load's turns and answers are
 use Rattle.trial_load.proofs.Names.{◌≡◌, ℕ, zero, suc, ◌==◌, Bool, true, false, cond, List, [], ◌∷◌, ◌++◌, map, Some, Ok, Err, inl, inr, refl, ap, sym, ◌∙◌, subst, arith, append-nil, append_assoc, slice_get, AllByRecursion, AllZip, cond-false, eq-eqb, false≢true, sum_by-cons, Dated, Command, Call, PostCall, PinCall, PinAt, Read, Unpin, TrimCall, Entry, Reply, Accepted, Refused, Faulted, Pinned, PinRefused, Slice, Unpinned, Floor, Blank, Line, Post, Lane, lines_in, Opening, IsDue, IsLegalAfter, commands_after, Terminal, IsValueAnswer, IsValuedRow, Valuation, AnsweredLine, AreOfLanes, lines_by, IsOutcome, dry_of, lacked_memory, TranscriptLine, Has, has_filter, has_left, has_map, has_right, ArePostless, posts, quiet_reply, is_refusal, load_day, refused_in}
+use Rattle.memory_requests.specs.Evidence.{a_refusal}
 use Rattle.std.proofs.lemmas.List.{take_all}
 use Rattle.policy_types.specs.declared.entry.PinRefusal.{PinRefusal}
 use Rattle.policy_machine.specs.Book.{book}
 use Rattle.snapshot_value.specs.declared.valuation.ValueFault.TheVariants.{Pin as NoPin, NoMemory as NoValues}
 use Rattle.lane_runner.specs.declared.transcript.Outcome.{Outcome}
 use Rattle.lane_runner.specs.declared.transcript.Outcome.TheVariants.{Posted, Trimmed, Valued, ValueRefused, ValueNoMemory}
-use Rattle.program_endings.specs.Replies.{IsAnswered, IsPinned}
+use Rattle.program_endings.proofs.ReplyNames.{IsAnswered, IsPinned}
 use Rattle.program_endings.specs.Blocks.{IsWritableBlock}
 use Rattle.program_endings.proofs.BlockSteps.{block_writable}
 
@@ -50,8 +51,8 @@ in_front (x ∷ xs) ys zero entry there = there
 in_front (x ∷ xs) ys (suc n) entry there = in_front xs ys n entry there
 
 -- a valuation that found no memory was pinned
-pub pinned_if_dry : (commands : List Command) (basis : List Dated) (reply : Reply) → IsValueAnswer commands basis load_day Terminal reply (Err NoValues) → IsPinned reply
-pinned_if_dry commands basis (Pinned position policies) is = tt
+pub pinned_if_dry : (commands : List Command) (basis : List Dated) (reply : Reply) → IsValueAnswer commands basis load_day Terminal reply (Err (NoValues a_refusal)) → IsPinned reply
+pinned_if_dry commands basis (Pinned position policies) is = (position, policies, refl)
 pinned_if_dry commands basis (PinRefused refusal) is = absurd is
 pinned_if_dry commands basis (Accepted position) is = absurd is
 pinned_if_dry commands basis (Refused refusal) is = absurd is
@@ -104,7 +105,7 @@ posting_found command reply (Posted answer) commands basis told = refl
 posting_found command reply (Trimmed floor) commands basis told = absurd told
 posting_found command reply (Valued valuation) commands basis told = absurd told
 posting_found command reply (ValueRefused refusal) commands basis told = absurd told
-posting_found command reply ValueNoMemory commands basis told = absurd told
+posting_found command reply (ValueNoMemory lack) commands basis told = absurd told
 
 pub none_dry_of : (lines : List TranscriptLine) → AllByRecursion (λ (line : TranscriptLine). lacked_memory line.outcome ≡ false) lines → dry_of lines ≡ []
 none_dry_of [] none = refl
@@ -121,6 +122,6 @@ line_in answered history (lane ∷ lanes) (caller ∷ callers) one are (inl same
     let own : (one.clerk == lane.number) ≡ true = eq-eqb one.clerk lane.number (sym same) in
     let by_lane = has_filter (λ (other : AnsweredLine). other.clerk == lane.number) answered one own has in
     let line = has_map (λ (other : AnsweredLine). other.line) (lines_by lane.number answered) one by_lane in
-    has_left lane.lines (lines_in lanes) one.line (subst (λ (ls : List Line). Has ls one.line) are.0 line)
+    has_left lane.lines (lines_in lanes) one.line (subst (λ (ls : List Line). Has ls one.line) are.0.0 line)
 line_in answered history (lane ∷ lanes) (caller ∷ callers) one are (inr later) has =
-    has_right lane.lines (lines_in lanes) one.line (line_in answered history lanes callers one are.2 later has)
+    has_right lane.lines (lines_in lanes) one.line (line_in answered history lanes callers one are.1 later has)

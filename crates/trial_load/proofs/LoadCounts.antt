@@ -111,8 +111,8 @@ module _ (test : Entry → Bool) where
   of_lanes answered history (lane ∷ lanes) (caller ∷ callers) are single =
       let size : Placed → ℕ = λ (turn : Placed). worth test turn.1 in
       let own = of_singles (lines_by lane.number answered) (λ one has. single one (of_filter (λ (one : AnsweredLine). one.clerk == lane.number) answered one has).0) in
-      let here = ap (sum_by size) are.1 in
-      let rest = of_lanes answered history lanes callers are.2 single in
+      let here = ap (sum_by size) are.0.1 in
+      let rest = of_lanes answered history lanes callers are.1 single in
       omega (arith, own, here, rest)
 
   pub counted : (answered : List AnsweredLine) (history : List Entry) (lanes : List Lane) (callers : List ℕ) → AreOfLanes answered history lanes callers
@@ -154,11 +154,11 @@ refused_told : (command : Command) (reply : Reply) (outcome : Outcome) (commands
 refused_told command reply (Posted (AnAccepted position)) commands basis told = ap (is_refusal (PostCall command)) told
 refused_told command reply (Posted (ARefused refusal)) commands basis told = ap (is_refusal (PostCall command)) told
 refused_told command reply (Posted (DiskFault count)) commands basis told = ap (is_refusal (PostCall command)) told
-refused_told command reply (Posted NoMemory) commands basis told = ap (is_refusal (PostCall command)) told
+refused_told command reply (Posted (NoMemory lack)) commands basis told = ap (is_refusal (PostCall command)) told
 refused_told command reply (Trimmed floor) commands basis told = absurd told
 refused_told command reply (Valued valuation) commands basis told = absurd told
 refused_told command reply (ValueRefused refusal) commands basis told = absurd told
-refused_told command reply ValueNoMemory commands basis told = absurd told
+refused_told command reply (ValueNoMemory lack) commands basis told = absurd told
 
 -- a posting's line has one turn, which posts its command
 pub only_turn : (dry : List ℕ) (line : Line) (first : Placed) (rest : List Placed) → IsValidPosting line → AnswersLine dry line (first ∷ rest)

@@ -1,7 +1,7 @@
 -- The generated lanes can be run, and what is written of a generated script
 use Rattle.trial_load.proofs.Names.{◌≡◌, ℕ, ◌≤◌, List, [], ◌∷◌, length, Result, Ok, Err, Vec, Global, refl, sym, subst, arith, IfOk, AllByRecursion, filter, All-from_recursion, Line, Post, Value, Trim, Lane, lines_in, AreDealt, IsValidPosting, Ending, Done, WriteFault, NoMemory, Stream, WroteAll, all_has, has_flat_map, of_all, AreLoadLanes}
 use Rattle.outside_io.specs.Streams.{AppendsPart}
-use Rattle.policy_types.specs.declared.watcher.NoMemory.{NoMemory as Lack}
+use Rattle.memory_requests.specs.declared.evidence.NoMemory.{NoMemory as Refusal}
 use Rattle.command_csv.specs.Reads.{IsScriptLine}
 use Rattle.lane_runner.specs.Lanes.{IsRightLane, IsRightLine, is_value}
 use Rattle.load_maker.specs.GeneratedScript.{generated_text}
@@ -43,11 +43,11 @@ load_lanes most policies lanes dealt few_lanes few = record {
 }
 
 -- a text that was made is written, or there was no memory for it
-pub ends_generated : (seed count lanes : ℕ) (text : Result (Vec ℕ Global) Lack) (output : Stream) (ending : Ending)
+pub ends_generated : (seed count lanes : ℕ) (text : Result (Vec ℕ Global) Refusal) (output : Stream) (ending : Ending)
     → IfOk text (λ (made : Vec ℕ Global). made.items ≡ generated_text seed lanes count) → EndsText text output ending
     → EndsGenerate seed count lanes output ending
 ends_generated seed count lanes (Ok text) output Done is ends = subst (WroteAll output) is ends
 ends_generated seed count lanes (Ok text) output WriteFault is ends = (ends.0, subst (AppendsPart output.before output.after) is ends.1)
-ends_generated seed count lanes (Err lack) output NoMemory is ends = ends
+ends_generated seed count lanes (Err lack) output (NoMemory other_lack) is ends = ends
 ends_generated seed count lanes (Ok text) output _ is ends = absurd ends
 ends_generated seed count lanes (Err lack) output _ is ends = absurd ends

@@ -18,7 +18,7 @@ use Rattle.trial_load.specs.Generating.{EndsGenerate}
 pub generate_to_end : (seed count lanes : ℕ) (output : Stream) (ending : Ending) → EndsGenerate seed count lanes output ending
     → (Rose output.faults_before output.faults_after → ⊥) → (status_of ending ≡ 0) ⊎ (status_of ending ≡ 9)
 generate_to_end seed count lanes output Done ends output_held = inl refl
-generate_to_end seed count lanes output NoMemory ends output_held = inr refl
+generate_to_end seed count lanes output (NoMemory lack) ends output_held = inr refl
 generate_to_end seed count lanes output WriteFault ends output_held = absurd (output_held ends.0)
 generate_to_end seed count lanes output _ ends output_held = absurd ends
 
@@ -31,40 +31,46 @@ module _ {D : Type 0} (g : Ghosts D) (old new : D) where
     loading_as_before : (ending : Ending) → EndsLoading g old new lanes workers basis output ending
         → g.honest new → OpensToNone (g.reads old) → g.reads new ≡ g.reads old
     loading_as_before Done ends honest none = nowhere _ _ _ ends honest none
-    loading_as_before BadJournal ends honest none = (ends.alone.unwritten honest (finished (g.reads old) none)).facts.reads
-    loading_as_before WriteFault ends honest none = nowhere _ _ _ ends.1 honest none
-    loading_as_before DiskFault ends honest none = elim ends.1 [
-      | inl said ↦ (said.1.unwritten honest (finished (g.reads old) none)).facts.reads
-      | inr load ↦ nowhere _ _ _ load honest none
+    loading_as_before BadJournal ends honest none = (ends.1.unwritten honest (finished (g.reads old) none)).reads
+    loading_as_before WriteFault ends honest none = nowhere _ _ _ ends honest none
+    loading_as_before DiskFault ends honest none = elim ends [
+      | inl said ↦ (said.1.unwritten honest (finished (g.reads old) none)).reads
+      | inr load ↦ nowhere _ _ _ load.1 honest none
     ]
-    loading_as_before NoMemory ends honest none = elim ends [
-      | inl said ↦ (said.1.unwritten honest (finished (g.reads old) none)).facts.reads
+    loading_as_before (NoMemory lack) ends honest none = elim ends [
+      | inl said ↦ (said.1.unwritten honest (finished (g.reads old) none)).reads
       | inr (inl load) ↦ nowhere _ _ _ load honest none
       | inr (inr load) ↦ nowhere _ _ _ load honest none
     ]
-    loading_as_before _ ends honest none = absurd ends
+    loading_as_before _ ends honest none = absurd ends.0
 
     loading_to_end : (ending : Ending) (commands : List Command) → EndsLoading g old new lanes workers basis output ending
         → g.honest new → Opens (g.reads old) commands
         → (Rose output.faults_before output.faults_after → ⊥) → (Rose (g.faults old) (g.faults new) → ⊥)
         → (status_of ending ≡ 0) ⊎ (status_of ending ≡ 9)
     loading_to_end Done commands ends honest opens output_held disk_held = inl refl
-    loading_to_end NoMemory commands ends honest opens output_held disk_held = inr refl
-    loading_to_end WriteFault commands ends honest opens output_held disk_held = absurd (output_held ends.0)
-    loading_to_end DiskFault commands ends honest opens output_held disk_held = absurd (disk_held ends.0)
+    loading_to_end (NoMemory lack) commands ends honest opens output_held disk_held = inr refl
+    loading_to_end WriteFault commands ends honest opens output_held disk_held = absurd (output_held ends.tells.wrote.0)
+    loading_to_end DiskFault commands ends honest opens output_held disk_held = elim ends [
+      | inl said ↦ absurd (disk_held said.0.1)
+      | inr load ↦ absurd (disk_held load.0)
+    ]
     loading_to_end BadJournal commands ends honest opens output_held disk_held =
-        absurd (opens_to_none g old new output ends honest commands opens)
-    loading_to_end _ commands ends honest opens output_held disk_held = absurd ends
+        absurd (opens_to_none g old new output ends.0 honest commands opens)
+    loading_to_end _ commands ends honest opens output_held disk_held = absurd ends.0
 
     loading_refused : (ending : Ending) → EndsLoading g old new lanes workers basis output ending
         → g.honest new → OpensToNone (g.reads old) → (Rose (g.faults old) (g.faults new) → ⊥)
         → (status_of ending ≡ 5) ⊎ (status_of ending ≡ 9)
     loading_refused BadJournal ends honest none disk_held = inl refl
-    loading_refused NoMemory ends honest none disk_held = inr refl
-    loading_refused DiskFault ends honest none disk_held = absurd (disk_held ends.0)
+    loading_refused (NoMemory lack) ends honest none disk_held = inr refl
+    loading_refused DiskFault ends honest none disk_held = elim ends [
+      | inl said ↦ absurd (disk_held said.0.1)
+      | inr load ↦ absurd (disk_held load.0)
+    ]
     loading_refused Done ends honest none disk_held = nowhere _ _ _ ends honest none
-    loading_refused WriteFault ends honest none disk_held = nowhere _ _ _ ends.1 honest none
-    loading_refused _ ends honest none disk_held = absurd ends
+    loading_refused WriteFault ends honest none disk_held = nowhere _ _ _ ends honest none
+    loading_refused _ ends honest none disk_held = absurd ends.0
 
   module _ (seed count lanes workers : ℕ) (shelf : Shelving) (output : Stream) where
     abbrev all_lanes : List Lane
@@ -80,20 +86,20 @@ module _ {D : Type 0} (g : Ghosts D) (old new : D) where
     -- no load ends so
     pub load_usage : EndsLoad g old new seed count lanes workers shelf output Usage → ⊥
     load_usage ends = elim ends [
-      | inl by ↦ by.ends
+      | inl by ↦ by.ends.0
       | inr no_basis ↦ no_basis.1
     ]
 
     pub load_ahead : EndsLoad g old new seed count lanes workers shelf output Ahead → ⊥
     load_ahead ends = elim ends [
-      | inl by ↦ by.ends
+      | inl by ↦ by.ends.0
       | inr no_basis ↦ no_basis.1
     ]
 
     pub load_bad_file : EndsLoad g old new seed count lanes workers shelf output BadBasis
         → EndsNoBasis (codes "basis.csv") shelf output BadBasis
     load_bad_file ends = elim ends [
-      | inl by ↦ absurd by.ends
+      | inl by ↦ absurd by.ends.0
       | inr no_basis ↦ no_basis.1
     ]
 

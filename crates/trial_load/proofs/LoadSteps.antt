@@ -1,7 +1,8 @@
 -- How a load ends, by what its parts did
-use Rattle.trial_load.proofs.Names.{◌≡◌, ℕ, Bool, true, false, cond, List, [], ◌∷◌, ◌++◌, length, map, take, Some, Result, Ok, Err, refl, ap, sym, ◌∙◌, subst, inl, inr, arith, append-nil, append_assoc, Option, slice_get, if◌then◌else◌, AllByRecursion, AllZip, Contains, filter_map-append, sum_by-append, Dated, Command, PostCall, PinCall, Entry, Faulted, Line, Lane, Opening, IsDue, IsLegal, IsLegalAfter, accepted_by, accepted_of, commands_after, opened_on, AnswersLine, IsMerge, Terminal, HasValued, IsValueAnswer, IsValuedRow, dry_pins, Valuation, AnsweredLine, turns_in, lines_in, HasAnsweredLanes, IsOutcome, IsTold, dry_of, lacked_memory, TranscriptLine, IsValidPosting, Ending, Done, BadJournal, WriteFault, DiskFault, NoMemory, Stream, WroteAll, Has, all_and, all_has, has_of_contains, of_all, zip_right, same_opened, none_accepted, unfaulted_if_answered, EndsLoading, HasLine, HasNoLine, IsLoadOf, is_refusal, load_day, load_text, refused_in, valuation_lane, AreLoadLanes, EndsLine, EndsLoaded, IsLoadAnswer}
+use Rattle.trial_load.proofs.Names.{◌≡◌, ℕ, Bool, true, false, cond, List, [], ◌∷◌, ◌++◌, length, map, take, Some, Result, Ok, Err, refl, ap, sym, ◌∙◌, subst, inl, inr, arith, append-nil, append_assoc, Option, slice_get, if◌then◌else◌, AllByRecursion, AllZip, Contains, filter_map-append, sum_by-append, Dated, Command, PostCall, PinCall, Entry, Faulted, Line, Lane, Opening, IsDue, IsLegal, IsLegalAfter, accepted_by, accepted_of, commands_after, opened_on, AnswersLine, Terminal, HasValued, IsValueAnswer, IsValuedRow, dry_pins, Valuation, AnsweredLine, turns_in, lines_in, HasAnsweredLanes, IsOutcome, IsTold, dry_of, lacked_memory, TranscriptLine, IsValidPosting, Ending, Done, BadJournal, WriteFault, DiskFault, NoMemory, Stream, WroteAll, Has, all_and, all_has, has_of_contains, of_all, zip_right, same_opened, none_accepted, unfaulted_if_answered, EndsLoading, HasLine, IsLoadOf, is_refusal, load_day, load_text, refused_in, AreLoadLanes, EndsLine, EndsLoaded, IsLoadAnswer, WrotePart, AreLinesOf}
+use Rattle.watcher_set.specs.Evidence.{a_lack}
+use Rattle.memory_requests.specs.Evidence.{a_refusal}
 use Rattle.outside_io.specs.Faults.{Rose}
-use Rattle.outside_io.specs.Streams.{AppendsPart}
 use Rattle.outside_io.specs.declared.disks.Disk.{Ghosts}
 use Rattle.policy_types.specs.Accounts.{Booking}
 use Rattle.policy_types.specs.declared.entry.At.TheVariants.{Now}
@@ -11,7 +12,7 @@ use Rattle.policy_value.specs.declared.worth.Row.{Row}
 use Rattle.watcher_set.specs.declared.watching.Watching.{Ghosts as WatcherGhosts}
 use Rattle.office_state.specs.declared.faults.StartCause.{StartCause}
 use Rattle.office_state.specs.declared.faults.StartCause.TheVariants.{DiskFault as FaultyDisk, NotAJournal, BadRecord, NoMemory as NoRoom}
-use Rattle.office_state.specs.Images.{HasFaulted, IsLeftBy}
+use Rattle.office_state.specs.Images.{IsLeftBy}
 use Rattle.office_state.specs.Opening.{HasNotOpened}
 use Rattle.shared_office.specs.Offices.{IsOfficeHistory, OfficeOpening}
 use Rattle.office_state.specs.States.{MomentRing}
@@ -21,15 +22,17 @@ use Rattle.snapshot_value.specs.declared.valuation.ValueFault.TheVariants.{Pin a
 use Rattle.turn_lock.specs.History.{entries_of}
 use Rattle.turn_lock.specs.Passes.{Holding, Page, PassFacts, callers as numbers_of}
 use Rattle.lane_runner.specs.declared.transcript.Transcript.{Transcript}
-use Rattle.program_endings.specs.Replies.{AreAnswered, AreAny, ArePins, HasBlank, HaveAFault, IsAnswered, IsUnfaulted, LackMemory}
+use Rattle.program_endings.specs.Replies.{AreAnswered, ArePins, HaveAFault, LackMemory}
+use Rattle.program_endings.proofs.ReplyNames.{HasBlank, IsAnswered, IsUnfaulted}
 use Rattle.program_endings.specs.Refusals.{SaysUnopened}
 use Rattle.program_endings.proofs.FaultSteps.{rose_in}
+use Rattle.program_endings.proofs.ReadOnlySteps.{no_office}
 use Rattle.lane_runner.specs.Tallies.{accepted_lines, any_faulted, any_lacked, refused_lines}
 use Rattle.transcript_text.proofs.Telling.{Telling, telling}
 use Rattle.transcript_text.proofs.ToldSteps.{page_numbers}
 use Rattle.trial_load.proofs.LoadCounts.{accepted_is, only_turn, refused_is}
 use Rattle.trial_load.proofs.LoadPins.{entries_post, not_full}
-use Rattle.trial_load.proofs.LoadTurns.{IsBehind, is_behind}
+use Rattle.trial_load.proofs.LoadTurns.{IsBehind, is_behind, same_line}
 use Rattle.trial_load.proofs.LoadAnswers.{legal_back, legal_front, line_in, answered_turns, none_refused, in_front, pinned_if_dry, refused_pin, AreLastRows, last_rows, posting_found, none_dry_of}
 
 -- An office ran lanes, valued its policies then, and was closed.
@@ -121,14 +124,17 @@ module _ {D W : Type 0} (g : Ghosts D) (w : WatcherGhosts W) (old disk : D) (lan
           → ArePins closing.seen (dry_pins turn given)
       by (Ok valuation) is = tt
       by (Err (NoPin refusal)) is = tt
-      by (Err NoValues) is =
+      by (Err (NoValues lack)) is =
           ((behind.pin, behind.pin_there, pinned_if_dry (commands_after opened.opening mid.seen) basis behind.pin.reply is), tt)
 
-  merge : IsMerge closing.seen (valuation_lane workers ∷ lanes) (0 ∷ transcript.callers) (dry_pins turn answer)
-  merge = record {
-    distinct = behind.distinct;
-    theirs = behind.theirs;
-    answers = behind.answers (dry_of transcript.lines) lanes right.postings ran.answers;
+  answered : AreLinesOf ran.answered mid.seen lanes transcript.callers (dry_pins turn answer)
+  answered = record {
+    rising = ran.lines.rising;
+    clerks = ran.lines.clerks;
+    turns = all_has (λ (one : AnsweredLine). AnswersLine (dry_pins turn answer) one.line (turns_in one)) ran.answered
+        (λ one has. same_line (dry_of transcript.lines) (dry_pins turn answer) one.line (turns_in one) (postings one has)
+        (of_all (λ (one : AnsweredLine). AnswersLine (dry_of transcript.lines) one.line (turns_in one)) ran.answered one ran.lines.turns has));
+    each = ran.lines.each;
   }
 
   load_of : (Tells : Opening → List Entry → List ℕ → Type 0) → Tells opening closing.seen (dry_pins turn answer)
@@ -141,9 +147,12 @@ module _ {D W : Type 0} (g : Ghosts D) (w : WatcherGhosts W) (old disk : D) (lan
     postings = mid.seen;
     valuation = behind.rest;
     opened = left.opened;
-    merge = subst (λ (h : List Entry). IsMerge h (valuation_lane workers ∷ lanes) (0 ∷ transcript.callers) (dry_pins turn answer)) behind.seen merge;
-    before = behind.others;
+    lines = ran.answered;
+    distinct = behind.distinct;
+    theirs = all_told.merge.theirs;
+    answered = answered;
     behind = behind.own;
+    values = behind.values;
     legal = subst (IsLegal opening) behind.seen legal;
     pins = subst (λ (h : List Entry). ArePins h (dry_pins turn answer)) behind.seen pins;
     tells = subst (λ (h : List Entry). Tells opening h (dry_pins turn answer)) behind.seen tells;
@@ -169,19 +178,21 @@ module _ {D W : Type 0} (g : Ghosts D) (w : WatcherGhosts W) (old disk : D) (lan
       (all_has (λ (entry : Entry). IsUnfaulted entry.reply) behind.rest (λ entry has. unfaulted_if_answered entry.reply
       (of_all (λ (e : Entry). IsAnswered e.reply) behind.rest entry rest_answered has)))
 
-  a_fault : any_faulted transcript.lines ≡ true → (command : Command) × HasFaulted closing.seen command
+  a_fault : any_faulted transcript.lines ≡ true → HaveAFault closing.seen
   a_fault some =
       let fault = all_told.fault some in
       let there = fault.1.1 in
-      let entry : Entry = record { caller = there.caller; call = PostCall fault.0; reply = Faulted there.count } in (
+      let entry : Entry = record { caller = there.caller; call = PostCall fault.1.0; reply = Faulted there.count } in (
         fault.0,
         (
-          fault.1.0 ++ behind.rest,
+          fault.1.0,
           record {
             before = there.before;
             caller = there.caller;
             count = there.count;
-            turns = behind.seen ∙ ap (λ (h : List Entry). h ++ behind.rest) there.turns ∙ append_assoc there.before (entry ∷ fault.1.0) behind.rest;
+            after = there.after ++ behind.rest;
+            turns = behind.seen ∙ ap (λ (h : List Entry). h ++ behind.rest) there.turns ∙ append_assoc there.before (entry ∷ there.after) behind.rest;
+            then = there.then;
           },
         ),
       )
@@ -236,13 +247,13 @@ module _ {D W : Type 0} (g : Ghosts D) (w : WatcherGhosts W) (old disk : D) (lan
     ends_line : (output : Stream) (ending : Ending) → EndsLine transcript.lines valuation.rows output ending
         → EndsLoading g old disk lanes workers basis output ending
     ends_line output Done ends = line_of (WroteAll output) AreAnswered ends.2 (all_answered ends.0 ends.1, ap (dry_pins turn) found)
-    ends_line output WriteFault ends = (ends.0, line_of (AppendsPart output.before output.after) AreAny ends.1 tt)
+    ends_line output WriteFault ends = line_of (WrotePart output) (λ history dry. Unit {0}) ends tt
     ends_line output DiskFault ends =
         let fault = a_fault ends.0 in
-        let rose = rose_in opening closing.seen fault.0 legal.due fault.1 in
-        (subst (Rose (g.faults old)) (sym left.faults) rose, inr (line_of (WroteAll output) HaveAFault ends.1 fault))
-    ends_line output NoMemory (inl unwritten) = inr (inl (load_of (HasNoLine output) unwritten))
-    ends_line output NoMemory (inr short) =
+        let rose = rose_in opening closing.seen fault.0 fault.1.0 legal.due fault.1.1 in
+        inr (subst (Rose (g.faults old)) (sym left.faults) rose, line_of (WroteAll output) (λ history dry. HaveAFault history) ends.1 fault)
+    ends_line output (NoMemory lack) (inl unwritten) = inr (inl (load_of (λ opening history dry. WroteAll output []) unwritten))
+    ends_line output (NoMemory lack) (inr short) =
         inr (inr (line_of (WroteAll output) LackMemory short.2 (all_unfaulted short.0, inl (a_blank short.1))))
     ends_line output _ ends = absurd ends
 
@@ -254,7 +265,7 @@ module _ {D W : Type 0} (g : Ghosts D) (w : WatcherGhosts W) (old disk : D) (lan
     where
       by : (given : Result Valuation ValueFault) → answer ≡ given → IsLoadAnswer given
       by (Ok valuation) is = (last valuation is).writable
-      by (Err NoValues) is = tt
+      by (Err (NoValues lack)) is = tt
       by (Err (NoPin refusal)) is =
           let said = subst (IsValueAnswer (commands_after opened.opening mid.seen) basis load_day Terminal behind.pin.reply) is behind.answered in
           let refused = refused_pin (commands_after opened.opening mid.seen) basis behind.pin.reply refusal said in
@@ -269,15 +280,15 @@ module _ {D W : Type 0} (g : Ghosts D) (w : WatcherGhosts W) (old disk : D) (lan
       by : (given : Result Valuation ValueFault) → answer ≡ given → (ending : Ending) → EndsLoaded transcript.lines given output ending
           → EndsLoading g old disk lanes workers basis output ending
       by (Ok valuation) is ending ends = ends_line valuation is output ending ends
-      by (Err NoValues) is NoMemory ends = inr (inl (load_of (HasNoLine output) ends))
-      by (Err NoValues) is _ ends = absurd ends
+      by (Err (NoValues lack)) is (NoMemory other_lack) ends = inr (inl (load_of (λ opening history dry. WroteAll output []) ends))
+      by (Err (NoValues lack)) is _ ends = absurd ends
       by (Err (NoPin refusal)) is ending ends = absurd ends
 
 -- where there was no memory to run the lanes, nothing was turned
 pub ends_unrun : {D W : Type 0} (g : Ghosts D) (w : WatcherGhosts W) (old disk : D) (lanes : List Lane) (workers : ℕ) (basis : List Dated) (watchers : W)
     (first closing : Holding (OfficeOpening D W)) (balances : Booking) (reports : List Report) (output : Stream)
     → HasStartedOffice g old watchers first → {outlet : Option MomentRing} → HasClosed g w closing disk balances reports outlet → closing ≡ first
-    → SaysUnopened NoRoom output NoMemory → EndsLoading g old disk lanes workers basis output NoMemory
+    → SaysUnopened (NoRoom a_refusal) output (NoMemory a_lack) → EndsLoading g old disk lanes workers basis output (NoMemory a_lack)
 ends_unrun {D = D} {W = W} g w old disk lanes workers basis watchers first closing balances reports output started closed same said =
     let opened : OfficeOpening D W = record { opening = started.opening; begun = old; held = started.held; watchers = watchers; outlet = started.outlet } in
     let is : closing.opening ≡ Some opened = ap (λ (p : Holding (OfficeOpening D W)). p.opening) same ∙ started.first.opened in
@@ -288,29 +299,30 @@ ends_unrun {D = D} {W = W} g w old disk lanes workers basis watchers first closi
     let left : IsLeftBy g old disk (opened_on started.opening.commands (g.faults old)) [] =
     subst (IsLeftBy g old disk (opened_on started.opening.commands (g.faults old))) none
     (subst (λ (n : ℕ). IsLeftBy g old disk (opened_on started.opening.commands n) closing.seen) started.faults whole) in
-    inl (said, left.alone tt, left.faults)
+    inl ((said, left.faults), left.alone tt)
 
 -- and where no office was opened
 pub ends_unbegun : {D : Type 0} (g : Ghosts D) (old new : D) (lanes : List Lane) (workers : ℕ) (basis : List Dated)
     (output : Stream) (cause : StartCause) (ending : Ending) → HasNotOpened g old new cause → SaysUnopened cause output ending
     → EndsLoading g old new lanes workers basis output ending
-ends_unbegun g old new lanes workers basis output (FaultyDisk count) DiskFault not said = (not.told.1, inl (said, not.alone))
-ends_unbegun g old new lanes workers basis output NotAJournal BadJournal not said = record { cause = NotAJournal; line = said; shown = not.shown; quiet = not.told; alone = not.alone }
-ends_unbegun g old new lanes workers basis output (BadRecord n) BadJournal not said = record { cause = BadRecord n; line = said; shown = not.shown; quiet = not.told; alone = not.alone }
-ends_unbegun g old new lanes workers basis output (BadRecord n) NoMemory not said = inl (said, not.alone, not.told)
-ends_unbegun g old new lanes workers basis output NoRoom NoMemory not said = inl (said, not.alone, not.told)
+ends_unbegun g old new lanes workers basis output (FaultyDisk count) DiskFault not said = inl (no_office g old new output (FaultyDisk count) DiskFault not said)
+ends_unbegun g old new lanes workers basis output NotAJournal BadJournal not said = no_office g old new output NotAJournal BadJournal not said
+ends_unbegun g old new lanes workers basis output (BadRecord n) BadJournal not said = no_office g old new output (BadRecord n) BadJournal not said
+ends_unbegun g old new lanes workers basis output (BadRecord n) (NoMemory lack) not said = inl (no_office g old new output (BadRecord n) (NoMemory lack) not said)
+ends_unbegun g old new lanes workers basis output (NoRoom lack) (NoMemory other_lack) not said =
+    inl (no_office g old new output (NoRoom lack) (NoMemory other_lack) not said)
 ends_unbegun g old new lanes workers basis output _ _ not said = absurd said
 
 -- a line that is written whole ends a load by what is told of its lines
 by_lines : (lines : List TranscriptLine) (rows : List Row) (output : Stream) (faulted lacked : Bool) → any_faulted lines ≡ faulted → any_lacked lines ≡ lacked
     → WroteAll output (load_text (accepted_lines lines) (refused_lines lines) rows)
-    → EndsLine lines rows output (if faulted then DiskFault else if lacked then NoMemory else Done)
+    → EndsLine lines rows output (if faulted then DiskFault else if lacked then (NoMemory a_lack) else Done)
 by_lines lines rows output true lacked failed short wrote = (failed, wrote)
 by_lines lines rows output false true whole short wrote = inr (whole, short, wrote)
 by_lines lines rows output false false whole found wrote = (whole, found, wrote)
 
 pub ends_as_told : (lines : List TranscriptLine) (rows : List Row) (output : Stream) (ending : Ending)
-    → ending ≡ (if any_faulted lines then DiskFault else if any_lacked lines then NoMemory else Done)
+    → ending ≡ (if any_faulted lines then DiskFault else if any_lacked lines then (NoMemory a_lack) else Done)
     → WroteAll output (load_text (accepted_lines lines) (refused_lines lines) rows) → EndsLine lines rows output ending
 ends_as_told lines rows output ending is wrote =
     subst (EndsLine lines rows output) (sym is) (by_lines lines rows output (any_faulted lines) (any_lacked lines) refl refl wrote)

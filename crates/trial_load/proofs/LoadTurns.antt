@@ -1,5 +1,5 @@
 -- The turns of a valuation behind those of lanes: nobody else turned meanwhile
-use Rattle.trial_load.proofs.Names.{◌≡◌, ◌≢◌, ℕ, ◌+◌, ◌==◌, false, List, [], ◌∷◌, ◌++◌, length, map, take, Some, Result, refl, ap, sym, ◌∙◌, subst, inl, inr, arith, append-nil, length-append, nat_eq, slice_get, AllByRecursion, Contains, IsDistinct, enumerate_from, filter, cond-false, eq-eqb, ne_eqb, filter-append, Dated, Call, Pin, Entry, Line, Post, Value, Trim, Lane, IsDue, commands_after, AnswersLanes, AnswersLine, AnswersLines, Placed, turns_of, Terminal, HasValued, AnswersPin, dry_pins, Valuation, lines_in, IsValidPosting, Has, all_has, has_filter, has_of_contains, of_all, of_map, same_opened, ArePostless, all_own, entries_in, postless_entries, same_first, same_rest, due_at, posts, quiet_follow, quiet_pin, quiet_turns, load_day, valuation_lane}
+use Rattle.trial_load.proofs.Names.{◌≡◌, ◌≢◌, ℕ, ◌+◌, ◌==◌, false, List, [], ◌∷◌, ◌++◌, length, map, take, Some, Result, refl, ap, sym, ◌∙◌, subst, inl, inr, arith, length-append, nat_eq, slice_get, AllByRecursion, Contains, IsDistinct, enumerate_from, filter, cond-false, eq-eqb, ne_eqb, filter-append, Dated, Call, Pin, Entry, Line, Post, Value, Trim, IsDue, commands_after, AnswersLine, Placed, turns_of, Terminal, HasValued, AnswersPin, dry_pins, Valuation, IsValidPosting, Has, all_has, has_filter, has_of_contains, of_all, of_map, same_opened, ArePostless, all_own, entries_in, postless_entries, same_first, same_rest, due_at, posts, quiet_follow, quiet_pin, quiet_turns, load_day}
 use Rattle.std.proofs.Math.Seq.{take-append_seam}
 use Rattle.policy_types.specs.declared.entry.At.TheVariants.{Now}
 use Rattle.turn_lock.specs.History.{entries_of}
@@ -61,18 +61,12 @@ from_place n (entry ∷ entries) first later same =
     )
 
 -- lines of postings are answered whichever pins are dry
-same_line : (dry other : List ℕ) (line : Line) (turns : List Placed) → IsValidPosting line → AnswersLine dry line turns → AnswersLine other line turns
+pub same_line : (dry other : List ℕ) (line : Line) (turns : List Placed) → IsValidPosting line → AnswersLine dry line turns → AnswersLine other line turns
 same_line dry other (Post command) [] posting answers = absurd answers
 same_line dry other (Post command) (turn ∷ []) posting answers = answers
 same_line dry other (Post command) (turn ∷ second ∷ rest) posting answers = absurd answers
 same_line dry other (Value on at workers) turns posting answers = absurd posting
 same_line dry other Trim turns posting answers = absurd posting
-
-same_lines : (dry other : List ℕ) (lines : List Line) (turns : List Placed) → AllByRecursion IsValidPosting lines → AnswersLines dry lines turns
-    → AnswersLines other lines turns
-same_lines dry other [] turns postings answers = answers
-same_lines dry other (line ∷ lines) turns postings (first, (rest, parts, one, more)) =
-    (first, (rest, parts, same_line dry other line first postings.0 one, same_lines dry other lines rest postings.1 more))
 
 -- what is known of a valuation behind the turns of lanes
 pub record IsBehind {D W : Type 0} (basis : List Dated) (workers turn : ℕ) (mid closing : Holding (OfficeOpening D W))
@@ -86,8 +80,7 @@ pub record IsBehind {D W : Type 0} (basis : List Dated) (workers turn : ℕ) (mi
   pub whole : OwnsAll mid
   pub others : AllByRecursion (λ (entry : Entry). entry.caller ≢ 0) mid.seen
   pub own : AllByRecursion (λ (entry : Entry). entry.caller ≡ 0) rest
-  pub answers : (dry : List ℕ) (lanes : List Lane) → AllByRecursion IsValidPosting (lines_in lanes) → AnswersLanes dry mid.seen lanes callers
-      → AnswersLanes (dry_pins turn answer) closing.seen (valuation_lane workers ∷ lanes) (0 ∷ callers)
+  pub values : AnswersLine (dry_pins turn answer) (Value load_day Now workers) (enumerate_from (length mid.seen) rest)
   pub postless : ArePostless rest
   pub pin : Entry
   pub pin_there : slice_get closing.seen turn ≡ Some pin
@@ -172,40 +165,18 @@ module _ {D W : Type 0} (basis : List Dated) (workers turn : ℕ) (mid closing :
       (valued.grows.turns ∙ ap (λ (ts : List Placed). ts ++ valued.pin ∷ valued.later)
       (subst (λ n. turns_of mid.seen n ≡ []) (sym own) (no_turns 0 0 mid.seen before_it)))
 
-  lone : (valued.pin.0 ≡ length mid.seen) × (rest ≡ valued.pin.1 ∷ map (λ (placed : Placed). placed.1) valued.later)
-  lone =
-      let mine : turns_of closing.seen 0 ≡ enumerate_from (length mid.seen) rest =
+  mine : enumerate_from (length mid.seen) rest ≡ valued.pin ∷ valued.later
+  mine =
+      let here : turns_of closing.seen 0 ≡ enumerate_from (length mid.seen) rest =
       turns_parted 0 ∙ ap (λ (ts : List Placed). ts ++ filter (λ (placed : Placed). placed.1.caller == 0) (enumerate_from (length mid.seen) rest)) (no_turns 0 0 mid.seen before_it)
       ∙ all_own 0 (length mid.seen) rest behind in
-      from_place (length mid.seen) rest valued.pin valued.later (sym mine ∙ own_turns)
+      sym here ∙ own_turns
+
+  lone : (valued.pin.0 ≡ length mid.seen) × (rest ≡ valued.pin.1 ∷ map (λ (placed : Placed). placed.1) valued.later)
+  lone = from_place (length mid.seen) rest valued.pin valued.later mine
 
   turn_is : turn ≡ length mid.seen
   turn_is = sym valued.place ∙ lone.0
-
-  -- the other callers' turns are those of the lanes
-  other_turns : (caller : ℕ) → Has callers caller → turns_of closing.seen caller ≡ turns_of mid.seen caller
-  other_turns caller has =
-      turns_parted caller ∙ ap (λ (ts : List Placed). turns_of mid.seen caller ++ ts)
-      (no_turns caller (length mid.seen) rest (others_if_none caller rest (none_since caller has)))
-      ∙ append-nil (turns_of mid.seen caller)
-
-  lanes_answered : (dry : List ℕ) (lanes : List Lane) (some : List ℕ) → ((caller : ℕ) → Has some caller → Has callers caller)
-      → AllByRecursion IsValidPosting (lines_in lanes) → AnswersLanes dry mid.seen lanes some → AnswersLanes (dry_pins turn answer) closing.seen lanes some
-  lanes_answered dry [] [] among postings answers = tt
-  lanes_answered dry [] (caller ∷ some) among postings answers = absurd answers
-  lanes_answered dry (lane ∷ lanes) [] among postings answers = absurd answers
-  lanes_answered dry (lane ∷ lanes) (caller ∷ some) among postings answers = (
-    subst (AnswersLines (dry_pins turn answer) lane.lines) (sym (other_turns caller (among caller (inl refl))))
-        (same_lines dry (dry_pins turn answer) lane.lines (turns_of mid.seen caller) (all_front IsValidPosting lane.lines (lines_in lanes) postings) answers.0),
-    lanes_answered dry lanes some (λ other has. among other (inr has)) (all_back IsValidPosting lane.lines (lines_in lanes) postings) answers.1,
-  )
-
-  all_answered : (dry : List ℕ) (lanes : List Lane) → AllByRecursion IsValidPosting (lines_in lanes) → AnswersLanes dry mid.seen lanes callers
-      → AnswersLanes (dry_pins turn answer) closing.seen (valuation_lane workers ∷ lanes) (0 ∷ callers)
-  all_answered dry lanes postings answers = (
-    (valued.pin ∷ valued.later, ([], own_turns ∙ sym (append-nil (valued.pin ∷ valued.later)), valued.answers, refl)),
-    lanes_answered dry lanes callers (λ caller has. has) postings answers,
-  )
 
   postless : ArePostless rest
   postless =
@@ -247,7 +218,7 @@ module _ {D W : Type 0} (basis : List Dated) (workers turn : ℕ) (mid closing :
     whole = whole_before;
     others = before_it;
     own = behind;
-    answers = all_answered;
+    values = subst (AnswersLine (dry_pins turn answer) (Value load_day Now workers)) (sym mine) valued.answers;
     postless = postless;
     pin = valued.pin.1;
     pin_there = pin_there;

@@ -1,6 +1,6 @@
 -- The generated text reads back as its rows, and these as the generated lanes
-use Rattle.trial_load.proofs.Names.{◌≡◌, ℕ, zero, suc, ◌+◌, ◌/◌, ◌%◌, ◌^◌, ◌<◌, ◌≤◌, ◌==◌, ℤ, false, List, [], ◌∷◌, ◌++◌, length, map, refl, ap, sym, ◌∙◌, subst, inl, inr, arith, add-one, append-nil, AllByRecursion, AllZip, flat_map, list_any, cases_Bool, cases_lt, ne_eqb, Command, Lane, Line, Post, dealt_lanes, dealt_lines, generated_lanes, lane_with}
-use Rattle.std.specs.Prelude.{decimal, Some, None, Option}
+use Rattle.trial_load.proofs.Names.{◌≡◌, ℕ, zero, suc, ◌+◌, ◌/◌, ◌%◌, ◌^◌, ◌<◌, ◌≤◌, ◌==◌, ℤ, false, List, [], ◌∷◌, ◌++◌, length, map, refl, ap, sym, ◌∙◌, subst, inl, inr, arith, add-one, append-nil, AllByRecursion, AllZip, flat_map, list_any, cases_lt, ne_eqb, Command, Line, Post, Value, Trim, IsValidPosting, generated_lanes}
+use Rattle.std.specs.Prelude.{decimal}
 use Rattle.std.specs.Int.Digits.{digits_of}
 use Rattle.std.proofs.lemmas.Fmt.{decimal_digit, decimal-digits_of}
 use Rattle.std.proofs.lemmas.List.{length-append}
@@ -12,20 +12,24 @@ use Rattle.csv.specs.declared.parser.State.TheVariants as st
 use Rattle.csv.proofs.RoundTrip.{read-write-many}
 use Rattle.life_dates.specs.Calendar.{Date, date_of}
 use Rattle.life_dates.specs.DayText.{date_text, day_text}
-use Rattle.money_core.specs.CentsText.{cents_text, hundredths_text}
+use Rattle.money_core.proofs.CentsTextLemmas.{hundredths_text}
+use Rattle.money_core.specs.CentsText.{cents_text}
 use Rattle.text_lines.specs.Lines.{behind_commas, line_of}
-use Rattle.text_lines.specs.Fields.{day_fields, entry_fields, term_fields}
+use Rattle.text_lines.specs.Fields.{entry_fields}
 use Rattle.policy_types.specs.Words.{kind_word, plan_word}
-use Rattle.policy_types.specs.Valid.{AreYears, IsValid, day_of, id_of, is_upgrade}
+use Rattle.policy_types.specs.Valid.{AreYears, IsValid, id_of}
 use Rattle.policy_types.specs.declared.command.Command.TheVariants.{Issue, Premium, Alter, Lapse, Reinstate, Claim, Settle, Mature, PaidUp, Upgrade}
 use Rattle.policy_types.specs.declared.command.Plan.{Plan}
 use Rattle.policy_types.specs.declared.command.Plan.TheVariants.{Term, Whole, Endowment, Limited}
 use Rattle.command_csv.specs.declared.row.ClerkLine.{ClerkLine}
-use Rattle.command_csv.specs.Reads.{IsLineRow, Reads, all_lines, lane_of, lanes_up_to, lines_of, valuations_in}
+use Rattle.command_csv.specs.Reads.{IsScriptLine, Reads, is_valuation, lanes_up_to, lines_of, valuations_in}
+use Rattle.command_csv.specs.inside.Words.{IsLineRow, all_lines}
 use Rattle.command_csv.specs.Rows.{rows_of}
-use Rattle.command_csv.specs.Spelling.{row_fields}
-use Rattle.load_maker.specs.GeneratedRows.{ScriptRow, generated_rows}
-use Rattle.load_maker.specs.GeneratedScript.{generated_text, script_row_text}
+use Rattle.command_csv.specs.Spelling.{line_fields, row_fields}
+use Rattle.command_csv.proofs.Lines.{line_begins}
+use Rattle.load_maker.specs.GeneratedRows.{generated_rows}
+use Rattle.load_maker.specs.GeneratedScript.{generated_text}
+use Rattle.load_maker.specs.inside.Rows.{script_row_text}
 use Rattle.load_maker.proofs.Drawing.{IsRowFor, rows_right}
 
 -- no byte of the field calls for quotes
@@ -91,8 +95,8 @@ plain_plan Endowment = refl
 plain_plan Limited = refl
 
 -- the text of a row is what the default writer writes of its fields
-abbrev fields_in : ScriptRow → List (List ℕ)
-fields_in row = kind_word row.command ∷ decimal (id_of row.command) ∷ entry_fields row.command
+abbrev fields_in : Command → List (List ℕ)
+fields_in command = kind_word command ∷ decimal (id_of command) ∷ entry_fields command
 
 written : (fields : List (List ℕ)) → AllByRecursion Plain fields → fields_text default_writer fields ≡ behind_commas fields
 unfolding fields_text
@@ -113,34 +117,35 @@ years_small Limited age years are = (let end = are.1 in omega (arith, end))
 plain_amount : (cents : ℕ) → cents ≤ 40000000000 → Plain (cents_text cents)
 plain_amount cents fits = plain_cents cents (omega (arith, fits))
 
-plain_terms : (command : Command) → IsValid command → AllByRecursion Plain (term_fields command)
-plain_terms (Issue id day plan age years amount premium) valid =
+plain_entry : (command : Command) → IsValid command → AllByRecursion Plain (entry_fields command)
+plain_entry (Issue id day plan age years amount premium) valid =
     let old = valid.age_in in
     let most = valid.amount_in.1 in
     let more = valid.premium_in.1 in (
-      plain_plan plan,
+      plain_day day,
       (
-        plain_number age (omega (arith, old)),
+        plain_plan plan,
         (
-          plain_number years (let few = years_small plan age years valid.years_in in omega (arith, few)),
-          (plain_amount amount (omega (arith, most)), (plain_amount premium (omega (arith, more)), tt)),
+          plain_number age (omega (arith, old)),
+          (
+            plain_number years (let few = years_small plan age years valid.years_in in omega (arith, few)),
+            (plain_amount amount (omega (arith, most)), (plain_amount premium (omega (arith, more)), tt)),
+          ),
         ),
       ),
     )
-plain_terms (Premium id day amount) valid = (plain_amount amount (let most = valid.2.1 in omega (arith, most)), tt)
-plain_terms (Alter id day amount premium) valid =
-    (plain_amount amount (let most = valid.2.1 in omega (arith, most)), (plain_amount premium (let most = valid.3.1 in omega (arith, most)), tt))
-plain_terms (Lapse id day) valid = tt
-plain_terms (Reinstate id day amount) valid = (plain_amount amount (let most = valid.2.1 in omega (arith, most)), tt)
-plain_terms (Claim id day) valid = tt
-plain_terms (Settle id day amount) valid = (plain_amount amount (let most = valid.2.1 in omega (arith, most)), tt)
-plain_terms (Mature id day) valid = tt
-plain_terms (PaidUp id day amount) valid = (plain_amount amount (let most = valid.2.1 in omega (arith, most)), tt)
-plain_terms Upgrade valid = tt
-
-plain_behind : (day : Option ℤ) (fields : List (List ℕ)) → AllByRecursion Plain fields → AllByRecursion Plain (day_fields day ++ fields)
-plain_behind (Some day) fields plain = (plain_day day, plain)
-plain_behind None fields plain = plain
+plain_entry (Premium id day amount) valid = (plain_day day, (plain_amount amount (let most = valid.2.1 in omega (arith, most)), tt))
+plain_entry (Alter id day amount premium) valid = (
+  plain_day day,
+  (plain_amount amount (let most = valid.2.1 in omega (arith, most)), (plain_amount premium (let most = valid.3.1 in omega (arith, most)), tt)),
+)
+plain_entry (Lapse id day) valid = (plain_day day, tt)
+plain_entry (Reinstate id day amount) valid = (plain_day day, (plain_amount amount (let most = valid.2.1 in omega (arith, most)), tt))
+plain_entry (Claim id day) valid = (plain_day day, tt)
+plain_entry (Settle id day amount) valid = (plain_day day, (plain_amount amount (let most = valid.2.1 in omega (arith, most)), tt))
+plain_entry (Mature id day) valid = (plain_day day, tt)
+plain_entry (PaidUp id day amount) valid = (plain_day day, (plain_amount amount (let most = valid.2.1 in omega (arith, most)), tt))
+plain_entry Upgrade valid = tt
 
 plain_kind : (command : Command) → Plain (kind_word command)
 plain_kind (Issue id day plan age years amount premium) = refl
@@ -166,63 +171,73 @@ small_id (Mature id day) valid = valid.0.1
 small_id (PaidUp id day amount) valid = valid.0.1
 small_id Upgrade valid = omega arith
 
-plain_fields : (row : ScriptRow) → IsValid row.command → AllByRecursion Plain (fields_in row)
-plain_fields row valid = (
-  plain_kind row.command,
+plain_fields : (command : Command) → IsValid command → AllByRecursion Plain (fields_in command)
+plain_fields command valid = (
+  plain_kind command,
   (
-    plain_number (id_of row.command) (let small = small_id row.command valid in omega (arith, small)),
-    plain_behind (day_of row.command) (term_fields row.command) (plain_terms row.command valid),
+    plain_number (id_of command) (let small = small_id command valid in omega (arith, small)),
+    plain_entry command valid,
   ),
 )
 
--- a row as a clerk's line
-abbrev entry_in : ScriptRow → ClerkLine
-entry_in row = record { clerk = row.lane; line = Post row.command }
+posted_plain : (command : Command) → IsValid command → AllByRecursion Plain (line_fields (Post command))
+posted_plain (Issue id day plan age years amount premium) valid = plain_fields (Issue id day plan age years amount premium) valid
+posted_plain (Premium id day amount) valid = plain_fields (Premium id day amount) valid
+posted_plain (Alter id day amount premium) valid = plain_fields (Alter id day amount premium) valid
+posted_plain (Lapse id day) valid = plain_fields (Lapse id day) valid
+posted_plain (Reinstate id day amount) valid = plain_fields (Reinstate id day amount) valid
+posted_plain (Claim id day) valid = plain_fields (Claim id day) valid
+posted_plain (Settle id day amount) valid = plain_fields (Settle id day amount) valid
+posted_plain (Mature id day) valid = plain_fields (Mature id day) valid
+posted_plain (PaidUp id day amount) valid = plain_fields (PaidUp id day amount) valid
+posted_plain Upgrade valid = (refl, tt)
 
-same_fields : (lane : ℕ) (command : Command) → is_upgrade command ≡ false
-    → row_fields (record { clerk = lane; line = Post command }) ≡ decimal lane ∷ fields_in (record { lane = lane; command = command })
-same_fields lane (Issue id day plan age years amount premium) named = refl
-same_fields lane (Premium id day amount) named = refl
-same_fields lane (Alter id day amount premium) named = refl
-same_fields lane (Lapse id day) named = refl
-same_fields lane (Reinstate id day amount) named = refl
-same_fields lane (Claim id day) named = refl
-same_fields lane (Settle id day amount) named = refl
-same_fields lane (Mature id day) named = refl
-same_fields lane (PaidUp id day amount) named = refl
-same_fields lane Upgrade named = cc
+line_plain : (line : Line) → IsValidPosting line → AllByRecursion Plain (line_fields line)
+line_plain (Post command) valid = posted_plain command valid
+line_plain (Value on at workers) valid = absurd valid
+line_plain Trim valid = absurd valid
 
-row_is_written : (row : ScriptRow) → row.lane ≤ 8 → IsValid row.command
-    → script_row_text row ≡ row_text default_writer (decimal row.lane ∷ fields_in row)
-unfolding script_row_text
-row_is_written row last valid =
-    sym (row_written (decimal row.lane) (kind_word row.command) (decimal (id_of row.command) ∷ entry_fields row.command)
-    (plain_number row.lane (omega (arith, last))) (plain_fields row valid))
+some_fields : (line : Line) → 1 ≤ length (line_fields line)
+some_fields line = omega (arith, ap length (line_begins line))
+
+script_line : (line : Line) → IsValidPosting line → IsScriptLine line
+script_line (Post command) valid = valid
+script_line (Value on at workers) valid = absurd valid
+script_line Trim valid = absurd valid
+
+not_valued : (line : Line) → IsValidPosting line → is_valuation line ≡ false
+not_valued (Post command) valid = refl
+not_valued (Value on at workers) valid = absurd valid
+not_valued Trim valid = absurd valid
+
+-- one line more reads as its fields, and then what its rest reads as
+one_more : (first : List ℕ) (fields : List (List ℕ)) (tail : List ℕ) (more : ℕ) (later : List (List (List ℕ)))
+    → 1 ≤ length fields → Plain first → AllByRecursion Plain fields → records_from default_config (suc more) st.StartRecord tail ≡ later
+    → records_from default_config (suc (suc more)) st.StartRecord (line_of first fields ++ tail) ≡ (first ∷ fields) ∷ later
+unfolding records_from next_record
+one_more first [] tail more later some plain others rest = absurd (omega (arith, some))
+one_more first (second ∷ fields) tail more later some plain others rest =
+    rw (sym (row_written first second fields plain others), read-write-many first second fields tail)
+    (ap (λ (later : List (List (List ℕ))). (first ∷ second ∷ fields) ∷ later) rest)
 
 -- a text of rows reads as their fields, with as many reads as there are rows, or more
-rows_back : (lanes : ℕ) (rows : List ScriptRow) (more : ℕ) → length rows ≤ more → lanes ≤ 8 → AllByRecursion (IsRowFor lanes) rows
-    → records_from default_config (suc more) st.StartRecord (flat_map script_row_text rows)
-    ≡ map (λ (row : ScriptRow). decimal row.lane ∷ fields_in row) rows
+rows_back : (lanes : ℕ) (rows : List ClerkLine) (more : ℕ) → length rows ≤ more → lanes ≤ 8 → AllByRecursion (IsRowFor lanes) rows
+    → records_from default_config (suc more) st.StartRecord (flat_map script_row_text rows) ≡ map row_fields rows
 unfolding records_from next_record
 rows_back lanes [] more enough few right = refl
 rows_back lanes (row ∷ rows) zero enough few right = absurd (omega (arith, enough))
 rows_back lanes (row ∷ rows) (suc more) enough few right =
     let last = right.0.last in
-    let text = row_is_written row (omega (arith, last, few)) right.0.valid in
-    rw (
-      text,
-      read-write-many (decimal row.lane) (kind_word row.command) (decimal (id_of row.command) ∷ entry_fields row.command)
-          (flat_map script_row_text rows),
-    )
-    (ap (λ (later : List (List (List ℕ))). (decimal row.lane ∷ fields_in row) ∷ later) (rows_back lanes rows more (omega (arith, enough)) few right.1))
+    one_more (decimal row.clerk) (line_fields row.line) (flat_map script_row_text rows) more (map row_fields rows)
+    (some_fields row.line) (plain_number row.clerk (omega (arith, last, few))) (line_plain row.line right.0.valid)
+    (rows_back lanes rows more (omega (arith, enough)) few right.1)
 
 -- each row's text is at least a byte long
-rows_shorter : (rows : List ScriptRow) → length rows ≤ length (flat_map script_row_text rows)
-unfolding script_row_text
+rows_shorter : (rows : List ClerkLine) → length rows ≤ length (flat_map script_row_text rows)
 rows_shorter [] = omega arith
 rows_shorter (row ∷ rows) =
     let more = rows_shorter rows in
-    let front = decimal row.lane ++ behind_commas (fields_in row) in
+    let front = decimal row.clerk ++ behind_commas (line_fields row.line) in
     let both = length-append (front ++ 10 ∷ []) (flat_map script_row_text rows) in
     let one = length-append front (10 ∷ []) in
     rw (both, one) (omega (arith, more))
@@ -234,65 +249,45 @@ no_mark a [] plain = refl
 no_mark a (b ∷ []) plain = refl
 no_mark a (b ∷ c ∷ rest) plain = rw plain refl
 
-no_mark_in : (lanes : ℕ) (rows : List ScriptRow) → lanes ≤ 8 → AllByRecursion (IsRowFor lanes) rows
+no_mark_in : (lanes : ℕ) (rows : List ClerkLine) → lanes ≤ 8 → AllByRecursion (IsRowFor lanes) rows
     → strip_bom (flat_map script_row_text rows) ≡ flat_map script_row_text rows
-unfolding strip_bom script_row_text
+unfolding strip_bom
 no_mark_in lanes [] few right = refl
 no_mark_in lanes (row ∷ rows) few right =
     let last = right.0.last in
-    rw (decimal_digit row.lane (omega (arith, last, few)))
-    (no_mark (48 + row.lane) _ (ne_eqb (48 + row.lane) 0xEF (λ e. omega (arith, last, few, e))))
+    rw (decimal_digit row.clerk (omega (arith, last, few)))
+    (no_mark (48 + row.clerk) _ (ne_eqb (48 + row.clerk) 0xEF (λ e. omega (arith, last, few, e))))
 
-text_rows : (lanes : ℕ) (rows : List ScriptRow) → lanes ≤ 8 → AllByRecursion (IsRowFor lanes) rows
-    → rows_of (flat_map script_row_text rows) ≡ map (λ (row : ScriptRow). decimal row.lane ∷ fields_in row) rows
+text_rows : (lanes : ℕ) (rows : List ClerkLine) → lanes ≤ 8 → AllByRecursion (IsRowFor lanes) rows
+    → rows_of (flat_map script_row_text rows) ≡ map row_fields rows
 text_rows lanes rows few right =
     rw (no_mark_in lanes rows few right, add-one) (rows_back lanes rows (length (flat_map script_row_text rows)) (rows_shorter rows) few right)
 
 -- these are the rows of the lines
-line_rows : (lanes : ℕ) (rows : List ScriptRow) → lanes ≤ 8 → AllByRecursion (IsRowFor lanes) rows
-    → AllZip IsLineRow (map (λ (row : ScriptRow). decimal row.lane ∷ fields_in row) rows) (map entry_in rows)
+line_rows : (lanes : ℕ) (rows : List ClerkLine) → lanes ≤ 8 → AllByRecursion (IsRowFor lanes) rows → AllZip IsLineRow (map row_fields rows) rows
 line_rows lanes [] few right = tt
 line_rows lanes (row ∷ rows) few right =
     let last = right.0.last in (
-      record {
-        allowed = record { clerk_in = (right.0.first, omega (arith, last, few)); right = right.0.valid };
-        spelled = sym (same_fields row.lane row.command right.0.named);
-      },
+      (record { clerk_in = (right.0.first, omega (arith, last, few)); right = script_line row.line right.0.valid }, refl),
       line_rows lanes rows few right.1,
     )
 
-none_valued : (rows : List ScriptRow) → valuations_in (all_lines (map entry_in rows)) ≡ 0
-none_valued [] = refl
-none_valued (row ∷ rows) = none_valued rows
+none_valued : (lanes : ℕ) (rows : List ClerkLine) → AllByRecursion (IsRowFor lanes) rows → valuations_in (all_lines rows) ≡ 0
+none_valued lanes [] right = refl
+none_valued lanes (row ∷ rows) right = rw (not_valued row.line right.0.valid) (none_valued lanes rows right.1)
 
--- and their lanes are those that are dealt
-lines_same : (clerk : ℕ) (rows : List ScriptRow) → lines_of clerk (map entry_in rows) ≡ dealt_lines clerk rows
-lines_same clerk [] = refl
-lines_same clerk (row ∷ rows) = elim (cases_Bool (row.lane == clerk)) [
-  | inl here ↦ rw here (ap (λ (more : List Line). Post row.command ∷ more) (lines_same clerk rows))
-  | inr elsewhere ↦ rw elsewhere (lines_same clerk rows)
-]
-
-lane_same : (number : ℕ) (lines : List Line) → lane_of number lines ≡ lane_with number lines
-lane_same number [] = refl
-lane_same number (line ∷ lines) = refl
-
-lanes_same : (n : ℕ) (rows : List ScriptRow) → lanes_up_to n (map entry_in rows) ≡ dealt_lanes n rows
-lanes_same zero rows = refl
-lanes_same (suc n) rows =
-    rw (lanes_same n rows, lines_same (suc n) rows) (ap (λ (more : List Lane). dealt_lanes n rows ++ more) (lane_same (suc n) (dealt_lines (suc n) rows)))
-
-none_above : (lanes lane : ℕ) (rows : List ScriptRow) → lanes < lane → AllByRecursion (IsRowFor lanes) rows → dealt_lines lane rows ≡ []
+-- and behind the last lane there is none
+none_above : (lanes lane : ℕ) (rows : List ClerkLine) → lanes < lane → AllByRecursion (IsRowFor lanes) rows → lines_of lane rows ≡ []
 none_above lanes lane [] above right = refl
 none_above lanes lane (row ∷ rows) above right =
     let last = right.0.last in
-    rw (ne_eqb row.lane lane (λ e. omega (arith, last, above, e))) (none_above lanes lane rows above right.1)
+    rw (ne_eqb row.clerk lane (λ e. omega (arith, last, above, e))) (none_above lanes lane rows above right.1)
 
-no_more_lanes : (lanes n : ℕ) (rows : List ScriptRow) → lanes ≤ n → AllByRecursion (IsRowFor lanes) rows → dealt_lanes n rows ≡ dealt_lanes lanes rows
-no_more_lanes lanes zero rows most right = (let same : 0 ≡ lanes = omega (arith, most) in ap (λ (k : ℕ). dealt_lanes k rows) same)
+no_more_lanes : (lanes n : ℕ) (rows : List ClerkLine) → lanes ≤ n → AllByRecursion (IsRowFor lanes) rows → lanes_up_to n rows ≡ lanes_up_to lanes rows
+no_more_lanes lanes zero rows most right = (let same : 0 ≡ lanes = omega (arith, most) in ap (λ (k : ℕ). lanes_up_to k rows) same)
 no_more_lanes lanes (suc n) rows most right = elim (cases_lt n lanes) [
-  | inl last ↦ (let same : suc n ≡ lanes = omega (arith, most, last) in ap (λ (k : ℕ). dealt_lanes k rows) same)
-  | inr more ↦ rw (none_above lanes (suc n) rows (omega (arith, more)) right) (append-nil (dealt_lanes n rows) ∙ no_more_lanes lanes n rows more right)
+  | inl last ↦ (let same : suc n ≡ lanes = omega (arith, most, last) in ap (λ (k : ℕ). lanes_up_to k rows) same)
+  | inr more ↦ rw (none_above lanes (suc n) rows (omega (arith, more)) right) (append-nil (lanes_up_to n rows) ∙ no_more_lanes lanes n rows more right)
 ]
 
 pub reads_back : (seed lanes count : ℕ) → 1 ≤ lanes → lanes ≤ 8 → count ≤ 100000
@@ -302,11 +297,11 @@ reads_back seed lanes count some few small =
     let rows = generated_rows seed lanes count in
     let right = rows_right seed lanes count some small in
     record {
-      entries = map entry_in rows;
+      entries = rows;
       rows = record {
-        each = subst (λ (found : List (List (List ℕ))). AllZip IsLineRow found (map entry_in rows)) (sym (text_rows lanes rows few right))
+        each = subst (λ (found : List (List (List ℕ))). AllZip IsLineRow found rows) (sym (text_rows lanes rows few right))
             (line_rows lanes rows few right);
-        few = (let none = none_valued rows in omega (arith, none));
+        few = (let none = none_valued lanes rows right in omega (arith, none));
       };
-      by_clerk = sym (lanes_same 8 rows ∙ no_more_lanes lanes 8 rows few right);
+      by_clerk = sym (no_more_lanes lanes 8 rows few right);
     }

@@ -17,8 +17,8 @@ pub use Rattle.policy_types.specs.declared.script.Line.TheVariants.{Value}
 pub use Rattle.policy_value.specs.declared.worth.Measure.TheVariants.{Terminal}
 pub use Rattle.policy_value.specs.declared.worth.Row.{Row}
 pub use Rattle.program_endings.specs.Blocks.{IsWritableBlock}
-pub use Rattle.program_endings.specs.Replies.{AreAnswered, AreAny, ArePins, HaveAFault, LackMemory}
-pub use Rattle.program_endings.specs.Writing.{Stream, WroteAll, between, WroteLine, shelf_between, Shelving}
+pub use Rattle.program_endings.specs.Replies.{AreAnswered, ArePins, HaveAFault, LackMemory}
+pub use Rattle.program_endings.specs.Writing.{Stream, WroteAll, WrotePart, between, WroteLine, shelf_between, Shelving}
 pub use Rattle.program_endings.specs.declared.ending.Ending.{Ending}
 pub use Rattle.program_endings.specs.declared.ending.Ending.TheVariants.{Done, WriteFault, NoMemory, DiskFault, ReadFault, BadJournal}
-pub use Rattle.report_text.specs.Block.{AreSummable, lower_sum, unvalued_count, upper_sum, block_text}
+pub use Rattle.report_text.specs.Block.{AreSummable, sum_fields, block_text}

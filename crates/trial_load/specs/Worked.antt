@@ -1,22 +1,21 @@
 -- Worked lines of `load`, put down by hand from the format
 use Rattle.std.specs.Prelude.{◌≡◌, ℕ, List, [], ◌∷◌, ◌++◌, codes, pos}
 use Rattle.policy_types.specs.declared.command.Command.TheVariants.{Lapse}
-use Rattle.trial_load.specs.Names.{Now, Post, Trim, Reply, Accepted, Refused, Faulted, Floor, Entry, Value, Terminal, block_text, opened_on, AreAnswered}
+use Rattle.trial_load.specs.Names.{Post, Trim, Reply, Accepted, Refused, Faulted, Floor, Entry, Terminal, block_text, opened_on, AreAnswered}
 use Rattle.policy_types.specs.declared.refusal.Refusal.TheVariants.{Unknown}
 use Rattle.report_text.specs.Worked.{valued, past_the_table, lapsed}
-use Rattle.program_endings.specs.Worked.{output_with}
-use Rattle.trial_load.specs.Loading.{HasLine, HasNoLine, load_day, load_text, refused_in, valuation_lane}
+use Rattle.trial_load.specs.Loading.{HasLine, load_day, refused_in}
+use Rattle.trial_load.specs.inside.Loaded.{load_text}
 
 -- sums of 254.44 and 254.46 over four policies of which one has no bounds, and nothing at all
 abbrev pub LinesOfLoads : Type 0
 LinesOfLoads = (load_text 7 2 (valued ∷ past_the_table ∷ lapsed ∷ valued ∷ []) ≡ codes "load,7,2,4,254.44,254.46,1" ++ 10 ∷ [])
     × (load_text 200000 0 [] ≡ codes "load,200000,0,0,0.00,0.00,0" ++ 10 ∷ [])
 
--- the policies are valued on 2020-12-31, in lane 0, at the count
+-- the policies are valued on 2020-12-31, at the count
 abbrev pub DayOfLoads : Type 0
-DayOfLoads = (block_text 0 load_day 0 Terminal []
-    ≡ codes "0,value,2020-12-31,0,0" ++ (10 ∷ []) ++ codes "total,0.00,0.00,0" ++ 10 ∷ [])
-    × (valuation_lane 8 ≡ record { number = 0; lines = Value (pos 18627) Now 8 ∷ [] })
+DayOfLoads = block_text 0 load_day 0 Terminal []
+    ≡ codes "0,value,2020-12-31,0,0" ++ (10 ∷ []) ++ codes "total,0.00,0.00,0" ++ 10 ∷ []
 
 abbrev pub lapse_with : Reply → Entry
 lapse_with reply = record { caller = 1; call = Post (Lapse 7001 (pos 18262)); reply = reply }
@@ -31,10 +30,8 @@ abbrev pub HasWritten : List ℕ → List ℕ → Type 0
 HasWritten line dry =
     HasLine [] (λ text. text ≡ line ++ 10 ∷ []) AreAnswered (opened_on [] 0) [] dry
 
--- it counts nothing and nobody, and is written where the valuation found memory; else nothing is
+-- it counts nothing and nobody, and is written where the valuation found memory
 abbrev pub LinesWritten : Type 0
 LinesWritten = HasWritten (codes "load,0,0,0,0.00,0.00,0") []
     × (HasWritten (codes "load,1,0,0,0.00,0.00,0") [] → ⊥)
     × (HasWritten (codes "load,0,0,0,0.00,0.00,0") (0 ∷ []) → ⊥)
-    × HasNoLine (output_with 0 (codes "a") (codes "a")) (opened_on [] 0) [] (0 ∷ [])
-    × (HasNoLine (output_with 0 (codes "a") (codes "ab")) (opened_on [] 0) [] (0 ∷ []) → ⊥)

@@ -5,13 +5,13 @@ ghost use Rattle.policy_types.specs.Limits.{most_commands};
 ghost use Rattle.shared_office.specs.Offices.{IsOfficeHistory};
 ghost use Rattle.shared_office.specs.Starting.{HasStartedOffice};
 ghost use Rattle.turn_lock.specs.Passes.{PassFacts};
-ghost use Rattle.trial_load.specs.Loading.{EndsLoad, EndsLoading, load_text};
+ghost use Rattle.trial_load.specs.Loading.{EndsLoading};
 ghost use Rattle.trial_load.specs.Names.{between, shelf_between, ReadFault, AreSummable, IsWritableBlock};
-ghost use Rattle.trial_load.specs.inside.Loaded.{AreLoadLanes, EndsLine, EndsLoaded, IsLoadAnswer};
+ghost use Rattle.trial_load.specs.inside.Loaded.{AreLoadLanes, EndsLine, EndsLoad, EndsLoaded, IsLoadAnswer, load_text};
 
 use basis_book::Name;
 use itoa::Buffer;
-use lane_runner::{TranscriptLine, TranscriptLines, Wording, count_postings, run_lanes};
+use lane_runner::{TranscriptLine, TranscriptLines, Wording, run_lanes};
 use load_maker::make_lanes;
 use lone_office::{Begun, begin};
 use moment_ring::{MomentInlet, moment_ring};
@@ -27,7 +27,7 @@ use std::sync::Wait;
 use std::thread::Threads;
 use text_lines::{LineWriter, Text};
 use transcript_text::ending_of;
-use watcher_set::{NoWatchers, Watching};
+use watcher_set::{Lack, NoWatchers, Watching};
 
 /// 2020-12-31, in days since 1970-01-01.
 const LOAD_DAY: i32 = 18_627;
@@ -58,24 +58,33 @@ pub fn load<R: Threads + Wait + Sync, K: Sink, H: Shelf, D: Disk + Send, G: Gate
     ensures counted { H.faults shelf.old < H.faults shelf.new → result.ending ≡ ReadFault }
     ensures files { H.files shelf.new ≡ H.files shelf.old }
 {
-    let Ok(name) = basis_name(alloc) else {
-        return Finished {
-            ending: lack_memory(output),
-            disk,
-        };
+    let name = match basis_name(alloc) {
+        Ok(name) => name,
+        Err(lack) => {
+            return Finished {
+                ending: lack_memory(lack, output),
+                disk,
+            };
+        }
     };
-    let Ok(script) = make_lanes(alloc, seed, count, lanes) else {
-        return Finished {
-            ending: lack_memory(output),
-            disk,
-        };
+    let script = match make_lanes(alloc, seed, count, lanes) {
+        Ok(script) => script,
+        Err(lack) => {
+            return Finished {
+                ending: lack_memory(lack, output),
+                disk,
+            };
+        }
     };
     let lanes = script.as_slice();
-    let Ok((outlet, moments)) = moment_ring(alloc, count_postings(lanes)) else {
-        return Finished {
-            ending: lack_memory(output),
-            disk,
-        };
+    let (outlet, moments) = match moment_ring(alloc) {
+        Ok(ends) => ends,
+        Err(lack) => {
+            return Finished {
+                ending: lack_memory(lack, output),
+                disk,
+            };
+        }
     };
     match begin(alloc, Some(&name), shelf, output, disk, NoWatchers, outlet) {
         Ok(begun) => load_office(rt, alloc, lanes, workers, begun, moments, output, gate),
@@ -90,7 +99,7 @@ fn basis_name(alloc: Global) -> Result<Name, NoMemory>
     match Name::of(alloc, b"basis.csv") {
         Ok(Some(name)) => Ok(name),
         Ok(None) => unreachable!(),
-        Err(NoMemory) => Err(NoMemory),
+        Err(lack) => Err(lack),
     }
 }
 
@@ -152,12 +161,15 @@ fn load_office<
         &mut moments,
         &mut nowhere,
     );
-    let Ok(ran) = ran else {
-        let (disk, _, _, _) = close(office, pass);
-        return Finished {
-            ending: lack_memory(output),
-            disk,
-        };
+    let ran = match ran {
+        Ok(ran) => ran,
+        Err(lack) => {
+            let (disk, _, _, _) = close(office, pass);
+            return Finished {
+                ending: lack_memory(lack, output),
+                disk,
+            };
+        }
     };
     let query = Query {
         basis: &basis,
@@ -192,7 +204,7 @@ fn write_loaded<K: Sink>(
 {
     match answer {
         Ok(valuation) => write_line(alloc, lines, &valuation.rows, output),
-        Err(ValueFault::NoMemory) => Ending::NoMemory,
+        Err(ValueFault::NoMemory(lack)) => Ending::NoMemory(Lack::from(lack)),
         Err(ValueFault::Pin(_)) => unreachable!(),
     }
 }
@@ -207,8 +219,9 @@ fn write_line<K: Sink>(
     requires bounded { AreSummable rows.now }
     ensures { EndsLine lines.now rows.now (between K.faults K.written K.pieces output.old output.new) result }
 {
-    let Ok(line) = load_line(alloc, lines.accepted(), lines.refused(), rows) else {
-        return Ending::NoMemory;
+    let line = match load_line(alloc, lines.accepted(), lines.refused(), rows) {
+        Ok(line) => line,
+        Err(lack) => return Ending::NoMemory(Lack::from(lack)),
     };
     match write_all(output, line.as_slice()) {
         Ok(()) => ending_of(lines),

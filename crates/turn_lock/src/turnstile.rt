@@ -12,7 +12,7 @@ use crate::seats::{Board, CallerSeat, FREE, Kept, SharedBoard, VALUE};
 use crate::stands::Stands;
 use crate::steps::{give, join, name, split};
 use crate::turn::{Turn, Turned};
-use atomic_table::{Refused, Table};
+use memory_requests::{NoMemory, NoTable, push_first, table_of};
 use std::alloc::Global;
 use std::marker::{Brand, Model};
 use std::snapshot::Snapshot;
@@ -40,6 +40,7 @@ impl<T: Stands> Model for Turnstile<T> {
 #[derive(Drop)]
 pub struct NoRoom<T> {
     pub value: T,
+    pub lack: NoMemory,
 }
 
 impl<T: Stands> Turnstile<T> {
@@ -55,13 +56,14 @@ impl<T: Stands> Turnstile<T> {
         let queues = Queues::new();
         let first = Snapshot::of(&value);
         let mut slots = Vec::new(alloc);
-        if let Err(failed) = slots.push(Some(Kept::first(value))) {
+        if let Err(failed) = push_first(&mut slots, Some(Kept::first(value))) {
             slots.destroy_empty();
             return Err(NoRoom {
-                value: failed.value.unwrap().into_value(),
+                value: failed.item.unwrap().into_value(),
+                lack: failed.lack,
             });
         }
-        match Table::new(alloc, &[FREE, 1], slots, &first) {
+        match table_of(alloc, &[FREE, 1], slots, &first) {
             Ok((board, place)) => {
                 let pass = Pass {
                     place,
@@ -71,10 +73,10 @@ impl<T: Stands> Turnstile<T> {
                 };
                 Ok((Turnstile { board, queues }, pass))
             }
-            Err(Refused { mut slots }) => {
+            Err(NoTable { mut slots, lack }) => {
                 let value = slots.pop().unwrap().unwrap().into_value();
                 slots.destroy_empty();
-                Err(NoRoom { value })
+                Err(NoRoom { value, lack })
             }
         }
     }

@@ -1,4 +1,5 @@
 pub mod Names
+pub mod Parts
 pub mod ValueSteps
 pub mod LoneSteps
 pub mod ValueStatus

@@ -6,9 +6,9 @@ use Rattle.office_state.specs.States.{MomentRing}
 use Rattle.shared_office.specs.Starting.{HasClosed, HasStartedOffice}
 use Rattle.watcher_set.specs.declared.watching.Watching.{Ghosts as WatcherGhosts}
 use Rattle.snapshot_value.specs.declared.valuation.Valuation.{Valuation}
-use Rattle.valuing_modes.specs.inside.Valued.{EndsAnswer, EndsValued}
+use Rattle.valuing_modes.specs.inside.Valued.{EndsAnswer, EndsValued, IsLoneAnswer}
 use Rattle.lone_office.proofs.LoneTurns.{lone_answered, lone_due, lone_left}
-use Rattle.valuing_modes.proofs.ValueSteps.{ends_valued, lone_ends}
+use Rattle.valuing_modes.proofs.ValueSteps.{ends_valued, lone_answer, lone_ends}
 
 module _ {D W : Type 0} (g : Ghosts D) (w : WatcherGhosts W) (old disk : D) (watchers : W) (on : ℤ) (measure : Measure) (at : At) (workers turn : ℕ) (basis : List Dated)
     (first closing : Holding (OfficeOpening D W)) (balances : Booking) (reports : List Report) (answer : Result Valuation ValueFault)
@@ -25,6 +25,10 @@ module _ {D W : Type 0} (g : Ghosts D) (w : WatcherGhosts W) (old disk : D) (wat
 
   left : IsLeftBy g old disk (opened_on started.opening.commands (g.faults old)) []
   left = lone_left g w old disk watchers at first closing balances reports started facts closed valued.pin valued.later valued.grows _ valued.answers.0 valued.answers.1
+
+  -- it can be written
+  pub answer_lone : IsLoneAnswer answer
+  answer_lone = lone_answer started.opening valued.pin.1.caller on measure basis at valued.pin.1.reply answer due answered
 
   -- `value` ends by it
   pub ends_lone : (output : Stream) (ending : Ending) → EndsAnswer on answer output ending → EndsValuing g old disk on at measure basis output ending

@@ -4,7 +4,7 @@ pub use Rattle.std.proofs.lemmas.Int.{ints, to_z-of_z}
 unfoldable pub use Rattle.std.specs.Fmt.{digits}
 pub use Rattle.std.specs.List.{AllZip}
 pub use Rattle.basis_book.specs.Dated.{Dated, IsPicked}
-unfoldable pub use Rattle.life_dates.specs.Calendar.{date_of, date_at, year_of, month_of, days_before_year, days_of_months, day_number, days_before}
+unfoldable pub use Rattle.life_dates.specs.Calendar.{date_of, month_of, days_before_year, days_of_months, day_number}
 pub use Rattle.life_dates.specs.Calendar.{IsDay}
 unfoldable pub use Rattle.life_dates.specs.DayText.{day_text}
 pub use Rattle.office_state.specs.Images.{IsLeftBy}
@@ -25,8 +25,10 @@ pub use Rattle.program_endings.specs.declared.ending.Ending.TheVariants.{Done, W
 unfoldable pub use Rattle.report_text.specs.Block.{total_text, heading_text, row_text}
 pub use Rattle.report_text.specs.Block.{block_text}
 pub use Rattle.shared_office.specs.Offices.{OfficeOpening, IsOfficeHistory}
-pub use Rattle.snapshot_value.specs.Valuing.{IsValuedRow, HasValued, AnswersPin as IsValueAnswer, AnswersPin, IsSnapshot}
+pub use Rattle.policy_value.specs.Rows.{IsValuedRow}
+pub use Rattle.snapshot_value.specs.Valuing.{HasValued, AnswersPin as IsValueAnswer, AnswersPin, IsSnapshot}
 pub use Rattle.snapshot_value.specs.declared.valuation.ValueFault.{ValueFault}
 pub use Rattle.turn_lock.specs.Passes.{Holding, PassFacts}
-pub use Rattle.valuing_modes.specs.Projecting.{IsProjectionText, IsProjected, EndsProjecting, EndsProject}
-pub use Rattle.valuing_modes.specs.Valuing.{EndsValuing, IsValuation, IsValued, position_of, IsBeyond, EndsValue, IsAhead}
+pub use Rattle.valuing_modes.proofs.Parts.{EndsProjecting, EndsValuing, IsAhead, IsProjected, IsValued}
+pub use Rattle.valuing_modes.specs.Projecting.{IsProjectionText, EndsProject}
+pub use Rattle.valuing_modes.specs.Valuing.{IsValuation, position_of, IsBeyond, EndsValue}

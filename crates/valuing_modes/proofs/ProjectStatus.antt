@@ -14,7 +14,7 @@ module _ {D : Type 0} (g : Ghosts D) (old new : D) (on : ℤ) (years : ℕ) (out
   -- nothing is projected of a file that opens to no commands
   never_projected : (basis : List Dated) → g.honest new → OpensToNone (g.reads old)
       → (Wrote : List ℕ → Type 0) → IsProjected g old new on years basis Wrote → ⊥
-  never_projected basis honest none Wrote is = none is.commands (is.opened honest)
+  never_projected basis honest none Wrote is = none is.commands (is.disk.opened honest)
 
   module _ (name : List ℕ) (shelf : Shelving) where
     pub project_as_before : (ending : Ending) → EndsProject g old new on years name shelf output ending

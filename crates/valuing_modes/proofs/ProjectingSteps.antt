@@ -1,5 +1,5 @@
 -- How `project` ends, by what its parts did
-use Rattle.valuing_modes.proofs.Names.{◌≡◌, ℕ, ◌≤◌, ℤ, List, [], length, take, subst, Result, Ok, Err, IfOk, append-nil, arith, Option, ints, AppendsPart, Ghosts, IsDay, Dated, Command, Policy, Now, Opening, IsDue, commands_after, opened_on, pin_call, IsLeftBy, IsOfficeHistory, OfficeOpening, Holding, PassFacts, ValueFault, Ending, Done, WriteFault, NoMemory, Stream, WroteAll, EndsProjecting, IsProjectionText}
+use Rattle.valuing_modes.proofs.Names.{◌≡◌, ap, ℕ, ◌≤◌, ℤ, List, [], length, take, subst, Result, Ok, Err, append-nil, arith, Option, ints, AppendsPart, Ghosts, IsDay, Dated, Command, Policy, Now, Opening, IsDue, commands_after, opened_on, pin_call, IsLeftBy, IsOfficeHistory, OfficeOpening, Holding, PassFacts, ValueFault, Ending, Done, WriteFault, NoMemory, Stream, WroteAll, EndsProjecting, IsProjectionText}
 use Rattle.std.proofs.lemmas.List.{take_all}
 use Rattle.policy_types.specs.Accounts.{Booking}
 use Rattle.policy_types.specs.declared.entry.PinRefusal.{PinRefusal}
@@ -14,20 +14,23 @@ use Rattle.watcher_set.specs.declared.watching.Watching.{Ghosts as WatcherGhosts
 use Rattle.snapshot_value.specs.Reading.{AnswersPinned}
 use Rattle.snapshot_value.specs.declared.valuation.ValueFault.TheVariants.{Pin, NoMemory as NoValues}
 use Rattle.cash_projection.specs.Pinned.{HasProjected, IsProjectionAt}
+use Rattle.std.proofs.lemmas.List.FromFn.{length-map-range_with_len}
+use Rattle.cash_projection.specs.Cash.{rounded_year}
+use Rattle.cash_projection.proofs.CallerLemmas.{cash_tellable}
 use Rattle.cash_projection.specs.Text.{projection_text}
 use Rattle.cash_projection.specs.declared.printing.Projection.{Projection}
 use Rattle.lone_office.proofs.LoneTurns.{lone_answered, lone_due, lone_left}
-use Rattle.valuing_modes.specs.inside.Projected.{EndsPrinted, EndsProjected, CanBePrinted}
+use Rattle.valuing_modes.specs.inside.Projected.{EndsPrinted, EndsProjected, CanBePrinted, IsLoneProjection}
 
 -- an office was opened, and the projection was written
 ends_projected : {D : Type 0} (g : Ghosts D) (old disk : D) (on : ℤ) (years : ℕ) (basis : List Dated) (output : Stream)
     (commands : List Command) (ending : Ending) → IsLeftBy g old disk (opened_on commands (g.faults old)) []
     → EndsProjected commands on years basis output ending → EndsProjecting g old disk on years basis output ending
 ends_projected g old disk on years basis output commands Done left ends =
-    record { commands = commands; opened = left.opened; projection = ends; disk = left }
+    record { commands = commands; so = ends; disk = left }
 ends_projected g old disk on years basis output commands WriteFault left ends =
-    (ends.0, record { commands = commands; opened = left.opened; projection = ends.1; disk = left })
-ends_projected g old disk on years basis output commands NoMemory left ends = (ends, left.alone tt, left.faults)
+    (ends.0, record { commands = commands; so = ends.1; disk = left })
+ends_projected g old disk on years basis output commands (NoMemory lack) left ends = ((ends, left.faults), left.alone tt)
 ends_projected g old disk on years basis output commands _ left ends = absurd ends
 
 -- A projection at a position can be printed.
@@ -36,26 +39,9 @@ module _ (basis : List Dated) (on : ℤ) (years : ℕ) (day : IsDay on) (few : y
       → CanBePrinted projection
   printable position policies projection is = record {
     day = let same : projection.on ≡ on = is.day in omega (arith, ints, same, day);
-    few = omega (arith, is.cash.rounded.many, few);
-    bounded = is.tellable;
+    few = omega (arith, ap length is.cash.rounded, length-map-range_with_len (rounded_year is.cash.prospects) 0 years, few);
+    bounded = cash_tellable basis on policies years projection.unvalued projection.years is.cash is.few;
   }
-
-  answer_printable : (commands : List Command) (reply : Reply) (answer : Result Projection ValueFault)
-      → AnswersPinned (IsProjectionAt basis on years) commands reply answer → IfOk answer CanBePrinted
-  answer_printable commands (Pinned position policies) (Ok projection) is = printable position (book (take position commands)) projection is
-  answer_printable commands (PinRefused refusal) (Ok projection) is = absurd is
-  answer_printable commands (Accepted position) (Ok projection) is = absurd is
-  answer_printable commands (Refused refusal) (Ok projection) is = absurd is
-  answer_printable commands (Faulted count) (Ok projection) is = absurd is
-  answer_printable commands (Slice policies) (Ok projection) is = absurd is
-  answer_printable commands Unpinned (Ok projection) is = absurd is
-  answer_printable commands (Floor floor) (Ok projection) is = absurd is
-  answer_printable commands Blank (Ok projection) is = absurd is
-  answer_printable commands reply (Err fault) is = tt
-
-  pub projected_printable : {D W : Type 0} (old new : Holding (OfficeOpening D W)) (turn : ℕ) (answer : Result Projection ValueFault)
-      → HasProjected basis on years Now old new turn answer → IfOk answer CanBePrinted
-  projected_printable old new turn answer is = answer_printable _ is.pin.1.reply answer is.answered
 
 -- The answer of an office at which nobody turned before.
 module _ (opening : Opening) (caller : ℕ) (on : ℤ) (years : ℕ) (basis : List Dated) where
@@ -66,6 +52,21 @@ module _ (opening : Opening) (caller : ℕ) (on : ℤ) (years : ℕ) (basis : Li
   never_refused (Ahead count) due = due
   never_refused (Trimmed floor) due = due
   never_refused PinsFull due = absurd (let full : 16 ≤ 0 = due in omega (arith, full))
+
+  lone_projection : (reply : Reply) (answer : Result Projection ValueFault) → IsDay on → years ≤ 131 → IsDue opening [] caller (pin_call Now) reply
+      → AnswersPinned (IsProjectionAt basis on years) commands reply answer → IsLoneProjection answer
+  lone_projection (Pinned position policies) (Ok projection) day few due is =
+      printable basis on years day few position (book (take position commands)) projection is
+  lone_projection (Pinned position policies) (Err (NoValues lack)) day few due is = tt
+  lone_projection (Pinned position policies) (Err (Pin why)) day few due is = absurd is
+  lone_projection (PinRefused refusal) answer day few due is = absurd (never_refused refusal due)
+  lone_projection (Accepted position) answer day few due is = absurd is
+  lone_projection (Refused refusal) answer day few due is = absurd is
+  lone_projection (Faulted count) answer day few due is = absurd is
+  lone_projection (Slice policies) answer day few due is = absurd is
+  lone_projection Unpinned answer day few due is = absurd is
+  lone_projection (Floor floor) answer day few due is = absurd is
+  lone_projection Blank answer day few due is = absurd is
 
   module _ (output : Stream) where
     text_of : (position policies : ℕ) (projection : Projection) (Wrote : List ℕ → Type 0) → IsDue opening [] caller (pin_call Now) (Pinned position policies)
@@ -87,11 +88,11 @@ module _ (opening : Opening) (caller : ℕ) (on : ℤ) (years : ℕ) (basis : Li
     lone_printed (Pinned position policies) (Ok projection) Done due is ends = text_of position policies projection (WroteAll output) due is ends
     lone_printed (Pinned position policies) (Ok projection) WriteFault due is ends =
         (ends.0, text_of position policies projection (AppendsPart output.before output.after) due is ends.1)
-    lone_printed (Pinned position policies) (Ok projection) NoMemory due is ends = ends
+    lone_printed (Pinned position policies) (Ok projection) (NoMemory lack) due is ends = ends
     lone_printed (Pinned position policies) (Ok projection) _ due is ends = absurd ends
     lone_printed (Pinned position policies) (Err (Pin why)) ending due is ends = absurd is
-    lone_printed (Pinned position policies) (Err NoValues) NoMemory due is ends = ends
-    lone_printed (Pinned position policies) (Err NoValues) _ due is ends = absurd ends
+    lone_printed (Pinned position policies) (Err (NoValues lack)) (NoMemory other_lack) due is ends = ends
+    lone_printed (Pinned position policies) (Err (NoValues lack)) _ due is ends = absurd ends
     lone_printed (PinRefused refusal) answer ending due is ends = absurd (never_refused refusal due)
     lone_printed (Accepted position) answer ending due is ends = absurd is
     lone_printed (Refused refusal) answer ending due is ends = absurd is
@@ -118,6 +119,10 @@ module _ {D W : Type 0} (g : Ghosts D) (w : WatcherGhosts W) (old disk : D) (wat
       projected.follows turn projected.opened
       (λ (commands : List Command). AnswersPinned (IsProjectionAt basis on years) commands projected.pin.1.reply answer) projected.place projected.opening
       projected.answered
+
+  -- it can be written
+  pub answer_alone : IsDay on → years ≤ 131 → IsLoneProjection answer
+  answer_alone day few = lone_projection started.opening projected.pin.1.caller on years basis projected.pin.1.reply answer day few due answered
 
   -- `project` ends by it
   pub ends_alone : (output : Stream) (ending : Ending) → EndsPrinted answer output ending → EndsProjecting g old disk on years basis output ending

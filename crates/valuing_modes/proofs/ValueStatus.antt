@@ -16,22 +16,22 @@ module _ {D : Type 0} (g : Ghosts D) (old new : D) (on : ℤ) (at : At) (measure
   -- nothing is valued of a file that opens to no commands
   never_valued : (basis : List Dated) → g.honest new → OpensToNone (g.reads old)
       → (Wrote : List ℕ → Type 0) → IsValued g old new on at measure basis Wrote → ⊥
-  never_valued basis honest none Wrote valued = none valued.commands (valued.opened honest)
+  never_valued basis honest none Wrote valued = none valued.commands (valued.disk.opened honest)
 
   -- nor where fewer commands than are asked for are there
   never_beyond : (basis : List Dated) (commands : List Command) → g.honest new → Opens (g.reads old) commands
       → length commands < position_of at (length commands) → (Wrote : List ℕ → Type 0) → IsValued g old new on at measure basis Wrote → ⊥
   never_beyond basis commands honest opens past Wrote valued =
-      let same : commands ≡ valued.commands = opens_to_one (g.reads old) commands valued.commands opens (valued.opened honest) in
+      let same : commands ≡ valued.commands = opens_to_one (g.reads old) commands valued.commands opens (valued.disk.opened honest) in
       let past_too : length valued.commands < position_of at (length valued.commands) =
       subst (λ (cs : List Command). length cs < position_of at (length cs)) same past in
-      omega (arith, past_too, valued.valuation.reached)
+      omega (arith, past_too, valued.so.reached)
 
   valuing_as_before : (basis : List Dated) (ending : Ending) → EndsValuing g old new on at measure basis output ending
       → g.honest new → OpensToNone (g.reads old) → g.reads new ≡ g.reads old
   valuing_as_before basis ending ends honest none = elim ends [
     | inl read ↦ read_as_before g old new (IsValued g old new on at measure basis) output ending read (never_valued basis honest none) honest none
-    | inr ahead ↦ absurd (none ahead.1.commands (ahead.1.opened honest))
+    | inr ahead ↦ absurd (none ahead.1.commands (ahead.1.disk.opened honest))
   ]
 
   valuing_refused : (basis : List Dated) (ending : Ending) → EndsValuing g old new on at measure basis output ending
@@ -39,7 +39,7 @@ module _ {D : Type 0} (g : Ghosts D) (old new : D) (on : ℤ) (at : At) (measure
       → (status_of ending ≡ 5) ⊎ (status_of ending ≡ 9)
   valuing_refused basis ending ends honest none disk_held = elim ends [
     | inl read ↦ read_refused g old new (IsValued g old new on at measure basis) output ending read (never_valued basis honest none) disk_held
-    | inr ahead ↦ absurd (none ahead.1.commands (ahead.1.opened honest))
+    | inr ahead ↦ absurd (none ahead.1.commands (ahead.1.disk.opened honest))
   ]
 
   valuing_to_end : (basis : List Dated) (ending : Ending) (commands : List Command) → EndsValuing g old new on at measure basis output ending
@@ -49,22 +49,22 @@ module _ {D : Type 0} (g : Ghosts D) (old new : D) (on : ℤ) (at : At) (measure
   valuing_to_end basis ending commands ends honest opens reached output_held disk_held = elim ends [
     | inl read ↦ read_to_end g old new (IsValued g old new on at measure basis) output ending commands read honest opens output_held disk_held
     | inr ahead ↦
-        let same : commands ≡ ahead.1.commands = opens_to_one (g.reads old) commands ahead.1.commands opens (ahead.1.opened honest) in
+        let same : commands ≡ ahead.1.commands = opens_to_one (g.reads old) commands ahead.1.commands opens (ahead.1.disk.opened honest) in
         let reached_too : position_of at (length ahead.1.commands) ≤ length ahead.1.commands =
         subst (λ (cs : List Command). position_of at (length cs) ≤ length cs) same reached in
-        absurd (omega (arith, reached_too, ahead.1.beyond.ahead))
+        absurd (omega (arith, reached_too, ahead.1.so.ahead))
   ]
 
   read_beyond : (basis : List Dated) (ending : Ending) (commands : List Command) → EndsReadOnly g old new (IsValued g old new on at measure basis) output ending
       → g.honest new → Opens (g.reads old) commands → length commands < position_of at (length commands)
       → (Rose (g.faults old) (g.faults new) → ⊥) → status_of ending ≡ 9
-  read_beyond basis NoMemory commands read honest opens past disk_held = refl
+  read_beyond basis (NoMemory lack) commands read honest opens past disk_held = refl
   read_beyond basis Done commands read honest opens past disk_held = absurd (never_beyond basis commands honest opens past (WroteAll output) read)
   read_beyond basis WriteFault commands read honest opens past disk_held =
       absurd (never_beyond basis commands honest opens past (AppendsPart output.before output.after) read.1)
-  read_beyond basis BadJournal commands read honest opens past disk_held = absurd (opens_to_none g old new output read honest commands opens)
-  read_beyond basis DiskFault commands read honest opens past disk_held = absurd (disk_held read.0)
-  read_beyond basis _ commands read honest opens past disk_held = absurd read
+  read_beyond basis BadJournal commands read honest opens past disk_held = absurd (opens_to_none g old new output read.0 honest commands opens)
+  read_beyond basis DiskFault commands read honest opens past disk_held = absurd (disk_held read.0.1)
+  read_beyond basis _ commands read honest opens past disk_held = absurd read.0
 
   valuing_beyond : (basis : List Dated) (ending : Ending) (commands : List Command) → EndsValuing g old new on at measure basis output ending
       → g.honest new → Opens (g.reads old) commands → length commands < position_of at (length commands)
@@ -86,7 +86,7 @@ module _ {D : Type 0} (g : Ghosts D) (old new : D) (on : ℤ) (at : At) (measure
     pub value_usage : EndsValue g old new on at measure name shelf output Usage → ⊥
     value_usage ends = elim ends [
       | inl by ↦ elim by.ends [
-        | inl read ↦ read
+        | inl read ↦ read.0
         | inr ahead ↦ (let other : Usage ≡ Ahead = ahead.0 in absurd (cc))
       ]
       | inr none ↦ none.1
@@ -95,7 +95,7 @@ module _ {D : Type 0} (g : Ghosts D) (old new : D) (on : ℤ) (at : At) (measure
     pub value_bad_file : EndsValue g old new on at measure name shelf output BadBasis → EndsNoBasis name shelf output BadBasis
     value_bad_file ends = elim ends [
       | inl by ↦ elim by.ends [
-        | inl read ↦ absurd read
+        | inl read ↦ absurd read.0
         | inr ahead ↦ (let other : BadBasis ≡ Ahead = ahead.0 in absurd (cc))
       ]
       | inr none ↦ none.1
@@ -104,7 +104,7 @@ module _ {D : Type 0} (g : Ghosts D) (old new : D) (on : ℤ) (at : At) (measure
     pub value_ahead : EndsValue g old new on at measure name shelf output Ahead → IsAhead g old new at output
     value_ahead ends = elim ends [
       | inl by ↦ elim by.ends [
-        | inl read ↦ absurd read
+        | inl read ↦ absurd read.0
         | inr ahead ↦ ahead.1
       ]
       | inr none ↦ absurd none.1

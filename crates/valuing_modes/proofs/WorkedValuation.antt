@@ -1,5 +1,6 @@
 -- What the worked valuation is computed from.
-use Rattle.valuing_modes.proofs.Names.{◌≡◌, ◌≤◌, ◌≤ℤ◌, ◌<ℤ◌, ℕ, pos, true, List, [], ◌∷◌, All, Ok, inl, inr, refl, subst, lit≤, lit<, arith, ints, IsDay, day_number, date_of, date_at, year_of, month_of, days_before, days_before_year, days_of_months, Policy, Dated, IsPicked, IsValuedRow}
+use Rattle.valuing_modes.proofs.Names.{◌≡◌, ◌≤◌, ◌≤ℤ◌, ◌<ℤ◌, ℕ, pos, true, List, [], ◌∷◌, All, inl, inr, refl, subst, lit≤, lit<, arith, ints, IsDay, day_number, date_of, month_of, days_before_year, days_of_months, Policy, Dated, IsPicked, IsValuedRow}
+use Rattle.std.specs.Prelude.{MatchResult}
 use Rattle.std.proofs.lemmas.Bool.{cases_lt}
 use Rattle.std.proofs.lemmas.List.Elements.{All-nil, All-cons}
 use Rattle.life_dates.specs.Anniversary.{anniversary_of}
@@ -12,16 +13,16 @@ use Rattle.select_rates.specs.declared.any.AnyTable.TheVariants.{Aggregate}
 use Rattle.plan_benefits.specs.Shapes.{shape_of}
 use Rattle.plan_benefits.specs.declared.fault.NotValued.TheVariants.{BelowTable, NoBasis}
 use Rattle.present_value.specs.Fractions.{less, times, over, plus, lesser, whole}
-use Rattle.present_value.specs.Sums.{Cover, ben, ann, survivors, sum_below}
+use Rattle.present_value.specs.Sums.{Cover, ben, ann, survivors}
 use Rattle.present_value.specs.Premium.{beta, excess, term_premium, renewal_premium, level_premium}
 use Rattle.present_value.specs.Reserve.{Encloses, reserve}
-use Rattle.present_value.specs.Recursion.{rounded_ben, rounded_ann, ben_lo, ben_hi, ann_lo, ann_hi}
+use Rattle.present_value.specs.Recursion.{ben_bound, ann_bound}
 use Rattle.present_value.specs.Worked.{five_ages}
-use Rattle.crvm_reserve.specs.Rounded.{term_lo, term_hi, level_lo, level_hi, excess_lo, excess_hi, beta_lo, beta_hi, reserve_lo, reserve_hi, amount_lo, amount_hi, paid_up_lo, paid_up_hi}
+use Rattle.crvm_reserve.specs.Rounded.{level_bound, excess_bound, beta_bound, reserve_bound}
 use Rattle.basis_book.proofs.CallerLemmas.{none_picked, one_picked}
 use Rattle.policy_value.specs.Covers.{AreByDuration, cap_along, cover_along}
-use Rattle.policy_value.specs.Measures.{IsExactFor}
-use Rattle.policy_value.specs.Rows.{IsExact, IsInsured, IsReserveOf, IsYear}
+use Rattle.policy_value.specs.Measures.{IsExactFor, IsWorthOf}
+use Rattle.policy_value.specs.Rows.{IsInsured, IsYear}
 use Rattle.policy_value.specs.declared.worth.Measure.TheVariants.{Terminal}
 use Rattle.policy_value.specs.declared.worth.Worth.{Worth}
 use Rattle.policy_value.specs.declared.worth.Worth.TheVariants.{Bounds, Word}
@@ -30,26 +31,27 @@ use Rattle.valuing_modes.specs.Worked.Valued.{from_2000, from_2020}
 abbrev both : List Dated
 both = from_2000 ∷ from_2020 ∷ []
 
+-- what is told of a policy by an entry
+abbrev IsBy : Policy → Dated → ℕ → Worth → Type 0
+IsBy policy entry t worth = MatchResult (shape_of policy.plan policy.age policy.years entry.table)
+    (λ shape. IsYear policy.issued (pos 18628) shape.n t
+    × IsWorthOf Terminal policy (cover_along entry.table shape entry.bp) (cap_along entry.table shape.age entry.bp) t worth
+    × AreByDuration entry.table shape.age (cover_along entry.table shape entry.bp) (cap_along entry.table shape.age entry.bp)
+    × IsExactFor Terminal policy (cover_along entry.table shape entry.bp) (cap_along entry.table shape.age entry.bp) t worth)
+    (λ why. (t ≡ 0) × (worth ≡ Word why))
+
 -- the row of an insured policy whose entry is known
 by_entry : (policy : Policy) (place : ℕ) (entry : Dated) (t : ℕ) (worth : Worth) → IsPicked both policy.issued place entry
-    → IsInsured policy (pos 18628)
-    → IsReserveOf policy entry.table entry.bp (pos 18628) Terminal (shape_of policy.plan policy.age policy.years entry.table) t worth
-    → IsExact Terminal policy entry.table entry.bp t worth
+    → IsInsured policy (pos 18628) → IsBy policy entry t worth
     → IsValuedRow both (pos 18628) Terminal policy (record { id = policy.id; status = policy.status; t = t; worth = worth })
-by_entry policy place entry t worth picked insured reserve exact = record {
-  valued = record {
-    id = refl;
-    status = refl;
-    insured = λ _. record {
-      unnamed = λ all. absurd (none_picked both policy.issued place entry all picked);
-      named = λ i e other.
-          subst (λ (e : Dated). IsReserveOf policy e.table e.bp (pos 18628) Terminal (shape_of policy.plan policy.age policy.years e.table) t worth)
-          (one_picked both policy.issued place i entry e picked other).1 reserve;
-    };
+by_entry policy place entry t worth picked insured is = record {
+  id = refl;
+  status = refl;
+  worth = record {
     uninsured = λ no. absurd (no insured);
+    unnamed = λ _ all. absurd (none_picked both policy.issued place entry all picked);
+    named = λ _ i e other. subst (λ (e : Dated). IsBy policy e t worth) (one_picked both policy.issued place i entry e picked other).1 is;
   };
-  exact = λ _ i e other. subst (λ (e : Dated). IsExact Terminal policy e.table e.bp t worth)
-      (one_picked both policy.issued place i entry e picked other).1 exact;
 }
 
 first_picked : IsPicked both (pos 18262) 0 from_2000
@@ -76,11 +78,11 @@ in_days : IsDay (pos 18262)
 in_days = (omega (arith, ints), omega (arith, ints))
 
 second_anniversary : anniversary_of (pos 18262) 2 ≡ pos 18993
-unfolding anniversary_of day_number date_of date_at year_of month_of days_before days_before_year days_of_months
+unfolding anniversary_of day_number date_of month_of days_before_year days_of_months
 second_anniversary = refl
 
 first_anniversary : anniversary_of (pos 18262) 1 ≡ pos 18628
-unfolding anniversary_of day_number date_of date_at year_of month_of days_before days_before_year days_of_months
+unfolding anniversary_of day_number date_of month_of days_before_year days_of_months
 first_anniversary = refl
 
 -- the second anniversary hasn't come, nor has a later one
@@ -111,30 +113,21 @@ by_duration = record {
   next = λ k below. ((omega arith, omega (arith, below)), refl);
 }
 
--- its shape is this one and no other
-exact_by_shape : (policy : Policy) (t : ℕ) (worth : Worth) → shape_of policy.plan policy.age policy.years (Aggregate five_ages) ≡ Ok three_years
-    → IsExactFor Terminal policy own_cover own_cap t worth → IsExact Terminal policy (Aggregate five_ages) 0 t worth
-exact_by_shape policy t worth has exact shape same =
-    let e : three_years ≡ shape = cc in
-    subst (λ (s : Shape). AreByDuration (Aggregate five_ages) s.age (cover_along (Aggregate five_ages) s 0) (cap_along (Aggregate five_ages) s.age 0)
-    × IsExactFor Terminal policy (cover_along (Aggregate five_ages) s 0) (cap_along (Aggregate five_ages) s.age 0) t worth) e (by_duration, exact)
-
 abbrev first : Policy
 first = issued 7001 (pos 18262) Endowment 0 3 100000 40000
 
 -- 450/3537 of 1000.00
 encloses_450 : Encloses 12722 12723 100000 (reserve own_cover own_cap 1)
-unfolding reserve beta excess term_premium renewal_premium level_premium ben ann survivors sum_below less times over plus lesser whole
+unfolding reserve beta excess term_premium renewal_premium level_premium ben ann survivors less times over plus lesser whole
 encloses_450 = record { between = record { proper = lit< tt; above = lit≤ tt; below = lit≤ tt }; narrow = lit≤ tt }
 
 pub first_row : IsValuedRow both (pos 18628) Terminal first (record { id = 7001; status = InForce; t = 1; worth = Bounds 12722 12723 })
-unfolding rounded_ben rounded_ann ben_lo ben_hi ann_lo ann_hi term_lo term_hi level_lo level_hi excess_lo excess_hi beta_lo beta_hi reserve_lo reserve_hi amount_lo amount_hi
-first_row = by_entry first 0 from_2000 1 (Bounds 12722 12723) first_picked (inl refl, omega (arith, ints)) (is_year, refl)
-    (exact_by_shape first 1 (Bounds 12722 12723) refl encloses_450)
+unfolding ben_bound ann_bound level_bound excess_bound beta_bound reserve_bound
+first_row = by_entry first 0 from_2000 1 (Bounds 12722 12723) first_picked (inl refl, omega (arith, ints))
+    (is_year, refl, by_duration, encloses_450)
 
 pub second_row : IsValuedRow both (pos 18628) Terminal (issued 7002 (pos 18263) Endowment 0 3 100000 40000) (record { id = 7002; status = InForce; t = 0; worth = Word BelowTable })
 second_row = by_entry (issued 7002 (pos 18263) Endowment 0 3 100000 40000) 1 from_2020 0 (Word BelowTable) second_picked (inl refl, omega (arith, ints)) (refl, refl)
-    (λ shape no. absurd cc)
 
 none_before : All (λ (other : Dated). pos 10956 <ℤ other.from_day) both
 none_before =
@@ -143,27 +136,24 @@ none_before =
 
 pub third_row : IsValuedRow both (pos 18628) Terminal (issued 7003 (pos 10956) Endowment 0 3 100000 40000) (record { id = 7003; status = InForce; t = 0; worth = Word NoBasis })
 third_row = record {
-  valued = record {
-    id = refl;
-    status = refl;
-    insured = λ _. record {
-      unnamed = λ _. (refl, refl);
-      named = λ i e picked. absurd (none_picked both (pos 10956) i e none_before picked);
-    };
+  id = refl;
+  status = refl;
+  worth = record {
     uninsured = λ no. absurd (no (inl refl, omega (arith, ints)));
+    unnamed = λ _ _. (refl, refl);
+    named = λ _ i e picked. absurd (none_picked both (pos 10956) i e none_before picked);
   };
-  exact = λ _ i e picked. absurd (none_picked both (pos 10956) i e none_before picked);
 }
 
 pub fourth_row : IsValuedRow both (pos 18628) Terminal (issued 7004 (pos 18629) Endowment 0 3 100000 40000) (record { id = 7004; status = InForce; t = 0; worth = Bounds 0 0 })
 fourth_row = record {
-  valued = record {
-    id = refl;
-    status = refl;
-    insured = λ is. absurd (omega (arith, ints, is.1));
+  id = refl;
+  status = refl;
+  worth = record {
     uninsured = λ _. (refl, refl);
+    unnamed = λ is. absurd (omega (arith, ints, is.1));
+    named = λ is. absurd (omega (arith, ints, is.1));
   };
-  exact = λ is. absurd (omega (arith, ints, is.1));
 }
 
 abbrev fifth : Policy
@@ -171,10 +161,10 @@ fifth = record (issued 7005 (pos 18262) Endowment 0 3 100000 40000) { last = pos
 
 -- all of 300.00
 encloses_all : Encloses 30000 30000 30000 (ben own_cover 1)
-unfolding ben survivors sum_below
+unfolding ben survivors
 encloses_all = record { between = record { proper = lit< tt; above = lit≤ tt; below = lit≤ tt }; narrow = lit≤ tt }
 
 pub fifth_row : IsValuedRow both (pos 18628) Terminal fifth (record { id = 7005; status = PaidUp; t = 1; worth = Bounds 30000 30000 })
-unfolding rounded_ben ben_lo ben_hi paid_up_lo paid_up_hi
-fifth_row = by_entry fifth 0 from_2000 1 (Bounds 30000 30000) first_picked (inr refl, omega (arith, ints)) (is_year, refl)
-    (exact_by_shape fifth 1 (Bounds 30000 30000) refl encloses_all)
+unfolding ben_bound
+fifth_row = by_entry fifth 0 from_2000 1 (Bounds 30000 30000) first_picked (inr refl, omega (arith, ints))
+    (is_year, refl, by_duration, encloses_all)

@@ -17,6 +17,7 @@ pub use Rattle.policy_types.specs.declared.entry.At.{At}
 pub use Rattle.policy_types.specs.declared.entry.At.TheVariants.{Now, Position}
 pub use Rattle.policy_value.specs.declared.worth.Measure.{Measure}
 pub use Rattle.policy_value.specs.declared.worth.Measure.TheVariants.{Terminal, Mean, Deficiency}
+pub use Rattle.program_endings.specs.Holding.{HoldsStill}
 pub use Rattle.program_endings.specs.Texts.{EndsReadOnly}
 pub use Rattle.program_endings.specs.Writing.{Stream, WroteLine, WroteAll, shelf_between, Shelving, between}
 pub use Rattle.program_endings.specs.declared.ending.Ending.{Ending}

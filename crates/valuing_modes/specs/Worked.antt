@@ -1,8 +1,8 @@
 -- Worked valuations of a journal without commands, of an empty file, and of positions
 use Rattle.std.specs.Prelude.{◌≡◌, [], ◌∷◌, ◌++◌, codes, pos}
-use Rattle.valuing_modes.specs.Names.{Ghosts, Now, Position, Stream, WroteAll, WroteLine, Terminal, Mean, Deficiency}
+use Rattle.valuing_modes.specs.Names.{Ghosts, HoldsStill, Now, Position, Stream, WroteAll, WroteLine, Terminal, Mean, Deficiency}
 use Rattle.program_endings.specs.Worked.{output_with}
-use Rattle.valuing_modes.specs.Valuing.{IsAhead, IsBeyond, IsValuation, IsValued, position_of}
+use Rattle.valuing_modes.specs.Valuing.{IsBeyond, IsValuation, position_of}
 pub mod Files
 pub mod Valued
 
@@ -28,10 +28,10 @@ AheadOfNone = IsBeyond [] (Position 3) (output_with 0 [] (codes "refused,ahead,0
 -- whatever the disk, of an empty file nobody is valued
 abbrev pub ValuesAnEmptyFile : {D : Type 0} → Ghosts D → Type 0
 ValuesAnEmptyFile {D} g = (old new : D) (output : Stream) → g.honest new → g.reads old ≡ []
-    → IsValued g old new (pos 18628) Now Terminal [] (WroteAll output)
+    → HoldsStill g old new (λ commands. IsValuation commands (pos 18628) Now Terminal [] (WroteAll output))
     → WroteAll output (codes "0,value,2021-01-01,0,0" ++ (10 ∷ []) ++ codes "total,0.00,0.00,0" ++ 10 ∷ [])
 
 -- and where more is asked of it, it has no commands
 abbrev pub IsAheadOfAnEmptyFile : {D : Type 0} → Ghosts D → Type 0
 IsAheadOfAnEmptyFile {D} g = (old new : D) (output : Stream) → g.honest new → g.reads old ≡ []
-    → IsAhead g old new (Position 3) output → WroteLine output (codes "refused,ahead,0")
+    → HoldsStill g old new (λ commands. IsBeyond commands (Position 3) output) → WroteLine output (codes "refused,ahead,0")

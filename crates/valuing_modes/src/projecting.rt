@@ -1,8 +1,8 @@
 // The projection of the policies from a day on, by the basis on the shelf.
-ghost use Rattle.std.specs.Prelude.{◌≡◌, ◌<◌, ◌≤◌, IfOk, Ok};
+ghost use Rattle.std.specs.Prelude.{◌≡◌, ◌<◌, ◌≤◌, Ok};
 ghost use Rattle.valuing_modes.specs.Names.{IsDay, between, shelf_between, ReadFault};
 ghost use Rattle.valuing_modes.specs.Projecting.{EndsProject};
-ghost use Rattle.valuing_modes.specs.inside.Projected.{EndsPrinted, CanBePrinted};
+ghost use Rattle.valuing_modes.specs.inside.Projected.{CanBePrinted, EndsPrinted, IsLoneProjection};
 
 use basis_book::Name;
 use cash_projection::{Projection, print_projection};
@@ -54,8 +54,8 @@ pub fn project<R: Threads + Wait + Sync, K: Sink, H: Shelf, D: Disk, G: Gate>(
     let projected = cash_projection::project(
         rt, alloc, &office, &mut pass, &basis, on, years, workers, gate,
     );
-    let ending = write_answer(alloc, projected.answer, output);
     let (disk, _, _, _) = close(office, pass);
+    let ending = write_answer(alloc, projected.answer, output);
     Finished { ending, disk }
 }
 
@@ -65,13 +65,14 @@ fn write_answer<K: Sink>(
     answer: Result<Projection, ValueFault>,
     output: &mut K,
 ) -> Ending
-    requires printable { IfOk answer CanBePrinted }
+    requires answer { IsLoneProjection answer }
     ensures ends { EndsPrinted answer (between K.faults K.written K.pieces output.old output.new) result }
 {
     match answer {
         Ok(projection) => write_projection(alloc, &projection, output),
-        // nobody else holds a pin, so none is refused
-        Err(_) => lack_memory(output),
+        // Nobody else holds a pin, so none is refused.
+        Err(ValueFault::Pin(_)) => unreachable!(),
+        Err(ValueFault::NoMemory(lack)) => lack_memory(lack, output),
     }
 }
 

@@ -1,15 +1,15 @@
 // The values of the policies on a day, by the basis on the shelf.
-ghost use Rattle.std.specs.Prelude.{◌≡◌, ◌<◌, ◌≤◌, IfOk};
+ghost use Rattle.std.specs.Prelude.{◌≡◌, ◌<◌, ◌≤◌, ◌++◌, ◌∷◌, [], IfOk, codes, decimal};
 ghost use Rattle.valuing_modes.specs.Names.{IsDay, between, shelf_between, ReadFault};
 ghost use Rattle.valuing_modes.specs.Valuing.{EndsValue};
 ghost use Rattle.program_endings.specs.Blocks.{IsWritableBlock};
-ghost use Rattle.valuing_modes.specs.inside.Valued.{EndsAnswer, SaysAhead};
+ghost use Rattle.valuing_modes.specs.inside.Valued.{EndsAnswer, IsLoneAnswer, SaysAhead};
 
 use basis_book::Name;
 use lone_office::{Begun, begin};
 use moment_ring::MomentOutlet;
 use outside_io::{Disk, Gate, Shelf, Sink};
-use policy_types::{At, PinRefusal};
+use policy_types::{At, NoMemory, PinRefusal};
 use policy_value::Measure;
 use program_endings::{Ending, Finished, end, lack_memory, write_parts};
 use report_text::print_parts;
@@ -18,6 +18,7 @@ use snapshot_value::{NO_LANE, Query, Valuation, ValueFault};
 use std::alloc::Global;
 use std::sync::Wait;
 use std::thread::Threads;
+use text_lines::{LineWriter, Text};
 use watcher_set::NoWatchers;
 
 /// Writes what each policy is worth on a day, in days since 1970-01-01, by a measure, after as many commands as are asked
@@ -61,8 +62,8 @@ pub fn value<R: Threads + Wait + Sync, K: Sink, H: Shelf, D: Disk, G: Gate>(
         workers,
     };
     let valued = snapshot_value::value(rt, alloc, &office, &mut pass, query, at, NO_LANE, gate);
-    let ending = write_answer(rt, alloc, on, valued.answer, workers, output);
     let (disk, _, _, _) = close(office, pass);
+    let ending = write_answer(rt, alloc, on, valued.answer, workers, output);
     Finished { ending, disk }
 }
 
@@ -77,14 +78,15 @@ fn write_answer<R: Threads + Sync, K: Sink>(
 ) -> Ending
     requires day { IsDay on }
     requires workers { (1 ≤ workers) × (workers ≤ 64) }
-    requires writable { IfOk answer IsWritableBlock }
+    requires answer { IsLoneAnswer answer }
     ensures ends { EndsAnswer on answer (between K.faults K.written K.pieces output.old output.new) result }
 {
     match answer {
         Ok(valuation) => write_values(rt, alloc, on, &valuation, workers, output),
         Err(ValueFault::Pin(PinRefusal::Ahead(count))) => refuse_position(alloc, count, output),
-        // nobody else holds a pin or trims, so no other is refused
-        Err(_) => lack_memory(output),
+        // Nobody else holds a pin or trims, so no other is refused.
+        Err(ValueFault::Pin(_)) => unreachable!(),
+        Err(ValueFault::NoMemory(lack)) => lack_memory(lack, output),
     }
 }
 
@@ -112,8 +114,9 @@ fn write_values<R: Threads + Sync, K: Sink>(
         &valuation.rows,
         workers,
     );
-    let Ok(text) = printed else {
-        return lack_memory(output);
+    let text = match printed {
+        Ok(text) => text,
+        Err(lack) => return lack_memory(lack, output),
     };
     match write_parts(output, &text) {
         Ok(()) => Ending::Done,
@@ -126,8 +129,20 @@ fn refuse_position<K: Sink>(alloc: Global, count: u32, output: &mut K) -> Ending
     ensures later { K.faults output.old ≤ K.faults output.new }
     ensures says { SaysAhead count (between K.faults K.written K.pieces output.old output.new) result }
 {
-    match format!(in alloc; "refused,ahead,{count}\n") {
-        Ok(line) => end(output, line.as_bytes(), Ending::Ahead),
-        Err(_) => lack_memory(output),
+    match ahead_line(alloc, count) {
+        Ok(line) => end(output, line.as_slice(), Ending::Ahead),
+        Err(lack) => lack_memory(lack, output),
     }
+}
+
+// The line that says so, as `refused,ahead,7`.
+fn ahead_line(alloc: Global, count: u32) -> Result<Text, NoMemory>
+    ensures { IfOk result (λ line. line ≡ (codes "refused,ahead," ++ decimal count) ++ 10 ∷ []) }
+{
+    let mut line = LineWriter::new(alloc);
+    line.first("refused")?;
+    line.word("ahead")?;
+    line.number(count)?;
+    line.end()?;
+    Ok(line.into_text())
 }

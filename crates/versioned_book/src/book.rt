@@ -10,8 +10,9 @@ use crate::hashing::KeyHashing;
 use crate::past::Pasts;
 use crate::place::KeyPlace;
 use indexmap::IndexMap;
+use memory_requests::{NoMemory, reserve, reserve_keys};
 use outside_io::Steps;
-use std::alloc::{AllocError, Global};
+use std::alloc::Global;
 use std::sync::ledger::Ledger;
 
 /// Values by key, with their past from the floor on.
@@ -56,7 +57,7 @@ impl<V: Copy> VersionedBook<V> {
     }
 
     /// Makes room for one setting of the key. What the book holds stays, also on an error.
-    pub fn reserve(&mut self, key: u32) -> Result<(), AllocError>
+    pub fn reserve(&mut self, key: u32) -> Result<(), NoMemory>
         ensures room { OnOk result (CanSet self.new key) }
         ensures book { (sets : List (Setting V)) → IsBookOf self.old sets → IsBookOf self.new sets }
         ensures floor { (self.new.floor ≡ self.old.floor) × (self.new.last ≡ self.old.last) }
@@ -65,7 +66,7 @@ impl<V: Copy> VersionedBook<V> {
     }
 
     /// The same of a key whose place is known. The key keeps it, also on an error.
-    pub fn reserve_at(&mut self, place: KeyPlace) -> Result<(), AllocError>
+    pub fn reserve_at(&mut self, place: KeyPlace) -> Result<(), NoMemory>
         requires place { IsPlaceIn self.old place }
         ensures room { OnOk result (CanSet self.new place.key) }
         ensures book { (sets : List (Setting V)) → IsBookOf self.old sets → IsBookOf self.new sets }
@@ -78,8 +79,8 @@ impl<V: Copy> VersionedBook<V> {
                 self.pasts.reserve(place.key, chain.past)
             }
             None => {
-                self.firsts.reserve(1)?;
-                self.chains.reserve(1)
+                reserve(&mut self.firsts, 1)?;
+                reserve_keys(&mut self.chains, 1)
             }
         }
     }

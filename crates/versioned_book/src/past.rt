@@ -10,8 +10,9 @@ use crate::Chain;
 use crate::halving::search;
 use crate::hashing::KeyHashing;
 use indexmap::IndexMap;
+use memory_requests::{NoMemory, reserve, reserve_exact};
 use outside_io::Steps;
-use std::alloc::{AllocError, Global};
+use std::alloc::Global;
 use std::mem::replace;
 use std::sync::ledger::Ledger;
 
@@ -104,7 +105,7 @@ impl<V: Copy> Pasts<V> {
     }
 
     /// Makes room for one older version of the key whose entry tells this place. On an error all stays.
-    pub(crate) fn reserve(&mut self, key: u32, place: u32) -> Result<(), AllocError>
+    pub(crate) fn reserve(&mut self, key: u32, place: u32) -> Result<(), NoMemory>
         ensures places { places_in self.new ≡ places_in self.old }
         ensures olders { olders_in self.new ≡ olders_in self.old }
         ensures room { OnOk result (HasPastRoom self.new key place) }
@@ -112,8 +113,8 @@ impl<V: Copy> Pasts<V> {
         if self.is_of(key, place) {
             return reserve_one(&mut self.list[place as usize].older);
         }
-        self.list.reserve(1)?;
-        self.ready.reserve_exact(1)
+        reserve(&mut self.list, 1)?;
+        reserve_exact(&mut self.ready, 1)
     }
 
     /// Adds an older version of the key with this entry, which tells a place, and says the place from then on.
@@ -202,14 +203,14 @@ impl<V: Copy> Pasts<V> {
 }
 
 // Makes room for one version more: just that much for a few, and a quarter more of many.
-fn reserve_one<V: Copy>(older: &mut Vec<(u32, V)>) -> Result<(), AllocError>
+fn reserve_one<V: Copy>(older: &mut Vec<(u32, V)>) -> Result<(), NoMemory>
     ensures items { older.new.items ≡ older.old.items }
     ensures room { OnOk result (vec_len older.new < vec_capacity older.new) }
 {
     if older.len() < older.capacity() {
         return Ok(());
     }
-    older.reserve_exact(1 + older.len() / 4)
+    reserve_exact(older, 1 + older.len() / 4)
 }
 
 fn drop_front<V: Copy>(older: &mut Vec<(u32, V)>, count: usize)

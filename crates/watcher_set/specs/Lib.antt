@@ -6,3 +6,4 @@ pub mod Told
 pub mod Watchers
 pub mod Worked
 pub mod inside
+pub mod Evidence

@@ -1,5 +1,5 @@
 -- What auditors note and report of four commands, worked by hand. Day 18262 is 2020-01-01
-use Rattle.std.specs.Prelude.{◌≡◌, ℕ, ◌==◌, Bool, true, false, List, [], ◌∷◌, length, pos}
+use Rattle.std.specs.Prelude.{◌≡◌, ◌==◌, true, false, List, [], ◌∷◌, length, pos}
 use Rattle.watcher_set.specs.Names.{Command, Issue, Premium, Reinstate, Settle}
 use Rattle.policy_types.specs.declared.command.Plan.TheVariants.{Endowment}
 use Rattle.watcher_set.specs.Limits.{most_watchers}

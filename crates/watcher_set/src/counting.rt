@@ -1,7 +1,7 @@
 ghost use Rattle.std.specs.Prelude.{◌≡◌, ◌==◌, ◌≤◌, [], length};
 
 use crate::heard::Heard;
-use policy_types::{Attention, Command, NoMemory, Report, Watcher};
+use policy_types::{Attention, Command, NotReady, Report, Watcher};
 use std::snapshot::Snapshot;
 
 /// Counts the commands, and is done at its limit-th.
@@ -44,7 +44,7 @@ impl Watcher for CountWatcher {
 
     ghost number = { λ _ list. length list };
 
-    fn ready(&mut self) -> Result<(), NoMemory> {
+    fn ready(&mut self) -> Result<(), NotReady> {
         Ok(())
     }
 

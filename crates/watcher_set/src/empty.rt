@@ -1,8 +1,9 @@
 ghost use Rattle.std.specs.Prelude.{[]};
 
+use crate::evidence::Lack;
 use crate::reports::Reports;
 use crate::watching::Watching;
-use policy_types::{Command, NoMemory};
+use policy_types::Command;
 
 /// The set without auditors.
 #[derive(Drop)]
@@ -15,7 +16,7 @@ impl Watching for NoWatchers {
 
     ghost has_room = { λ _. Unit {0} };
 
-    fn ready(&mut self) -> Result<(), NoMemory> {
+    fn ready(&mut self) -> Result<(), Lack> {
         Ok(())
     }
 

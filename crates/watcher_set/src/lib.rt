@@ -3,6 +3,7 @@
 
 mod counting;
 mod empty;
+mod evidence;
 mod heard;
 mod laws;
 mod place;
@@ -16,6 +17,7 @@ mod worked;
 
 pub use counting::CountWatcher;
 pub use empty::NoWatchers;
+pub use evidence::Lack;
 pub use laws::noted_to_the_first_end;
 pub use premiums::PremiumWatcher;
 pub use reports::{MOST_WATCHERS, Reports};

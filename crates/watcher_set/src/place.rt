@@ -3,7 +3,8 @@ ghost use Rattle.watcher_set.specs.Names.{ACommand, IsValid};
 ghost use Rattle.watcher_set.specs.Told.{HasSpareRoom};
 ghost use Rattle.watcher_set.specs.inside.Calls.{MayBeTold, Stays, Hears, report_at};
 
-use policy_types::{Attention, Command, NoMemory, Report, Watcher};
+use crate::evidence::Lack;
+use policy_types::{Attention, Command, NotReady, Report, Watcher};
 
 /// The place of an auditor: itself while it goes on, then its report.
 #[derive(Drop)]
@@ -19,12 +20,15 @@ impl<B> Default for Place<B> {
 }
 
 /// Readies the auditor, if it goes on.
-pub(crate) fn ready_place<B: Watcher>(place: &mut Place<B>) -> Result<(), NoMemory>
+pub(crate) fn ready_place<B: Watcher>(place: &mut Place<B>) -> Result<(), Lack>
     ensures stays { Stays B.Watcher place.old place.new }
     ensures ok { OnOk result (HasSpareRoom B.Watcher place.new) }
 {
     match place {
-        Place::Listening(watcher) => watcher.ready(),
+        Place::Listening(watcher) => match watcher.ready() {
+            Ok(()) => Ok(()),
+            Err(NotReady) => Err(Lack::of_auditor()),
+        },
         Place::Reported(_) => Ok(()),
     }
 }

@@ -3,7 +3,7 @@ ghost use Rattle.policy_types.specs.Valid.{IsValid};
 ghost use Rattle.watcher_set.specs.Premiums.{paid_by, premiums_of};
 
 use crate::heard::Heard;
-use policy_types::{Attention, Command, NoMemory, Report, Watcher};
+use policy_types::{Attention, Command, NotReady, Report, Watcher};
 use std::snapshot::Snapshot;
 
 /// Adds up the payments of premiums, and is never done.
@@ -47,7 +47,7 @@ impl Watcher for PremiumWatcher {
 
     ghost number = { λ _ list. premiums_of list };
 
-    fn ready(&mut self) -> Result<(), NoMemory> {
+    fn ready(&mut self) -> Result<(), NotReady> {
         Ok(())
     }
 

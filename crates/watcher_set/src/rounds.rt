@@ -4,12 +4,13 @@ ghost use Rattle.watcher_set.specs.Limits.{most_watchers};
 ghost use Rattle.watcher_set.specs.Noted.{Auditor, reports_of};
 ghost use Rattle.watcher_set.specs.Told.{AreTold, HaveRoom};
 
+use crate::evidence::Lack;
 use crate::place::{Place, note_place, ready_place, report_of};
 use crate::reports::Reports;
-use policy_types::{Command, NoMemory, Watcher};
+use policy_types::{Command, Watcher};
 
 /// Readies each auditor that goes on.
-pub(crate) fn ready_all<B: Watcher>(places: &mut [Place<B>]) -> Result<(), NoMemory>
+pub(crate) fn ready_all<B: Watcher>(places: &mut [Place<B>]) -> Result<(), Lack>
     ensures told { (before : ℕ) (commands : List ACommand) (auditors : List Auditor)
         → AreTold B.Watcher before commands auditors places.old → AreTold B.Watcher before commands auditors places.new }
     ensures ok { OnOk result (HaveRoom B.Watcher places.new) }

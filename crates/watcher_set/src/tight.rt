@@ -1,6 +1,6 @@
 ghost use Rattle.std.specs.Prelude.{◌≡◌, ◌-◌, ◌≤◌, false, [], length, vec_len, vec_capacity, OnOk, OnErr, IsErr};
 
-use policy_types::{Attention, Command, NoMemory, Report, Watcher};
+use policy_types::{Attention, Command, NotReady, Report, Watcher};
 use std::alloc::Global;
 use std::snapshot::Snapshot;
 
@@ -41,7 +41,7 @@ impl Watcher for TightWatcher {
 
     ghost number = { λ _ list. length list };
 
-    fn ready(&mut self) -> Result<(), NoMemory>
+    fn ready(&mut self) -> Result<(), NotReady>
         ensures noted { self.new.noted.items ≡ self.old.noted.items }
         ensures last { self.new.last.value ≡ self.old.last.value }
         ensures ok { OnOk result (1 ≤ vec_capacity self.new.noted - vec_len self.new.noted) }
@@ -54,10 +54,12 @@ impl Watcher for TightWatcher {
         let calls_left = self.calls_left;
         self.calls_left = calls_left.saturating_sub(1);
         if calls_left == 1 {
-            return Err(NoMemory);
+            return Err(NotReady);
         }
-        self.noted.reserve(1)?;
-        Ok(())
+        match self.noted.reserve(1) {
+            Ok(()) => Ok(()),
+            Err(_) => Err(NotReady),
+        }
     }
 
     fn note(&mut self, position: u32, command: &Command) -> Attention {

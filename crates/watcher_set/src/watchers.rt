@@ -3,12 +3,13 @@ ghost use Rattle.std.specs.List.{AllByRecursion};
 ghost use Rattle.watcher_set.specs.Limits.{most_watchers};
 ghost use Rattle.watcher_set.specs.Told.{auditor_of, AreTold, HaveRoom};
 
+use crate::evidence::Lack;
 use crate::place::Place;
 use crate::reports::{MOST_WATCHERS, Reports};
 use crate::rounds::{note_all, ready_all, reports_of_all};
 use crate::watching::Watching;
 use arrayvec::ArrayVec;
-use policy_types::{Command, NoMemory, Watcher};
+use policy_types::{Command, Watcher};
 use std::snapshot::Snapshot;
 
 /// Auditors of one type that were handed in: at most 16. A box of an auditor is one, so they can be of many types.
@@ -43,7 +44,7 @@ impl<B: Watcher> Watching for Watchers<B> {
 
     ghost has_room = { λ it. HaveRoom B.Watcher it.places.items };
 
-    fn ready(&mut self) -> Result<(), NoMemory> {
+    fn ready(&mut self) -> Result<(), Lack> {
         ready_all(self.places.as_mut_slice())
     }
 

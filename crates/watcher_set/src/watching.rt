@@ -2,8 +2,9 @@ ghost use Rattle.std.specs.Prelude.{◌≡◌, ℕ, ◌+◌, ◌<◌, List, [], 
 ghost use Rattle.watcher_set.specs.Names.{ACommand, most_commands, IsValid};
 ghost use Rattle.watcher_set.specs.Noted.{Auditor, reports_of};
 
+use crate::evidence::Lack;
 use crate::reports::Reports;
-use policy_types::{Command, NoMemory};
+use policy_types::Command;
 
 /// A set of auditors, who are told of each accepted command.
 pub trait Watching: Drop {
@@ -18,7 +19,7 @@ pub trait Watching: Drop {
     ghost has_room: { Self → Type 0 };
 
     /// Makes room for one command. For want of memory nobody was told of anything.
-    fn ready(&mut self) -> Result<(), NoMemory>
+    fn ready(&mut self) -> Result<(), Lack>
         ensures handed { handed self.new ≡ handed self.old }
         ensures told { (before : ℕ) (commands : List ACommand) → told self.old before commands → told self.new before commands }
         ensures ok { OnOk result (has_room self.new) };

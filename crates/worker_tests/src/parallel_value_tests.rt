@@ -1,7 +1,8 @@
 ghost use Rattle.std.specs.Prelude.{◌≡◌, ◌≤◌, ◌*◌, ⊤, length};
 
+use memory_requests::NoMemory;
 use parallel_value::{Piece, map_in, map_into, map_onto};
-use std::alloc::{AllocError, Global};
+use std::alloc::Global;
 use std::sync::atomic::{AtomicU32, Ordering};
 use std::test::Fail;
 use std::thread::{Threads, yield_now};
@@ -71,7 +72,7 @@ fn all_squared<R: Threads + Sync>(
     pieces: &mut [Squares],
     items: &[u32],
     items_in_part: usize,
-) -> Result<Vec<u64>, AllocError>
+) -> Result<Vec<u64>, NoMemory>
     requires workers { (1 ≤ length pieces.old) × (length pieces.old ≤ 64) }
     requires part { 1 ≤ items_in_part }
 {
@@ -97,7 +98,7 @@ fn add_squared<R: Threads + Sync>(
     items: &[u32],
     items_in_part: usize,
     values: &mut Vec<u64>,
-) -> Result<(), AllocError>
+) -> Result<(), NoMemory>
     requires workers { (1 ≤ length pieces.old) × (length pieces.old ≤ 64) }
     requires part { 1 ≤ items_in_part }
 {
@@ -111,7 +112,7 @@ fn add_held<R: Threads + Sync>(
     items: &[u32],
     items_in_part: usize,
     values: &mut Vec<u64>,
-) -> Result<(), AllocError>
+) -> Result<(), NoMemory>
     requires workers { (1 ≤ length pieces.old) × (length pieces.old ≤ 64) }
     requires part { 1 ≤ items_in_part }
 {
@@ -125,7 +126,7 @@ fn squared_by_held<R: Threads + Sync>(
     until: &[u32],
     items: &[u32],
     missed: &AtomicU32,
-) -> Result<Vec<u64>, AllocError>
+) -> Result<Vec<u64>, NoMemory>
     requires { (1 ≤ length until.now) × (length until.now ≤ 64) }
 {
     let begun = AtomicU32::new(0);

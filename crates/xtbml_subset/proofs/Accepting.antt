@@ -1,5 +1,6 @@
 -- The walk goes through each document to its end.
-use Rattle.xtbml_subset.proofs.Names.{◌≡◌, ℕ, zero, suc, ◌+◌, ◌<◌, true, false, eqb, ltb, List, [], ◌∷◌, ◌++◌, length, Some, None, refl, sym, ap, subst, ◌∙◌, inl, inr, append_assoc, arith, lt-ltb, append-nil, bytes_eq-Decides, bytes_eq, White, Text, Phase, Opening, Prolog, Epilog, is_in, InClass, Tag, Piece, byte, comment, declaration, start, whole, finish, IsPiece, IsMark, Spell, State, outside, past, after_piece, walk_at, walk_from, after_mark, fault_place, fault_at, Content, nothing, letter, remark, element, IsElement, IsContent, AreMisc, IsMisc, IsDocumentOpening, Node, IsDocument}
+use Rattle.xtbml_subset.proofs.Names.{◌≡◌, ℕ, zero, suc, ◌+◌, ◌<◌, true, false, eqb, ltb, List, [], ◌∷◌, ◌++◌, length, Some, None, refl, sym, ap, subst, ◌∙◌, inl, inr, append_assoc, arith, lt-ltb, append-nil, bytes_eq-Decides, bytes_eq, White, Text, Phase, Opening, Prolog, Epilog, is_in, InClass, Tag, Piece, byte, comment, declaration, start, whole, finish, IsPiece, IsMark, Spell, State, outside, past, after_piece, walk_at, walk_from, after_mark, fault_place, fault_at, Content, nothing, letter, remark, element, IsElement, IsContent, IsMisc, IsDocumentOpening, Node, IsDocument}
+use Rattle.xtbml_subset.proofs.Misc.{AreMisc, are_misc}
 use Rattle.xtbml_subset.proofs.LexAgain.{at_white, white_is_text}
 use Rattle.xtbml_subset.proofs.PieceAgain.{piece_again}
 use Rattle.xtbml_subset.proofs.Walking.{walk_step}
@@ -172,9 +173,9 @@ unmarked_walk opening before text behind root at is_opening misc_before is_root 
     let o = opening_walk opening (before ++ (text ++ behind)) is_opening in
     let begins = misc_begins misc_before.0 o.0 o.1 in
     let last : walk_at (outside Epilog) behind ≡ walk_at (outside Epilog) [] =
-    ap (walk_at (outside Epilog)) (sym (append-nil behind)) ∙ misc_walk misc_behind.0 behind [] Epilog misc_behind.1 misc_behind.2
+    ap (walk_at (outside Epilog)) (sym (append-nil behind)) ∙ misc_walk misc_behind.0 behind [] Epilog misc_behind.1 (are_misc misc_behind.0 misc_behind.2)
     ∙ ap (λ phase. walk_at (outside phase) []) (misc_ends misc_behind.0) in
-    o.2 ∙ misc_walk misc_before.0 before (text ++ behind) o.0 misc_before.1 misc_before.2
+    o.2 ∙ misc_walk misc_before.0 before (text ++ behind) o.0 misc_before.1 (are_misc misc_before.0 misc_before.2)
     ∙ root_walk root at text behind (misc_phase misc_before.0 o.0) is_root begins ∙ last
 
 -- ---- EF BB BF
@@ -231,7 +232,7 @@ document_accepted bytes root d =
     let rest = d.opening ++ (d.before ++ (d.text ++ d.behind)) in
     let at = length d.mark + length d.opening + length d.before in
     let clear = opening_no_mark d.opening (d.before ++ (d.text ++ d.behind)) d.is_opening
-    (misc_no_mark d.misc_before.0 d.before (d.text ++ d.behind) d.misc_before.1 d.misc_before.2 (element_no_mark root at d.text d.behind d.is_root)) in
+    (misc_no_mark d.misc_before.0 d.before (d.text ++ d.behind) d.misc_before.1 (are_misc d.misc_before.0 d.misc_before.2) (element_no_mark root at d.text d.behind d.is_root)) in
     let unmarked : after_mark bytes ≡ rest = ap after_mark d.parts ∙ mark_after d.mark rest d.is_mark clear in
     let walked = ap (walk_at (outside Opening)) unmarked ∙ unmarked_walk d.opening d.before d.text d.behind root at d.is_opening d.misc_before d.is_root d.misc_behind in
     ap (λ end. fault_place (length bytes) end) walked

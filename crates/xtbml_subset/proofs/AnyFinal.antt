@@ -1,11 +1,16 @@
 -- The answer of the reader of tables of either kind is the one that is due.
-use Rattle.xtbml_subset.proofs.Names.{◌≡◌, ℕ, List, [], ◌∷◌, length, Some, None, Result, Ok, Err, refl, sym, ap, subst, ◌∙◌, ◌⊎◌, inl, inr, codes, IfOk, IfErr, Rates, AnyTable, NotDocument, Select, TableFault, Bad, NoMemory, Asks, ◌>=>◌, Parts, path, rates_of, aggregate_parts, IsTable, Node, IsDocument, node_asks, IsTableAnswer, Unless, AnyParts, parts_by_axes, any_parts_of, aggregated, IsAnyTable, IsAnyJudged, IsAnyAnswer, GivesAny, SaysSelect, Found, elements_at, found_asks, fault_at}
+use Rattle.xtbml_subset.proofs.Names.{◌≡◌, ℕ, List, [], ◌∷◌, length, Some, None, Result, Ok, Err, refl, sym, ap, subst, ◌∙◌, ◌⊎◌, inl, inr, codes, IfOk, IfErr, Rates, AnyTable, NotDocument, TableFault, Bad, NoMemory, Asks, ◌>=>◌, Parts, path, aggregate_parts, IsTableBy, Node, IsDocument, node_asks, IsTableAnswer, Unless, AnyParts, parts_by_axes, any_parts_of, aggregated, IsAnyTable, IsAnyBy, IsAnyAnswer, GivesAny, SaysSelect, Found, elements_at, found_asks, fault_at}
 use Rattle.xtbml_subset.proofs.Sounding.{whole_document, longest_nested}
 use Rattle.xtbml_subset.proofs.Matching.{Matches, finds_root}
 use Rattle.xtbml_subset.proofs.AnyParts.{lifted}
+use Rattle.xtbml_subset.proofs.ByParts.{axes_refused, by_parts, by_root, table_by_parts}
 use Rattle.xtbml_subset.proofs.SelectSame.{any_same}
 use Rattle.xtbml_subset.proofs.SelectSingle.{any_single}
 use Rattle.xtbml_subset.proofs.Final.{not_accepted, one_longest, heads_are, unless_goes}
+
+-- the bytes are a document, and by the checks this is the answer
+abbrev pub IsAnyJudged : List ℕ → Result AnyTable TableFault → Type 0
+IsAnyJudged bytes answer = (root : Node) × IsDocument bytes root × IsAnyTable node_asks root answer
 
 -- ---- no document
 
@@ -35,42 +40,36 @@ same_any_parts bytes f others root e d =
     any_same (length bytes) f root (subst (λ (x : Found). Matches (length bytes) x root) same r.matches)
 
 pub any_judged_by : (bytes : List ℕ) (f : Found) (others : List Found) (answer : Result AnyTable TableFault) → None ≡ fault_at bytes → elements_at 0 None bytes ≡ f ∷ others
-    → IsAnyTable (any_parts_of (found_asks (length bytes)) f) answer → IsAnyJudged bytes answer
+    → IsAnyBy (any_parts_of (found_asks (length bytes)) f) answer → IsAnyJudged bytes answer
 any_judged_by bytes f others answer e first is =
     let d = whole_document bytes (sym e) in
-    (d.0, d.1, subst (λ (parts : Result AnyParts TableFault). IsAnyTable parts answer) (same_any_parts bytes f others d.0 first d.1) is)
+    (d.0, d.1, by_root node_asks d.0 answer (subst (λ (parts : Result AnyParts TableFault). IsAnyBy parts answer) (same_any_parts bytes f others d.0 first d.1) is))
 
 pub any_due_by : (bytes : List ℕ) (f : Found) (others : List Found) (answer : Result AnyTable TableFault) → None ≡ fault_at bytes → elements_at 0 None bytes ≡ f ∷ others
-    → IsAnyAnswer bytes answer → IsAnyTable (any_parts_of (found_asks (length bytes)) f) answer
+    → IsAnyAnswer bytes answer → IsAnyBy (any_parts_of (found_asks (length bytes)) f) answer
 any_due_by bytes f others answer e first (inl judged) =
-    subst (λ (parts : Result AnyParts TableFault). IsAnyTable parts answer) (sym (same_any_parts bytes f others judged.0 first judged.1)) judged.2
+    subst (λ (parts : Result AnyParts TableFault). IsAnyBy parts answer) (sym (same_any_parts bytes f others judged.0 first judged.1)) (by_parts node_asks judged.0 answer judged.2)
 any_due_by bytes f others answer e first (inr h) = let d = whole_document bytes (sym e) in absurd (h.0 d.0 d.1)
 
 -- ---- a table by age alone
 
--- an axis in the axis says that the table is select
-parts_of_select : (asks : Asks Node) (found : Node × Node) (inner : Node) (more : List Node) → asks.children (codes "Axis") found.1 ≡ inner ∷ more
-    → aggregate_parts asks found ≡ Err (Bad (asks.row inner).at Select)
-unfolding rates_of
-parts_of_select asks found inner more e = rw e refl
-
 -- the answer of the checks of such a table is that of the checks of either kind, unless it says that the table is select
 by_axes_agree : (asks : Asks Node) (root : Node) (found : Node × Node) (axes : List Node) (answer : Result Rates TableFault) → asks.children (codes "Axis") found.1 ≡ axes
-    → IsTable (aggregate_parts asks found) answer → SaysSelect answer ⊎ IsAnyTable (parts_by_axes asks root found axes) (aggregated answer)
+    → IsTableBy (aggregate_parts asks found) answer → SaysSelect answer ⊎ IsAnyBy (parts_by_axes asks root found axes) (aggregated answer)
 by_axes_agree asks root found [] answer e is = inr (lifted (aggregate_parts asks found) answer is)
 by_axes_agree asks root found (inner ∷ more) answer e is =
-    inl ((asks.row inner).at, subst (λ (parts : Result Parts TableFault). IsTable parts answer) (parts_of_select asks found inner more e) is)
+    inl ((asks.row inner).at, subst (λ (parts : Result Parts TableFault). IsTableBy parts answer) (axes_refused asks found inner more e) is)
 
-agree : (asks : Asks Node) (root : Node) (found : Result (Node × Node) TableFault) (answer : Result Rates TableFault) → IsTable (found >=> λ one. aggregate_parts asks one) answer
-    → SaysSelect answer ⊎ IsAnyTable (found >=> λ one. parts_by_axes asks root one (asks.children (codes "Axis") one.1)) (aggregated answer)
+agree : (asks : Asks Node) (root : Node) (found : Result (Node × Node) TableFault) (answer : Result Rates TableFault) → IsTableBy (found >=> λ one. aggregate_parts asks one) answer
+    → SaysSelect answer ⊎ IsAnyBy (found >=> λ one. parts_by_axes asks root one (asks.children (codes "Axis") one.1)) (aggregated answer)
 agree asks root (Err fault) answer is = inr (ap (λ (r : Result Rates TableFault). aggregated r) is)
 agree asks root (Ok found) answer is = by_axes_agree asks root found (asks.children (codes "Axis") found.1) answer refl is
 
 pub aggregate_answer : (bytes : List ℕ) (answer : Result Rates TableFault) → IsTableAnswer bytes answer → SaysSelect answer ⊎ IsAnyAnswer bytes (aggregated answer)
 aggregate_answer bytes answer (inl judged) =
-    elim (agree node_asks judged.0 (path node_asks judged.0) answer judged.2) [
+    elim (agree node_asks judged.0 (path node_asks judged.0) answer (table_by_parts node_asks judged.0 answer judged.2)) [
       | inl says ↦ inl says
-      | inr is ↦ inr (inl (judged.0, judged.1, is))
+      | inr is ↦ inr (inl (judged.0, judged.1, by_root node_asks judged.0 (aggregated answer) is))
     ]
 aggregate_answer bytes answer (inr h) = inr (inr (h.0, (h.1.0, h.1.1, ap (λ (r : Result Rates TableFault). aggregated r) h.1.2)))
 
@@ -89,8 +88,8 @@ pub any_if_fault : (result : Result AnyTable TableFault) (P Q : TableFault → T
 any_if_fault (Ok table) P Q goes h = tt
 any_if_fault (Err fault) P Q goes h = unless_goes fault (P fault) (Q fault) (goes fault) h
 
-pub any_gives : (result answer : Result AnyTable TableFault) (parts : Result AnyParts TableFault) → IfOk result (λ table. IsAnyTable parts (Ok table))
-    → IfErr result (λ fault. Unless fault (IsAnyTable parts (Err fault))) → IsAnyTable parts answer → GivesAny result answer
+pub any_gives : (result answer : Result AnyTable TableFault) (parts : Result AnyParts TableFault) → IfOk result (λ table. IsAnyBy parts (Ok table))
+    → IfErr result (λ fault. Unless fault (IsAnyBy parts (Err fault))) → IsAnyBy parts answer → GivesAny result answer
 any_gives (Ok table) answer parts read fault is = any_single parts answer (Ok table) is read
 any_gives (Err (Bad at kind)) answer parts read fault is = any_single parts answer (Err (Bad at kind)) is fault
-any_gives (Err NoMemory) answer parts read fault is = tt
+any_gives (Err (NoMemory lack)) answer parts read fault is = tt

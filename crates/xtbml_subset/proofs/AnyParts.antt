@@ -1,38 +1,47 @@
 -- By the path that was found and the axes in its axis, which checks are made.
-use Rattle.xtbml_subset.proofs.Names.{◌≡◌, ℕ, List, [], ◌∷◌, Result, Ok, Err, refl, sym, ap, subst, ◌∙◌, codes, Rates, Selected, TableFault, Asks, ◌>=>◌, Parts, path, aggregate_parts, parts_of, IsTable, in_first, behind_first, select_parts, IsSelectTable, AnyParts, aggregate, selected, parts_by_axes, any_parts_of, aggregated, as_select, IsAnyTable, Found, children_at, siblings_at, found_asks, ElementPath, hit, IsFirstIn, IsFirstUnder, IsFound}
+use Rattle.xtbml_subset.proofs.Names.{◌≡◌, ℕ, List, [], ◌∷◌, Result, Ok, Err, refl, sym, ap, subst, ◌∙◌, codes, Rates, Selected, TableFault, Asks, ◌>=>◌, Parts, path, aggregate_parts, parts_of, IsTableBy, in_first, drop, Further, select_parts, IsSelectBy, AnyParts, aggregate, selected, parts_by_axes, any_parts_of, aggregated, as_select, IsAnyBy, Found, children_at, siblings_at, found_asks, ElementPath, hit, IsFirstIn, IsFirstUnder, IsFound}
+use Rattle.select_rates.specs.declared.any.AnyTable.TheVariants.{Select, Aggregate}
+
+one_of_either : (answer : Result Rates TableFault) → Further (λ one whole. whole ≡ Ok (Aggregate one)) answer (aggregated answer)
+one_of_either (Ok one) = refl
+one_of_either (Err fault) = refl
+
+select_of_either : (answer : Result Selected TableFault) → Further (λ one whole. whole ≡ Ok (Select one)) answer (as_select answer)
+select_of_either (Ok one) = refl
+select_of_either (Err fault) = refl
 
 -- the answer of a table by age alone, as one of either kind
-pub lifted : (parts : Result Parts TableFault) (answer : Result Rates TableFault) → IsTable parts answer → IsAnyTable (parts >=> λ one. Ok (aggregate one)) (aggregated answer)
+pub lifted : (parts : Result Parts TableFault) (answer : Result Rates TableFault) → IsTableBy parts answer → IsAnyBy (parts >=> λ one. Ok (aggregate one)) (aggregated answer)
 lifted (Err fault) answer h = ap (λ (r : Result Rates TableFault). aggregated r) h
-lifted (Ok parts) answer h = (answer, h, refl)
+lifted (Ok parts) answer h = (answer, h, one_of_either answer)
 
 abbrev any_from : {N : Type 0} → Asks N → N → Result (N × N) TableFault → Result AnyParts TableFault
 any_from asks root found = found >=> λ one. parts_by_axes asks root one (asks.children (codes "Axis") one.1)
 
-pub any_pathless : (total : ℕ) (root : Found) (fault : TableFault) → Err fault ≡ path (found_asks total) root → IsAnyTable (any_parts_of (found_asks total) root) (Err fault)
+pub any_pathless : (total : ℕ) (root : Found) (fault : TableFault) → Err fault ≡ path (found_asks total) root → IsAnyBy (any_parts_of (found_asks total) root) (Err fault)
 any_pathless total root fault e =
-    subst (λ (r : Result (Found × Found) TableFault). IsAnyTable (any_from (found_asks total) root r) (Err fault)) e refl
+    subst (λ (r : Result (Found × Found) TableFault). IsAnyBy (any_from (found_asks total) root r) (Err fault)) e refl
 
 pub any_selected : (total : ℕ) (root table axis inner : Found) (more others : List Found) (answer : Result Selected TableFault) → Ok (table, axis) ≡ path (found_asks total) root
-    → children_at (codes "Axis") axis ≡ inner ∷ more → children_at (codes "Table") root ≡ table ∷ others → IsSelectTable (select_parts (found_asks total) others table axis) answer
-    → IsAnyTable (any_parts_of (found_asks total) root) (as_select answer)
+    → children_at (codes "Axis") axis ≡ inner ∷ more → children_at (codes "Table") root ≡ table ∷ others → IsSelectBy (select_parts (found_asks total) others table axis) answer
+    → IsAnyBy (any_parts_of (found_asks total) root) (as_select answer)
 any_selected total root table axis inner more others answer e axes tables is =
     let asks = found_asks total in
-    let by_tables : IsAnyTable (parts_by_axes asks root (table, axis) (inner ∷ more)) (as_select answer)
-    = subst (λ (ts : List Found). IsAnyTable (Ok (selected (select_parts asks (behind_first ts) table axis))) (as_select answer)) (sym tables) (answer, is, refl) in
-    let by_axes : IsAnyTable (parts_by_axes asks root (table, axis) (children_at (codes "Axis") axis)) (as_select answer)
-    = subst (λ (xs : List Found). IsAnyTable (parts_by_axes asks root (table, axis) xs) (as_select answer)) (sym axes) by_tables in
-    subst (λ (r : Result (Found × Found) TableFault). IsAnyTable (any_from asks root r) (as_select answer)) e by_axes
+    let by_tables : IsAnyBy (parts_by_axes asks root (table, axis) (inner ∷ more)) (as_select answer)
+    = subst (λ (ts : List Found). IsAnyBy (Ok (selected (select_parts asks (drop 1 ts) table axis))) (as_select answer)) (sym tables) (answer, is, select_of_either answer) in
+    let by_axes : IsAnyBy (parts_by_axes asks root (table, axis) (children_at (codes "Axis") axis)) (as_select answer)
+    = subst (λ (xs : List Found). IsAnyBy (parts_by_axes asks root (table, axis) xs) (as_select answer)) (sym axes) by_tables in
+    subst (λ (r : Result (Found × Found) TableFault). IsAnyBy (any_from asks root r) (as_select answer)) e by_axes
 
 pub any_aggregate : (total : ℕ) (root table axis : Found) (answer : Result Rates TableFault) → Ok (table, axis) ≡ path (found_asks total) root → children_at (codes "Axis") axis ≡ []
-    → IsTable (parts_of (found_asks total) root) answer → IsAnyTable (any_parts_of (found_asks total) root) (aggregated answer)
+    → IsTableBy (parts_of (found_asks total) root) answer → IsAnyBy (any_parts_of (found_asks total) root) (aggregated answer)
 any_aggregate total root table axis answer e axes is =
     let asks = found_asks total in
-    let here : IsTable (aggregate_parts asks (table, axis)) answer
-    = subst (λ (r : Result (Found × Found) TableFault). IsTable (r >=> λ one. aggregate_parts asks one) answer) (sym e) is in
-    let by_axes : IsAnyTable (parts_by_axes asks root (table, axis) (children_at (codes "Axis") axis)) (aggregated answer)
-    = subst (λ (xs : List Found). IsAnyTable (parts_by_axes asks root (table, axis) xs) (aggregated answer)) (sym axes) (lifted (aggregate_parts asks (table, axis)) answer here) in
-    subst (λ (r : Result (Found × Found) TableFault). IsAnyTable (any_from asks root r) (aggregated answer)) e by_axes
+    let here : IsTableBy (aggregate_parts asks (table, axis)) answer
+    = subst (λ (r : Result (Found × Found) TableFault). IsTableBy (r >=> λ one. aggregate_parts asks one) answer) (sym e) is in
+    let by_axes : IsAnyBy (parts_by_axes asks root (table, axis) (children_at (codes "Axis") axis)) (aggregated answer)
+    = subst (λ (xs : List Found). IsAnyBy (parts_by_axes asks root (table, axis) xs) (aggregated answer)) (sym axes) (lifted (aggregate_parts asks (table, axis)) answer here) in
+    subst (λ (r : Result (Found × Found) TableFault). IsAnyBy (any_from asks root r) (aggregated answer)) e by_axes
 
 -- ---- what the searches found
 

@@ -1,5 +1,6 @@
 -- What the walk goes through to its end is a document.
-use Rattle.xtbml_subset.proofs.Names.{◌≡◌, ℕ, zero, suc, ◌+◌, ◌<◌, true, ltb, List, [], ◌∷◌, ◌++◌, length, Option, Some, None, refl, sym, ap, subst, ◌∙◌, inl, inr, append_assoc, arith, ltb-true, length-append, bytes_eq-Decides, bytes_eq, White, Text, Opening, Prolog, Epilog, is_in, Tag, Piece, byte, comment, declaration, start, whole, finish, IsPiece, IsMark, Spell, State, outside, Steps, Content, nothing, letter, remark, element, IsElement, IsContent, AreMisc, IsMisc, IsDocumentOpening, Node, IsDocument}
+use Rattle.xtbml_subset.proofs.Names.{◌≡◌, ℕ, zero, suc, ◌+◌, ◌<◌, true, ltb, List, [], ◌∷◌, ◌++◌, length, Option, Some, None, refl, sym, ap, subst, ◌∙◌, inl, inr, append_assoc, arith, ltb-true, length-append, bytes_eq-Decides, bytes_eq, White, Text, Opening, Prolog, Epilog, is_in, Tag, Piece, byte, comment, declaration, start, whole, finish, IsPiece, IsMark, Spell, State, outside, Steps, Content, nothing, letter, remark, element, IsElement, IsContent, IsMisc, IsDocumentOpening, Node, IsDocument}
+use Rattle.xtbml_subset.proofs.Misc.{AreMisc, are_misc, misc_from}
 use Rattle.xtbml_subset.proofs.Options.{chosen}
 
 abbrev open_state : List (List ℕ) → State
@@ -21,7 +22,8 @@ Closes levels (name ∷ names) at bytes =
 
 misc_more : (piece : Piece) (bytes text rest : List ℕ) → bytes ≡ text ++ rest → IsPiece piece text → ((pieces : List Piece) → AreMisc pieces → AreMisc (piece ∷ pieces))
     → IsMisc rest → IsMisc bytes
-misc_more piece bytes text rest parts is more misc = (piece ∷ misc.0, (text, rest, parts, is, misc.1), more misc.0 misc.2)
+misc_more piece bytes text rest parts is more misc =
+    (piece ∷ misc.0, (text, rest, parts, is, misc.1), misc_from (piece ∷ misc.0) (more misc.0 (are_misc misc.0 misc.2)))
 
 place_moves : (levels : ℕ) (names : List (List ℕ)) (at other : ℕ) (bytes : List ℕ) → at ≡ other → Closes levels names at bytes → Closes levels names other bytes
 place_moves levels names at other bytes e h = subst (λ (n : ℕ). Closes levels names n bytes) e h

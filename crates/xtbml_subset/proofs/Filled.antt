@@ -1,18 +1,34 @@
 -- Rows with blank ones at their end, and issue ages one after the other.
-use Rattle.xtbml_subset.proofs.Names.{◌≡◌, ℕ, true, false, List, [], ◌∷◌, ◌++◌, map, Option, None, Some, refl, sym, ap, ◌∙◌, append_assoc, codes, map-append, MatchOption, Element, Found, siblings_at, row_of, rows_from, found_asks, issues_from, found_of, RateElement, Issue, durations_of, issue_age_of, is_blank, has_filled, filled}
+use Rattle.xtbml_subset.proofs.Names.{◌≡◌, ℕ, Bool, true, false, not, ◌||◌, cond, List, [], ◌∷◌, ◌++◌, map, Option, None, Some, refl, sym, ap, ◌∙◌, append_assoc, codes, map-append, MatchOption, Element, Found, siblings_at, row_of, rows_from, found_asks, issues_from, found_of, RateElement, Issue, durations_of, issue_age_of, is_blank, has_filled, filled}
+
+passed : (blank rest : Bool) → blank ≡ true → rest ≡ (not blank || rest)
+passed true rest e = refl
+passed false rest e = absurd cc
+
+met : (blank rest : Bool) → blank ≡ false → true ≡ (not blank || rest)
+met true rest e = absurd cc
+met false rest e = refl
 
 pub passed_blank : (row : RateElement) (rows : List RateElement) → is_blank row.text ≡ true → has_filled rows ≡ has_filled (row ∷ rows)
-passed_blank row rows e = rw e refl
+passed_blank row rows e = passed (is_blank row.text) (has_filled rows) e
 
 pub met_filled : (row : RateElement) (rows : List RateElement) → is_blank row.text ≡ false → true ≡ has_filled (row ∷ rows)
-met_filled row rows e = rw e refl
+met_filled row rows e = met (is_blank row.text) (has_filled rows) e
+
+on : (test : Bool) (rows others : List RateElement) → test ≡ true → cond test rows others ≡ rows
+on true rows others e = refl
+on false rows others e = absurd cc
+
+off : (test : Bool) (rows others : List RateElement) → test ≡ false → cond test rows others ≡ others
+off true rows others e = absurd cc
+off false rows others e = refl
 
 pub filled_on : (row : RateElement) (rows : List RateElement) → has_filled (row ∷ rows) ≡ true → filled (row ∷ rows) ≡ row ∷ filled rows
-filled_on row rows e = rw e refl
+filled_on row rows e = on (has_filled (row ∷ rows)) (row ∷ filled rows) [] e
 
 pub filled_none : (rows : List RateElement) → has_filled rows ≡ false → filled rows ≡ []
 filled_none [] e = refl
-filled_none (row ∷ rows) e = rw e refl
+filled_none (row ∷ rows) e = off (has_filled (row ∷ rows)) (row ∷ filled rows) [] e
 
 abbrev pub issues_left : ℕ → Option Element → List Issue
 issues_left total None = []

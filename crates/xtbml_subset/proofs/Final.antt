@@ -1,5 +1,5 @@
 -- The answer of the reader is the one that is due.
-use Rattle.xtbml_subset.proofs.Names.{◌≡◌, ℕ, ◌≤◌, List, [], ◌∷◌, length, Some, None, Result, Ok, Err, refl, sym, ap, subst, ◌∙◌, inl, inr, arith, IfOk, IfErr, Rates, NotDocument, TableFault, Bad, NoMemory, fault_at, Element, Found, depth_in, elements_from, elements_at, Stands, IsPath, IsFound, found_of, sought_of, path_of, Parts, parts_of, IsTable, found_asks, Node, IsDocument, node_asks, IsLongestNested, IsJudged, IsNoDocument, IsTableAnswer, Gives, Unless}
+use Rattle.xtbml_subset.proofs.Names.{◌≡◌, ℕ, ◌≤◌, List, [], ◌∷◌, length, Some, None, Result, Ok, Err, refl, sym, ap, subst, ◌∙◌, inl, inr, arith, IfOk, IfErr, Rates, NotDocument, TableFault, Bad, NoMemory, fault_at, Element, Found, depth_in, elements_from, elements_at, Stands, IsPath, IsFound, found_of, sought_of, path_of, Parts, parts_of, IsTableBy, found_asks, Node, IsDocument, node_asks, IsLongestNested, IsJudged, IsNoDocument, IsTableAnswer, Gives, Unless}
 use Rattle.xtbml_subset.specs.declared.search.Search.{Search}
 use Rattle.xtbml_subset.specs.declared.search.Search.TheVariants.{Seeking, Hit, Missed}
 use Rattle.xtbml_subset.specs.declared.path.ElementPath.{ElementPath as APath}
@@ -8,6 +8,7 @@ use Rattle.xtbml_subset.proofs.Sounding.{whole_document, longest_nested}
 use Rattle.xtbml_subset.proofs.Matching.{Matches, finds_root}
 use Rattle.xtbml_subset.proofs.Surveyed.{path_found}
 use Rattle.xtbml_subset.proofs.Judging.{parts_same, table_one}
+use Rattle.xtbml_subset.proofs.ByParts.{table_by_parts, table_by_root}
 
 -- ---- no document
 
@@ -76,14 +77,14 @@ pub path_of_root : (bytes : List ℕ) (path : APath) (root : Element) → path.r
 path_of_root bytes path root e is = path_found bytes (path_of path) (found_of root) (ap sought_of e) is
 
 pub judged_by : (bytes : List ℕ) (f : Found) (others : List Found) (answer : Result Rates TableFault) → None ≡ fault_at bytes → elements_at 0 None bytes ≡ f ∷ others
-    → IsTable (parts_of (found_asks (length bytes)) f) answer → IsJudged bytes answer
+    → IsTableBy (parts_of (found_asks (length bytes)) f) answer → IsJudged bytes answer
 judged_by bytes f others answer e first is =
     let d = whole_document bytes (sym e) in
-    (d.0, d.1, subst (λ (parts : Result Parts TableFault). IsTable parts answer) (same_parts bytes f others d.0 first d.1) is)
+    (d.0, d.1, table_by_root node_asks d.0 answer (subst (λ (parts : Result Parts TableFault). IsTableBy parts answer) (same_parts bytes f others d.0 first d.1) is))
 
 pub due_by : (bytes : List ℕ) (f : Found) (others : List Found) (answer : Result Rates TableFault) → None ≡ fault_at bytes → elements_at 0 None bytes ≡ f ∷ others
-    → IsTableAnswer bytes answer → IsTable (parts_of (found_asks (length bytes)) f) answer
-due_by bytes f others answer e first (inl judged) = subst (λ (parts : Result Parts TableFault). IsTable parts answer) (sym (same_parts bytes f others judged.0 first judged.1)) judged.2
+    → IsTableAnswer bytes answer → IsTableBy (parts_of (found_asks (length bytes)) f) answer
+due_by bytes f others answer e first (inl judged) = subst (λ (parts : Result Parts TableFault). IsTableBy parts answer) (sym (same_parts bytes f others judged.0 first judged.1)) (table_by_parts node_asks judged.0 answer judged.2)
 due_by bytes f others answer e first (inr h) = let d = whole_document bytes (sym e) in absurd (h.0 d.0 d.1)
 
 -- ---- results
@@ -94,15 +95,15 @@ if_ok (Err fault) P Q goes h = tt
 
 pub unless_goes : (fault : TableFault) (P Q : Type 0) → (P → Q) → Unless fault P → Unless fault Q
 unless_goes (Bad at kind) P Q goes h = goes h
-unless_goes NoMemory P Q goes h = tt
+unless_goes (NoMemory lack) P Q goes h = tt
 
 pub if_fault : (result : Result Rates TableFault) (P Q : TableFault → Type 0) → ((fault : TableFault) → P fault → Q fault)
     → IfErr result (λ fault. Unless fault (P fault)) → IfErr result (λ fault. Unless fault (Q fault))
 if_fault (Ok table) P Q goes h = tt
 if_fault (Err fault) P Q goes h = unless_goes fault (P fault) (Q fault) (goes fault) h
 
-pub gives : (result answer : Result Rates TableFault) (parts : Result Parts TableFault) → IfOk result (λ table. IsTable parts (Ok table))
-    → IfErr result (λ fault. Unless fault (IsTable parts (Err fault))) → IsTable parts answer → Gives result answer
+pub gives : (result answer : Result Rates TableFault) (parts : Result Parts TableFault) → IfOk result (λ table. IsTableBy parts (Ok table))
+    → IfErr result (λ fault. Unless fault (IsTableBy parts (Err fault))) → IsTableBy parts answer → Gives result answer
 gives (Ok table) answer parts read fault is = table_one parts answer (Ok table) is read
 gives (Err (Bad at kind)) answer parts read fault is = table_one parts answer (Err (Bad at kind)) is fault
-gives (Err NoMemory) answer parts read fault is = tt
+gives (Err (NoMemory lack)) answer parts read fault is = tt

@@ -1,7 +1,8 @@
 -- The checks find the same of the elements that are found as of the document, and one answer.
-use Rattle.xtbml_subset.proofs.Names.{◌≡◌, ℕ, ◌+◌, Bool, true, false, cond, List, [], ◌∷◌, map, Option, Some, None, Result, Ok, Err, refl, sym, ap, subst, ◌∙◌, codes, MatchBool, bytes_eq, Rates, NoTable, Select, TableFault, Bad, ◌>>=◌, trimmed, Tag, Found, children_at, row_of, found_asks, Node, named_in, node_row, node_asks, RateElement, first, ◌>=>◌, or_fault, within, rooted, path, rates_in, rates_of, factor_of, age_of, is_due, ReadsRate, rated, IsAged, with_rate, Continues, ReadsRows, IsScale, Parts, option_row, aggregate_parts, parts_of, first_age, IsScaledTable, IsTable}
+use Rattle.xtbml_subset.proofs.Names.{◌≡◌, ℕ, ◌+◌, Bool, true, false, cond, List, [], ◌∷◌, map, Option, Some, None, Result, Ok, Err, refl, sym, ap, subst, ◌∙◌, codes, MatchBool, bytes_eq, Rates, NoTable, Select, TableFault, Bad, trimmed, Tag, Found, children_at, row_of, found_asks, Node, named_in, node_row, node_asks, RateElement, first, ◌>=>◌, option_map, ok_or, within, rooted, path, rates_in, rates_of, in_first, factor_of, age_of, is_due, ReadsRate, rated, IsAged, ReadsAll, ReadsRow, ReadsRates, IsScale, Parts, aggregate_parts, parts_of, first_age, IsTableBy}
 use Rattle.decimal_text.proofs.CallerLemmas.{one_rate}
 use Rattle.xtbml_subset.proofs.Matching.{Matches, AllMatch, children_match, row_match}
+use Rattle.xtbml_subset.proofs.ReadingRuns.{Single, then_single, all_single}
 
 -- ---- what is found is what the document has
 
@@ -28,7 +29,7 @@ equal_by (Err e) (Ok b) same = absurd same
 abbrev Tied : ℕ → Found → Node → Type 0
 Tied total f node = Matches total f node
 
-first_same : (total : ℕ) (fs : List Found) (ns : List Node) (e f : TableFault) → AllMatch total fs ns → e ≡ f → SameBy (Tied total) (or_fault e (first fs)) (or_fault f (first ns))
+first_same : (total : ℕ) (fs : List Found) (ns : List Node) (e f : TableFault) → AllMatch total fs ns → e ≡ f → SameBy (Tied total) (ok_or (first fs) e) (ok_or (first ns) f)
 first_same total [] [] e f all same = same
 first_same total [] (n ∷ ns) e f all same = absurd all
 first_same total (x ∷ fs) [] e f all same = absurd all
@@ -99,23 +100,26 @@ rates_same total f node m =
     rates_in_same total f node (children_at (codes "Axis") f) (children_at (codes "Y") f) (named_in (codes "Axis") node.inner) (named_in (codes "Y") node.inner) m
     (children_match total f node (codes "Axis") m) (children_match total f node (codes "Y") m)
 
-first_row : (total : ℕ) (fs : List Found) (ns : List Node) → AllMatch total fs ns → option_row (found_asks total) (first fs) ≡ option_row node_asks (first ns)
+first_row : (total : ℕ) (fs : List Found) (ns : List Node) → AllMatch total fs ns
+    → option_map (λ f. row_of total f) (first fs) ≡ option_map (λ n. node_row n) (first ns)
 first_row total [] [] all = refl
 first_row total [] (n ∷ ns) all = absurd all
 first_row total (f ∷ fs) [] all = absurd all
 first_row total (f ∷ fs) (n ∷ ns) all = ap (λ (row : RateElement). Some row) (row_match total f n all.0)
 
-factor_in : (total : ℕ) (fs : List Found) (ns : List Node) → AllMatch total fs ns
-    → option_row (found_asks total) (first fs >>= λ about. first (children_at (codes "ScalingFactor") about)) ≡ option_row node_asks (first ns >>= λ about. first (named_in (codes "ScalingFactor") about.inner))
-factor_in total [] [] all = refl
-factor_in total [] (n ∷ ns) all = absurd all
-factor_in total (f ∷ fs) [] all = absurd all
-factor_in total (f ∷ fs) (n ∷ ns) all = first_row total (children_at (codes "ScalingFactor") f) (named_in (codes "ScalingFactor") n.inner) (children_match total f n (codes "ScalingFactor") all.0)
+pub in_first_same : (total : ℕ) (name : List ℕ) (fs : List Found) (ns : List Node) → AllMatch total fs ns → AllMatch total (in_first (found_asks total) name fs) (in_first node_asks name ns)
+in_first_same total name [] [] all = tt
+in_first_same total name [] (n ∷ ns) all = absurd all
+in_first_same total name (f ∷ fs) [] all = absurd all
+in_first_same total name (f ∷ fs) (n ∷ ns) all = children_match total f n name all.0
 
-pub factor_same : (total : ℕ) (f : Found) (node : Node) → Matches total f node
-    → option_row (found_asks total) (factor_of (found_asks total) f) ≡ option_row node_asks (factor_of node_asks node)
+pub factor_same : (total : ℕ) (fs : List Found) (ns : List Node) → AllMatch total fs ns → factor_of (found_asks total) fs ≡ factor_of node_asks ns
 unfolding factor_of
-factor_same total f node m = factor_in total (children_at (codes "MetaData") f) (named_in (codes "MetaData") node.inner) (children_match total f node (codes "MetaData") m)
+factor_same total fs ns all =
+    let about = in_first_same total (codes "MetaData") fs ns all in
+    first_row total (in_first (found_asks total) (codes "ScalingFactor") (in_first (found_asks total) (codes "MetaData") fs))
+    (in_first node_asks (codes "ScalingFactor") (in_first node_asks (codes "MetaData") ns))
+    (in_first_same total (codes "ScalingFactor") (in_first (found_asks total) (codes "MetaData") fs) (in_first node_asks (codes "MetaData") ns) about)
 
 pub rows_same : (total : ℕ) (fs : List Found) (ns : List Node) → AllMatch total fs ns → map (λ f. row_of total f) fs ≡ map (λ n. node_row n) ns
 rows_same total [] [] all = refl
@@ -130,11 +134,11 @@ pub aggregate_same : (total : ℕ) (fs : Found × Found) (ns : Node × Node) →
 aggregate_same total fs ns tied =
     equal_by (aggregate_parts (found_asks total) fs) (aggregate_parts node_asks ns)
     (then_same (AllMatch total) (λ a b. a ≡ b) (rates_of (found_asks total) fs.1) (rates_of node_asks ns.1)
-    (λ rates. Ok (record { factor = option_row (found_asks total) (factor_of (found_asks total) fs.0); rows = map (λ x. row_of total x) rates }))
-    (λ rates. Ok (record { factor = option_row node_asks (factor_of node_asks ns.0); rows = map (λ x. node_row x) rates }))
+    (λ rates. Ok (record { factor = factor_of (found_asks total) (fs.0 ∷ []); rows = map (λ x. row_of total x) rates }))
+    (λ rates. Ok (record { factor = factor_of node_asks (ns.0 ∷ []); rows = map (λ x. node_row x) rates }))
     (rates_same total fs.1 ns.1 tied.1)
     (λ a b all.
-    let factors = factor_same total fs.0 ns.0 tied.0 in
+    let factors = factor_same total (fs.0 ∷ []) (ns.0 ∷ []) (tied.0, tt) in
     let rows = rows_same total a b all in
     cc))
 
@@ -167,24 +171,18 @@ pub by_bool : (t : Bool) (P Q R S : Type 0) (X : Type 0) → MatchBool t P Q →
 by_bool true P Q R S X a b holds other = holds a b
 by_bool false P Q R S X a b holds other = other a b
 
-aged_one : (due : Option ℕ) (row : RateElement) (age : Option ℕ) (a b : Result (ℕ × ℕ) TableFault) → IsAged due row age a → IsAged due row age b → a ≡ b
+aged_one : (due : Option ℕ) (row : RateElement) (age : Option ℕ) → Single (IsAged due row age)
 aged_one due row None a b h k = h ∙ sym k
 aged_one due row (Some age) a b h k =
     by_bool (is_due due age) _ _ _ _ (a ≡ b) h k
-    (λ x y. x.2 ∙ ap (λ (o : Option ℕ). rated row.at age o) (reads_one row.text x.0 y.0 x.1 y.1) ∙ sym y.2)
+    (λ x y. x.2 ∙ ap (λ (o : Option ℕ). rated row.at (Some (age + 1)) o) (reads_one row.text x.0 y.0 x.1 y.1) ∙ sym y.2)
     (λ x y. x ∙ sym y)
 
-goes_one : (rows : List RateElement) (one : Result (ℕ × ℕ) TableFault) (a b : Result (List ℕ) TableFault)
-    → ((due : Option ℕ) (x y : Result (List ℕ) TableFault) → ReadsRows due rows x → ReadsRows due rows y → x ≡ y)
-    → Continues (λ next rest. ReadsRows next rows rest) one a → Continues (λ next rest. ReadsRows next rows rest) one b → a ≡ b
-goes_one rows (Err fault) a b others h k = h ∙ sym k
-goes_one rows (Ok one) a b others h k = h.2 ∙ ap (with_rate one.1) (others (Some (one.0 + 1)) h.0 k.0 h.1 k.1) ∙ sym k.2
-
-rows_one : (rows : List RateElement) (due : Option ℕ) (a b : Result (List ℕ) TableFault) → ReadsRows due rows a → ReadsRows due rows b → a ≡ b
-rows_one [] due a b h k = h ∙ sym k
-rows_one (row ∷ rows) due a b h k =
-    let same : h.0 ≡ k.0 = aged_one due row (age_of row.label) h.0 k.0 h.1 k.1 in
-    goes_one rows h.0 a b (λ next x y p q. rows_one rows next x y p q) h.2 (subst (λ (one : Result (ℕ × ℕ) TableFault). Continues (λ next rest. ReadsRows next rows rest) one b) (sym same) k.2)
+pub rates_single : (rows : List RateElement) → Single (ReadsRates rows)
+rates_single rows =
+    then_single (λ one. ReadsAll ReadsRow None rows one) (λ (rates : List ℕ) (made : Result Rates TableFault). made ≡ Ok (record { first_age = first_age rows; rates = rates }))
+    (all_single ReadsRow (λ due row. aged_one due row (age_of row.label)) rows None)
+    (λ rates x y p q. p ∙ sym q)
 
 pub scale_one : (factor : Option RateElement) (a b : Result (Unit {0}) TableFault) → IsScale factor a → IsScale factor b → a ≡ b
 scale_one None a b h k = h ∙ sym k
@@ -193,13 +191,6 @@ scale_one (Some row) (Ok x) (Err f) h k = absurd (k.0 h)
 scale_one (Some row) (Err e) (Ok y) h k = absurd (h.0 k)
 scale_one (Some row) (Err e) (Err f) h k = let same : e ≡ f = h.1 ∙ sym k.1 in ap (λ (x : TableFault). Err x) same
 
-pub scaled_one : (rows : List RateElement) (scale : Result (Unit {0}) TableFault) (a b : Result Rates TableFault) → IsScaledTable rows scale a → IsScaledTable rows scale b → a ≡ b
-scaled_one rows (Err fault) a b h k = h ∙ sym k
-scaled_one rows (Ok none) a b h k =
-    h.2 ∙ ap (λ (read : Result (List ℕ) TableFault). read >=> λ rates. Ok (record { first_age = first_age rows; rates = rates })) (rows_one rows None h.0 k.0 h.1 k.1) ∙ sym k.2
-
-pub table_one : (parts : Result Parts TableFault) (a b : Result Rates TableFault) → IsTable parts a → IsTable parts b → a ≡ b
-table_one (Err fault) a b h k = h ∙ sym k
-table_one (Ok parts) a b h k =
-    let same : h.0 ≡ k.0 = scale_one parts.factor h.0 k.0 h.1 k.1 in
-    scaled_one parts.rows h.0 a b h.2 (subst (λ (scale : Result (Unit {0}) TableFault). IsScaledTable parts.rows scale b) (sym same) k.2)
+pub table_one : (parts : Result Parts TableFault) → Single (IsTableBy parts)
+table_one (Err fault) = λ a b h k. h ∙ sym k
+table_one (Ok parts) = then_single (λ one. IsScale parts.factor one) (λ none read. ReadsRates parts.rows read) (scale_one parts.factor) (λ none. rates_single parts.rows)

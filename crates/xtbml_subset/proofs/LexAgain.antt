@@ -144,7 +144,7 @@ parts_again space name before behind quoted value rest is_space is_name white_be
     let valued = quoted_again quoted value rest is_quoted in
     rw (spaces, named, sign, value_first, valued) refl
 
-pub attribute_again : (text : List ℕ) (a : Attribute) (rest : List ℕ) → IsAttribute text a → attribute_at (text ++ rest) ≡ Some (a, rest)
+pub attribute_again : (text : List ℕ) (a : Attribute) (rest : List ℕ) → IsAttribute a text → attribute_at (text ++ rest) ≡ Some (a, rest)
 attribute_again text a rest is =
     ap attribute_at (ap (λ (s : List ℕ). s ++ rest) is.parts ∙ regroup is.space a.0 is.before_sign is.after_sign is.quoted rest)
     ∙ parts_again is.space a.0 is.before_sign is.after_sign is.quoted a.1 rest is.is_space is.is_name is.white_before is.white_after is.is_quoted
@@ -158,7 +158,7 @@ no_attribute (w ∷ space) b rest h other no_start =
     let more = after_again White space (b ∷ rest) h.1 other in
     rw (first, more, no_start) refl
 
-pub attribute_stops : (text : List ℕ) (a : Attribute) (rest : List ℕ) → IsAttribute text a → Stops Name (text ++ rest)
+pub attribute_stops : (text : List ℕ) (a : Attribute) (rest : List ℕ) → IsAttribute a text → Stops Name (text ++ rest)
 attribute_stops text a rest is = subst (λ (s : List ℕ). Stops Name (s ++ rest)) (sym is.parts) (space_first is.space (a.0 ++ (is.before_sign ++ 61 ∷ (is.after_sign ++ is.quoted))) rest is.is_space)
   where
     space_first : (space more rest : List ℕ) → IsSpace space → Stops Name ((space ++ more) ++ rest)

@@ -77,7 +77,7 @@ regroup : (space name before after quoted rest : List ℕ)
 regroup space name before after quoted rest = sym (simp append_assoc)
 
 pub attribute_takes : (bytes name value rest : List ℕ) → attribute_at bytes ≡ Some ((name, value), rest)
-    → (text : List ℕ) × (bytes ≡ text ++ rest) × IsAttribute text (name, value)
+    → (text : List ℕ) × (bytes ≡ text ++ rest) × IsAttribute (name, value) text
 unfolding attribute_at
 attribute_takes bytes name value rest e =
     let s = bind_some (spaces_at bytes) (λ space. name_at space >>= λ n. byte_at 61 (after White n.1) >>= λ sign. quoted_at (after White sign) >>= λ v. Some ((n.0, v.0), v.1)) ((name, value), rest) e in

@@ -1,3 +1,5 @@
+pub mod Parts
+pub mod Words
 pub mod Names
 pub mod Options
 pub mod Runs
@@ -12,6 +14,7 @@ pub mod RowRuns
 pub mod LexAgain
 pub mod PieceAgain
 pub mod PassedOver
+pub mod Misc
 pub mod Accepting
 pub mod Scales
 pub mod TableRates
@@ -31,6 +34,7 @@ pub mod Final
 pub mod Filled
 pub mod SelectReading
 pub mod AnyParts
+pub mod ByParts
 pub mod AnyFinal
 pub mod WorkedPlaces
 pub mod WorkedTables

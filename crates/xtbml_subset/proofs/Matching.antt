@@ -1,5 +1,6 @@
 -- The elements that the search finds are those of the document.
-use Rattle.xtbml_subset.proofs.Names.{◌≡◌, ℕ, zero, suc, ◌+◌, ◌-◌, Bool, true, false, cond, eqb, List, [], ◌∷◌, ◌++◌, length, Option, Some, None, refl, sym, ap, subst, ◌∙◌, ◌⊎◌, inl, inr, append_assoc, arith, codes, ne_eqb, and_left, length-append, bytes_eq, White, Text, is_in, starts_name, InClass, front, after, Tag, Piece, byte, comment, declaration, start, whole, finish, IsPiece, IsTagName, IsMark, Spell, byte_at, ◌>>=◌, value_of, Found, on, found, closed, is_wanted, is_hit, step_of, elements_at, children_at, text_at, Content, nothing, letter, remark, element, IsElement, IsContent, AreMisc, IsDocumentOpening, Node, IsDocument, with_named, named_in, with_letter, text_of, node_row, row_of, after_mark}
+use Rattle.xtbml_subset.proofs.Names.{◌≡◌, ℕ, zero, suc, ◌+◌, ◌-◌, Bool, true, false, cond, eqb, List, [], ◌∷◌, ◌++◌, length, Option, Some, None, refl, sym, ap, subst, ◌∙◌, ◌⊎◌, inl, inr, append_assoc, arith, codes, ne_eqb, and_left, length-append, bytes_eq, White, Text, is_in, starts_name, InClass, front, after, Tag, Piece, byte, comment, declaration, start, whole, finish, IsPiece, IsTagName, IsMark, Spell, byte_at, ◌>>=◌, value_of, Found, on, found, closed, is_wanted, is_hit, step_of, elements_at, children_at, text_at, Content, nothing, letter, remark, element, IsElement, IsContent, IsDocumentOpening, Node, IsDocument, named_in, option_map, text_of, node_row, row_of, after_mark}
+use Rattle.xtbml_subset.proofs.Misc.{AreMisc, are_misc}
 use Rattle.std.proofs.Math.Numerals.{add-one}
 use Rattle.xtbml_subset.proofs.LexAgain.{white_is_text}
 use Rattle.xtbml_subset.proofs.PieceAgain.{not_start, piece_again}
@@ -187,7 +188,7 @@ level (suc levels) (element place tag inner more) total at bytes rest name is pl
       | true ↦ λ e. subst (λ (n : ℕ). AllMatch total (elements_at 0 (Some name) (text ++ behind)) (node_of n tag inner ∷ nodes)) (sym here) (element_hit levels total at tag inner name text behind nodes lies e others)
       | false ↦ λ e. element_miss levels total at tag inner name text behind nodes lies e others
     ] in
-    subst (λ (s : List ℕ). AllMatch total (elements_at 0 (Some name) s) (with_named name (node_of place tag inner) nodes)) (sym whole_is) (both refl)
+    subst (λ (s : List ℕ). AllMatch total (elements_at 0 (Some name) s) (cond (bytes_eq tag.name name) (node_of place tag inner ∷ nodes) nodes)) (sym whole_is) (both refl)
 
 -- ---- what the checks ask
 
@@ -214,10 +215,10 @@ children_match total f node name m =
 abbrev text_before : List ℕ → Option (List ℕ)
 text_before bytes = byte_at 60 (after Text bytes) >>= (λ rest. byte_at 47 rest) >>= λ rest. Some (front Text bytes)
 
-text_letter : (b : ℕ) (bytes : List ℕ) → is_in Text b ≡ true → text_before (b ∷ bytes) ≡ with_letter b (text_before bytes)
+text_letter : (b : ℕ) (bytes : List ℕ) → is_in Text b ≡ true → text_before (b ∷ bytes) ≡ option_map (λ (text : List ℕ). b ∷ text) (text_before bytes)
 text_letter b bytes is = rw is (by_end (byte_at 60 (after Text bytes) >>= λ rest. byte_at 47 rest))
   where
-    by_end : (o : Option (List ℕ)) → (o >>= λ rest. Some (b ∷ front Text bytes)) ≡ with_letter b (o >>= λ rest. Some (front Text bytes))
+    by_end : (o : Option (List ℕ)) → (o >>= λ rest. Some (b ∷ front Text bytes)) ≡ option_map (λ (text : List ℕ). b ∷ text) (o >>= λ rest. Some (front Text bytes))
     by_end None = refl
     by_end (Some rest) = refl
 
@@ -238,7 +239,7 @@ text_is levels nothing at bytes closing more name is end =
     ap (λ (s : List ℕ). text_before (s ++ (closing ++ more))) is ∙ ap (λ (s : List ℕ). text_before (s ++ more)) end.parts
 text_is levels (letter b rest) at bytes closing more name is end =
     ap (λ (s : List ℕ). text_before (s ++ (closing ++ more))) is.1 ∙ text_letter b (is.0 ++ (closing ++ more)) is.2
-    ∙ ap (with_letter b) (text_is levels rest (at + 1) is.0 closing more name is.3 end)
+    ∙ ap (option_map (λ (text : List ℕ). b ∷ text)) (text_is levels rest (at + 1) is.0 closing more name is.3 end)
 text_is levels (remark rest) at bytes closing more name is end =
     ap (λ (s : List ℕ). text_before (s ++ (closing ++ more))) (is.2 ∙ ap (λ (s : List ℕ). s ++ is.1) is.3.1)
 text_is zero (element place tag inner rest) at bytes closing more name is end = absurd is
@@ -363,5 +364,5 @@ finds_root bytes root d =
     let h = root_here (length bytes) at root d.text d.behind d.is_root placed in
     let over : Top bytes ≡ Top (d.text ++ d.behind) =
     ap Top d.parts ∙ top_mark d.mark (d.opening ++ inside) d.is_mark ∙ top_opening d.opening inside d.is_opening
-    ∙ top_misc d.misc_before.0 d.before (d.text ++ d.behind) d.misc_before.1 d.misc_before.2 in
+    ∙ top_misc d.misc_before.0 d.before (d.text ++ d.behind) d.misc_before.1 (are_misc d.misc_before.0 d.misc_before.2) in
     record { found = h.0; others = h.1; first = over ∙ h.2; matches = h.3 }

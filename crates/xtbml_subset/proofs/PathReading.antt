@@ -1,5 +1,5 @@
 -- What the searches found is what the checks ask for.
-use Rattle.xtbml_subset.proofs.Names.{◌≡◌, ℕ, ◌-◌, List, [], ◌∷◌, length, Ok, Err, sym, ap, subst, ◌∙◌, ◌⊎◌, inl, inr, NoTable, Bad, Element, first, or_fault, within, Found, children_at, siblings_at, row_of, found_asks, IsFirstIn, found_of, sought_of}
+use Rattle.xtbml_subset.proofs.Names.{◌≡◌, ℕ, ◌-◌, List, [], ◌∷◌, length, Ok, Err, sym, ap, subst, ◌∙◌, ◌⊎◌, inl, inr, NoTable, Bad, Element, first, ok_or, within, Found, children_at, siblings_at, row_of, found_asks, IsFirstIn, found_of, sought_of}
 use Rattle.xtbml_subset.specs.declared.search.Search.{Search}
 use Rattle.xtbml_subset.specs.declared.search.Search.TheVariants.{Seeking, Hit, Missed}
 
@@ -17,11 +17,11 @@ pub within_hit : (total : ℕ) (name : List ℕ) (parent : Found) (search : Sear
     → Ok (found_of e) ≡ within (found_asks total) name parent
 unfolding within
 within_hit total name parent search e is first_is =
-    sym (ap (λ (fs : List Found). or_fault (Bad (row_of total parent).at NoTable) (first fs)) (hit_first name parent search e is first_is))
+    sym (ap (λ (fs : List Found). ok_or (first fs) (Bad (row_of total parent).at NoTable)) (hit_first name parent search e is first_is))
 
 pub within_none : (total : ℕ) (name : List ℕ) (parent : Found) (search : Search) (at : ℕ) → (search ≡ Seeking) ⊎ (search ≡ Missed) → IsFirstIn name parent (sought_of search)
     → at ≡ total - length parent.from → Err (Bad at NoTable) ≡ within (found_asks total) name parent
 unfolding within
 within_none total name parent search at other first_is place =
     ap (λ (n : ℕ). Err (Bad n NoTable)) place
-    ∙ sym (ap (λ (fs : List Found). or_fault (Bad (row_of total parent).at NoTable) (first fs)) (none_first name parent search other first_is))
+    ∙ sym (ap (λ (fs : List Found). ok_or (first fs) (Bad (row_of total parent).at NoTable)) (none_first name parent search other first_is))

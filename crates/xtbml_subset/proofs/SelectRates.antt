@@ -1,40 +1,26 @@
 -- Select rates that are read, with no gap before the ultimate ones, make a table with these.
-use Rattle.xtbml_subset.proofs.Names.{◌≡◌, ℕ, zero, suc, ◌+◌, ◌-◌, ◌<◌, ◌≤◌, true, false, leb, ltb, List, [], ◌∷◌, length, map, get_or, Option, Some, None, Result, Ok, Err, refl, sym, ap, subst, ◌∙◌, inl, inr, arith, unwrap_or, eqb-true, leb-true, le-leb, ltb-false, and_parts, and_cases, true≢false, length-map, Rates, ONE, last_age_of, IsSelectPeriod, AreSelected, TableFault, BadDuration, Bad, Attained, RateElement, age_of, is_due, ReadsRate, Issue, Further, ReadsAll, duration_of, follows, is_duration, timed, IsTimed, ReadsDuration, ReadsPeriod, IsIssuedAt, ReadsIssue, first_issue_age, leaves_gap, first_gap}
+use Rattle.xtbml_subset.proofs.Names.{◌≡◌, ℕ, zero, suc, ◌+◌, ◌-◌, ◌<◌, ◌≤◌, true, false, leb, ltb, List, [], ◌∷◌, length, map, get_or, Option, Some, None, Result, Ok, Err, refl, sym, ap, subst, ◌∙◌, inl, inr, arith, unwrap_or, eqb-true, leb-true, le-leb, ltb-false, and_parts, and_cases, true≢false, length-map, Rates, ONE, last_age_of, IsSelectPeriod, AreSelected, TableFault, BadDuration, Bad, Attained, RateElement, age_of, is_due, Issue, Further, ReadsAll, short_number, ◌>>=◌, follows, is_duration, timed, IsTimed, ReadsDuration, ReadsPeriod, IsIssuedAt, ReadsIssue, first_issue_age, leaves_gap, first_gap}
 use Rattle.xtbml_subset.proofs.Options.{chosen}
-use Rattle.xtbml_subset.proofs.TableRates.{at_test, age_bound, rate_bound}
+use Rattle.xtbml_subset.proofs.TableRates.{at_test, rated_ok, age_bound, rate_bound}
 use Rattle.xtbml_subset.proofs.ReadingRuns.{first_of_all, ok_is_list, all_count}
 
 -- ---- the rates of an issue age
-
-abbrev ok_timed : Attained × ℕ → Result (Attained × ℕ) TableFault
-ok_timed x = Ok x
-
-ok_is_timed : (x y : Attained × ℕ) → ok_timed x ≡ ok_timed y → x ≡ y
-ok_is_timed x y e = cc
 
 record IsTimely (due next : Attained) (rate : ℕ) : Type 0 where
   young : due.age ≤ 130
   next_is : next.age ≡ due.age + 1
   low : rate ≤ 1000000000
 
-timed_ok : (row : RateElement) (duration age : ℕ) (read : Option ℕ) (next : Attained) (rate : ℕ) → ReadsRate row.text read → Ok (next, rate) ≡ timed row.at age duration read
-    → (next.age ≡ age + 1) × ReadsRate row.text (Some rate)
-timed_ok row duration age None next rate reads e = absurd cc
-timed_ok row duration age (Some r) next rate reads e =
-    let p = ok_is_timed (next, rate) (record { duration = Some (duration + 1); age = age + 1 }, r) e in
-    let same : rate ≡ r = ap (λ (x : Attained × ℕ). x.1) p in
-    (ap (λ (x : Attained × ℕ). x.0.age) p, subst (λ (n : ℕ). ReadsRate row.text (Some n)) (sym same) reads)
-
 timely : (due next : Attained) (row : RateElement) (rate : ℕ) → ReadsDuration due row (Ok (next, rate)) → IsTimely due next rate
-timely due next row rate is = at (duration_of row.label) is
+timely due next row rate is = at (row.label >>= λ text. short_number text) is
   where
     at : (o : Option ℕ) → IsTimed due row o (Ok (next, rate)) → IsTimely due next rate
     at None e = absurd cc
     at (Some duration) read =
         elim (at_test (is_duration due duration) _ _ read) [
           | inl h ↦
-              let r = timed_ok row duration due.age h.1.0 next rate h.1.1 h.1.2 in
-              record { young = leb-true due.age 130 (and_parts (follows due.duration duration) (leb due.age 130) h.0).1; next_is = r.0; low = rate_bound row.text rate r.1 }
+              let r = rated_ok row.at row.text (timed due.age duration) next rate h.1.0 h.1.1 h.1.2 in
+              record { young = leb-true due.age 130 (and_parts (follows due.duration duration) (leb due.age 130) h.0).1; next_is = ap (λ (x : Attained). x.age) r.0; low = rate_bound row.text rate r.1 }
           | inr h ↦ absurd (let no_rate = h.1 in cc)
         ]
 

@@ -1,18 +1,18 @@
 -- By what the reader found, the answer of the checks of a select table.
-use Rattle.xtbml_subset.proofs.Names.{◌≡◌, ℕ, List, ◌∷◌, map, Option, None, Some, Ok, Err, refl, sym, ap, ◌∙◌, codes, Rates, Selected, UltimateGap, TableFault, Bad, IsScale, Issue, SelectParts, issue_axes, issue_age_of, ReadsAll, ReadsIssue, ReadsUltimate, first_issue_age, first_gap, without_gap, IsSelectTable, Found, siblings_at, found_asks, issues_from}
+use Rattle.xtbml_subset.proofs.Names.{◌≡◌, ℕ, List, ◌∷◌, map, Option, None, Some, Ok, Err, refl, sym, ap, ◌∙◌, codes, Rates, Selected, UltimateGap, TableFault, Bad, IsScale, Issue, SelectParts, issue_axes, issue_age_of, ReadsAll, ReadsIssue, ReadsUltimate, first_issue_age, first_gap, without_gap, IsSelectBy, Found, siblings_at, found_asks, issues_from}
 
-pub scale_refused : (parts : SelectParts) (fault : TableFault) → IsScale parts.factor (Err fault) → IsSelectTable parts (Err fault)
+pub scale_refused : (parts : SelectParts) (fault : TableFault) → IsScale parts.factor (Err fault) → IsSelectBy parts (Err fault)
 scale_refused parts fault h = (Err fault, h, refl)
 
-pub second_refused : (parts : SelectParts) (fault : TableFault) → IsScale parts.factor (Ok tt) → IsScale parts.ultimate_factor (Err fault) → IsSelectTable parts (Err fault)
+pub second_refused : (parts : SelectParts) (fault : TableFault) → IsScale parts.factor (Ok tt) → IsScale parts.ultimate_factor (Err fault) → IsSelectBy parts (Err fault)
 second_refused parts fault a h = (Ok tt, a, (Err fault, h, refl))
 
 pub issues_refused : (parts : SelectParts) (fault : TableFault) → IsScale parts.factor (Ok tt) → IsScale parts.ultimate_factor (Ok tt) → ReadsAll ReadsIssue None parts.issues (Err fault)
-    → IsSelectTable parts (Err fault)
+    → IsSelectBy parts (Err fault)
 issues_refused parts fault a b h = (Ok tt, a, (Ok tt, b, (Err fault, h, refl)))
 
 pub ultimate_refused : (parts : SelectParts) (rows : List (List ℕ)) (fault : TableFault) → IsScale parts.factor (Ok tt) → IsScale parts.ultimate_factor (Ok tt)
-    → ReadsAll ReadsIssue None parts.issues (Ok rows) → ReadsUltimate parts.at parts.ultimate (Err fault) → IsSelectTable parts (Err fault)
+    → ReadsAll ReadsIssue None parts.issues (Ok rows) → ReadsUltimate parts.at parts.ultimate (Err fault) → IsSelectBy parts (Err fault)
 ultimate_refused parts rows fault a b c h = (Ok tt, a, (Ok tt, b, (Ok rows, c, (Err fault, h, refl))))
 
 gapped : (issues : List Issue) (rows : List (List ℕ)) (u : Rates) (first_age : ℕ) (places : List ℕ) (gap : Option ℕ) → first_age ≡ first_issue_age issues → places ≡ map (λ one. one.at) issues
@@ -22,14 +22,14 @@ gapped issues rows u first_age places gap age_is places_are e =
 
 pub gap_refused : (parts : SelectParts) (rows : List (List ℕ)) (u : Rates) (first_age : ℕ) (places : List ℕ) (at : ℕ) → IsScale parts.factor (Ok tt) → IsScale parts.ultimate_factor (Ok tt)
     → ReadsAll ReadsIssue None parts.issues (Ok rows) → ReadsUltimate parts.at parts.ultimate (Ok u) → first_age ≡ first_issue_age parts.issues → places ≡ map (λ one. one.at) parts.issues
-    → Some at ≡ first_gap u first_age places rows → IsSelectTable parts (Err (Bad at UltimateGap))
+    → Some at ≡ first_gap u first_age places rows → IsSelectBy parts (Err (Bad at UltimateGap))
 gap_refused parts rows u first_age places at a b c d age_is places_are e =
     let given : Selected = record { first_age = first_issue_age parts.issues; rows = rows; ultimate = u } in
     (Ok tt, a, (Ok tt, b, (Ok rows, c, (Ok u, d, ap (λ (gap : Option ℕ). without_gap gap given) (gapped parts.issues rows u first_age places (Some at) age_is places_are e)))))
 
 pub joins : (parts : SelectParts) (rows : List (List ℕ)) (u : Rates) (first_age : ℕ) (places : List ℕ) → IsScale parts.factor (Ok tt) → IsScale parts.ultimate_factor (Ok tt)
     → ReadsAll ReadsIssue None parts.issues (Ok rows) → ReadsUltimate parts.at parts.ultimate (Ok u) → first_age ≡ first_issue_age parts.issues → places ≡ map (λ one. one.at) parts.issues
-    → None ≡ first_gap u first_age places rows → IsSelectTable parts (Ok (record { first_age = first_age; rows = rows; ultimate = u }))
+    → None ≡ first_gap u first_age places rows → IsSelectBy parts (Ok (record { first_age = first_age; rows = rows; ultimate = u }))
 joins parts rows u first_age places a b c d age_is places_are e =
     let given : Selected = record { first_age = first_issue_age parts.issues; rows = rows; ultimate = u } in
     let whole = ap (λ (n : ℕ). Ok (record { first_age = n; rows = rows; ultimate = u })) age_is

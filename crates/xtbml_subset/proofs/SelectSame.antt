@@ -1,25 +1,19 @@
 -- The checks of a select table find the same of the elements that are found as of the document.
-use Rattle.xtbml_subset.proofs.Names.{◌≡◌, ℕ, Bool, true, false, cond, List, [], ◌∷◌, map, Option, Result, Ok, refl, ap, ◌∙◌, codes, TableFault, Found, children_at, row_of, found_asks, Node, named_in, node_row, node_asks, RateElement, ◌>=>◌, path, Parts, in_first, behind_first, or_these, first_factor, is_labelled, issue_axes, durations_of, filled, Issue, issue_age_of, SelectParts, ultimate_of, select_parts, aggregate, selected, parts_by_axes, any_parts_of}
+use Rattle.xtbml_subset.proofs.Names.{◌≡◌, ℕ, Bool, true, false, cond, List, [], ◌∷◌, map, Option, Result, Ok, refl, ap, ◌∙◌, codes, TableFault, Found, children_at, row_of, found_asks, Node, named_in, node_row, node_asks, RateElement, ◌>=>◌, path, Parts, in_first, drop, slice_get, is_some, issue_axes, durations_of, filled, Issue, issue_age_of, SelectParts, ultimate_of, select_parts, aggregate, selected, parts_by_axes, any_parts_of}
 use Rattle.xtbml_subset.proofs.Matching.{Matches, AllMatch, children_match, row_match}
-use Rattle.xtbml_subset.proofs.Judging.{TiedPairs, then_same, equal_by, path_same, factor_same, rows_same, aggregate_same, by_equal}
+use Rattle.xtbml_subset.proofs.Judging.{TiedPairs, then_same, equal_by, path_same, in_first_same, factor_same, rows_same, aggregate_same, by_equal}
 
-in_first_same : (total : ℕ) (name : List ℕ) (fs : List Found) (ns : List Node) → AllMatch total fs ns → AllMatch total (in_first (found_asks total) name fs) (in_first node_asks name ns)
-in_first_same total name [] [] all = tt
-in_first_same total name [] (n ∷ ns) all = absurd all
-in_first_same total name (f ∷ fs) [] all = absurd all
-in_first_same total name (f ∷ fs) (n ∷ ns) all = children_match total f n name all.0
-
-behind_same : (total : ℕ) (fs : List Found) (ns : List Node) → AllMatch total fs ns → AllMatch total (behind_first fs) (behind_first ns)
+behind_same : (total : ℕ) (fs : List Found) (ns : List Node) → AllMatch total fs ns → AllMatch total (drop 1 fs) (drop 1 ns)
 behind_same total [] [] all = tt
 behind_same total [] (n ∷ ns) all = absurd all
 behind_same total (f ∷ fs) [] all = absurd all
 behind_same total (f ∷ fs) (n ∷ ns) all = all.1
 
-or_same : (total : ℕ) (fs gs : List Found) (ns ms : List Node) → AllMatch total fs ns → AllMatch total gs ms → AllMatch total (or_these fs gs) (or_these ns ms)
-or_same total [] gs [] ms all others = others
-or_same total [] gs (n ∷ ns) ms all others = absurd all
-or_same total (f ∷ fs) gs [] ms all others = absurd all
-or_same total (f ∷ fs) gs (n ∷ ns) ms all others = all
+some_same : (total : ℕ) (fs : List Found) (ns : List Node) → AllMatch total fs ns → is_some (slice_get fs 0) ≡ is_some (slice_get ns 0)
+some_same total [] [] all = refl
+some_same total [] (n ∷ ns) all = absurd all
+some_same total (f ∷ fs) [] all = absurd all
+some_same total (f ∷ fs) (n ∷ ns) all = refl
 
 cond_same : (total : ℕ) (b c : Bool) (fs gs : List Found) (ns ms : List Node) → b ≡ c → AllMatch total fs ns → AllMatch total gs ms → AllMatch total (cond b fs gs) (cond c ns ms)
 cond_same total true true fs gs ns ms e all others = all
@@ -30,8 +24,11 @@ cond_same total false true fs gs ns ms e all others = absurd cc
 durations_same : (total : ℕ) (f : Found) (n : Node) → Matches total f n → AllMatch total (durations_of (found_asks total) f) (durations_of node_asks n)
 unfolding durations_of
 durations_same total f n m =
-    or_same total (children_at (codes "Y") f) (in_first (found_asks total) (codes "Y") (children_at (codes "Axis") f)) (named_in (codes "Y") n.inner) (in_first node_asks (codes "Y") (named_in (codes "Axis") n.inner))
-    (children_match total f n (codes "Y") m)
+    let rates = children_match total f n (codes "Y") m in
+    cond_same total (is_some (slice_get (children_at (codes "Y") f) 0)) (is_some (slice_get (named_in (codes "Y") n.inner) 0)) (children_at (codes "Y") f)
+    (in_first (found_asks total) (codes "Y") (children_at (codes "Axis") f)) (named_in (codes "Y") n.inner) (in_first node_asks (codes "Y") (named_in (codes "Axis") n.inner))
+    (some_same total (children_at (codes "Y") f) (named_in (codes "Y") n.inner) rates)
+    rates
     (in_first_same total (codes "Y") (children_at (codes "Axis") f) (named_in (codes "Axis") n.inner) (children_match total f n (codes "Axis") m))
 
 abbrev issue_with : RateElement → List RateElement → Issue
@@ -55,19 +52,12 @@ axes_same : (total : ℕ) (table axis : Found) (node_table node_axis : Node) →
     → AllMatch total (issue_axes (found_asks total) table axis) (issue_axes node_asks node_table node_axis)
 unfolding issue_axes
 axes_same total table axis node_table node_axis t a =
-    cond_same total (is_labelled (row_of total axis).label) (is_labelled (node_row node_axis).label)
+    cond_same total (is_some (row_of total axis).label) (is_some (node_row node_axis).label)
     (in_first (found_asks total) (codes "Axis") (children_at (codes "Values") table)) (children_at (codes "Axis") axis)
     (in_first node_asks (codes "Axis") (named_in (codes "Values") node_table.inner)) (named_in (codes "Axis") node_axis.inner)
-    (ap (λ (row : RateElement). is_labelled row.label) (row_match total axis node_axis a))
+    (ap (λ (row : RateElement). is_some row.label) (row_match total axis node_axis a))
     (in_first_same total (codes "Axis") (children_at (codes "Values") table) (named_in (codes "Values") node_table.inner) (children_match total table node_table (codes "Values") t))
     (children_match total axis node_axis (codes "Axis") a)
-
-second_same : (total : ℕ) (fs : List Found) (ns : List Node) → AllMatch total fs ns
-    → first_factor (found_asks total) fs ≡ first_factor node_asks ns
-second_same total [] [] all = refl
-second_same total [] (n ∷ ns) all = absurd all
-second_same total (f ∷ fs) [] all = absurd all
-second_same total (f ∷ fs) (n ∷ ns) all = factor_same total f n all.0
 
 ultimate_same : (total : ℕ) (fs : List Found) (ns : List Node) → AllMatch total fs ns
     → map (λ x. row_of total x) (ultimate_of (found_asks total) fs) ≡ map (λ x. node_row x) (ultimate_of node_asks ns)
@@ -88,8 +78,8 @@ select_same : (total : ℕ) (fs : List Found) (table axis : Found) (ns : List No
     → select_parts (found_asks total) fs table axis ≡ select_parts node_asks ns node_table node_axis
 select_same total fs table axis ns node_table node_axis all t a =
     let at = ap (λ (row : RateElement). row.at) (row_match total table node_table t) in
-    let factors = factor_same total table node_table t in
-    let seconds = second_same total fs ns all in
+    let factors = factor_same total (table ∷ []) (node_table ∷ []) (t, tt) in
+    let seconds = factor_same total fs ns all in
     let issues = issues_same total (issue_axes (found_asks total) table axis) (issue_axes node_asks node_table node_axis) (axes_same total table axis node_table node_axis t a) in
     let rates = ultimate_same total fs ns all in
     let given = select_parts (found_asks total) fs table axis in
@@ -105,7 +95,7 @@ by_axes_same total f node fs ns [] (n ∷ node_axes) m tied all = absurd all
 by_axes_same total f node fs ns (x ∷ axes) [] m tied all = absurd all
 by_axes_same total f node fs ns (x ∷ axes) (n ∷ node_axes) m tied all =
     ap (λ (parts : SelectParts). Ok (selected parts))
-    (select_same total (behind_first (children_at (codes "Table") f)) fs.0 fs.1 (behind_first (named_in (codes "Table") node.inner)) ns.0 ns.1
+    (select_same total (drop 1 (children_at (codes "Table") f)) fs.0 fs.1 (drop 1 (named_in (codes "Table") node.inner)) ns.0 ns.1
     (behind_same total (children_at (codes "Table") f) (named_in (codes "Table") node.inner) (children_match total f node (codes "Table") m)) tied.0 tied.1)
 
 pub any_same : (total : ℕ) (f : Found) (node : Node) → Matches total f node → any_parts_of (found_asks total) f ≡ any_parts_of node_asks node

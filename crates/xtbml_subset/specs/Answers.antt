@@ -6,7 +6,7 @@ use Rattle.xtbml_subset.specs.declared.fault.TableFault.{TableFault}
 use Rattle.xtbml_subset.specs.declared.fault.TableFault.TheVariants.{Bad, NoMemory}
 use Rattle.xtbml_subset.specs.Nesting.{IsNested}
 use Rattle.xtbml_subset.specs.Documents.{Node, IsDocument, node_asks}
-use Rattle.xtbml_subset.specs.Checks.{parts_of, IsTable}
+use Rattle.xtbml_subset.specs.Checks.{IsTable}
 
 -- the longest front of the bytes that is a sequence of pieces that nests has this length
 pub record IsLongestNested (bytes : List ℕ) (at : ℕ) : Type 0 where
@@ -16,7 +16,7 @@ pub record IsLongestNested (bytes : List ℕ) (at : ℕ) : Type 0 where
 
 -- The bytes are a document, and by the checks this is the answer.
 abbrev pub IsJudged : List ℕ → Result Rates TableFault → Type 0
-IsJudged bytes answer = (root : Node) × IsDocument bytes root × IsTable (parts_of node_asks root) answer
+IsJudged bytes answer = (root : Node) × IsDocument bytes root × IsTable node_asks root answer
 
 -- the file spells the table
 abbrev pub SpellsTable : List ℕ → Rates → Type 0
@@ -35,9 +35,9 @@ IsTableAnswer bytes answer =
 abbrev pub Gives : Result Rates TableFault → Result Rates TableFault → Type 0
 Gives (Ok table) answer = answer ≡ Ok table
 Gives (Err (Bad at kind)) answer = answer ≡ Err (Bad at kind)
-Gives (Err NoMemory) answer = Unit {0}
+Gives (Err (NoMemory lack)) answer = Unit {0}
 
 -- a fault that isn't want of memory says this
 abbrev pub Unless : TableFault → Type 0 → Type 0
-Unless NoMemory P = Unit {0}
+Unless (NoMemory lack) P = Unit {0}
 Unless (Bad at kind) P = P

@@ -1,5 +1,6 @@
 -- The checks of a table, in order, over the elements of a document.
-use Rattle.std.specs.Prelude.{◌≡◌, ℕ, ◌+◌, ◌-◌, ◌*◌, Bool, true, if◌then◌else◌, ◌==◌, nat_le, List, [], ◌∷◌, map, Option, None, Some, Result, Ok, Err, codes, MatchBool, ◌⊎◌}
+use Rattle.std.specs.Prelude.{◌≡◌, ℕ, ◌+◌, ◌-◌, ◌*◌, true, if◌then◌else◌, ◌==◌, nat_le, List, [], ◌∷◌, map, Option, None, Some, Result, Ok, Err, codes, slice_get, MatchBool, MatchOption, MatchResult, ◌⊎◌}
+use Rattle.std.specs.Option.{option_map, option_map_or, ok_or}
 use Rattle.xtbml_subset.specs.Names.{unwrap_or, bytes_eq, Rates}
 use Rattle.decimal_text.specs.Rate.{IsRate}
 use Rattle.xtbml_subset.specs.declared.class.Class.TheVariants.{White}
@@ -21,52 +22,36 @@ pub record Asks (N : Type 0) : Type 0 where
   pub row : N → RateElement
   pub children : List ℕ → N → List N
 
-abbrev pub first : {A : Type 0} → List A → Option A
-first [] = None
-first (x ∷ xs) = Some x
-
 -- the children of a name of the first of some elements
 abbrev pub in_first : {N : Type 0} → Asks N → List ℕ → List N → List N
 in_first asks name [] = []
 in_first asks name (node ∷ nodes) = asks.children name node
 
-infixl 10 ◌>=>◌
-abbrev pub ◌>=>◌ : {A B : Type 0} → Result A TableFault → (A → Result B TableFault) → Result B TableFault
-(Ok x) >=> f = f x
-(Err e) >=> f = Err e
+-- the first `ScalingFactor` of the first `MetaData` of the first of some tables
+unfoldable pub factor_of : {N : Type 0} → Asks N → List N → Option RateElement
+factor_of asks tables =
+    option_map (λ node. asks.row node)
+    (slice_get (in_first asks (codes "ScalingFactor") (in_first asks (codes "MetaData") tables)) 0)
 
-abbrev pub or_fault : {A : Type 0} → TableFault → Option A → Result A TableFault
-or_fault fault None = Err fault
-or_fault fault (Some x) = Ok x
+-- ---- one check after the other
 
--- the first child of a name; where there is none the path breaks off at the parent
-unfoldable pub within : {N : Type 0} → Asks N → List ℕ → N → Result N TableFault
-within asks name parent = or_fault (Bad (asks.row parent).at NoTable) (first (asks.children name parent))
+-- what is read first, and where that finds no fault what is read then
+abbrev pub InTurn : {A B : Type 0} → (Result A TableFault → Type 0) → (A → Result B TableFault → Type 0)
+    → Result B TableFault → Type 0
+InTurn {A} First Rest read =
+    (one : Result A TableFault) × First one × MatchResult one (λ value. Rest value read) (λ fault. read ≡ Err fault)
 
-abbrev pub rooted : {N : Type 0} → Asks N → N → Result N TableFault
-rooted asks root = if bytes_eq (asks.name root) (codes "XTbML") then Ok root else Err (Bad (asks.row root).at NoTable)
-
--- the first `Table` of the root, and the first `Axis` of its first `Values`
-unfoldable pub path : {N : Type 0} → Asks N → N → Result (N × N) TableFault
-path asks root =
-    rooted asks root >=> (λ top. within asks (codes "Table") top)
-    >=> λ table. within asks (codes "Values") table >=> (λ values. within asks (codes "Axis") values) >=> λ axis. Ok (table, axis)
-
--- a fault where an axis has no rates of its own: an axis in it makes a select table
-abbrev pub rates_in : {N : Type 0} → Asks N → N → List N → List N → Result (List N) TableFault
-rates_in asks axis (inner ∷ more) rates = Err (Bad (asks.row inner).at Select)
-rates_in asks axis [] [] = Err (Bad (asks.row axis).at NoTable)
-rates_in asks axis [] (rate ∷ rates) = Ok (rate ∷ rates)
-
-unfoldable pub rates_of : {N : Type 0} → Asks N → N → Result (List N) TableFault
-rates_of asks axis = rates_in asks axis (asks.children (codes "Axis") axis) (asks.children (codes "Y") axis)
-
--- the first `ScalingFactor` of a table's first `MetaData`
-unfoldable pub factor_of : {N : Type 0} → Asks N → N → Option N
-factor_of asks table = first (asks.children (codes "MetaData") table) >>= λ about. first (asks.children (codes "ScalingFactor") about)
+-- The items are read in order, each by what is due after those before it; the first that is refused says why.
+abbrev pub ReadsAll : {S A B : Type 0} → (S → A → Result (S × B) TableFault → Type 0) → S → List A
+    → Result (List B) TableFault → Type 0
+ReadsAll One due [] read = read ≡ Ok []
+ReadsAll One due (item ∷ items) read =
+    InTurn (One due item)
+    (λ one all. InTurn (λ rest. ReadsAll One one.0 items rest) (λ values whole. whole ≡ Ok (one.1 ∷ values)) all) read
 
 -- ---- a row
 
+-- a number with one digit more
 abbrev pub digit_then : ℕ → ℕ → Option ℕ
 digit_then number b = if is_between 48 57 b then Some (number * 10 + (b - 48)) else None
 
@@ -82,10 +67,18 @@ short_number (a ∷ b ∷ c ∷ d ∷ more) = None
 unfoldable pub age_of : Option (List ℕ) → Option ℕ
 age_of label = label >>= (λ text. short_number text) >>= λ age. if nat_le age 130 then Some age else None
 
--- the age that is due is one more than the age before, and none is due at first
-abbrev pub is_due : Option ℕ → ℕ → Bool
-is_due None age = true
-is_due (Some due) age = age == due
+-- the age of the first of some items, by its label, and 0 where there is none
+abbrev pub age_of_first : {A : Type 0} → List A → (A → Option (List ℕ)) → ℕ
+age_of_first [] label = 0
+age_of_first (item ∷ items) label = unwrap_or (age_of (label item)) 0
+
+-- By the age of a label the rest is read, unless it has no age or another one is due: due is one more than the age before,
+-- and none at first.
+abbrev pub ReadsAge : {A : Type 0} → ℕ → Option (List ℕ) → Option ℕ → (ℕ → Result A TableFault → Type 0)
+    → Result A TableFault → Type 0
+ReadsAge at label due Rest read =
+    MatchOption (age_of label) (read ≡ Err (Bad at BadAge))
+    (λ age. MatchBool (option_map_or (λ next. age == next) due true) (Rest age read) (read ≡ Err (Bad at AgeGap)))
 
 -- the content, without white space at both ends, is this rate, or no rate
 abbrev pub ReadsRate : Option (List ℕ) → Option ℕ → Type 0
@@ -93,76 +86,62 @@ ReadsRate None rate = rate ≡ None
 ReadsRate (Some text) None = (rate : ℕ) → IsRate (trimmed text) rate → ⊥
 ReadsRate (Some text) (Some rate) = IsRate (trimmed text) rate
 
-abbrev pub rated : ℕ → ℕ → Option ℕ → Result (ℕ × ℕ) TableFault
-rated at age None = Err (Bad at BadRate)
-rated at age (Some rate) = Ok (age, rate)
+-- a row is read as its rate, with what is due behind it, or refused for its rate
+abbrev pub ReadsRated : {S : Type 0} → RateElement → S → Result (S × ℕ) TableFault → Type 0
+ReadsRated row next read =
+    (rate : Option ℕ) × ReadsRate row.text rate
+    × (read ≡ ok_or (option_map (λ value. (next, value)) rate) (Bad row.at BadRate))
 
-abbrev pub IsAged : Option ℕ → RateElement → Option ℕ → Result (ℕ × ℕ) TableFault → Type 0
-IsAged due row None read = read ≡ Err (Bad row.at BadAge)
-IsAged due row (Some age) read =
-    MatchBool (is_due due age)
-    ((rate : Option ℕ) × ReadsRate row.text rate × (read ≡ rated row.at age rate))
-    (read ≡ Err (Bad row.at AgeGap))
+-- Rows are read as rates from the age of the first on. Each is read as its rate, behind which the next age is due, or refused
+-- for its age or for its rate.
+abbrev pub ReadsRates : List RateElement → Result Rates TableFault → Type 0
+ReadsRates rows answer =
+    InTurn (ReadsAll (λ due (row : RateElement) one. ReadsAge row.at row.label due
+    (λ age rate. ReadsRated row (Some (age + 1)) rate) one) None rows)
+    (λ rates made. made ≡ Ok (record { first_age = age_of_first rows (λ row. row.label); rates = rates })) answer
 
--- a row is read as an age and its rate, or refused: for its age, for a gap before it, or for its rate
-abbrev pub ReadsRow : Option ℕ → RateElement → Result (ℕ × ℕ) TableFault → Type 0
-ReadsRow due row read = IsAged due row (age_of row.label) read
+-- ---- the factor
 
-abbrev pub with_rate : ℕ → Result (List ℕ) TableFault → Result (List ℕ) TableFault
-with_rate rate rest = rest >=> λ rates. Ok (rate ∷ rates)
-
--- behind a row that was read
-abbrev pub Continues : (Option ℕ → Result (List ℕ) TableFault → Type 0) → Result (ℕ × ℕ) TableFault → Result (List ℕ) TableFault → Type 0
-Continues Rest (Err fault) read = read ≡ Err fault
-Continues Rest (Ok row) read = (rest : Result (List ℕ) TableFault) × Rest (Some (row.0 + 1)) rest × (read ≡ with_rate row.1 rest)
-
--- the rows are read as these rates, or the first that is refused says why
-abbrev pub ReadsRows : Option ℕ → List RateElement → Result (List ℕ) TableFault → Type 0
-ReadsRows due [] read = read ≡ Ok []
-ReadsRows due (row ∷ rows) read =
-    (one : Result (ℕ × ℕ) TableFault) × ReadsRow due row one × Continues (λ next rest. ReadsRows next rows rest) one read
-
--- ---- the table
-
--- an absent or empty factor, 0 and 1 mean unscaled
+-- a content that means unscaled: none but white space, 0 or 1
 abbrev pub IsUnscaled : Option (List ℕ) → Type 0
 IsUnscaled None = ⊥
 IsUnscaled (Some text) = InClass White text ⊎ (IsRate (trimmed text) 0 ⊎ IsRate (trimmed text) 1000000000)
 
+-- the rates are left as they are by no factor or such a one
 abbrev pub IsScale : Option RateElement → Result (Unit {0}) TableFault → Type 0
 IsScale None read = read ≡ Ok tt
 IsScale (Some row) (Ok none) = IsUnscaled row.text
 IsScale (Some row) (Err fault) = (IsUnscaled row.text → ⊥) × (fault ≡ Bad row.at Scaled)
 
--- what is left of a document for its table
-pub record Parts : Type 0 where
-  pub factor : Option RateElement
-  pub rows : List RateElement
+-- ---- the table
 
-abbrev pub option_row : {N : Type 0} → Asks N → Option N → Option RateElement
-option_row asks None = None
-option_row asks (Some node) = Some (asks.row node)
+-- the first child of a name of an element that was found; where there is none, the path breaks off at that element
+abbrev pub first_child : {N : Type 0} → Asks N → List ℕ → Result N TableFault → Result N TableFault
+first_child asks name (Ok parent) = ok_or (slice_get (asks.children name parent) 0) (Bad (asks.row parent).at NoTable)
+first_child asks name (Err fault) = Err fault
 
-abbrev pub aggregate_parts : {N : Type 0} → Asks N → N × N → Result Parts TableFault
-aggregate_parts asks found =
-    rates_of asks found.1 >=> λ rates.
-    Ok (record { factor = option_row asks (factor_of asks found.0); rows = map (λ node. asks.row node) rates })
+-- This holds of the first table under a root of the right name and the first axis of its first values, or the answer is where
+-- the path to them breaks off.
+abbrev pub OnPath : {N A : Type 0} → Asks N → N → (N → N → Type 0) → Result A TableFault → Type 0
+OnPath asks root Holds answer =
+    MatchResult
+    (first_child asks (codes "Table")
+    (if bytes_eq (asks.name root) (codes "XTbML") then Ok root else Err (Bad (asks.row root).at NoTable)))
+    (λ table. MatchResult (first_child asks (codes "Axis") (first_child asks (codes "Values") (Ok table)))
+    (λ axis. Holds table axis) (λ fault. answer ≡ Err fault))
+    (λ fault. answer ≡ Err fault)
 
-abbrev pub parts_of : {N : Type 0} → Asks N → N → Result Parts TableFault
-parts_of asks root = path asks root >=> λ found. aggregate_parts asks found
+-- the answer for a table by age alone: its rates are the `Y` of its axis, of which there is one at least
+abbrev pub IsAggregateTable : {N : Type 0} → Asks N → N → N → Result Rates TableFault → Type 0
+IsAggregateTable asks table axis answer =
+    MatchOption (slice_get (asks.children (codes "Y") axis) 0) (answer ≡ Err (Bad (asks.row axis).at NoTable))
+    (λ first. InTurn (IsScale (factor_of asks (table ∷ [])))
+    (λ none read. ReadsRates (map (λ node. asks.row node) (asks.children (codes "Y") axis)) read) answer)
 
-abbrev pub first_age : List RateElement → ℕ
-first_age [] = 0
-first_age (row ∷ rows) = unwrap_or (age_of row.label) 0
-
-abbrev pub IsScaledTable : List RateElement → Result (Unit {0}) TableFault → Result Rates TableFault → Type 0
-IsScaledTable rows (Err fault) answer = answer ≡ Err fault
-IsScaledTable rows (Ok none) answer =
-    (read : Result (List ℕ) TableFault) × ReadsRows None rows read
-    × (answer ≡ (read >=> λ rates. Ok (record { first_age = first_age rows; rates = rates })))
-
--- the answer by the parts, or the fault for want of them
-abbrev pub IsTable : Result Parts TableFault → Result Rates TableFault → Type 0
-IsTable (Err fault) answer = answer ≡ Err fault
-IsTable (Ok parts) answer =
-    (scale : Result (Unit {0}) TableFault) × IsScale parts.factor scale × IsScaledTable parts.rows scale answer
+-- the answer where a table by age alone is wanted: an axis in its axis makes it select
+abbrev pub IsTable : {N : Type 0} → Asks N → N → Result Rates TableFault → Type 0
+IsTable asks root answer =
+    OnPath asks root
+    (λ table axis. MatchOption (slice_get (asks.children (codes "Axis") axis) 0)
+    (IsAggregateTable asks table axis answer)
+    (λ inner. answer ≡ Err (Bad (asks.row inner).at Select))) answer

@@ -1,11 +1,13 @@
 -- The grammar of a document.
 use Rattle.std.specs.Prelude.{◌≡◌, ℕ, zero, suc, ◌+◌, ◌⊎◌, true, List, [], ◌∷◌, ◌++◌, length, if◌then◌else◌, Option, None, Some, codes}
+use Rattle.std.specs.List.{AllByRecursion}
+use Rattle.std.specs.Option.{option_map}
 use Rattle.std.specs.Str.{bytes_eq}
 use Rattle.xtbml_subset.specs.declared.class.Class.TheVariants.{White, Text}
 use Rattle.xtbml_subset.specs.Classes.{is_in, InClass}
-use Rattle.xtbml_subset.specs.Pieces.{Tag, Piece, byte, comment, declaration, start, whole, finish, IsPiece, IsMark, Spell}
+use Rattle.xtbml_subset.specs.Pieces.{Tag, Piece, comment, declaration, start, whole, finish, IsPiece, IsMark, IsWhiteByte, AreSpelled}
 use Rattle.xtbml_subset.specs.Texts.{value_of}
-use Rattle.xtbml_subset.specs.Checks.{RateElement, Asks}
+use Rattle.xtbml_subset.specs.Checks.{Asks}
 
 -- Content is nothing, or begins with a byte of text, a comment or an element, and goes on. An element has the
 -- place of its `<`, its tag and its content.
@@ -36,22 +38,9 @@ IsContent (suc levels) (element place tag inner more) at bytes =
     × IsContent (suc levels) more (at + length text) rest
 
 -- white space and comments
-abbrev pub AreMisc : List Piece → Type 0
-AreMisc [] = Unit {0}
-AreMisc (byte b ∷ pieces) = (is_in White b ≡ true) × AreMisc pieces
-AreMisc (comment ∷ pieces) = AreMisc pieces
-AreMisc (declaration ∷ pieces) = ⊥
-AreMisc (start tag ∷ pieces) = ⊥
-AreMisc (whole tag ∷ pieces) = ⊥
-AreMisc (finish name ∷ pieces) = ⊥
-
 abbrev pub IsMisc : List ℕ → Type 0
-IsMisc bytes = (pieces : List Piece) × Spell pieces bytes × AreMisc pieces
-
--- a declaration, which white space may precede, or nothing
-abbrev pub IsDocumentOpening : List ℕ → Type 0
-IsDocumentOpening bytes =
-    (bytes ≡ []) ⊎ ((space : List ℕ) × (text : List ℕ) × (bytes ≡ space ++ text) × InClass White space × IsPiece declaration text)
+IsMisc bytes =
+    (pieces : List Piece) × AreSpelled IsPiece pieces bytes × AllByRecursion (λ (piece : Piece). IsWhiteByte piece ⊎ (piece ≡ comment)) pieces
 
 -- an element with its place
 pub record Node : Type 0 where
@@ -59,7 +48,7 @@ pub record Node : Type 0 where
   pub tag : Tag
   pub inner : Content
 
--- EF BB BF or nothing, a declaration or nothing, white space and comments, the root, white space and comments
+-- EF BB BF or nothing; a declaration, which white space may precede, or nothing; white space and comments, the root, white space and comments
 pub record IsDocument (bytes : List ℕ) (root : Node) : Type 0 where
   pub mark : List ℕ
   pub opening : List ℕ
@@ -68,40 +57,32 @@ pub record IsDocument (bytes : List ℕ) (root : Node) : Type 0 where
   pub behind : List ℕ
   pub parts : bytes ≡ mark ++ (opening ++ (before ++ (text ++ behind)))
   pub is_mark : IsMark mark
-  pub is_opening : IsDocumentOpening opening
+  pub is_opening : (opening ≡ [])
+      ⊎ ((space : List ℕ) × (declared : List ℕ) × (opening ≡ space ++ declared) × InClass White space × IsPiece declaration declared)
   pub misc_before : IsMisc before
   pub is_root : IsElement (λ start inside. IsContent 63 root.inner start inside) (length mark + length opening + length before) root.at root.tag root.inner text
   pub misc_behind : IsMisc behind
 
 -- ---- what the checks ask of an element
 
-abbrev pub with_named : List ℕ → Node → List Node → List Node
-with_named name node nodes = if bytes_eq node.tag.name name then node ∷ nodes else nodes
-
 -- the elements of a name directly in a content
 abbrev pub named_in : List ℕ → Content → List Node
 named_in name nothing = []
 named_in name (letter b more) = named_in name more
 named_in name (remark more) = named_in name more
-named_in name (element at tag inner more) = with_named name (record { at = at; tag = tag; inner = inner }) (named_in name more)
-
-abbrev pub with_letter : ℕ → Option (List ℕ) → Option (List ℕ)
-with_letter b None = None
-with_letter b (Some text) = Some (b ∷ text)
+named_in name (element at tag inner more) =
+    if bytes_eq tag.name name then record { at = at; tag = tag; inner = inner } ∷ named_in name more else named_in name more
 
 -- a content that holds neither an element nor a comment
 abbrev pub text_of : Content → Option (List ℕ)
 text_of nothing = Some []
-text_of (letter b more) = with_letter b (text_of more)
+text_of (letter b more) = option_map (λ (text : List ℕ). b ∷ text) (text_of more)
 text_of (remark more) = None
 text_of (element at tag inner more) = None
-
-abbrev pub node_row : Node → RateElement
-node_row node = record { at = node.at; label = value_of (codes "t") node.tag.attributes; text = text_of node.inner }
 
 abbrev pub node_asks : Asks Node
 node_asks = record {
   name = λ node. node.tag.name;
-  row = λ node. node_row node;
+  row = λ node. record { at = node.at; label = value_of (codes "t") node.tag.attributes; text = text_of node.inner };
   children = λ name node. named_in name node.inner;
 }

@@ -8,3 +8,5 @@ pub mod Searches
 pub mod Views
 pub mod Rows
 pub mod Issues
+pub mod Steps
+pub mod Parts

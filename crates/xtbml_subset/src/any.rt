@@ -1,6 +1,6 @@
 ghost use Rattle.std.specs.Prelude.{◌≡◌, Ok, Err, IfOk, IfErr};
 ghost use Rattle.xtbml_subset.specs.Answers.{Unless};
-ghost use Rattle.xtbml_subset.specs.AnyChecks.{any_parts_of, IsAnyTable};
+ghost use Rattle.xtbml_subset.specs.inside.Parts.{any_parts_of, IsAnyBy};
 ghost use Rattle.xtbml_subset.specs.inside.Rows.{found_asks};
 ghost use Rattle.xtbml_subset.specs.inside.Searches.{IsFound};
 ghost use Rattle.xtbml_subset.specs.inside.Views.{found_of, path_of};
@@ -22,8 +22,8 @@ pub fn any_of(
     total: u32,
 ) -> Result<AnyTable, TableFault>
     requires { IsFound (found_of root.now) (path_of found.now) }
-    ensures read { IfOk result (λ table. IsAnyTable (any_parts_of (found_asks total) (found_of root.now)) (Ok table)) }
-    ensures fault { IfErr result (λ fault. Unless fault (IsAnyTable (any_parts_of (found_asks total) (found_of root.now)) (Err fault))) }
+    ensures read { IfOk result (λ table. IsAnyBy (any_parts_of (found_asks total) (found_of root.now)) (Ok table)) }
+    ensures fault { IfErr result (λ fault. Unless fault (IsAnyBy (any_parts_of (found_asks total) (found_of root.now)) (Err fault))) }
 {
     let (table, axis) = table_and_axis(root, found, total)?;
     let Search::Hit(inner) = found.inner else {

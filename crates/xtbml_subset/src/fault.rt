@@ -1,7 +1,8 @@
 ghost use Rattle.std.specs.Prelude.{◌≡◌};
+ghost use Rattle.memory_requests.specs.Evidence.{a_refusal};
 ghost use Rattle.xtbml_subset.specs.declared.fault.TableFault.TheVariants.{NoMemory};
 
-use std::alloc::{AllocError, AllocFailed};
+use memory_requests::NoMemory;
 
 /// What is wrong with a table file, in the order in which it is looked for.
 #[derive(Clone, Copy, PartialEq, Eq, Debug)]
@@ -35,21 +36,13 @@ pub enum TableFault {
     /// The fault, and the place in bytes from the start of the file.
     Bad { at: u32, kind: TableKind },
     /// There is no memory for the rates.
-    NoMemory,
+    NoMemory(NoMemory),
 }
 
-impl<T: Drop> From<AllocFailed<T>> for TableFault {
-    ghost from_gives = { λ _ fault. fault ≡ NoMemory };
+impl From<NoMemory> for TableFault {
+    ghost from_gives = { λ _lack fault. fault ≡ NoMemory a_refusal };
 
-    fn from(_refused: AllocFailed<T>) -> TableFault {
-        TableFault::NoMemory
-    }
-}
-
-impl From<AllocError> for TableFault {
-    ghost from_gives = { λ _ fault. fault ≡ NoMemory };
-
-    fn from(_refused: AllocError) -> TableFault {
-        TableFault::NoMemory
+    fn from(lack: NoMemory) -> TableFault {
+        TableFault::NoMemory(lack)
     }
 }

@@ -1,7 +1,8 @@
 ghost use Rattle.std.specs.Prelude.{◌≡◌, ℕ, ◌+◌, Some, None, Ok, Err, [], ◌∷◌, map, IfOk, IfErr, MatchOption, codes, ◌≤◌};
 ghost use Rattle.xtbml_subset.specs.Answers.{Unless};
-ghost use Rattle.xtbml_subset.specs.Checks.{in_first};
-ghost use Rattle.xtbml_subset.specs.SelectChecks.{durations_of, issue_axes, issue_age_of, first_issue_age, ReadsAll, ReadsDuration, ReadsPeriod, ReadsIssue};
+ghost use Rattle.xtbml_subset.specs.Checks.{in_first, age_of_first, ReadsAll};
+ghost use Rattle.xtbml_subset.specs.SelectChecks.{durations_of, issue_axes, issue_age_of, ReadsDuration, ReadsPeriod};
+ghost use Rattle.xtbml_subset.specs.inside.Steps.{ReadsIssue};
 ghost use Rattle.xtbml_subset.specs.inside.Elements.{Found, children_at, siblings_at};
 ghost use Rattle.xtbml_subset.specs.inside.Rows.{row_of, found_asks};
 ghost use Rattle.xtbml_subset.specs.inside.Issues.{issues_from};
@@ -11,6 +12,7 @@ use crate::fault::{TableFault, TableKind};
 use crate::found::Element;
 use crate::period::read_period;
 use crate::row::{age_at, age_of, is_due};
+use memory_requests::push;
 use select_rates::SelectRows;
 use std::alloc::Global;
 
@@ -107,7 +109,7 @@ fn read_issue(
 /// The issue ages whose axes are the first and those of its siblings that come behind it.
 pub fn read_issues(alloc: Global, first: &Element<'_>, total: u32) -> Result<Issues, TableFault>
     ensures rows { IfOk result (λ issues. ReadsAll ReadsIssue None (issues_from total (found_of first.now)) (Ok issues.rows)) }
-    ensures first { IfOk result (λ issues. issues.first_age ≡ first_issue_age (issues_from total (found_of first.now))) }
+    ensures first { IfOk result (λ issues. issues.first_age ≡ age_of_first (issues_from total (found_of first.now)) (λ issue. issue.label)) }
     ensures places { IfOk result (λ issues. issues.places.items ≡ map (λ issue. issue.at) (issues_from total (found_of first.now))) }
     ensures fault { IfErr result (λ fault. Unless fault
         (ReadsAll ReadsIssue None (issues_from total (found_of first.now)) (Err fault))) }
@@ -118,8 +120,8 @@ pub fn read_issues(alloc: Global, first: &Element<'_>, total: u32) -> Result<Iss
     let mut next = Some(*first);
     while let Some(axis) = next {
         let (age, rates) = read_issue(alloc, &axis, due, total)?;
-        places.push(axis.place(total))?;
-        rows.push(rates)?;
+        push(&mut places, axis.place(total))?;
+        push(&mut rows, rates)?;
         due = Some(age + 1);
         next = axis.next_sibling(b"Axis");
     }

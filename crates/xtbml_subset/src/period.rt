@@ -1,7 +1,10 @@
 ghost use Rattle.std.specs.Prelude.{◌≡◌, ℕ, ◌+◌, ◌<◌, ◌≤◌, None, Ok, Err, length, IfSome, IfOk, IfErr, MatchOption, MatchBool, codes};
 ghost use Rattle.std.specs.Option.{option_copied};
 ghost use Rattle.xtbml_subset.specs.Answers.{Unless};
-ghost use Rattle.xtbml_subset.specs.SelectChecks.{is_blank, has_filled, filled, duration_of, follows, is_duration, ReadsAll, ReadsDuration};
+ghost use Rattle.xtbml_subset.specs.Checks.{ReadsAll};
+ghost use Rattle.xtbml_subset.specs.SelectChecks.{filled, ReadsDuration};
+ghost use Rattle.xtbml_subset.specs.inside.Steps.{is_blank};
+ghost use Rattle.xtbml_subset.specs.inside.Steps.{has_filled, duration_of, follows, is_duration};
 ghost use Rattle.xtbml_subset.specs.inside.Elements.{text_at};
 ghost use Rattle.xtbml_subset.specs.inside.Rows.{row_of, rows_from};
 ghost use Rattle.xtbml_subset.specs.inside.Views.{found_of};
@@ -11,6 +14,7 @@ use crate::fault::{TableFault, TableKind};
 use crate::found::Element;
 use crate::row::{rate_in, short_number};
 use crate::text::skip;
+use memory_requests::push;
 use std::alloc::Global;
 
 /// How far the rates of an issue age were read.
@@ -50,7 +54,6 @@ fn has_filled(first: &Element<'_>) -> bool
 }
 
 /// The duration that a label spells.
-#[tactic(auto, unfolding(crate::specs::SelectChecks::duration_of))]
 fn duration_of(label: Option<&[u8]>) -> Option<u16>
     ensures duration { result ≡ duration_of (option_copied label.entry) }
     ensures small { IfSome result (λ duration. duration < 1000) }
@@ -133,7 +136,7 @@ pub fn read_period(
             return Ok(rates);
         }
         let (after, rate) = read_duration(&row, due, total)?;
-        rates.push(rate)?;
+        push(&mut rates, rate)?;
         due = after;
         next = row.next_sibling(b"Y");
     }

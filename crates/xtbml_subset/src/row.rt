@@ -1,6 +1,7 @@
-ghost use Rattle.std.specs.Prelude.{◌≡◌, ℕ, ◌≤◌, ◌<◌, ◌+◌, ◌*◌, ◌^◌, [], ◌∷◌, length, IfSome, IfOk, IfErr, MatchBool, MatchOption, codes};
+ghost use Rattle.std.specs.Prelude.{◌≡◌, ℕ, ◌≤◌, ◌<◌, ◌+◌, ◌*◌, ◌^◌, [], ◌∷◌, Some, None, Ok, Err, length, IfSome, IfOk, IfErr, MatchBool, MatchOption, MatchResult, codes};
 ghost use Rattle.std.specs.Option.{option_copied, ForSome};
-ghost use Rattle.xtbml_subset.specs.Checks.{digit_then, short_number, age_of, is_due, ReadsRate, ReadsRow, ReadsRows, first_age};
+ghost use Rattle.xtbml_subset.specs.Checks.{digit_then, short_number, age_of, age_of_first, ReadsRate, ReadsAll};
+ghost use Rattle.xtbml_subset.specs.inside.Steps.{is_due, ReadsRow};
 ghost use Rattle.xtbml_subset.specs.inside.Rows.{row_of, rows_from};
 ghost use Rattle.xtbml_subset.specs.Answers.{Unless};
 ghost use Rattle.xtbml_subset.specs.inside.Elements.{siblings_at};
@@ -10,6 +11,7 @@ use crate::fault::{TableFault, TableKind};
 use crate::found::Element;
 use crate::text::trim;
 use decimal_text::read_rate;
+use memory_requests::push;
 use std::alloc::Global;
 
 fn add_digit(number: u16, byte: u8) -> Option<u16>
@@ -73,7 +75,9 @@ pub fn is_due(due: Option<u8>, age: u8) -> bool
 
 /// The age and the rate of a row, where the age that is due is none at the first row.
 pub fn read_row(row: &Element<'_>, due: Option<u8>, total: u32) -> Result<(u8, u32), TableFault>
-    ensures row { ReadsRow due (row_of total (found_of row.now)) result }
+    ensures row { MatchResult result
+        (λ read. ReadsRow due (row_of total (found_of row.now)) (Ok (Some (read.0 + 1), read.1)))
+        (λ fault. ReadsRow due (row_of total (found_of row.now)) (Err fault)) }
     ensures age { IfOk result (λ read. read.0 ≤ 130) }
 {
     let at = row.place(total);
@@ -120,8 +124,8 @@ pub fn read_rows(
     total: u32,
 ) -> Result<Vec<u32>, TableFault>
     requires { 1 + length (siblings_at (codes "Y") (found_of first.now)) ≡ count }
-    ensures read { IfOk result (λ rates. ReadsRows None (rows_from total (found_of first.now)) (Ok rates.items)) }
-    ensures fault { IfErr result (λ fault. Unless fault (ReadsRows None (rows_from total (found_of first.now)) (Err fault))) }
+    ensures read { IfOk result (λ rates. ReadsAll ReadsRow None (rows_from total (found_of first.now)) (Ok rates.items)) }
+    ensures fault { IfErr result (λ fault. Unless fault (ReadsAll ReadsRow None (rows_from total (found_of first.now)) (Err fault))) }
 {
     let mut rates = Vec::new(alloc);
     let mut due: Option<u8> = None;
@@ -129,7 +133,7 @@ pub fn read_rows(
     let mut next = Some(*first);
     while let Some(row) = next {
         let (age, rate) = read_row(&row, due, total)?;
-        rates.push(rate)?;
+        push(&mut rates, rate)?;
         due = Some(age + 1);
         left -= 1;
         next = next_row(&row, left);
@@ -139,7 +143,7 @@ pub fn read_rows(
 
 /// The age of a `Y`, or 0 where it has none.
 pub fn age_at(row: &Element<'_>) -> u8
-    ensures { (total : ℕ) → result ≡ first_age (rows_from total (found_of row.now)) }
+    ensures { (total : ℕ) → result ≡ age_of_first (rows_from total (found_of row.now)) (λ row. row.label) }
 {
     match age_of(row.attribute(b"t")) {
         Some(age) => age,

@@ -1,8 +1,8 @@
 ghost use Rattle.std.specs.Prelude.{◌≡◌, ◌∷◌, Ok, Err, IfOk, IfErr, codes};
 ghost use Rattle.xtbml_subset.specs.Answers.{Unless};
 ghost use Rattle.xtbml_subset.specs.Checks.{in_first};
-ghost use Rattle.xtbml_subset.specs.SelectChecks.{select_parts, IsSelectTable};
 ghost use Rattle.xtbml_subset.specs.inside.Elements.{children_at, siblings_at};
+ghost use Rattle.xtbml_subset.specs.inside.Parts.{IsSelectBy, select_parts};
 ghost use Rattle.xtbml_subset.specs.inside.Rows.{found_asks};
 ghost use Rattle.xtbml_subset.specs.inside.Searches.{IsFirstIn};
 ghost use Rattle.xtbml_subset.specs.inside.Views.{found_of, sought_of};
@@ -29,10 +29,10 @@ pub fn select_of(
     requires axis { in_first (found_asks total) (codes "Axis") (children_at (codes "Values") (found_of table.now))
         ≡ found_of axis.now ∷ siblings_at (codes "Axis") (found_of axis.now) }
     requires inner { children_at (codes "Axis") (found_of axis.now) ≡ found_of inner.now ∷ siblings_at (codes "Axis") (found_of inner.now) }
-    ensures read { IfOk result (λ select. IsSelectTable
-        (select_parts (found_asks total) (siblings_at (codes "Table") (found_of table.now)) (found_of table.now) (found_of axis.now)) (Ok select)) }
-    ensures fault { IfErr result (λ fault. Unless fault (IsSelectTable
-        (select_parts (found_asks total) (siblings_at (codes "Table") (found_of table.now)) (found_of table.now) (found_of axis.now)) (Err fault))) }
+    ensures read { IfOk result (λ select. IsSelectBy (select_parts
+        (found_asks total) (siblings_at (codes "Table") (found_of table.now)) (found_of table.now) (found_of axis.now)) (Ok select)) }
+    ensures fault { IfErr result (λ fault. Unless fault (IsSelectBy (select_parts
+        (found_asks total) (siblings_at (codes "Table") (found_of table.now)) (found_of table.now) (found_of axis.now)) (Err fault))) }
 {
     check_scale(table, about, total)?;
     let second = table.next_sibling(b"Table");

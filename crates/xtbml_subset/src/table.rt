@@ -1,6 +1,7 @@
-ghost use Rattle.std.specs.Prelude.{◌≡◌, ◌==◌, ◌||◌, ℕ, ◌+◌, ◌≤◌, ◌∷◌, List, length, IfOk, IfErr, MatchResult, MatchBool, Ok, Err, codes};
+ghost use Rattle.std.specs.Prelude.{◌≡◌, ◌==◌, ◌||◌, ℕ, ◌+◌, ◌≤◌, [], ◌∷◌, List, length, IfOk, IfErr, MatchResult, MatchBool, Ok, Err, codes};
 ghost use Rattle.std.specs.Option.{option_copied, ForSome};
-ghost use Rattle.xtbml_subset.specs.Checks.{in_first, within, path, rates_of, factor_of, option_row, parts_of, IsUnscaled, IsScale, IsScaledTable, IsTable};
+ghost use Rattle.xtbml_subset.specs.Checks.{in_first, factor_of, ReadsRates, IsUnscaled, IsScale};
+ghost use Rattle.xtbml_subset.specs.inside.Parts.{within, path, rates_of, parts_of, IsTableBy};
 ghost use Rattle.xtbml_subset.specs.inside.Elements.{children_at, siblings_at};
 ghost use Rattle.xtbml_subset.specs.inside.Searches.{hit, IsFirstIn, IsFound};
 ghost use Rattle.xtbml_subset.specs.inside.Rows.{found_asks, rows_from};
@@ -37,7 +38,7 @@ fn within<'a>(
 }
 
 /// The first table, and the first axis of its values.
-#[tactic(auto, unfolding(crate::specs::Checks::path))]
+#[tactic(auto, unfolding(crate::specs::inside::Parts::path))]
 pub fn table_and_axis<'a>(
     root: &Element<'a>,
     found: &ElementPath<'a>,
@@ -63,7 +64,7 @@ pub fn table_and_axis<'a>(
 }
 
 /// The first rate of an axis that has rates of its own.
-#[tactic(auto, unfolding(crate::specs::Checks::rates_of))]
+#[tactic(auto, unfolding(crate::specs::inside::Parts::rates_of))]
 fn check_axis<'a>(
     axis: &Element<'a>,
     found: &ElementPath<'a>,
@@ -119,7 +120,7 @@ fn is_unit(rate: u32) -> bool
 #[tactic(auto, unfolding(crate::specs::Checks::factor_of))]
 pub fn check_scale(table: &Element<'_>, about: &Search<'_>, total: u32) -> Result<(), TableFault>
     requires { IsFirstIn (codes "MetaData") (found_of table.now) (sought_of about.now) }
-    ensures { IsScale (option_row (found_asks total) (factor_of (found_asks total) (found_of table.now))) result }
+    ensures { IsScale (factor_of (found_asks total) (found_of table.now ∷ [])) result }
 {
     let Search::Hit(about) = about else {
         return Ok(());
@@ -145,8 +146,8 @@ pub fn rates_table(
     total: u32,
 ) -> Result<RateTable, TableFault>
     requires { 1 + length (siblings_at (codes "Y") (found_of first.now)) ≡ count }
-    ensures read { IfOk result (λ table. IsScaledTable (rows_from total (found_of first.now)) (Ok tt) (Ok table)) }
-    ensures fault { IfErr result (λ fault. Unless fault (IsScaledTable (rows_from total (found_of first.now)) (Ok tt) (Err fault))) }
+    ensures read { IfOk result (λ table. ReadsRates (rows_from total (found_of first.now)) (Ok table)) }
+    ensures fault { IfErr result (λ fault. Unless fault (ReadsRates (rows_from total (found_of first.now)) (Err fault))) }
 {
     let rates = read_rows(alloc, first, count, total)?;
     match RateTable::new(age_at(first), rates) {
@@ -163,8 +164,8 @@ pub fn table_of(
     total: u32,
 ) -> Result<RateTable, TableFault>
     requires { IsFound (found_of root.now) (path_of found.now) }
-    ensures read { IfOk result (λ table. IsTable (parts_of (found_asks total) (found_of root.now)) (Ok table)) }
-    ensures fault { IfErr result (λ fault. Unless fault (IsTable (parts_of (found_asks total) (found_of root.now)) (Err fault))) }
+    ensures read { IfOk result (λ table. IsTableBy (parts_of (found_asks total) (found_of root.now)) (Ok table)) }
+    ensures fault { IfErr result (λ fault. Unless fault (IsTableBy (parts_of (found_asks total) (found_of root.now)) (Err fault))) }
 {
     let (table, axis) = table_and_axis(root, found, total)?;
     let first = check_axis(&axis, found, total)?;

@@ -1,6 +1,7 @@
 ghost use Rattle.std.specs.Prelude.{◌≡◌, ◌≤◌, ◌+◌, length};
 ghost use Rattle.std.specs.Option.{option_map, option_copied};
-ghost use Rattle.xtbml_subset.specs.Texts.{without_end, trimmed};
+ghost use Rattle.xtbml_subset.specs.Texts.{trimmed};
+ghost use Rattle.xtbml_subset.specs.inside.Steps.{without_end};
 ghost use Rattle.xtbml_subset.specs.inside.Reading.{byte_at, from_byte, spaces_at, name_at};
 ghost use Rattle.xtbml_subset.specs.Classes.{front, after};
 ghost use Rattle.xtbml_subset.specs.declared.class.Class.TheVariants.{Text};

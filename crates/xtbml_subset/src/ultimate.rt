@@ -1,7 +1,9 @@
 ghost use Rattle.std.specs.Prelude.{◌≡◌, ℕ, List, ◌+◌, [], ◌∷◌, ◌<◌, ◌≤◌, length, slice_index_or, Ok, Err, map, IfOk, IfErr, MatchOption, codes};
 ghost use Rattle.xtbml_subset.specs.Answers.{Unless};
-ghost use Rattle.xtbml_subset.specs.Checks.{IsScale};
-ghost use Rattle.xtbml_subset.specs.SelectChecks.{first_factor, ultimate_of, leaves_gap, first_gap, ReadsUltimate};
+ghost use Rattle.xtbml_subset.specs.Checks.{factor_of, IsScale};
+ghost use Rattle.xtbml_subset.specs.SelectChecks.{first_gap, ReadsUltimate};
+ghost use Rattle.xtbml_subset.specs.inside.Steps.{ultimate_of};
+ghost use Rattle.xtbml_subset.specs.inside.Steps.{leaves_gap};
 ghost use Rattle.xtbml_subset.specs.inside.Elements.{Found, children_at, siblings_at};
 ghost use Rattle.xtbml_subset.specs.inside.Rows.{row_of, found_asks};
 ghost use Rattle.xtbml_subset.specs.inside.Searches.{IsFirstIn};
@@ -26,10 +28,11 @@ fn sought<'a>(parent: &Element<'a>, name: &[u8]) -> Search<'a>
 }
 
 /// Whether the factor of the first of some tables leaves its rates as they are.
+#[tactic(auto, unfolding(crate::specs::Checks::factor_of))]
 pub fn check_ultimate_scale(table: Option<Element<'_>>, total: u32) -> Result<(), TableFault>
     ensures { (tables : List Found)
         → MatchOption table.entry (tables ≡ []) (λ first. tables ≡ found_of first ∷ siblings_at (codes "Table") (found_of first))
-        → IsScale (first_factor (found_asks total) tables) result }
+        → IsScale (factor_of (found_asks total) tables) result }
 {
     match table {
         Some(table) => check_scale(&table, &sought(&table, b"MetaData"), total),
@@ -38,7 +41,7 @@ pub fn check_ultimate_scale(table: Option<Element<'_>>, total: u32) -> Result<()
 }
 
 /// The first ultimate rate, which stands in the first axis of the first values of the first of some tables.
-#[tactic(auto, unfolding(crate::specs::SelectChecks::ultimate_of))]
+#[tactic(auto, unfolding(crate::specs::inside::Steps::ultimate_of))]
 pub fn first_ultimate<'a>(table: Option<Element<'a>>) -> Option<Element<'a>>
     ensures { (total : ℕ) (tables : List Found)
         → MatchOption table.entry (tables ≡ []) (λ first. tables ≡ found_of first ∷ siblings_at (codes "Table") (found_of first))

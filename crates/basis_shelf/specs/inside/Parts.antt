@@ -1,6 +1,7 @@
 -- What the parts of the fetching answer.
-use Rattle.std.specs.Prelude.{◌≡◌, ℕ, ⊤, ◌⊎◌, List, Option, IsSome, IfSome}
-use Rattle.basis_shelf.specs.Names.{AnyTable, TableKind, BasisFault}
+use Rattle.std.specs.Prelude.{◌≡◌, ℕ, ⊤, ◌⊎◌, List, Option, IsSome, IfSome, Err}
+use Rattle.memory_requests.specs.Evidence.{a_refusal}
+use Rattle.basis_shelf.specs.Names.{AnyTable, BasisRow, Dated, TableKind, IsAnyAnswer, BasisFault, IsFileFault}
 use Rattle.basis_book.specs.declared.fault.BasisFault.TheVariants as fault
 use Rattle.xtbml_subset.specs.declared.fault.TableFault.{TableFault}
 use Rattle.xtbml_subset.specs.declared.fault.TableFault.TheVariants as table
@@ -10,7 +11,7 @@ use Rattle.basis_shelf.specs.declared.fault.BasisWord.{BasisWord}
 use Rattle.basis_shelf.specs.declared.fault.BasisWord.TheVariants.{Absent, TooLong, BadRow, NotRising, TooManyRows, NotDocument, NoTable, Scaled, BadAge, AgeGap, BadRate, BadDuration, NoUltimate, UltimateGap}
 use Rattle.basis_shelf.specs.declared.fault.NoBasis.{NoBasis}
 use Rattle.basis_shelf.specs.declared.fault.NoBasis.TheVariants.{Bad, ReadFault, NoMemory}
-use Rattle.basis_shelf.specs.Files.{IsAbsent, IsTooLong}
+use Rattle.basis_shelf.specs.Files.{IsAbsent, IsTooLong, IsFile}
 use Rattle.basis_shelf.specs.Bases.{IsTableNamed}
 use Rattle.basis_shelf.specs.FirstBad.{IsBadBook, IsBadTable}
 
@@ -18,7 +19,7 @@ use Rattle.basis_shelf.specs.FirstBad.{IsBadBook, IsBadTable}
 abbrev pub IsToldOfTable : List ℕ → ℕ → BasisWord → NoBasis → Type 0
 IsToldOfTable name place word (Bad bad) = bad ≡ record { name = name; place = place; word = word }
 IsToldOfTable name place word ReadFault = ⊥
-IsToldOfTable name place word NoMemory = ⊤
+IsToldOfTable name place word (NoMemory lack) = ⊤
 
 -- a file is told as absent or too long, at this place
 abbrev pub IsUnread : (List ℕ → Option (List ℕ)) → List ℕ → ℕ → BadBasis → Type 0
@@ -39,7 +40,7 @@ abbrev pub TellsRows : List ℕ → BasisFault → NoBasis → Type 0
 TellsRows name fault.TooManyRows told = IsToldOfTable name 1001 TooManyRows told
 TellsRows name (fault.BadBasisRow row) told = IsToldOfTable name row BadRow told
 TellsRows name (fault.NotRising row) told = IsToldOfTable name row NotRising told
-TellsRows name fault.NoMemory told = told ≡ NoMemory
+TellsRows name (fault.NoMemory lack) told = told ≡ NoMemory a_refusal
 
 -- what may be wrong with a table of either kind: all but that it is a select table
 abbrev pub IsOfAny : TableKind → Type 0
@@ -56,7 +57,7 @@ IsOfAny kind.UltimateGap = ⊤
 
 abbrev pub IsFaultOfAny : TableFault → Type 0
 IsFaultOfAny (table.Bad at what) = IsOfAny what
-IsFaultOfAny table.NoMemory = ⊤
+IsFaultOfAny (table.NoMemory lack) = ⊤
 
 -- the first has no word, since it never comes
 abbrev pub word_of : TableKind → BasisWord
@@ -74,7 +75,7 @@ word_of kind.UltimateGap = UltimateGap
 -- the fault of a table file is told
 abbrev pub TellsTable : List ℕ → TableFault → NoBasis → Type 0
 TellsTable name (table.Bad at what) told = IsToldOfTable name at (word_of what) told
-TellsTable name table.NoMemory told = told ≡ NoMemory
+TellsTable name (table.NoMemory lack) told = told ≡ NoMemory a_refusal
 
 -- each table is that of its name
 abbrev pub AreTables : (List ℕ → Option (List ℕ)) → (List ℕ → Option AnyTable) → Type 0
@@ -83,3 +84,16 @@ AreTables files tables = (name : List ℕ) → IfSome (tables name) (IsTableName
 -- the names that had a table have one
 abbrev pub KeepsKnown : (List ℕ → Option AnyTable) → (List ℕ → Option AnyTable) → Type 0
 KeepsKnown before now = (name : List ℕ) → IsSome (before name) → IsSome (now name)
+
+-- the entry has the row's day, the table of the name in the row, and the row's basis points
+abbrev pub IsEntry : (List ℕ → Option (List ℕ)) → BasisRow → Dated → Type 0
+IsEntry files row entry =
+    (entry.from_day ≡ row.from_day) × IsTableNamed files row.table entry.table × (entry.bp ≡ row.bp)
+
+-- the file of this name is no right basis file, for this fault
+abbrev pub AreNoRows : (List ℕ → Option (List ℕ)) → List ℕ → BasisFault → Type 0
+AreNoRows files name why = (bytes : List ℕ) × IsFile files name bytes × IsFileFault bytes why
+
+-- the file of this name spells no table: the byte place, and what is wrong there
+abbrev pub IsNoTable : (List ℕ → Option (List ℕ)) → List ℕ → ℕ → TableKind → Type 0
+IsNoTable files name at what = (bytes : List ℕ) × IsFile files name bytes × IsAnyAnswer bytes (Err (table.Bad at what))

@@ -1,12 +1,24 @@
 -- The sums of what policies pay and are paid.
-use Rattle.std.specs.Prelude.{◌≡◌, ℕ, ◌+◌, ◌*◌, ◌<◌, ◌≤◌, List, length, slice_index_or, ℤ, Result}
-use Rattle.cash_projection.specs.Names.{AllByRecursion, AllZip, most_commands, Policy, Rates, AreRates, AnyTable, down, up, pair_at, Pair, Dated, Shape, NotValued}
+use Rattle.std.specs.Prelude.{◌≡◌, ℕ, ◌+◌, ◌*◌, ◌<◌, ◌≤◌, List, length, slice_index_or, ℤ, Result, MatchResult}
+use Rattle.cash_projection.specs.Names.{AllByRecursion, AllZip, sum_by, table_along, most_commands, Policy, Rates, AreRates, AnyTable, down, up, pair_at, Pair, Dated, Shape, NotValued}
 use Rattle.cash_projection.specs.Prospects.{Prospect, IsSmall, due, premium_due, death_due, maturity_due}
-use Rattle.cash_projection.specs.Cash.{total_of, premium_by, death_by, maturity_by}
-use Rattle.cash_projection.specs.Policies.{IsProspect, IsProspectBy}
+use Rattle.cash_projection.specs.Survival.{alive_by, dying_by}
+use Rattle.cash_projection.specs.Policies.{IsProspect, prospect_of}
+use Rattle.cash_projection.specs.inside.Ahead.{nothing_ahead}
+use Rattle.policy_value.specs.Rows.{IsYear}
 use Rattle.cash_projection.specs.inside.Parts.{MOST_PART}
 use Rattle.cash_projection.specs.declared.column.Sums.{Sums}
 use Rattle.cash_projection.specs.declared.tally.Tally.{Tally}
+
+-- one policy's rounded parts of a year's totals, in 10^-16 of a cent
+abbrev pub premium_by : (ℕ → ℕ → ℕ) → ℕ → Prospect → ℕ
+premium_by quotient j p = premium_due p j * alive_by quotient p.rates j
+
+abbrev pub death_by : (ℕ → ℕ → ℕ) → ℕ → Prospect → ℕ
+death_by quotient j p = death_due p j * dying_by quotient p.rates j
+
+abbrev pub maturity_by : (ℕ → ℕ → ℕ) → ℕ → Prospect → ℕ
+maturity_by quotient j p = maturity_due p j * alive_by quotient p.rates (j + 1)
 
 abbrev pub sums_of : ℕ → ℕ → Sums
 sums_of lo hi = record { lo = lo; hi = hi }
@@ -38,13 +50,13 @@ pub record HasAdded (years : ℕ) (p : Prospect) (old new : Tally) : Type 0 wher
 -- the sums of the parts, in each of so many years
 pub record AreSums (years : ℕ) (part : (ℕ → ℕ → ℕ) → ℕ → Prospect → ℕ) (ps : List Prospect) (sums : List Sums) : Type 0 where
   pub places : length sums ≡ 131
-  pub lo : (j : ℕ) → j < years → (sum_at sums j).lo ≡ total_of (part down j) ps
-  pub hi : (j : ℕ) → j < years → (sum_at sums j).hi ≡ total_of (part up j) ps
+  pub lo : (j : ℕ) → j < years → (sum_at sums j).lo ≡ sum_by (part down j) ps
+  pub hi : (j : ℕ) → j < years → (sum_at sums j).hi ≡ sum_by (part up j) ps
 
 pub record IsTally (years : ℕ) (ps : List Prospect) (tally : Tally) : Type 0 where
   pub same : tally.years ≡ years
   pub policies : tally.policies ≡ length ps
-  pub unvalued : tally.unvalued ≡ total_of (λ p. p.words) ps
+  pub unvalued : tally.unvalued ≡ sum_by (λ (p : Prospect). p.words) ps
   pub premium : AreSums years premium_by ps tally.premium.sums
   pub death : AreSums years death_by ps tally.death.sums
   pub maturity : AreSums years maturity_by ps tally.maturity.sums
@@ -100,6 +112,12 @@ pub record HasCounted (basis : List Dated) (on : ℤ) (policy : Policy) (old new
   pub is : IsProspect basis on policy prospect
   pub small : IsSmall prospect
   pub added : HasAdded old.years prospect old new
+
+-- the prospect of an insured policy by a table: one without a shape has a word
+abbrev pub IsProspectBy : Policy → AnyTable → ℤ → Result Shape NotValued → Prospect → Type 0
+IsProspectBy policy table on answer p = MatchResult answer
+    (λ shape. (t : ℕ) × IsYear policy.issued on shape.n t × (p ≡ prospect_of policy (table_along table shape.age) shape t))
+    (λ why. p ≡ nothing_ahead 1)
 
 -- an insured policy was added by a table
 pub record HasCountedBy (policy : Policy) (table : AnyTable) (on : ℤ) (shape : Result Shape NotValued) (old new : Tally) : Type 0 where

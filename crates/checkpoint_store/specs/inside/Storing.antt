@@ -1,10 +1,10 @@
 -- What reading a checkpoint's file tells
-use Rattle.std.specs.Prelude.{◌≡◌, nat_eq, ℕ, ◌+◌, ◌*◌, ◌≤◌, Bool, true, false, List, [], ◌∷◌, ◌++◌, length, take, drop, Option, Some, None}
+use Rattle.std.specs.Prelude.{◌≡◌, nat_eq, ℕ, ◌+◌, ◌*◌, ◌≤◌, Bool, true, false, List, [], ◌∷◌, ◌++◌, length, map, take, drop, Option, Some, None}
 use Rattle.checkpoint_store.specs.Names.{AllByRecursion, IsDistinct, flat_map, keys_of, lookup, balances, IsSound, AreWithin, most_commands, Policy}
 use Rattle.checkpoint_store.specs.declared.front.Front.{Front}
 use Rattle.checkpoint_store.specs.declared.numbered.NumberedBooks.{NumberedBooks}
 use Rattle.checkpoint_store.specs.declared.snapshot.Snapshot.{Snapshot}
-use Rattle.checkpoint_store.specs.Checkpoints.{CheckpointBytes, policy_ids}
+use Rattle.checkpoint_store.specs.Checkpoints.{CheckpointBytes}
 use Rattle.checkpoint_store.specs.Spelling.{policy_bytes}
 use Rattle.checkpoint_store.specs.inside.Books.{AreKeyed, numbered_policies}
 use Rattle.checkpoint_store.specs.inside.Numbered.{as_snapshot}
@@ -26,6 +26,10 @@ pub record HasFront (file : List ℕ) (f : Front) : Type 0 where
 abbrev pub IsFrontOn : List ℕ → Option Front → Type 0
 IsFrontOn file (Some f) = HasFront file f × ((other : Front) → IsFrontInRange other → HasFront file other → other ≡ f)
 IsFrontOn file None = (f : Front) → IsFrontInRange f → HasFront file f → ⊥
+
+-- the numbers of the policies
+abbrev pub policy_ids : List Policy → List ℕ
+policy_ids policies = map (λ (p : Policy). p.id) policies
 
 -- so many sound policies, each of its own number, stand from byte 64 on
 pub record HasPolicies (file : List ℕ) (many : ℕ) (policies : List Policy) : Type 0 where

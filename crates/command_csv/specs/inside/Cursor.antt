@@ -4,8 +4,9 @@ use Rattle.command_csv.specs.Names.{fields_of, Line}
 use Rattle.command_csv.specs.declared.fields.LineFields.{LineFields}
 use Rattle.command_csv.specs.declared.kind.Kind.{Kind}
 use Rattle.command_csv.specs.declared.row.ClerkLine.{ClerkLine}
-use Rattle.command_csv.specs.Reads.{IsScriptLine, IsLineRow, MayStandBehind}
+use Rattle.command_csv.specs.Reads.{IsScriptLine}
 use Rattle.command_csv.specs.Spelling.{line_fields}
+use Rattle.command_csv.specs.inside.Words.{IsLineRow, MayStandBehind}
 use Rattle.command_csv.specs.inside.Forms.{StopsAfter, kind_spelling}
 
 -- the fields that weren't asked for yet

@@ -3,8 +3,8 @@ use Rattle.std.specs.Prelude.{◌≡◌, ℕ, suc, ◌<◌, List, [], ◌∷◌,
 use Rattle.command_csv.specs.Names.{Plan, IsId, IsCommandDay, IsAmount, IsReinstatement, IsIssueAge, AreYears, day_text, cents_text, plan_word}
 use Rattle.command_csv.specs.declared.kind.Kind.{Kind}
 use Rattle.command_csv.specs.declared.kind.Kind.TheVariants.{Issue, Premium, Alter, Lapse, Reinstate, Claim, Settle, Mature, PaidUp, Upgrade, Value, Trim}
-use Rattle.command_csv.specs.Reads.{IsClerk, IsPosition, AreWorkers, most_valuations}
-use Rattle.command_csv.specs.Spelling.{at_text}
+use Rattle.command_csv.specs.Reads.{most_valuations}
+use Rattle.command_csv.specs.inside.Words.{IsClerk, IsPosition, AreWorkers, at_text}
 
 -- nothing
 abbrev pub Ends : List (List ℕ) → Type 0

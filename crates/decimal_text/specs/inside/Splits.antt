@@ -1,7 +1,7 @@
 -- How a text is cut behind the digits at its front.
 use Rattle.std.specs.Prelude.{◌≡◌, ◌≢◌, ℕ, ◌⊎◌, List, [], ◌∷◌, ◌++◌}
 use Rattle.std.specs.Char.{IsAsciiDigit}
-use Rattle.decimal_text.specs.Decimal.{AreDigits, point}
+use Rattle.std.specs.Str.Parse.{AllDigits}
 
 -- the text is over, or goes on with something else than a digit
 abbrev pub StopsDigits : List ℕ → Type 0
@@ -10,11 +10,11 @@ StopsDigits (byte ∷ rest) = IsAsciiDigit byte → ⊥
 
 pub record SplitsDigits (text digits rest : List ℕ) : Type 0 where
   pub joined : text ≡ digits ++ rest
-  pub are_digits : AreDigits digits
+  pub are_digits : AllDigits 10 digits
   pub stops : StopsDigits rest
 
--- the digits behind a point, or none where no point stands there
+-- the digits behind a point (46), or none where no point stands there
 abbrev pub SplitsFraction : List ℕ → List ℕ → List ℕ → Type 0
 SplitsFraction [] fraction rest = (fraction ≡ []) × (rest ≡ [])
 SplitsFraction (byte ∷ text) fraction rest =
-    ((byte ≡ point) × SplitsDigits text fraction rest) ⊎ ((byte ≢ point) × (fraction ≡ []) × (rest ≡ byte ∷ text))
+    ((byte ≡ 46) × SplitsDigits text fraction rest) ⊎ ((byte ≢ 46) × (fraction ≡ []) × (rest ≡ byte ∷ text))

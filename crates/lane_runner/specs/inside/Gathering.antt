@@ -21,4 +21,4 @@ HasPutOut faults faults_now before now text lines gathered None =
     IsGathering faults faults_now before now (line_texts text lines) gathered
 HasPutOut faults faults_now before now text lines gathered (Some WriteFault) =
     Rose faults faults_now × AppendsPart before now (line_texts text lines)
-HasPutOut faults faults_now before now text lines gathered (Some NoMemory) = StopsShort faults faults_now before now text lines
+HasPutOut faults faults_now before now text lines gathered (Some (NoMemory lack)) = StopsShort faults faults_now before now text lines

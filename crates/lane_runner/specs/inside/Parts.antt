@@ -1,5 +1,6 @@
 -- The parts of running lanes
 use Rattle.std.specs.Prelude.{◌≡◌, ℕ, zero, suc, ◌+◌, ◌≤◌, ◌<◌, Some, slice_get, List, [], ◌∷◌, ◌++◌, length, map, Result, Ok, Err, Box, Vec, vec_capacity}
+use Rattle.memory_requests.specs.Evidence.{a_refusal}
 use Rattle.lane_runner.specs.Names.{IsPair, SameProducer, known_free, received, sent, AllByRecursion, AllZip, flat_map, Dated, Line, Value, Lane, AnswersLine, Holding, PassFacts, TableId, pages, IsOfficeHistory, OfficeOpening, most_turns, StartsWith}
 use Rattle.std.specs.Global.{Global}
 use Rattle.snapshot_value.specs.Growing.{Grows}
@@ -28,7 +29,7 @@ turns_needed (line ∷ lines) = turns_for line + turns_needed lines
 -- the answer lies in the box, or there was no memory for it
 abbrev pub IsBoxed : Result Valuation ValueFault → Result (Box Valuation Global) ValueFault → Type 0
 IsBoxed (Ok valuation) (Ok kept) = kept.value ≡ valuation
-IsBoxed (Ok valuation) (Err fault) = fault ≡ NoMemory
+IsBoxed (Ok valuation) (Err fault) = fault ≡ NoMemory a_refusal
 IsBoxed (Err fault) kept = kept ≡ Err fault
 
 -- the answer that lies in a box
@@ -40,7 +41,7 @@ in_box (Err fault) = Err fault
 abbrev pub outcome_of : Result (Box Valuation Global) ValueFault → Outcome
 outcome_of (Ok valuation) = Valued valuation
 outcome_of (Err (Pin refusal)) = ValueRefused refusal
-outcome_of (Err NoMemory) = ValueNoMemory
+outcome_of (Err (NoMemory lack)) = ValueNoMemory a_refusal
 
 -- the lines were answered in order by turns of the pass's caller, and this is told of them
 pub record HasAnswered {D W : Type 0} (basis : List Dated) (number : ℕ) (lines : List Line) (old new : Holding (OfficeOpening D W))

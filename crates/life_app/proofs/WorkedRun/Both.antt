@@ -1,5 +1,5 @@
 -- The worked run over both disks holds what its cases say.
-use Rattle.life_app.proofs.Names.{◌≡◌, ◌⊎◌, ℕ, ◌≤◌, true, List, [], ◌∷◌, ◌++◌, length, take, drop, get_or, refl, sym, ◌∙◌, ap, subst, inl, inr, lit≤, lit<, arith, codes, None, Some, append-nil, digits, cases_eq, take_at, books_text, EndsState, anniversary_of, day_number, date_of, date_at, year_of, month_of, days_before, days_before_year, days_of_months, day_text, account_line, count_text, policy_text, EndsCheckpoint, IsNoneOrEarlierOrHeld, AreTrue, IsHeldWhereTrue, IsMadeSafe, TellsTruth, Checkpoint, State, AreWords, NotAJournal, IsShown, hand_issue, hand_premium, shown_opens_to_none, both, valid_issue, Synced, Leaves, LooksOn, Done, Usage, spelling_of, SaysUnasked, HasJournal, HasNoJournal, AskForCheckpoint, letters, letters_filing, no_input, CalledDisk, called, cut_disk, cut_file, called_disk, empty_disk, last_disk, puts, reopening, output_of, shelf_that_told, two_auditors, both_commands, looked_disk, second_opening}
+use Rattle.life_app.proofs.Names.{◌≡◌, ◌⊎◌, ℕ, ◌≤◌, true, List, [], ◌∷◌, ◌++◌, length, take, drop, get_or, refl, sym, ◌∙◌, ap, subst, inl, inr, lit≤, lit<, arith, codes, None, Some, append-nil, digits, cases_eq, take_at, EndsState, anniversary_of, day_number, date_of, month_of, days_before_year, days_of_months, day_text, balance_text, policy_text, EndsCheckpoint, IsNoneOrEarlierOrHeld, AreTrue, IsHeldWhereTrue, IsMadeSafe, TellsTruth, Checkpoint, State, AreWords, NotAJournal, IsShown, hand_issue, hand_premium, shown_opens_to_none, both, valid_issue, Synced, Leaves, LooksOn, Done, Usage, spelling_of, SaysUnasked, HasJournal, HasNoJournal, AskForCheckpoint, letters, letters_filing, no_input, CalledDisk, called, cut_disk, cut_file, called_disk, empty_disk, last_disk, puts, reopening, output_of, shelf_that_told, two_auditors, both_commands, looked_disk, second_opening, books_of, snapshot_text, HasItsNeeds, Command, Opens}
 use Rattle.checkpoint_store.specs.Checkpoints.{CheckpointBytes, IsNoCheckpoint, IsSnapshotOf}
 use Rattle.checkpoint_store.specs.Reopening.{IsSnapshotOfFront}
 use Rattle.checkpoint_store.specs.Spelling.{balance_bytes, policy_bytes, position_bytes, snapshot_bytes}
@@ -7,7 +7,8 @@ use Rattle.checkpoint_store.specs.Worked.{issued_file, issued_snapshot}
 use Rattle.checkpoint_store.proofs.ClaimedFile.{issued_checkpoint, issued_sound}
 use Rattle.checkpoint_store.proofs.OneSnapshot.{one_snapshot}
 use Rattle.policy_machine.proofs.LedgerLemmas.{sum_of-ledger}
-use Rattle.stating_modes.specs.Stated.{EndsStateKept, snapshot_text}
+use Rattle.stating_modes.specs.Stated.{EndsStateKept}
+use Rattle.life_app.specs.Needs.{JournalIs}
 use Rattle.outside_io.specs.Disks.{Torn}
 use Rattle.posting_journal.proofs.Bytes.{same_byte}
 use Rattle.posting_journal.proofs.Unique.{opens_once}
@@ -49,7 +50,7 @@ issue_left : IsSnapshotOf (hand_issue ∷ []) issued_snapshot
 issue_left = record { position = refl; upgrade = refl; ledger = refl; policies = refl }
 
 held_where_true : IsHeldWhereTrue called called saving_disks issued_snapshot
-held_where_true are = record { commands = hand_issue ∷ []; opened = inl (journal_of_issue cut_file cut); leave = issue_left; disk = opened_left }
+held_where_true are = record { commands = hand_issue ∷ []; so = issue_left; disk = opened_left }
 
 of_the_journal : (image : List ℕ) → CheckpointBytes image issued_snapshot → IsNoneOrEarlierOrHeld called called saving_disks image
 of_the_journal image is = inr (inr (issued_snapshot, is, held_where_true))
@@ -147,7 +148,7 @@ neither Rise none (inl rose) = none rose
 neither Rise none (inr rose) = none rose
 
 saving_journal : HasJournal looked_filing saved_filing (hand_issue ∷ [])
-saving_journal = record { trusted = (honest_looked, honest_saved, truth_of_none cut_file); opens = inl (journal_of_issue cut_file cut); held = neither _ none_failed }
+saving_journal = record { trusted = (honest_looked, honest_saved, truth_of_none cut_file); so = inl (journal_of_issue cut_file cut); held = neither _ none_failed }
 
 asks_save : AskForCheckpoint (codes "checkpoint" ∷ [])
 asks_save = (refl, refl)
@@ -155,21 +156,30 @@ asks_save = (refl, refl)
 asks_books : AreWords (codes "state" ∷ []) (State None)
 asks_books = (refl, record { pieces = []; spells = refl; only = tt; id_is = refl })
 
+some_commands : JournalIs looked_filing saved_filing (λ file. (commands : List Command) × Opens file commands)
+some_commands = record { trusted = saving_journal.trusted; so = (hand_issue ∷ [], saving_journal.so); held = saving_journal.held }
+
+save_needs : HasItsNeeds Checkpoint no_input (shelf_that_told []) saved_filing
+save_needs = record { lanes = []; script = λ name same. absurd cc; basis = λ name need. absurd need; disks = λ same. tt }
+
+books_needs : HasItsNeeds (State None) no_input (shelf_that_told []) empty_filing
+books_needs = record { lanes = []; script = λ name same. absurd cc; basis = λ name need. absurd need; disks = λ same. tt }
+
 module _ (shown : IsShown letters NotAJournal) where
   no_journal : HasNoJournal letters_filing empty_filing
   no_journal = record {
     trusted = (((((tt, tt), refl), refl), refl), (tt, refl), truth_of_none letters);
-    none = shown_opens_to_none letters NotAJournal tt shown;
+    so = shown_opens_to_none letters NotAJournal tt shown;
     held = neither _ none_failed;
   }
 
   pub due_of_both : DueOfBothByHand
   due_of_both = (
     saving_journal,
-    record { trusted = (honest_looked, (((tt, tt), refl), refl), truth_of_saved); opens = inl (journal_of_issue cut_file cut); held = neither _ none_failed },
+    record { trusted = (honest_looked, (((tt, tt), refl), refl), truth_of_saved); so = inl (journal_of_issue cut_file cut); held = neither _ none_failed },
     no_journal,
-    (Checkpoint, asks_save, tt, (hand_issue ∷ [], saving_journal), none_failed),
-    (State None, asks_books, tt, no_journal),
+    (Checkpoint, asks_save, save_needs, some_commands, none_failed),
+    (State None, asks_books, books_needs, no_journal),
   )
 
 -- ---- the call
@@ -178,8 +188,10 @@ pub saved : EndsCheckpoint called called saving_disks (output_of (codes "checkpo
 unfolding digits
 saved = record {
   telling = record {
-    told = record { snapshot = issued_snapshot; wrote = refl; held = held_where_true; quiet = record { first = refl; second = refl } };
-    saved = λ honest image left. subst (λ (file : List ℕ). CheckpointBytes file issued_snapshot) (sym left) saved_checkpoint;
+    snapshot = issued_snapshot;
+    so = (refl, λ honest image left. subst (λ (file : List ℕ). CheckpointBytes file issued_snapshot) (sym left) saved_checkpoint);
+    held = held_where_true;
+    quiet = record { first = refl; second = refl };
   };
   first = left_alone;
   honesty = λ honest. (tt, refl);
@@ -190,7 +202,6 @@ saved = record {
 
 pub saved_by_hand : SavedByHand
 saved_by_hand = (
-  saved,
   saved,
   record { ending = Done; exits = refl; does = inl (Checkpoint, asks_save, (tt, tt, saved)) },
 )
@@ -301,30 +312,27 @@ parts_by_hand = (
 -- ---- `state`
 
 issue_text : snapshot_text issued_snapshot ≡ issue_books
-unfolding digits anniversary_of day_number date_of date_at year_of month_of days_before days_before_year days_of_months day_text account_line count_text policy_text
+unfolding digits anniversary_of day_number date_of month_of days_before_year days_of_months day_text balance_text policy_text
 issue_text = refl
 
-books_of_issue : books_text (hand_issue ∷ []) ≡ issue_books
-unfolding digits anniversary_of day_number date_of date_at year_of month_of days_before days_before_year days_of_months day_text account_line count_text policy_text
+books_of_issue : books_of (hand_issue ∷ []) ≡ issue_books
+unfolding digits anniversary_of day_number date_of month_of days_before_year days_of_months day_text balance_text policy_text
 books_of_issue = refl
 
-pub stated_alone : EndsState called cut_disk looked_disk books_text (output_of issue_books) Done
+pub stated_alone : EndsState called cut_disk looked_disk books_of (output_of issue_books) Done
 stated_alone = record {
   commands = hand_issue ∷ [];
-  opened = λ honest. inl (journal_of_issue cut_file cut);
-  wrote = sym books_of_issue;
-  balanced = sum_of-ledger (hand_issue ∷ []);
+  so = (sym books_of_issue, sum_of-ledger (hand_issue ∷ []));
   disk = opened_left;
 }
 
 read_looks : LooksOn called second_disk read_disk
 read_looks = record {
-  facts = record { reads = refl; images = λ image left. inl left };
-  time = record {
-    later = lit≤ tt;
-    nothing_else = nothing_else;
-    keeps = λ moment image passed left. inl (inl left);
-  };
+  reads = refl;
+  images = λ image left. inl left;
+  later = lit≤ tt;
+  nothing_else = nothing_else;
+  keeps = λ moment image passed left. inl (inl left);
 }
   where
     nothing_else : (moment : ℕ) (image : List ℕ) → moment ≤ 0 → called.left_since read_disk moment image
@@ -334,11 +342,11 @@ read_looks = record {
     nothing_else moment image passed (inl (inl before)) = inl before
 
 held_where_stated : IsHeldWhereTrue called called stating_disks issued_snapshot
-held_where_stated are = record { commands = hand_issue ∷ []; opened = inl (journal_of_issue cut_file cut); leave = issue_left; disk = opened_left }
+held_where_stated are = record { commands = hand_issue ∷ []; so = issue_left; disk = opened_left }
 
 stated : EndsStateKept called called stating_disks (output_of issue_books) Done
 stated = record {
-  telling = record { snapshot = issued_snapshot; wrote = sym issue_text; held = held_where_stated; quiet = record { first = refl; second = refl } };
+  telling = record { snapshot = issued_snapshot; so = sym issue_text; held = held_where_stated; quiet = record { first = refl; second = refl } };
   first = left_alone;
   second = record { honesty = λ honest. (tt, refl); looks = λ honest. read_looks };
 }
@@ -346,7 +354,6 @@ stated = record {
 pub stated_by_hand : StatedByHand
 stated_by_hand = (
   stated_alone,
-  stated,
   stated,
   record { ending = Done; exits = refl; does = inl (State None, asks_books, (tt, tt, stated)) },
 )
@@ -360,9 +367,8 @@ pub otherwise_by_hand : OtherwiseByHand
 otherwise_by_hand = (
   asks_save,
   (λ mode are. are),
-  says_usage,
-  record { disk = refl; other = refl; input = tt; shelf = tt; says = says_usage },
-  λ words. record { disk = refl; other = refl; input = tt; shelf = tt; says = inl refl },
+  (refl, refl, tt, tt, says_usage),
+  λ words. (refl, refl, tt, tt, inl refl),
 )
 
 pub due_of_the_saving : DueOfTheSaving

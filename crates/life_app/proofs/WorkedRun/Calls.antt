@@ -61,7 +61,7 @@ module _ (first : List ℕ) (calls : List FileCall) (bodies : List (List ℕ)) (
       torn_stage bodies (reads first calls) (reads first (stages (length bodies) command calls)) journal
       (subst (λ (m : ℕ). Torn (body_place (length bodies)) m (reads first calls) (reads first (stages (length bodies) command calls))) record_size
       (written_torn (reads first calls) (body_place (length bodies)) (spelling_of command ++ 0 ∷ []) (reads first (stages (length bodies) command calls))
-      (omega (arith, journal.end.there)) refl))
+      (omega (arith, journal.end.0)) refl))
 
   pub staged_safe : AreSafe first (stages (length bodies) command calls)
   staged_safe image left = is_safe _ _ _ unfailed left
@@ -121,9 +121,9 @@ module _ (first : List ℕ) (calls : List FileCall) (bodies : List (List ℕ)) (
   pub posted_within : writes_within first untorn calls ≡ true → writes_within first untorn (posts (length bodies) command calls) ≡ true
   posted_within before =
       both_true (nat_le (gate_place (length bodies)) (length (reads first (stages (length bodies) command calls)))) (writes_within first untorn (stages (length bodies) command calls))
-      (le-leb (gate_place (length bodies)) (length (reads first (stages (length bodies) command calls))) (omega (arith, is_staged.end.there)))
+      (le-leb (gate_place (length bodies)) (length (reads first (stages (length bodies) command calls))) (omega (arith, is_staged.end.0)))
       (both_true (nat_le (body_place (length bodies)) (length (reads first calls))) (writes_within first untorn calls)
-      (le-leb (body_place (length bodies)) (length (reads first calls)) (omega (arith, journal.end.there))) before)
+      (le-leb (body_place (length bodies)) (length (reads first calls)) (omega (arith, journal.end.0))) before)
 
 -- ---- a file is looked at
 
@@ -156,35 +156,31 @@ last_step image torn =
     let gate : slice_index image 17 ≡ 0 = same_behind 1 16 (0 ∷ header ++ 0 ∷ []) image torn.after in
     let closed : slice_index image 17 ≢ 1 = λ one. let no : 0 ≡ 1 = sym gate ∙ one in omega (arith, no) in
     elim (cases_eq (get_or image 0 0) 0) [
-      | inl begun ↦ no_commands image (inr (inl (record { some = omega (arith, long); short = omega (arith, long); unfinished = begun })))
+      | inl begun ↦ no_commands image (inr (inl (omega (arith, long), begun)))
       | inr not_begun ↦ elim (cases_eq (get_or image 0 0) 1) [
         | inl made ↦ inl (record {
           records = record {
             made = record { finished = made; header = same };
             records = no_records image;
-            end = record { there = omega (arith, long); closed = closed };
+            end = (omega (arith, long), closed);
             few = lit≤ tt;
           };
           valid = tt;
           accepted = tt;
         })
-        | inr not_made ↦ no_commands image (inr (inr (record { ready = record { long = long; header = same; closed = closed }; not_begun = not_begun; not_made = not_made })))
+        | inr not_made ↦ no_commands image (inr (inr (long, same, closed, not_made)))
       ]
     ]
 
 -- of one byte that says that the creation goes on, and what is behind it
 second_step : (image : List ℕ) → Torn 1 17 (0 ∷ []) image → Opens image []
-second_step image torn = no_commands image (inr (inl (record {
-  some = torn.no_shorter;
-  short = torn.no_longer;
-  unfinished = same_byte 1 0 (0 ∷ []) image torn.before (lit< tt);
-})))
+second_step image torn = no_commands image (inr (inl (torn.no_longer, same_byte 1 0 (0 ∷ []) image torn.before (lit< tt))))
 
 pub created : IsJournal (reads [] creation) []
 created = record {
   made = record { finished = refl; header = refl };
   records = no_records (reads [] creation);
-  end = record { there = lit< tt; closed = λ one. let no : 0 ≡ 1 = one in omega (arith, no) };
+  end = (lit< tt, λ one. let no : 0 ≡ 1 = one in omega (arith, no));
   few = lit≤ tt;
 }
 
@@ -205,7 +201,7 @@ creation_left moment image (inr now) = as_read image (reads [] creation) now.1 (
 creation_left moment image (inl (inr now)) =
     last_step image (subst (λ (e : List ℕ). Torn 0 1 e image) now.1.1 now.1.2)
 creation_left moment image (inl (inl (inr now))) =
-    as_read image (0 ∷ header ++ 0 ∷ []) now.1 (no_commands (0 ∷ header ++ 0 ∷ []) (inr (inl (record { some = lit< tt; short = lit≤ tt; unfinished = refl }))))
+    as_read image (0 ∷ header ++ 0 ∷ []) now.1 (no_commands (0 ∷ header ++ 0 ∷ []) (inr (inl (lit≤ tt, refl))))
 creation_left moment image (inl (inl (inl (inr now)))) =
     second_step image (subst (λ (e : List ℕ). Torn 1 17 e image) now.1.1 now.1.2)
 creation_left moment image (inl (inl (inl (inl (inr now))))) = as_read image (0 ∷ []) now.1 (no_commands (0 ∷ []) (inl (lit≤ tt)))

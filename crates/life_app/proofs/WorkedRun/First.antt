@@ -89,13 +89,13 @@ honest_calls = ((tt, refl), honest_paid, (tt, refl), honest_last)
 
 -- so many of both commands are held
 none_held : (image : List ℕ) → Opens image [] → HoldsOnce first_opening first_turns image
-none_held image opens = record { held = []; rest = both_commands; more = []; front = refl; one = tt; opens = opens }
+none_held image opens = ([], both_commands, refl, inl opens)
 
 issue_held : (image : List ℕ) → IsJournal image (spelling_of hand_issue ∷ []) → HoldsOnce first_opening first_turns image
-issue_held image journal = record { held = hand_issue ∷ []; rest = hand_premium ∷ []; more = []; front = refl; one = tt; opens = inl (journal_of_issue image journal) }
+issue_held image journal = (hand_issue ∷ [], hand_premium ∷ [], refl, inl (inl (journal_of_issue image journal)))
 
 both_held : (image : List ℕ) → IsJournal image (spelling_of hand_issue ∷ spelling_of hand_premium ∷ []) → HoldsOnce first_opening first_turns image
-both_held image journal = record { held = both_commands; rest = []; more = []; front = refl; one = tt; opens = inl (journal_of_both image journal) }
+both_held image journal = (both_commands, [], refl, inl (inl (journal_of_both image journal)))
 
 pub issuing_held : (moment : ℕ) (image : List ℕ) → Left [] issuing moment image → HoldsOnce first_opening first_turns image
 issuing_held moment image left = elim (posted_left [] creation [] hand_issue (lit< tt) issue_size created creation_safe refl moment image left) [
@@ -183,7 +183,7 @@ left_by file calls opening turns some faults opens now held kept alone = record 
 }
 
 pub first_left : IsLeftBy called empty_disk paid_disk first_opening first_turns
-first_left = left_by [] first_calls first_opening first_turns (lit≤ tt) refl (inr (refl, inl (lit≤ tt))) now_both paying_held kept_both (λ quiet. absurd quiet.0)
+first_left = left_by [] first_calls first_opening first_turns (lit≤ tt) refl (inr (refl, inl (lit≤ tt))) now_both paying_held kept_both (λ quiet. absurd (quiet.0.1 1 refl))
 
 pub first_ran : HasRun called empty_disk paid_disk first_opening first_turns
 first_ran = record { honest = honest_paid; safe = found_safe []; left = first_left }

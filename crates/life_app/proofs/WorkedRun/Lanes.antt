@@ -1,5 +1,5 @@
 -- The two lanes are as their cases say.
-use Rattle.life_app.proofs.Names.{◌≡◌, ◌++◌, ℕ, List, [], ◌∷◌, refl, sym, subst, inl, inr, lit≤, lit<, arith, ints, flat_map, pos, digits, IsDistinct, anniversary_of, day_number, date_of, date_at, year_of, month_of, days_before, days_before_year, days_of_months, day_text, Accepted, Faulted, Refused, hand_premium, valid_premium, BelowTable, Now, Entry, InForce, Opens, Row, Terminal, Word, block_text, heading_text, row_text, total_text, posting_text, reports_text, reports_of, Done, DiskFault, IsRunOf, TakenPiece, called, two_auditors}
+use Rattle.life_app.proofs.Names.{◌≡◌, ◌++◌, ℕ, List, [], ◌∷◌, refl, sym, subst, inl, inr, lit≤, lit<, arith, ints, flat_map, pos, digits, IsDistinct, anniversary_of, day_number, date_of, month_of, days_before_year, days_of_months, day_text, Accepted, Faulted, Refused, hand_premium, valid_premium, BelowTable, Now, Entry, InForce, Opens, Row, Terminal, Word, block_text, heading_text, row_text, total_text, posting_text, reports_text, reports_of, Done, DiskFault, IsRunOf, TakenPiece, called, two_auditors, ap, ◌∙◌}
 use Rattle.csv.proofs.OnLiterals.{csv_on_literals}
 use Rattle.command_csv.proofs.WorkedScripts.{reads, row_of}
 use Rattle.command_csv.specs.declared.row.ClerkLine.{ClerkLine}
@@ -7,9 +7,7 @@ use Rattle.lane_runner.specs.AnsweredLines.{AnsweredLine, AreLinesOf}
 use Rattle.policy_machine.specs.Merge.{AnswersLine, IsMerge, Placed}
 use Rattle.policy_types.specs.declared.refusal.Refusal.TheVariants.{WrongAmount}
 use Rattle.policy_types.specs.declared.script.Line.TheVariants.{Post as PostLine, Value}
-use Rattle.program_endings.specs.Replies.{AreAnswered, HaveAFault}
-use Rattle.script_run.specs.Shown.{AreSafeWhenShown, IsAcceptedReply}
-use Rattle.script_run.specs.Texts.{WroteWhole}
+use Rattle.script_run.specs.Shown.{AreSafeWhenShown}
 use Rattle.valuing_modes.proofs.WorkedValuation.{first_row, second_row}
 use Rattle.life_app.proofs.HeadlineLaws.{promised}
 use Rattle.life_app.specs.WorkedRun.Lanes.{LegalLanes, LeftLanes, PromisedLanes, ReopenedLanes, both_issues, fault_disk, fault_turn, given_up_turn, lanes_answers, lanes_disk, lanes_pin, lanes_script, lanes_text, lanes_turns, late_lanes, late_text, late_turn, left_commands, looked_again, open_disk, other_premium, output_by, paid_turn, refused_turn, rows_turn, short_premium, typed_lanes}
@@ -43,7 +41,7 @@ merge = record {
 }
 
 pub legal_lanes : LegalLanes
-unfolding entries csv_on_literals digits day_text date_of date_at year_of month_of days_before days_before_year days_of_months
+unfolding entries csv_on_literals digits day_text date_of month_of days_before_year days_of_months
 legal_lanes = (
   reads lanes_script entries _ refl (record {
     each = (
@@ -72,7 +70,7 @@ texts = posting_text 1 short_premium (Refused (WrongAmount 40000)) ∷ block_tex
     ∷ posting_text 2 hand_premium (Accepted 3) ∷ posting_text 2 other_premium (Faulted 1) ∷ []
 
 written : flat_map (λ (text : List ℕ). text) texts ++ reports_text (reports_of two_auditors (hand_premium ∷ [])) ≡ lanes_text
-unfolding day_text date_of date_at year_of month_of days_before days_before_year days_of_months row_text heading_text total_text digits
+unfolding day_text date_of month_of days_before_year days_of_months row_text heading_text total_text digits
 written = refl
 
 lines : AreLinesOf lanes_answers lanes_turns typed_lanes (11 ∷ 12 ∷ []) []
@@ -80,7 +78,7 @@ lines = record {
   rising = (lit< tt, (lit< tt, (lit< tt, tt)));
   clerks = ((0, lit< tt, refl), ((0, lit< tt, refl), ((1, lit< tt, refl), ((1, lit< tt, refl), tt))));
   turns = (refl, ((refl, (1, refl, (λ wet. refl))), (refl, (refl, tt))));
-  each = (refl, refl, (refl, refl, tt));
+  each = ((refl, refl), ((refl, refl), tt));
 }
 
 -- ---- the run
@@ -89,29 +87,28 @@ abbrev lanes_piece : TakenPiece
 lanes_piece = record { bytes = lanes_text; since = called.clock fault_disk }
 
 shown : AreSafeWhenShown called Opens fault_disk both_issues lanes_turns lanes_answers texts (lanes_piece ∷ [])
-shown later earlier piece split before after line there accepted reached image left =
+shown later earlier piece split before after line there position accepted reached image left =
     front_held _ image (only_now fault_disk image honest_fault
     (subst (λ (p : TakenPiece). called.left_since fault_disk p.since image) (sym (one_alone lanes_piece piece later earlier split)) left))
 
-ran : IsRunOf called lanes_disk fault_disk typed_lanes two_bases two_auditors (output_by fault_disk lanes_text)
-    (WroteWhole (output_by fault_disk lanes_text)) HaveAFault
-unfolding anniversary_of day_number date_of date_at year_of month_of days_before days_before_year days_of_months
+ran : IsRunOf called lanes_disk fault_disk typed_lanes two_bases two_auditors (output_by fault_disk lanes_text) DiskFault
+unfolding anniversary_of day_number date_of month_of days_before_year days_of_months
 ran = record {
   commands = both_issues;
   callers = 11 ∷ 12 ∷ [];
   dry = [];
   history = lanes_turns;
-  answered = lanes_answers;
+  lines = lanes_answers;
   texts = texts;
   opened = λ honest. found_opens;
-  merge = merge;
+  distinct = merge.distinct;
+  theirs = merge.theirs;
   legal = legal;
   pins = tt;
-  lines = lines;
-  tells = (refl, (inr ((λ dry. let low = dry.1 in omega (arith, low)), (two_rows, (first_row, (second_row, tt)), refl)), (refl, (refl, tt))));
+  answered = lines;
+  told = (refl, (inr ((λ dry. let low = dry.1 in omega (arith, low)), (two_rows, (first_row, (second_row, tt)), refl)), (refl, (refl, tt))));
   shown = λ honest. (lanes_piece ∷ [], refl, shown);
-  wrote = sym written;
-  replies = (other_premium, (given_up_turn ∷ [], faulted));
+  wrote = (sym written, (hand_premium ∷ [], (other_premium, faulted)), lit≤ tt);
   disk = lanes_left;
 }
 
@@ -119,20 +116,19 @@ pub promised_lanes : PromisedLanes
 promised_lanes = (
   lines,
   ran,
-  promised called lanes_disk fault_disk (output_by fault_disk lanes_text) typed_lanes two_bases two_auditors _ _ DiskFault ran
-      (λ all reports wrote. (wrote, ran.replies, lit≤ tt)),
+  promised called lanes_disk fault_disk (output_by fault_disk lanes_text) typed_lanes two_bases two_auditors DiskFault ran,
 )
 
 pub left_lanes : LeftLanes
 left_lanes = (
-  (other_premium, (given_up_turn ∷ [], faulted)),
-  record { before = faulted.before; caller = 12; count = 1; after = given_up_turn ∷ []; turns = refl; then = refl },
+  (hand_premium ∷ [], (other_premium, faulted)),
+  faulted,
   may_shut,
   shut_opens,
   inl refl,
   may_open,
   inl left_bytes,
-  record { held = hand_premium ∷ []; rest = []; more = other_premium ∷ []; front = refl; one = (given_up_turn ∷ [], (faulted, refl)); are = refl },
+  record { held = hand_premium ∷ []; rest = []; more = other_premium ∷ []; front = refl; one = faulted; are = refl },
 )
 
 -- ---- the next run
@@ -145,37 +141,37 @@ unfolding IsDistinct
 late_merge = record { distinct = (tt, tt); theirs = ((0, lit< tt, refl), tt); answers = ((placed 0 late_turn ∷ [], ([], refl, refl, refl)), tt) }
 
 late_written : flat_map (λ (text : List ℕ). text) (posting_text 2 other_premium late_turn.reply ∷ []) ++ [] ≡ late_text
-unfolding day_text date_of date_at year_of month_of days_before days_before_year days_of_months digits
+unfolding day_text date_of month_of days_before_year days_of_months digits
 late_written = refl
 
-late_ran : IsRunOf called open_disk looked_again late_lanes [] [] (output_by looked_again late_text) (WroteWhole (output_by looked_again late_text)) AreAnswered
+late_ran : IsRunOf called open_disk looked_again late_lanes [] [] (output_by looked_again late_text) Done
 late_ran = record {
   commands = left_commands;
   callers = 12 ∷ [];
   dry = [];
   history = late_turn ∷ [];
-  answered = late_answer ∷ [];
+  lines = late_answer ∷ [];
   texts = posting_text 2 other_premium late_turn.reply ∷ [];
   opened = λ honest. inl left_bytes;
-  merge = late_merge;
+  distinct = late_merge.distinct;
+  theirs = late_merge.theirs;
   legal = too_late;
   pins = tt;
-  lines = record { rising = tt; clerks = ((0, lit< tt, refl), tt); turns = (refl, tt); each = (refl, refl, tt) };
-  tells = (refl, tt);
+  answered = record { rising = tt; clerks = ((0, lit< tt, refl), tt); turns = (refl, tt); each = ((refl, refl), tt) };
+  told = (refl, tt);
   shown = λ honest. (
     (record { bytes = late_text; since = called.clock looked_again }) ∷ [],
     refl,
-    λ later earlier piece split before after line there accepted reached image left.
-        absurd (subst (λ (l : AnsweredLine). IsAcceptedReply l.first.1.reply) (sym (one_alone late_answer line before after there)) accepted),
+    λ later earlier piece split before after line there position accepted reached image left.
+        let same : late_turn.reply ≡ Accepted position = ap (λ (l : AnsweredLine). l.first.1.reply) (one_alone late_answer line before after there) ∙ accepted in
+        cc,
   );
-  wrote = sym late_written;
-  replies = ((tt, tt), refl);
+  wrote = (sym late_written, (((refl, λ no. cc), tt), refl));
   disk = late_left;
 }
 
 pub reopened_lanes : ReopenedLanes
 reopened_lanes = (
   goes_on,
-  promised called open_disk looked_again (output_by looked_again late_text) late_lanes [] [] _ _ Done late_ran
-      (λ all reports wrote. (wrote, late_ran.replies)),
+  promised called open_disk looked_again (output_by looked_again late_text) late_lanes [] [] Done late_ran,
 )

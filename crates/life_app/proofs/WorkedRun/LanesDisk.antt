@@ -1,5 +1,5 @@
 -- What the two lanes leave of their disk.
-use Rattle.life_app.proofs.Names.{◌≡◌, ◌⊎◌, ◌+◌, ℕ, true, List, [], ◌∷◌, ◌++◌, ◌∙◌, length, take, drop, refl, ap, sym, subst, inl, inr, lit≤, lit<, arith, ints, anniversary_of, day_number, date_of, date_at, year_of, month_of, days_before, days_before_year, days_of_months, append_assoc, filter_map-append, AreAllowed, Command, Entry, Opening, opened_on, IsLegal, accepted_of, accepted_by, IsJournal, spelling_of, HasFaultedBefore, HoldsAtLeast, HoldsNow, HoldsOnce, IsLeftBy, KeepsAccepted, JournalBytes, Opens, hand_issue, hand_premium, valid_issue, valid_premium, called, called_disk, issuing, looks, untorn}
+use Rattle.life_app.proofs.Names.{◌≡◌, ◌⊎◌, ℕ, List, [], ◌∷◌, ◌++◌, ◌∙◌, length, take, drop, refl, ap, sym, subst, inl, inr, lit≤, lit<, arith, ints, anniversary_of, day_number, date_of, month_of, days_before_year, days_of_months, append_assoc, filter_map-append, AreAllowed, Command, Entry, Opening, opened_on, IsLegal, accepted_of, accepted_by, IsJournal, spelling_of, HoldsAtLeast, HoldsNow, HoldsOnce, IsLeftBy, KeepsAccepted, JournalBytes, Opens, hand_issue, hand_premium, valid_issue, valid_premium, called, called_disk, issuing, looks, untorn, WasFaulted}
 use Rattle.std.proofs.lemmas.List.{take-append-drop}
 use Rattle.office_state.proofs.KeptSteps.{keeps_more, keeps_still, keeps_unaccepted, kept_now}
 use Rattle.journal_replay.specs.Replays.{bodies_of}
@@ -22,7 +22,7 @@ pub valid_other_premium : IsValid other_premium
 valid_other_premium = ((lit≤ tt, lit≤ tt), (omega (arith, ints), omega (arith, ints)), (lit≤ tt, lit≤ tt))
 
 pub legal : IsLegal lanes_opening lanes_turns
-unfolding anniversary_of day_number date_of date_at year_of month_of days_before days_before_year days_of_months
+unfolding anniversary_of day_number date_of month_of days_before_year days_of_months
 legal = record {
   opens = record { accepted = (refl, (refl, tt)); valid = (valid_issue, (valid_other, tt)); few = lit≤ tt };
   due = refl then (omega arith, refl, refl) then (refl, refl) then ((2, 2), refl, (lanes_pin, refl, refl), omega arith, refl)
@@ -30,14 +30,14 @@ legal = record {
 }
 
 pub goes_on : IsLegal (opened_on held_commands 0) (again_turn ∷ [])
-unfolding anniversary_of day_number date_of date_at year_of month_of days_before days_before_year days_of_months
+unfolding anniversary_of day_number date_of month_of days_before_year days_of_months
 goes_on = record {
   opens = record { accepted = (refl, (refl, (refl, tt))); valid = (valid_issue, (valid_other, (valid_premium, tt))); few = lit≤ tt };
   due = ((refl, refl), tt);
 }
 
 pub too_late : IsLegal (opened_on left_commands 0) (late_turn ∷ [])
-unfolding anniversary_of day_number date_of date_at year_of month_of days_before days_before_year days_of_months
+unfolding anniversary_of day_number date_of month_of days_before_year days_of_months
 too_late = record {
   opens = record { accepted = (refl, (refl, (refl, (refl, tt)))); valid = (valid_issue, (valid_other, (valid_premium, (valid_other_premium, tt)))); few = lit≤ tt };
   due = (refl, tt);
@@ -93,8 +93,8 @@ honest_fault = (((((paid_allowed, tt), tt), tt), tt), posted_within file paid_ca
 
 -- ---- what a crash leaves
 
-abbrev pub faulted : HasFaultedBefore lanes_turns other_premium (given_up_turn ∷ [])
-faulted = record { before = refused_turn ∷ lanes_pin ∷ paid_turn ∷ rows_turn ∷ []; caller = 12; count = 1; turns = refl }
+abbrev pub faulted : WasFaulted lanes_turns (hand_premium ∷ []) other_premium
+faulted = record { before = refused_turn ∷ lanes_pin ∷ paid_turn ∷ rows_turn ∷ []; caller = 12; count = 1; after = given_up_turn ∷ []; turns = refl; then = refl }
 
 image_left : (image : List ℕ) → called.may_leave fault_disk image → IsJournal image three ⊎ IsJournal image four
 image_left = failed_image file paid_calls three other_premium (lit< tt) next_size paid paid_safe refl
@@ -123,13 +123,13 @@ pub left_bytes : JournalBytes open_disk.first left_commands
 left_bytes = of_four open_disk.first opened
 
 held_two : (image : List ℕ) → IsJournal image two → HoldsOnce lanes_opening lanes_turns image
-held_two image journal = record { held = []; rest = hand_premium ∷ []; more = []; front = refl; one = tt; opens = inl (of_two image journal) }
+held_two image journal = ([], hand_premium ∷ [], refl, inl (inl (of_two image journal)))
 
 held_three : (image : List ℕ) → IsJournal image three → HoldsOnce lanes_opening lanes_turns image
-held_three image journal = record { held = hand_premium ∷ []; rest = []; more = []; front = refl; one = tt; opens = inl (of_three image journal) }
+held_three image journal = (hand_premium ∷ [], [], refl, inl (inl (of_three image journal)))
 
 held_four : (image : List ℕ) → IsJournal image four → HoldsOnce lanes_opening lanes_turns image
-held_four image journal = record { held = hand_premium ∷ []; rest = []; more = other_premium ∷ []; front = refl; one = (given_up_turn ∷ [], (faulted, refl)); opens = inl (of_four image journal) }
+held_four image journal = (hand_premium ∷ [], [], refl, inr (other_premium, faulted, inl (of_four image journal)))
 
 paying_held : (moment : ℕ) (image : List ℕ) → Left file paid_calls moment image → HoldsOnce lanes_opening lanes_turns image
 paying_held moment image left = elim (posted_left file (looks 2 file) two hand_premium (lit< tt) premium_size found (looks_safe 2 file) refl moment image left) [
@@ -148,7 +148,7 @@ lanes_held moment image left = elim (failed_left file paid_calls three other_pre
 lanes_now : (image : List ℕ) → called.may_leave fault_disk image → HoldsNow lanes_opening lanes_turns image
 lanes_now image left = elim (image_left image left) [
   | inl none ↦ inl (of_three image none)
-  | inr one ↦ inr (other_premium, record { after = given_up_turn ∷ []; faulted = faulted; none = refl }, of_four image one)
+  | inr one ↦ inr (other_premium, faulted, of_four image one)
 ]
 
 -- at least what was accepted in so many turns
@@ -201,7 +201,7 @@ kept_fault = keeps_unaccepted called lanes_disk lanes_opening (called_disk file 
 pub lanes_left : IsLeftBy called lanes_disk fault_disk lanes_opening lanes_turns
 lanes_left = left_by file fault_disk.calls lanes_opening lanes_turns (lit≤ tt) refl found_opens lanes_now lanes_held
     (keeps_still called lanes_disk lanes_opening fault_disk (refused_turn ∷ lanes_pin ∷ paid_turn ∷ rows_turn ∷ fault_turn ∷ []) given_up_turn refl kept_fault)
-    (λ quiet. absurd quiet.1.1.0)
+    (λ quiet. absurd (quiet.1.1.0.1 3 refl))
 
 -- either file may be left
 pub may_shut : called.may_leave fault_disk shut_file

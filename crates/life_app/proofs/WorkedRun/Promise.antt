@@ -1,5 +1,5 @@
 -- The worked run is as the headline says.
-use Rattle.life_app.proofs.Names.{◌≡◌, ◌+◌, ◌++◌, ℕ, List, [], ◌∷◌, length, arith, refl, ap, sym, subst, inl, inr, lit≤, lit<, codes, Option, None, digits, IsDistinct, flat_map, date_of, date_at, year_of, month_of, days_before, days_before_year, days_of_months, day_text, Reads, Accepted, Run, Command, accepted_of, Opens, hand_issue, hand_premium, premium_turn, valid_premium, Ending, Done, BadScript, BadBasis, BadJournal, ReadFault, DiskFault, NoMemory, status_of, IsWholeInput, IsRunOf, EndsLanes, EndsRead, EndsRun, posting_text, reports_text, reports_of, IsPromised, IsUnrun, SaysUnrun, Does, Obeys, table_reserves, run_wording, AskForRun, CalledDisk, Unsynced, called, cut_disk, cut_file, last_disk, untorn, second_turns, GivenByHand, HeadlineByHand, ObeyedByHand, PromisedByHand, ToldOnceSafe, given_script, output_of, premium_lanes, premium_line, premium_script, premium_text, shelf_that_told, two_auditors, FileCall, FileLeft, TakenPiece, opens_to_one}
+use Rattle.life_app.proofs.Names.{◌≡◌, ◌+◌, ◌++◌, ℕ, List, [], ◌∷◌, length, arith, refl, ap, sym, subst, inl, inr, lit≤, lit<, codes, Option, None, digits, IsDistinct, flat_map, date_of, month_of, days_before_year, days_of_months, day_text, Reads, Accepted, Run, Command, accepted_of, Opens, hand_issue, hand_premium, premium_turn, valid_premium, Ending, Done, BadScript, BadBasis, BadJournal, ReadFault, DiskFault, NoMemory, status_of, IsWholeInput, IsRunOf, EndsLanes, EndsRead, EndsRun, posting_text, reports_text, reports_of, IsPromised, IsUnrun, Does, Obeys, table_reserves, run_wording, AskForRun, CalledDisk, Unsynced, called, cut_disk, cut_file, last_disk, untorn, second_turns, GivenByHand, HeadlineByHand, ObeyedByHand, PromisedByHand, ToldOnceSafe, given_script, output_of, premium_lanes, premium_line, premium_script, premium_text, shelf_that_told, two_auditors, FileCall, FileLeft, TakenPiece, opens_to_one, EndsUnread, EndsNoBasis, EndsNoOffice}
 use Rattle.std.specs.Prelude.{take}
 use Rattle.csv.proofs.OnLiterals.{csv_on_literals}
 use Rattle.command_csv.proofs.WorkedScripts.{says_one}
@@ -7,17 +7,15 @@ use Rattle.policy_types.specs.declared.script.Line.TheVariants.{Post}
 use Rattle.lane_runner.specs.AnsweredLines.{AnsweredLine, AreLinesOf}
 use Rattle.policy_machine.specs.Merge.{IsMerge, Placed}
 use Rattle.script_run.specs.Shown.{AreSafeWhenShown}
-use Rattle.program_endings.specs.Replies.{AreAnswered}
-use Rattle.script_run.specs.Texts.{WroteWhole}
 use Rattle.life_app.proofs.HeadlineLaws.{by_script, headline}
 use Rattle.life_app.proofs.WorkedRun.First.{honest_last}
-use Rattle.life_app.proofs.WorkedRun.Row.{both_now, facts, found_by_hand, legal_second, second_left}
+use Rattle.life_app.proofs.WorkedRun.Row.{both_now, facts, legal_second, second_left}
 
 pub asks_run : AskForRun (codes "run" ∷ []) (codes "basis.csv")
 asks_run = (refl, record { pieces = []; spells = refl; only = tt; alone = refl; basis_is = refl })
 
 pub reads_premium : Reads premium_script premium_lanes
-unfolding csv_on_literals digits day_text date_of date_at year_of month_of days_before days_before_year days_of_months
+unfolding csv_on_literals digits day_text date_of month_of days_before_year days_of_months
 reads_premium = says_one _ _ refl valid_premium
 
 pub whole : IsWholeInput given_script premium_script
@@ -46,7 +44,7 @@ lines = record {
   rising = tt;
   clerks = ((0, lit< tt, refl), tt);
   turns = (refl, tt);
-  each = (refl, refl, tt);
+  each = ((refl, refl), tt);
 }
 
 told : List ℕ
@@ -79,7 +77,7 @@ only_piece = record { bytes = premium_text; since = called.clock last_disk }
 -- since the disk's last moment a crash leaves both commands
 shown : AreSafeWhenShown called Opens last_disk (hand_issue ∷ []) second_turns (premium_line ∷ []) (told ∷ []) (only_piece ∷ [])
 unfolding only_piece
-shown later earlier piece split before after line there accepted reached image left =
+shown later earlier piece split before after line there position accepted reached image left =
     let this : only_piece ≡ piece = one_alone only_piece piece later earlier split in
     let one : premium_line ≡ line = one_alone premium_line line before after there in
     let now : called.may_leave last_disk image =
@@ -95,35 +93,35 @@ as_found first (call ∷ earlier) = inl (as_found first earlier)
 too_soon : AreSafeWhenShown called Opens last_disk (hand_issue ∷ []) second_turns (premium_line ∷ []) (told ∷ [])
     ((record { bytes = premium_text; since = 0 }) ∷ []) → ⊥
 too_soon safe =
-    let opens = safe [] [] (record { bytes = premium_text; since = 0 }) refl [] [] premium_line refl tt (lit< tt) cut_file
+    let opens = safe [] [] (record { bytes = premium_text; since = 0 }) refl [] [] premium_line refl 2 refl (lit< tt) cut_file
     (as_found cut_file last_disk.calls) in
     let same : hand_issue ∷ [] ≡ (hand_issue ∷ []) ++ hand_premium ∷ opens.0 =
     opens_to_one cut_file (hand_issue ∷ []) ((hand_issue ∷ []) ++ hand_premium ∷ opens.0) (second_left.opened honest_last) opens.1 in
     absurd (let long = ap length same in omega (arith, long))
 
-ran : IsRunOf called cut_disk last_disk premium_lanes [] two_auditors (output_of premium_text) (WroteWhole (output_of premium_text)) AreAnswered
+ran : IsRunOf called cut_disk last_disk premium_lanes [] two_auditors (output_of premium_text) Done
 unfolding answered told digits only_piece
 ran = record {
   commands = hand_issue ∷ [];
   callers = 1 ∷ [];
   dry = [];
   history = second_turns;
-  answered = answered;
+  lines = answered;
   texts = told ∷ [];
   opened = second_left.opened;
-  merge = merge;
+  distinct = merge.distinct;
+  theirs = merge.theirs;
   legal = legal_second;
   pins = tt;
-  lines = lines;
-  tells = (refl, tt);
+  answered = lines;
+  told = (refl, tt);
   shown = λ honest. (only_piece ∷ [], refl, shown);
-  wrote = sym written;
-  replies = ((tt, tt), refl);
+  wrote = (sym written, (((refl, λ no. cc), tt), refl));
   disk = second_left;
 }
 
 ended : EndsLanes called cut_disk last_disk premium_lanes (codes "basis.csv") two_auditors (shelf_that_told []) (output_of premium_text) (Unit {0}) Done
-ended = inl (refl, tt, ran)
+ended = inl (refl, tt, inl ran)
 
 read : EndsRead called cut_disk last_disk (codes "basis.csv") two_auditors given_script (output_of premium_text) (shelf_that_told []) (Unit {0}) Done
 read = record {
@@ -146,22 +144,33 @@ pub obeyed : (second : Option CalledDisk)
 obeyed second = record { ending = Done; exits = refl; does = did second }
 
 pub obeyed_by_hand : ObeyedByHand
-obeyed_by_hand = (ran, ran, ended, read, run_ended, obeyed)
+obeyed_by_hand = (ran, inl ran, read, run_ended, obeyed)
 
 -- a run that says in a line why it failed has no status 0
-unrun_fails : (ending : Ending)
-    → SaysUnrun called cut_disk last_disk (codes "basis.csv") given_script (output_of premium_text) (shelf_that_told []) ending
-    → 0 ≡ status_of ending → ⊥
-unrun_fails BadScript says none = cc
-unrun_fails BadBasis says none = cc
-unrun_fails BadJournal says none = cc
-unrun_fails ReadFault says none = cc
-unrun_fails DiskFault says none = cc
-unrun_fails NoMemory says none = cc
-unrun_fails _ says none = says
+unread_fails : (ending : Ending) → EndsUnread given_script (output_of premium_text) ending → 0 ≡ status_of ending → ⊥
+unread_fails BadScript says none = cc
+unread_fails ReadFault says none = cc
+unread_fails (NoMemory lack) says none = cc
+unread_fails _ says none = says
+
+unbased_fails : (ending : Ending) → EndsNoBasis (codes "basis.csv") (shelf_that_told []) (output_of premium_text) ending → 0 ≡ status_of ending → ⊥
+unbased_fails BadBasis says none = cc
+unbased_fails ReadFault says none = cc
+unbased_fails (NoMemory lack) says none = cc
+unbased_fails _ says none = says
+
+unopened_fails : (ending : Ending) → EndsNoOffice called cut_disk last_disk (output_of premium_text) ending → 0 ≡ status_of ending → ⊥
+unopened_fails BadJournal says none = cc
+unopened_fails DiskFault says none = cc
+unopened_fails (NoMemory lack) says none = cc
+unopened_fails _ says none = says
 
 no_unrun : IsUnrun called Opens cut_disk last_disk (codes "basis.csv") given_script (output_of premium_text) (shelf_that_told []) 0 → ⊥
-no_unrun unrun = unrun_fails unrun.ending unrun.says unrun.exits
+no_unrun unrun = elim unrun.says [
+  | inl says ↦ unread_fails unrun.ending says unrun.exits
+  | inr (inl says) ↦ unbased_fails unrun.ending says unrun.exits
+  | inr (inr says) ↦ unopened_fails unrun.ending says unrun.exits
+]
 
 pub headline_by_hand : HeadlineByHand
 headline_by_hand = headline called cut_disk last_disk (output_of premium_text) (codes "basis.csv") given_script (shelf_that_told [])
@@ -176,7 +185,7 @@ promised = elim (by_script called cut_disk last_disk (output_of premium_text) (c
     ]
 
 pub promised_by_hand : PromisedByHand
-promised_by_hand = (promised, record { old = cut_disk; found = found_by_hand.1; told = inl promised }, no_unrun)
+promised_by_hand = (promised, no_unrun)
 
 pub told_once_safe : ToldOnceSafe
 unfolding told digits only_piece

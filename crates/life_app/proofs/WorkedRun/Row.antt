@@ -1,5 +1,5 @@
 -- The worked run holds what its cases say.
-use Rattle.life_app.proofs.Names.{◌≡◌, ◌⊎◌, ℕ, true, List, [], ◌∷◌, ◌++◌, ◌∙◌, ap, append-nil, refl, sym, subst, inl, inr, lit≤, lit<, left_by_now, reads_as_left, Command, Entry, Accepted, IsLegal, accepted_of, IsJournal, LooksOn, spelling_of, HoldsNow, HoldsOnce, IsLeftAlone, IsLeftBy, KeepsAccepted, JournalBytes, Opens, hand_issue, hand_premium, premium_turn, opens_to_one, valid_issue, HasRun, AreLeft, AreRuns, CalledDisk, Unsynced, called, cut_disk, cut_file, called_disk, empty_disk, last_disk, paid_disk, second_calls, looks, opened_on, reopening, untorn, CrashesByHand, ImagesByHand, FoundByHand, LeftByHand, OpenedByHand, RanByHand, RowByHand, both_commands, cut_run, first_opening, first_turns, looked_disk, second_opening, second_turns, whole_run}
+use Rattle.life_app.proofs.Names.{◌≡◌, ◌⊎◌, ℕ, List, [], ◌∷◌, ◌++◌, ◌∙◌, ap, append-nil, refl, sym, subst, inl, inr, lit≤, lit<, left_by_now, reads_as_left, Command, Entry, Accepted, IsLegal, accepted_of, IsJournal, LooksOn, spelling_of, HoldsNow, HoldsOnce, IsLeftAlone, IsLeftBy, KeepsAccepted, JournalBytes, Opens, hand_issue, hand_premium, premium_turn, opens_to_one, valid_issue, HasRun, AreLeft, AreRuns, Unsynced, called, cut_disk, cut_file, called_disk, empty_disk, last_disk, paid_disk, second_calls, looks, opened_on, reopening, untorn, CrashesByHand, ImagesByHand, FoundByHand, LeftByHand, OpenedByHand, RanByHand, RowByHand, both_commands, cut_run, first_opening, first_turns, looked_disk, second_opening, second_turns, whole_run}
 use Rattle.life_dates.specs.Anniversary as dates
 use Rattle.office_state.specs.Images.{faults_after}
 use Rattle.office_state.proofs.KeptSteps.{keeps_first, keeps_more, kept_now}
@@ -12,12 +12,11 @@ use Rattle.life_app.proofs.WorkedRun.First.{answered_some, cut, first_left, firs
 
 looked : (n : ℕ) (file : List ℕ) → LooksOn called (called_disk file []) (called_disk file (looks n file))
 looked n file = record {
-  facts = record { reads = refl; images = λ image left. inl left };
-  time = record {
-    later = lit≤ tt;
-    nothing_else = λ moment image passed left. inr (inl (looks_left n file moment image left));
-    keeps = λ moment image passed left. inl (inl (inl (inl left)));
-  };
+  reads = refl;
+  images = λ image left. inl left;
+  later = lit≤ tt;
+  nothing_else = λ moment image passed left. inr (inl (looks_left n file moment image left));
+  keeps = λ moment image passed left. inl (inl (inl (inl left)));
 }
 
 alone : (n : ℕ) (file : List ℕ) → IsLeftAlone called (called_disk file []) (called_disk file (looks n file))
@@ -64,10 +63,10 @@ as_cut : (image : List ℕ) → image ≡ cut_file → IsJournal image (spelling
 as_cut image same = subst (λ (e : List ℕ). IsJournal e (spelling_of hand_issue ∷ [])) (sym same) cut
 
 issue_alone : (image : List ℕ) → IsJournal image (spelling_of hand_issue ∷ []) → HoldsOnce second_opening second_turns image
-issue_alone image journal = record { held = []; rest = hand_premium ∷ []; more = []; front = refl; one = tt; opens = inl (journal_of_issue image journal) }
+issue_alone image journal = ([], hand_premium ∷ [], refl, inl (inl (journal_of_issue image journal)))
 
 premium_too : (image : List ℕ) → IsJournal image (spelling_of hand_issue ∷ spelling_of hand_premium ∷ []) → HoldsOnce second_opening second_turns image
-premium_too image journal = record { held = hand_premium ∷ []; rest = []; more = []; front = refl; one = tt; opens = inl (journal_of_both image journal) }
+premium_too image journal = (hand_premium ∷ [], [], refl, inl (inl (journal_of_both image journal)))
 
 since_cut : (moment : ℕ) (image : List ℕ) → Left cut_file second_calls moment image
     → Left cut_file reopening moment image ⊎ (IsJournal image (spelling_of hand_issue ∷ []) ⊎ IsJournal image (spelling_of hand_issue ∷ spelling_of hand_premium ∷ []))
@@ -94,7 +93,7 @@ kept_again = keeps_more called cut_disk second_opening looked_disk last_disk [] 
     (kept_now called cut_disk second_opening last_disk second_turns only_now honest_last (lit≤ tt) now_again)
 
 pub second_left : IsLeftBy called cut_disk last_disk second_opening second_turns
-second_left = left_by cut_file second_calls second_opening second_turns (lit≤ tt) refl (inl (journal_of_issue cut_file cut)) now_again again_held kept_again (λ quiet. absurd quiet.0)
+second_left = left_by cut_file second_calls second_opening second_turns (lit≤ tt) refl (inl (journal_of_issue cut_file cut)) now_again again_held kept_again (λ quiet. absurd (quiet.0.1 2 refl))
 
 pub second_ran : HasRun called cut_disk last_disk second_opening second_turns
 second_ran = record { honest = honest_last; safe = found_safe cut_file; left = second_left }
@@ -134,7 +133,7 @@ left_by_hand = (
 )
 
 pub found_by_hand : FoundByHand
-found_by_hand = (record { faultless = refl; first = refl; reads = refl }, record { faultless = refl; first = refl; reads = refl })
+found_by_hand = (refl, refl, refl, refl, refl, refl)
 
 pub legal_first : IsLegal first_opening first_turns
 unfolding dates.anniversary_of

@@ -1,14 +1,16 @@
 -- What the laws and the contract conclude holds of small values.
-use Rattle.life_app.proofs.Names.{◌≡◌, List, [], ◌∷◌, ◌++◌, refl, inl, inr, lit≤, arith, codes, pos, digits, AllZip, ◌<ℤ◌, ints, All-from_recursion, anniversary_of, day_number, date_of, date_at, year_of, month_of, days_before, days_before_year, days_of_months, Dated, IsPicked, day_text, BelowTable, NoBasis, Bounds, Word, block_text, row_text, total_text, heading_text, bare, joined, Opens, hand_issue, hand_premium, InForce, PaidUp, Terminal, Row, Done, BadBasis, NoMemory, EndsNoBasis, ReadsForValues, IsEnclosingRow, IsEnclosingText, IsUnrun, HasBadFile, called, cut_disk, value_lanes, value_script, given_script, output_of, shelf_that_told, table_reserves, run_wording}
+use Rattle.life_app.proofs.Names.{◌≡◌, List, [], ◌∷◌, ◌++◌, refl, inl, inr, lit≤, arith, codes, pos, digits, AllZip, ◌<ℤ◌, ints, All-from_recursion, anniversary_of, day_number, date_of, month_of, days_before_year, days_of_months, Dated, IsPicked, day_text, BelowTable, NoBasis, Bounds, Word, block_text, row_text, total_text, heading_text, bare, joined, Opens, hand_issue, hand_premium, InForce, PaidUp, Terminal, Row, BadBasis, NoMemory, EndsNoBasis, ReadsForValues, IsEnclosingRow, IsUnrun, called, cut_disk, value_lanes, value_script, given_script, output_of, shelf_that_told, table_reserves, run_wording, IsToldText, Pinned, Now, Run}
+use Rattle.watcher_set.specs.Evidence.{a_lack}
 use Rattle.basis_shelf.specs.Lines.{bad_basis_text}
 use Rattle.basis_shelf.specs.declared.fault.BasisWord.TheVariants.{Absent}
 use Rattle.valuing_modes.specs.Worked.Valued.{five_endowments, from_2000, from_2020}
 use Rattle.valuing_modes.proofs.WorkedValuation.{first_row, second_row, third_row, fourth_row, fifth_row}
 use Rattle.command_csv.specs.Worked.{ValueLine}
 use Rattle.life_args.proofs.WorkedWords.{new_year}
+use Rattle.policy_types.specs.declared.script.Line.TheVariants.{Value}
 use Rattle.policy_machine.specs.Book.{book}
 use Rattle.policy_value.specs.Rows.{IsInsured}
-use Rattle.snapshot_value.specs.Valuing.{IsValuedRow}
+use Rattle.policy_value.specs.Rows.{IsValuedRow}
 use Rattle.life_app.proofs.WorkedRun.Both.{stated_alone}
 use Rattle.life_app.specs.WorkedRun.Told.{EnclosedByHand, EndedByHand, ModesByHand, ReasonsByHand, absent_basis, first_endowment, first_value, five_text, two_bases, unstocked_shelf}
 use Rattle.life_app.proofs.HeadlineLaws.{each_pair, enclosing}
@@ -17,7 +19,7 @@ use Rattle.life_app.proofs.WorkedRun.First.{honest_last}
 use Rattle.life_app.proofs.WorkedRun.Row.{second_left}
 
 unrun : IsUnrun called Opens cut_disk cut_disk (codes "basis.csv") given_script (output_of (codes "nomemory" ++ 10 ∷ [])) (shelf_that_told []) 9
-unrun = record { ending = NoMemory; exits = refl; says = inl refl; since = λ honest image left. inl left.1 }
+unrun = record { ending = NoMemory a_lack; exits = refl; says = inl (inl refl); since = λ honest image left. inl left.1 }
 
 pub ended_by_hand : EndedByHand
 ended_by_hand = (
@@ -43,22 +45,17 @@ module _ (line : ValueLine) where
     asks = refl;
   }
 
-  bad_file : HasBadFile (codes "run" ∷ []) value_script unstocked_shelf (output_of absent_basis)
-  unfolding digits bad_basis_text
-  bad_file = (codes "basis.csv", (no_basis.0, inr (inl (asks_run, reads_values)), no_basis.1, no_basis.2))
-
   pub reasons_by_hand : ReasonsByHand
-  unfolding digits
+  unfolding digits bad_basis_text
   reasons_by_hand = (
-    (Done, refl, tt),
-    inr (inl (asks_run, reads_values)),
-    bad_file,
-    bad_file,
+    tt,
+    (refl, reads_values),
+    (Run (codes "basis.csv"), asks_run, (codes "basis.csv", (no_basis.0, (refl, reads_values), no_basis.1, no_basis.2))),
     reads_values,
-    (pos 18628, (5, (codes "basis.csv", (1, (Terminal, (refl, record { pieces = bare (codes "2021-01-01") ∷ joined (codes "at") (codes "5") ∷ []; spells = refl; only = (inl refl, tt); day = codes "2021-01-01"; alone = refl; day_is = new_year; position_is = (lit≤ tt, refl); workers_are = refl; basis_is = refl; measure_is = refl }))), (λ honest. (hand_issue ∷ [], second_left.opened honest_last, lit≤ tt))))),
-    (1, (refl, record { pieces = bare (codes "2021-01-01") ∷ bare (codes "1") ∷ []; spells = refl; only = tt; day = codes "2021-01-01"; alone = refl; day_is = new_year; years_in = (lit≤ tt, lit≤ tt); workers_are = refl; basis_is = refl })),
-    (7, (5, (2, (1, (refl, record { spells = refl; seed_in = lit≤ tt; count_in = (lit≤ tt, lit≤ tt); lanes_in = (lit≤ tt, lit≤ tt); workers_in = (lit≤ tt, lit≤ tt) }))))),
-    λ words. (Done, refl, tt),
+    (pos 18628, (5, 1, (codes "basis.csv", (Terminal, (refl, record { pieces = bare (codes "2021-01-01") ∷ joined (codes "at") (codes "5") ∷ []; spells = refl; only = (inl refl, tt); day = codes "2021-01-01"; alone = refl; day_is = new_year; position_is = (lit≤ tt, refl); workers_are = refl; basis_is = refl; measure_is = refl }), (λ honest. (hand_issue ∷ [], second_left.opened honest_last, lit≤ tt)))))),
+    (refl, record { pieces = bare (codes "2021-01-01") ∷ bare (codes "1") ∷ []; spells = refl; only = tt; day = codes "2021-01-01"; alone = refl; day_is = new_year; years_in = (lit≤ tt, lit≤ tt); workers_are = refl; basis_is = refl }),
+    (refl, refl, lit≤ tt, (lit≤ tt, lit≤ tt), (lit≤ tt, lit≤ tt), (lit≤ tt, lit≤ tt)),
+    λ words. tt,
   )
 
 -- ---- a valuation
@@ -72,18 +69,21 @@ rows =
     ∷ (record { id = 7005; status = PaidUp; t = 1; worth = Bounds 30000 30000 }) ∷ []
 
 each_valued : AllZip (IsValuedRow two_bases (pos 18628) Terminal) (book five_endowments) rows
-unfolding rows anniversary_of day_number date_of date_at year_of month_of days_before days_before_year days_of_months
+unfolding rows anniversary_of day_number date_of month_of days_before_year days_of_months
 each_valued = (first_row, (second_row, (third_row, (fourth_row, (fifth_row, tt)))))
 
 block : five_text ≡ block_text 0 (pos 18628) 8 Terminal rows
-unfolding rows row_text heading_text total_text day_text date_of date_at year_of month_of days_before days_before_year days_of_months digits
+unfolding rows row_text heading_text total_text day_text date_of month_of days_before_year days_of_months digits
 block = refl
 
-text : IsEnclosingText run_wording table_reserves 0 (pos 18628) five_endowments two_bases 8 five_text
-text = (
-  rows,
-  each_pair (IsValuedRow two_bases (pos 18628) Terminal) (IsEnclosingRow table_reserves two_bases (pos 18628)) (enclosing two_bases (pos 18628)) (book five_endowments) rows each_valued,
-  block,
+text : IsToldText run_wording (IsEnclosingRow table_reserves two_bases) 0 (Value (pos 18628) Now 1) (Pinned 8 5) five_endowments ⊥ five_text
+text = inr (
+  λ never. never,
+  (
+    rows,
+    each_pair (IsValuedRow two_bases (pos 18628) Terminal) (IsEnclosingRow table_reserves two_bases (pos 18628)) (enclosing two_bases (pos 18628)) (book five_endowments) rows each_valued,
+    block,
+  ),
 )
 
 row : IsEnclosingRow table_reserves two_bases (pos 18628) first_endowment first_value

@@ -1,6 +1,8 @@
 -- The worked run over both disks: the cut run, then one that saves the books and is cut once they are saved, and the premium
 use Rattle.std.specs.Prelude.{◌≡◌, ◌⊎◌, ℕ, true, List, [], ◌∷◌, ◌++◌, Some, codes, length}
-use Rattle.life_app.specs.WorkedRun.Names.{CheckpointBytes, FileCall, Measured, Synced, file_reads, Opens, hand_issue, Command, status_of, Ending, Done, Usage, BadJournal, NoMemory, books_text, EndsCheckpoint, EndsStateKept, AreTrue, IsMadeSafe, TellsTruth, TwoDisks, EndsState, HasJournal, HasNoJournal, IsDueEnding, EndsBooks, EndsSave, EndsUnasked, Obeys, SaysUnasked, Filing, Second, With, filing_between, AskForCheckpoint, AreNoWords}
+use Rattle.watcher_set.specs.Evidence.{a_lack}
+use Rattle.life_app.specs.WorkedRun.Names.{CheckpointBytes, FileCall, Measured, Synced, file_reads, Opens, hand_issue, Command, status_of, Ending, Done, Usage, BadJournal, NoMemory, books_text, EndsCheckpoint, EndsStateKept, AreTrue, IsMadeSafe, TellsTruth, TwoDisks, EndsState, JournalIs, IsDueEnding, EndsUnasked, Obeys, Filing, Second, With, filing_between, AreWords, Checkpoint, Mode, OpensToNone, book}
+use Rattle.policy_machine.specs.Accounts.{ledger_of}
 use Rattle.checkpoint_store.specs.Spelling.{snapshot_bytes}
 use Rattle.checkpoint_store.specs.Worked.{issued_snapshot}
 use Rattle.life_app.specs.KeptRuns.{AreRunsOfTwo, IsLeftByCall, IsRunOfTwo, IsSnapshotOfFirst, KeepsSecond, LeavesSaved, LeavesSecond, OneRunOfTwo, SavedOfFirst, SavesBooks, WasCutAfter, WasCutBefore, WasLeftOf}
@@ -75,15 +77,15 @@ empty_filing = With (filing_between called empty_disk empty_disk)
 
 -- and neither failed, so what is due is the work, or that there is no journal
 abbrev pub DueOfBothByHand : Type 0
-DueOfBothByHand = HasJournal looked_filing saved_filing (hand_issue ∷ []) × HasJournal looked_filing read_filing (hand_issue ∷ [])
-    × HasNoJournal letters_filing empty_filing
+DueOfBothByHand = JournalIs looked_filing saved_filing (λ file. Opens file (hand_issue ∷ []))
+    × JournalIs looked_filing read_filing (λ file. Opens file (hand_issue ∷ []))
+    × JournalIs letters_filing empty_filing OpensToNone
     × IsDueEnding (codes "checkpoint" ∷ []) no_input (output_of (codes "checkpoint,1" ++ 10 ∷ [])) (shelf_that_told []) looked_filing saved_filing Done
     × IsDueEnding (codes "state" ∷ []) no_input (output_of []) (shelf_that_told []) letters_filing empty_filing BadJournal
 
 -- `checkpoint` saved the books, and the words are obeyed
 abbrev pub SavedByHand : Type 0
 SavedByHand = EndsCheckpoint called called saving_disks (output_of (codes "checkpoint,1" ++ 10 ∷ [])) Done
-    × EndsSave called called cut_disk looked_disk (Some empty_disk) (Some saved_disk) (output_of (codes "checkpoint,1" ++ 10 ∷ [])) Done
     × Obeys called called cut_disk looked_disk (Some empty_disk) (Some saved_disk) (codes "checkpoint" ∷ []) two_auditors no_input (output_of (codes "checkpoint,1" ++ 10 ∷ [])) (shelf_that_told []) (Unit {0}) (Unit {0}) 0
 
 -- each run is one over both disks, and they follow one another
@@ -115,18 +117,16 @@ issue_books = codes "policy,7001,inforce,endowment,0,3,1000.00,400.00,2020-01-01
     ∷ codes "balance,incurred,0.00" ++ 10 ∷ codes "balance,payable,0.00" ++ 10 ∷ codes "count,1" ++ 10 ∷ []
 
 abbrev pub StatedByHand : Type 0
-StatedByHand = EndsState called cut_disk looked_disk books_text (output_of issue_books) Done
+StatedByHand = EndsState called cut_disk looked_disk (λ commands. books_text (book commands) (ledger_of commands) (length commands)) (output_of issue_books) Done
     × EndsStateKept called called stating_disks (output_of issue_books) Done
-    × EndsBooks called called cut_disk looked_disk (Some second_disk) (Some read_disk) (output_of issue_books) Done
     × Obeys called called cut_disk looked_disk (Some second_disk) (Some read_disk) (codes "state" ∷ []) two_auditors no_input (output_of issue_books)
     (shelf_that_told []) (Unit {0}) (Unit {0}) 0
 
 -- no words ask for nothing, and there may be no memory to read them
 abbrev pub OtherwiseByHand : Type 0
-OtherwiseByHand = AskForCheckpoint (codes "checkpoint" ∷ []) × AreNoWords []
-    × SaysUnasked [] (output_of (codes "usage" ++ 10 ∷ [])) Usage
+OtherwiseByHand = AreWords (codes "checkpoint" ∷ []) Checkpoint × ((mode : Mode) → ¬ AreWords [] mode)
     × EndsUnasked cut_disk cut_disk (Some second_disk) (Some second_disk) [] (output_of (codes "usage" ++ 10 ∷ [])) (Unit {0}) (Unit {0}) Usage
-    × ((words : List (List ℕ)) → EndsUnasked cut_disk cut_disk (Some second_disk) (Some second_disk) words (output_of (codes "nomemory" ++ 10 ∷ [])) (Unit {0}) (Unit {0}) NoMemory)
+    × ((words : List (List ℕ)) → EndsUnasked cut_disk cut_disk (Some second_disk) (Some second_disk) words (output_of (codes "nomemory" ++ 10 ∷ [])) (Unit {0}) (Unit {0}) (NoMemory a_lack))
 
 -- so the second file's checkpoint is of the first of the commands, and tells the truth of the journal
 abbrev pub LeftOfTwoByHand : Type 0

@@ -1,6 +1,7 @@
 -- Which endings are due in worked cases, of the run's script and of files by hand, so that what is due can come about
-use Rattle.std.specs.Prelude.{◌≡◌, ◌⊎◌, ℕ, true, List, [], ◌∷◌, None, Some, codes, pos, replicate}
-use Rattle.life_app.specs.WorkedRun.Names.{Dated, IsPicked, IsBasis, lane_of, Measured, ReadFrom, Synced, Absent, Found, GivesMore, Now, Position, Lane, Terminal, Run, ToValue, State, hand_issue, status_of, Input, Shelving, Ending, Done, Usage, BadScript, BadJournal, IsReadable, IsUnreadable, most_script_bytes, input_that_gave, Value, HasBasis, HasItsJournal, HasItsNeeds, HasJournal, HasNoBasis, HasNoJournal, HasNoScript, HasScript, IsDueEnding, LacksItsBasis, LacksItsJournal, IsGivenBasis, Filing, Without, filing_between, AskForValue}
+use Rattle.std.specs.Prelude.{◌≡◌, ◌⊎◌, ℕ, true, List, [], ◌∷◌, Some, codes, pos, replicate}
+use Rattle.life_app.specs.WorkedRun.Names.{Dated, IsPicked, IsBasis, lane_of, Measured, ReadFrom, Synced, Absent, Found, GivesMore, Now, Position, Lane, Terminal, Run, ToValue, hand_issue, status_of, Input, Shelving, Ending, Done, Usage, BadScript, BadJournal, IsReadable, IsUnreadable, most_script_bytes, input_that_gave, BadBasis, IsFirstBadFile, Opens, OpensToNone, Value, HasItsNeeds, HasScript, IsDueEnding, IsGivenBasis, Filing, JournalIs, ShelfHas, Without, filing_between}
+use Rattle.basis_shelf.specs.declared.fault.BadBasis.{BadBasis as ABadBasis}
 use Rattle.basis_shelf.specs.Worked.{certain_death, one_row}
 use Rattle.life_app.specs.WorkedRun.Calls.{CalledDisk, called, cut_disk, called_disk, last_disk}
 use Rattle.life_app.specs.WorkedRun.Promise.{given_script, output_of, premium_lanes, premium_script, premium_text, shelf_that_told}
@@ -40,37 +41,38 @@ stocked_shelf = shelf_that_told ((record { name = codes "q.xml"; told = Found ce
 abbrev pub basisless_shelf : Shelving
 basisless_shelf = shelf_that_told ((record { name = codes "a.csv"; told = Absent }) ∷ [])
 
--- what each mode needs is there, or lacks
+-- what a mode may need is there, or lacks
 abbrev pub NeedsByHand : Type 0
 NeedsByHand = IsReadable premium_script
     × IsUnreadable (codes "9,lapse,1,2020-01-01")
     × HasScript given_script premium_lanes
     × HasScript value_script value_lanes
-    × HasNoScript faulty_script
-    × ((bytes : List ℕ) × GivesMore most_script_bytes [] bytes × HasNoScript (input_that_gave bytes ⊥ 0))
-    × HasBasis stocked_shelf (codes "b.csv")
-    × HasNoBasis basisless_shelf (codes "a.csv")
-    × HasJournal cut_filing Without (hand_issue ∷ [])
-    × HasNoJournal letters_filing Without
+    × ((bytes : List ℕ) × GivesMore most_script_bytes [] bytes × IsDueEnding (codes "run" ∷ []) (input_that_gave bytes ⊥ 0) (output_of []) (shelf_that_told []) cut_filing Without BadScript)
+    × ShelfHas stocked_shelf (λ files. (basis : List Dated) × IsBasis files (codes "b.csv") basis)
+    × ShelfHas basisless_shelf (λ files. (bad : ABadBasis) × IsFirstBadFile files (codes "a.csv") bad)
+    × JournalIs cut_filing Without (λ file. Opens file (hand_issue ∷ []))
+    × JournalIs letters_filing Without OpensToNone
 
 -- the line that asks for values is given the basis that the files make, of which its one row is picked for a policy of 2020
 abbrev pub BasisByHand : Type 0
 BasisByHand = (entry : Dated) × IsGivenBasis IsBasis value_lanes (codes "b.csv") stocked_shelf (entry ∷ []) × IsPicked (entry ∷ []) (pos 18262) 0 entry
 
--- the run of the premium has all that it needs, and so it is to be done; other words, files and scripts have other endings
+-- words that ask for values at the first position, by a basis that is there
+abbrev pub value_words : List (List ℕ)
+value_words = codes "value" ∷ codes "2021-01-01" ∷ codes "--at=1" ∷ codes "--basis=b.csv" ∷ []
+
+-- the run of the premium has all that it needs, and so it is to be done, and the valuation is; other words, files and scripts
+-- have other endings
 abbrev pub DueByHand : Type 0
 DueByHand = HasItsNeeds (Run (codes "basis.csv")) given_script (shelf_that_told []) Without
-    × HasItsJournal (Run (codes "basis.csv")) cut_filing Without
     × IsDueEnding (codes "run" ∷ []) given_script (output_of premium_text) (shelf_that_told []) cut_filing Without Done
     × IsDueEnding (codes "state" ∷ []) no_input (output_of []) (shelf_that_told []) letters_filing Without BadJournal
     × IsDueEnding [] no_input (output_of []) (shelf_that_told []) cut_filing Without Usage
     × IsDueEnding (codes "run" ∷ []) faulty_script (output_of []) (shelf_that_told []) cut_filing Without BadScript
-    × LacksItsBasis (Run (codes "a.csv")) value_script basisless_shelf
-    × LacksItsBasis (ToValue (pos 18262) Now 1 (codes "a.csv") Terminal) no_input basisless_shelf
-    × HasItsNeeds (ToValue (pos 18262) Now 1 (codes "b.csv") Terminal) no_input stocked_shelf Without
-    × HasItsJournal (ToValue (pos 18262) (Position 1) 1 (codes "b.csv") Terminal) cut_filing Without
-    × LacksItsJournal (State None) letters_filing Without
-    × AskForValue (codes "value" ∷ codes "2021-01-01" ∷ []) (pos 18628) Now (codes "basis.csv")
+    × IsDueEnding (codes "run" ∷ codes "--basis=a.csv" ∷ []) value_script (output_of []) basisless_shelf cut_filing Without BadBasis
+    × IsDueEnding (codes "value" ∷ codes "2021-01-01" ∷ codes "--basis=a.csv" ∷ []) no_input (output_of []) basisless_shelf cut_filing Without BadBasis
+    × HasItsNeeds (ToValue (pos 18628) (Position 1) 1 (codes "b.csv") Terminal) no_input stocked_shelf Without
+    × IsDueEnding value_words no_input (output_of []) stocked_shelf cut_filing Without Done
 
 -- and so the run of the premium, which ended with 0, ended as is due
 abbrev pub DueOfTheRun : Type 0

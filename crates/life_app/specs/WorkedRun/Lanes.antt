@@ -1,7 +1,7 @@
 -- Two lanes whose turns lie between one another, with their disk: a premium is refused, two policies are valued by rates while the
 -- other clerk posts, and behind that clerk's second premium a sync fails; the run ends, and the file is opened again
 use Rattle.std.specs.Prelude.{ℕ, List, [], ◌∷◌, ◌++◌, codes, pos}
-use Rattle.life_app.specs.WorkedRun.Names.{Reads, lane_of, AnsweredLine, AreLinesOf, hand_issue, hand_premium, IsLegal, Opening, opened_on, Command, Endowment, Now, Entry, Reply, Accepted, Refused, Faulted, Pinned, Policies, Unpinned, Policy, Lane, HaveAFault, FileCall, file_reads, Opens, Stream, issued, Issue, Premium, TooEarly, WrongAmount, IsRunOf, WroteWhole, PostLine, Value, AreAllHeld, AreHeld, IsPromised, WasFaulted, table_reserves, run_wording}
+use Rattle.life_app.specs.WorkedRun.Names.{Reads, lane_of, AnsweredLine, AreLinesOf, hand_issue, hand_premium, IsLegal, Opening, opened_on, Command, Endowment, Now, Entry, Reply, Accepted, Refused, Faulted, Pinned, Policies, Unpinned, Policy, Lane, HaveAFault, FileCall, file_reads, Opens, Stream, issued, Issue, Premium, TooEarly, WrongAmount, IsRunOf, PostLine, Value, AreAllHeld, AreHeld, IsPromised, WasFaulted, table_reserves, run_wording, DiskFault}
 use Rattle.policy_machine.specs.Merge.{IsMerge}
 use Rattle.policy_types.specs.declared.entry.Call.{Call}
 use Rattle.policy_types.specs.declared.entry.Call.TheVariants.{Post, Pin, Read, Unpin}
@@ -98,8 +98,7 @@ output_by disk text = record (output_of text) { pieces_after = (record { bytes =
 -- the run ends with 8 for the fault, as is promised
 abbrev pub PromisedLanes : Type 0
 PromisedLanes = AreLinesOf lanes_answers lanes_turns typed_lanes (11 ∷ 12 ∷ []) []
-    × IsRunOf called lanes_disk fault_disk typed_lanes two_bases two_auditors (output_by fault_disk lanes_text)
-    (WroteWhole (output_by fault_disk lanes_text)) HaveAFault
+    × IsRunOf called lanes_disk fault_disk typed_lanes two_bases two_auditors (output_by fault_disk lanes_text) DiskFault
     × IsPromised called Opens run_wording table_reserves lanes_disk fault_disk typed_lanes two_bases two_auditors
     (output_by fault_disk lanes_text) 8
 
@@ -118,7 +117,7 @@ abbrev pub open_disk : CalledDisk
 open_disk = called_disk (called.reads fault_disk) []
 
 abbrev pub LeftLanes : Type 0
-LeftLanes = HaveAFault lanes_turns [] × WasFaulted lanes_turns (hand_premium ∷ []) other_premium
+LeftLanes = HaveAFault lanes_turns × WasFaulted lanes_turns (hand_premium ∷ []) other_premium
     × called.may_leave fault_disk shut_file × Opens shut_file held_commands × AreAllHeld lanes_opening lanes_turns held_commands
     × called.may_leave fault_disk open_disk.first × Opens open_disk.first left_commands × AreHeld lanes_opening lanes_turns left_commands
 

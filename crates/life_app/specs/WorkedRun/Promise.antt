@@ -1,8 +1,8 @@
 -- What the headline says of the worked run's second half: the script, what is written, and the basis that is given
 use Rattle.std.specs.Prelude.{◌⊎◌, ◌==◌, ℕ, false, length, List, [], ◌∷◌, ◌++◌, Option, Some, codes}
-use Rattle.life_app.specs.WorkedRun.Names.{IsBasis, Reads, lane_of, Agrees, Answer, Lane, Post, Opens, AnsweredLine, hand_issue, hand_premium, premium_turn, Accepted, AreAnswered, Input, IsWholeInput, Shelving, Stream, Done, EndsLanes, EndsRead, EndsRun, Auditor, AreSafeWhenShown, EndsScript, IsRunOf, WroteWhole, input_that_gave, IsGivenBasis, IsPromised, IsPromisedFromStart, IsUnrun, Obeys, table_reserves, run_wording, AskForRun}
+use Rattle.life_app.specs.WorkedRun.Names.{IsBasis, Reads, lane_of, Agrees, Answer, Lane, Post, Opens, AnsweredLine, hand_issue, hand_premium, premium_turn, Accepted, Input, IsWholeInput, Shelving, Stream, Done, EndsRead, EndsRun, Auditor, AreSafeWhenShown, EndsScript, IsRunOf, input_that_gave, IsGivenBasis, IsPromised, IsUnrun, Obeys, table_reserves, run_wording, AreWords, Run}
 use Rattle.watcher_set.specs.Premiums.{premiums_of}
-use Rattle.life_app.specs.WorkedRun.Calls.{CalledDisk, called, cut_disk, cut_file, last_disk}
+use Rattle.life_app.specs.WorkedRun.Calls.{CalledDisk, called, cut_disk, last_disk}
 use Rattle.life_app.specs.WorkedRun.Runs.{second_turns}
 
 -- the clerk's one line
@@ -41,15 +41,14 @@ given_script = input_that_gave premium_script (Unit {0}) 0
 
 -- the words `run` ask for a run, of the whole input, which is read as the lane; no line asks for values
 abbrev pub GivenByHand : Type 0
-GivenByHand = AskForRun (codes "run" ∷ []) (codes "basis.csv")
+GivenByHand = AreWords (codes "run" ∷ []) (Run (codes "basis.csv"))
     × IsWholeInput given_script premium_script × Reads premium_script premium_lanes
     × IsGivenBasis IsBasis premium_lanes (codes "basis.csv") (shelf_that_told []) []
 
 -- the program obeyed them, over the file that the crash had cut and any second disk or none, and nothing was asked of the shelf
 abbrev pub ObeyedByHand : Type 0
-ObeyedByHand = IsRunOf called cut_disk last_disk premium_lanes [] two_auditors (output_of premium_text) (WroteWhole (output_of premium_text)) AreAnswered
+ObeyedByHand = IsRunOf called cut_disk last_disk premium_lanes [] two_auditors (output_of premium_text) Done
     × EndsScript called cut_disk last_disk premium_lanes [] two_auditors (output_of premium_text) Done
-    × EndsLanes called cut_disk last_disk premium_lanes (codes "basis.csv") two_auditors (shelf_that_told []) (output_of premium_text) (Unit {0}) Done
     × EndsRead called cut_disk last_disk (codes "basis.csv") two_auditors given_script (output_of premium_text) (shelf_that_told []) (Unit {0}) Done
     × EndsRun called cut_disk last_disk (codes "basis.csv") two_auditors given_script (output_of premium_text) (shelf_that_told []) (Unit {0}) Done
     × ((second : Option CalledDisk) → Obeys called called cut_disk last_disk second second (codes "run" ∷ []) two_auditors given_script (output_of premium_text) (shelf_that_told []) ⊥ (Unit {0}) 0)
@@ -59,11 +58,9 @@ abbrev pub HeadlineByHand : Type 0
 HeadlineByHand = IsPromised called Opens run_wording table_reserves cut_disk last_disk premium_lanes [] two_auditors (output_of premium_text) 0
     ⊎ IsUnrun called Opens cut_disk last_disk (codes "basis.csv") given_script (output_of premium_text) (shelf_that_told []) 0
 
--- and it is the first, from the start of that disk on
+-- and it is the first
 abbrev pub PromisedByHand : Type 0
 PromisedByHand = IsPromised called Opens run_wording table_reserves cut_disk last_disk premium_lanes [] two_auditors (output_of premium_text) 0
-    × IsPromisedFromStart called Opens run_wording table_reserves cut_file last_disk premium_lanes (codes "basis.csv") [] two_auditors given_script
-    (output_of premium_text) (shelf_that_told []) 0
     × (IsUnrun called Opens cut_disk last_disk (codes "basis.csv") given_script (output_of premium_text) (shelf_that_told []) 0 → ⊥)
 
 -- the clerk's line as the history answers it

@@ -1,6 +1,6 @@
 -- What the laws of a crash and of runs in a row say of the worked run
-use Rattle.std.specs.Prelude.{ℕ, List, [], ◌∷◌}
-use Rattle.life_app.specs.WorkedRun.Names.{Command, Accepted, Entry, IsLegal, Opening, opened_on, HoldsOnce, IsLeftAlone, Opens, hand_issue, hand_premium, premium_turn, AreAllHeld, AreHeld, HasRun, IsFirstFound, AreLeft, AreRuns, HasAnsweredSome, HasReturned, OneRun, WasCut}
+use Rattle.std.specs.Prelude.{ℕ, List, [], ◌∷◌, ◌≡◌}
+use Rattle.life_app.specs.WorkedRun.Names.{Command, Accepted, Entry, IsLegal, Opening, opened_on, IsFrontThere, IsLeftAlone, Opens, hand_issue, hand_premium, premium_turn, AreAllHeld, AreHeld, HasRun, AreLeft, AreRuns, HasAnsweredSome, HasReturned, OneRun, WasCut}
 use Rattle.policy_types.specs.declared.entry.Call.TheVariants.{Post}
 use Rattle.life_app.specs.WorkedRun.Calls.{CalledDisk, called, cut_disk, cut_file, called_disk, empty_disk, last_disk, paid_disk, reopening}
 
@@ -32,7 +32,8 @@ both_commands = hand_issue ∷ hand_premium ∷ []
 
 -- on neither disk a call had been made, and what they read as is known
 abbrev pub FoundByHand : Type 0
-FoundByHand = IsFirstFound called [] empty_disk × IsFirstFound called cut_file cut_disk
+FoundByHand = (called.clock empty_disk ≡ 0) × (called.faults empty_disk ≡ 0) × (called.reads empty_disk ≡ [])
+    × (called.clock cut_disk ≡ 0) × (called.faults cut_disk ≡ 0) × (called.reads cut_disk ≡ cut_file)
 
 -- an office ran on each of them
 abbrev pub RanByHand : Type 0
@@ -55,15 +56,15 @@ ImagesByHand = called.left_since paid_disk 0 cut_file × called.left_since looke
 
 -- what a crash leaves of the first run: a front of the two commands; and what the second was opened on is one
 abbrev pub CrashesByHand : Type 0
-CrashesByHand = ((image : List ℕ) → called.left_since paid_disk 0 image → HoldsOnce first_opening first_turns image)
-    × HoldsOnce first_opening first_turns cut_file
+CrashesByHand = ((image : List ℕ) → called.left_since paid_disk 0 image → IsFrontThere Opens [] first_turns image)
+    × IsFrontThere Opens [] first_turns cut_file
     × AreHeld first_opening first_turns (hand_issue ∷ [])
     × ((image : List ℕ) → called.may_leave last_disk image → Opens image both_commands × AreAllHeld second_opening second_turns both_commands)
 
 -- the looked disk is left alone, and holds what it held
 abbrev pub OpenedByHand : Type 0
 OpenedByHand = HasRun called cut_disk looked_disk second_opening [] × IsLeftAlone called cut_disk looked_disk
-    × ((image : List ℕ) → called.left_since looked_disk 0 image → HoldsOnce first_opening first_turns image)
+    × ((image : List ℕ) → called.left_since looked_disk 0 image → IsFrontThere Opens [] first_turns image)
 
 -- the runs leave the issue and the premium, which are what each of them added
 abbrev pub LeftByHand : Type 0

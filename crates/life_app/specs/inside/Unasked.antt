@@ -7,5 +7,5 @@ use Rattle.life_app.specs.Names.{Stream, WroteLine, Ending, NoMemory, Usage}
 -- the line that says why the words aren't obeyed
 abbrev pub SaysNoMode : WordsFault → Stream → Ending → Type 0
 SaysNoMode BadWords output Usage = WroteLine output (codes "usage")
-SaysNoMode NoWords output NoMemory = WroteLine output (codes "nomemory")
+SaysNoMode (NoWords lack) output (NoMemory other_lack) = WroteLine output (codes "nomemory")
 SaysNoMode _ _ _ = ⊥

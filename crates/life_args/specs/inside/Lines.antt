@@ -1,11 +1,12 @@
 -- How `clap` reads the words behind a verb, and what private calls answer
-use Rattle.std.specs.Prelude.{◌≡◌, ◌≢◌, ◌==◌, ◌&&◌, ⊤, Bool, true, false, not, List, [], ◌∷◌, ◌++◌, map, bytes_eq, codes, cond, Some, Result, Ok, Err, option_map, unwrap_or}
-use Rattle.life_args.specs.Names.{list_any, App, Rule, Text, fault_of, found_of, matched_of, matches_of, new_app, new_rule, raw_values, rows_of, Found}
+use Rattle.std.specs.Prelude.{◌≡◌, ◌==◌, ◌&&◌, ⊤, Bool, true, false, not, List, [], ◌∷◌, ◌++◌, map, bytes_eq, codes, cond, Some, Result, Ok, Err, option_map, unwrap_or}
+use Rattle.life_args.specs.Names.{list_any, App, Rule, Text, found_of, matched_of, new_app, new_rule, raw_values, Found}
 use Rattle.clap.specs.declared.builder.action.ArgAction.TheVariants.{Append}
 use Rattle.clap.specs.declared.parser.matches.ArgMatches.{ArgMatches}
 use Rattle.life_args.specs.declared.fault.WordsFault.{WordsFault}
 use Rattle.life_args.specs.declared.fault.WordsFault.TheVariants.{Usage, NoMemory}
-use Rattle.life_args.specs.Pieces.{WordPiece, bare, apart, joined, flag, spelled, bare_values, option_values, HasOnly}
+use Rattle.life_args.specs.inside.Short.{spelled}
+use Rattle.life_args.specs.Pieces.{WordPiece, bare, apart, joined, flag, bare_values, option_values, HasOnly}
 
 -- ---- the words
 
@@ -76,12 +77,6 @@ line_app names = let app = new_app (codes "life") in record app {
   };
 }
 
--- the command takes the words and these are its matches, or it doesn't take them
-abbrev pub TakesWords : App → List Text → Result ArgMatches WordsFault → Type 0
-TakesWords app words (Ok line) = (fault_of app words ≡ []) × (rows_of (found_of line) ≡ matches_of app words)
-TakesWords app words (Err Usage) = fault_of app words ≢ []
-TakesWords app words (Err NoMemory) = ⊤
-
 -- ---- what was read
 
 -- all values of an id
@@ -101,10 +96,10 @@ pub record IsLine (names : OptionNames) (words : List Text) (line : ArgMatches) 
 abbrev pub ReadsLine : OptionNames → List Text → Result ArgMatches WordsFault → Type 0
 ReadsLine names words (Ok line) = IsLine names words line
 ReadsLine names words (Err Usage) = (pieces : List WordPiece) → Spelling names words pieces → ⊥
-ReadsLine names words (Err NoMemory) = ⊤
+ReadsLine names words (Err (NoMemory lack)) = ⊤
 
 -- what is asked holds of the answer, or of nothing, or memory was refused
 abbrev pub GivesAsked : {T : Type 0} → (T → Type 0) → Result T WordsFault → Type 0
 GivesAsked IsAsked (Ok answer) = IsAsked answer
 GivesAsked {T} IsAsked (Err Usage) = (answer : T) → IsAsked answer → ⊥
-GivesAsked IsAsked (Err NoMemory) = ⊤
+GivesAsked IsAsked (Err (NoMemory lack)) = ⊤

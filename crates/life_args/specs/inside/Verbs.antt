@@ -1,6 +1,9 @@
 -- The modes by their first words: the options of each, and what its values have to say
 use Rattle.std.specs.Prelude.{◌≡◌, ◌≤◌, ℕ, List, [], ◌∷◌, codes, decimal, map, option_map, unwrap_or, Option, Some, None, Result, Ok, Err, ℤ}
+use Rattle.std.specs.Int.{IsInRange}
 use Rattle.std.specs.Borrow.{Bor}
+use Rattle.life_dates.specs.Calendar.{IsDay}
+use Rattle.life_dates.specs.DayText.{day_text}
 use Rattle.clap.specs.declared.parser.matches.Found.{Found}
 use Rattle.life_args.specs.declared.fault.WordsFault.{WordsFault}
 use Rattle.life_args.specs.declared.mode.Mode.{Mode}
@@ -8,7 +11,7 @@ use Rattle.life_args.specs.declared.mode.Mode.TheVariants as mode
 use Rattle.life_args.specs.declared.verb.Verb.{Verb}
 use Rattle.life_args.specs.declared.verb.Verb.TheVariants.{Run, Value, Project, State, Checkpoint, Generate, Load}
 use Rattle.life_args.specs.Pieces.{AtMostOne}
-use Rattle.life_args.specs.Values.{IsDayValue, IsPositionOr, AreWorkersOr, IsYearCount, IsBasisOr, IsMeasureBy, IsPolicyOr, IsSeed, IsPolicyCount, IsLaneCount, IsWorkerCount}
+use Rattle.life_args.specs.Values.{IsPositionOr, AreWorkersOr, IsBasisOr, IsMeasureBy, IsPolicyOr}
 use Rattle.life_args.specs.inside.Lines.{GivesAsked, OptionNames, alone_id, no_option_names, values_named}
 
 abbrev pub verb_word : Verb → List ℕ
@@ -42,6 +45,10 @@ options_of Checkpoint = no_option_names
 options_of Generate = no_option_names
 options_of Load = no_option_names
 
+-- the day, as YYYY-MM-DD
+abbrev pub IsDayValue : List ℕ → ℤ → Type 0
+IsDayValue value day = IsDay day × (value ≡ day_text day)
+
 -- there is just one value, of which this holds
 abbrev pub JustOne : List (List ℕ) → (List ℕ → Type 0) → Type 0
 JustOne values IsAsked = (value : List ℕ) × (values ≡ value ∷ []) × IsAsked value
@@ -49,7 +56,7 @@ JustOne values IsAsked = (value : List ℕ) × (values ≡ value ∷ []) × IsAs
 -- there are just two values, a day and a number of years
 abbrev pub AreDayAndYears : List (List ℕ) → ℤ → ℕ → Type 0
 AreDayAndYears values on years =
-    (day : List ℕ) × (values ≡ day ∷ decimal years ∷ []) × IsDayValue day on × IsYearCount years
+    (day : List ℕ) × (values ≡ day ∷ decimal years ∷ []) × IsDayValue day on × IsInRange 1 131 years
 
 -- the values of an id as they are got, where there may be none
 abbrev pub texts_of : Option (Bor (List (Bor (List ℕ)))) → List (List ℕ)
@@ -77,7 +84,7 @@ pub record AreDrawn (seed count lanes : List ℕ) (drawn : ℕ × ℕ × ℕ) : 
 
 -- the seed, the policies and the lanes of a script
 abbrev pub AreDraws : (seed count lanes : ℕ) → Type 0
-AreDraws seed count lanes = IsSeed seed × IsPolicyCount count × IsLaneCount lanes
+AreDraws seed count lanes = (seed ≤ 2147483647) × IsInRange 1 100000 count × IsInRange 1 8 lanes
 
 -- the values of each id say the mode
 abbrev pub SaysMode : (List ℕ → List (List ℕ)) → Mode → Type 0
@@ -99,7 +106,7 @@ SaysMode values (mode.Generate seed count lanes) =
     (values alone_id ≡ decimal seed ∷ decimal count ∷ decimal lanes ∷ []) × AreDraws seed count lanes
 SaysMode values (mode.Load seed count lanes workers) =
     (values alone_id ≡ decimal seed ∷ decimal count ∷ decimal lanes ∷ decimal workers ∷ [])
-    × AreDraws seed count lanes × IsWorkerCount workers
+    × AreDraws seed count lanes × IsInRange 1 64 workers
 
 -- what was found behind a verb asks for the mode
 pub record AsksFor (verb : Verb) (found : Found) (mode : Mode) : Type 0 where

@@ -1,12 +1,12 @@
 -- What has to hold of an office's journal and disk from one turn to the next
 use Rattle.std.specs.Prelude.{◌≡◌, ℕ, ◌≤◌, false, List, [], ◌∷◌, ◌++◌}
-use Rattle.office_state.specs.Names.{AllByRecursion, filter_map, Ghosts, Command, Entry, IsValid, IsAccepted, Opening, commands_after, fault_of, StandsFor, disk_of, is_clean, Journal, bodies_of, spelling_of}
-use Rattle.office_state.specs.Images.{IsPending}
+use Rattle.office_state.specs.Names.{AllByRecursion, filter_map, Ghosts, Command, Entry, IsValid, IsAccepted, Opening, accepted_of, commands_after, fault_of, StandsFor, disk_of, is_clean, Journal, bodies_of, spelling_of}
+use Rattle.office_state.specs.Images.{WasFaulted}
 
--- a fault left this body behind the commands' records, and the posting of its command is pending
+-- a fault left this body behind the commands' records, whose posting was answered `fault` when just the commands so far were accepted
 pub record IsLeftBehind (opening : Opening) (turns : List Entry) (body : List ℕ) : Type 0 where
   pub command : Command
-  pub pending : IsPending turns command
+  pub pending : WasFaulted turns (accepted_of turns) command
   pub spelled : body ≡ spelling_of command
   pub valid : IsValid command
   pub accepted : IsAccepted (commands_after opening turns ++ command ∷ [])

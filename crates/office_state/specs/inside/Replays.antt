@@ -1,5 +1,6 @@
 -- What deciding a journal's records anew tells, while an office is opened
 use Rattle.std.specs.Prelude.{◌≡◌, List, [], Option, None, Err}
+use Rattle.memory_requests.specs.Evidence.{a_refusal}
 use Rattle.office_state.specs.Names.{AllByRecursion, Ghosts, Command, IsValid, IsAccepted, judge, disk_of, Journal, BodiesHave, HasReplayCause, IsLookedAt, IsQuiet, StaysAs, Stops, bodies_of, WatcherGhosts}
 use Rattle.posting_journal.specs.declared.faults.JournalCause.{JournalCause}
 use Rattle.posting_journal.specs.declared.faults.JournalCause.TheVariants.{DiskFault as FaultyDisk, NotAJournal as IsNoJournal, BadRecord as IsBadRecord}
@@ -21,7 +22,7 @@ as_cause (IsBadRecord n) = BadRecord n
 abbrev pub as_replay_cause : ReplayFault → StartCause
 as_replay_cause (replay.DiskFault count) = DiskFault count
 as_replay_cause (replay.BadRecord n) = BadRecord n
-as_replay_cause replay.NoMemory = NoMemory
+as_replay_cause (replay.NoMemory lack) = NoMemory a_refusal
 
 -- a journal may have just these commands
 abbrev pub MakeJournal : List Command → Type 0

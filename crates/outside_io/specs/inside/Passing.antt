@@ -1,5 +1,5 @@
 -- The number of a moment
-use Rattle.std.specs.Prelude.{ℕ, max, List, [], ◌∷◌}
+use Rattle.std.specs.Prelude.{ℕ, max}
 use Rattle.outside_io.specs.declared.disks.Disk.{Ghosts}
 use Rattle.outside_io.specs.declared.moments.Passed.{Passed, Start, At, Later'}
 

@@ -1,9 +1,9 @@
 -- What is known while the records of a file are counted, and where it isn't opened.
-use Rattle.std.specs.Prelude.{◌≡◌, ℕ, ◌<◌, ◌≤◌, List, slice_index, Result, IfErr, OnOk}
+use Rattle.std.specs.Prelude.{◌≡◌, ◌⊎◌, ℕ, ◌+◌, ◌<◌, ◌≤◌, List, length, slice_index, Result, IfErr, OnOk}
 use Rattle.posting_journal.specs.Names.{Rose, Ghosts}
-use Rattle.posting_journal.specs.Layout.{gate_place}
+use Rattle.posting_journal.specs.Layout.{gate_place, most_records}
 use Rattle.posting_journal.specs.Files.{IsClosed}
-use Rattle.posting_journal.specs.Creation.{CannotStand, IsForeign, IsBadAt}
+use Rattle.posting_journal.specs.Creation.{IsForeign, IsBadAt}
 use Rattle.posting_journal.specs.declared.faults.Unopened.{Unopened}
 use Rattle.posting_journal.specs.declared.faults.Unopened.TheVariants.{Unread, NotAJournal, BadRecord}
 
@@ -19,10 +19,15 @@ pub record HasUnopenedCause {D T : Type 0} (g : Ghosts D) (old new : D) (result 
   pub succeeded : OnOk result (g.faults new ≡ g.faults old)
   pub honesty : g.honest new → g.honest old
 
+-- an open record that can't stand: its body or the gate behind it lies past the end, or it is one too many
+abbrev pub CannotStand : List ℕ → ℕ → Type 0
+CannotStand bytes n = (length bytes ≤ gate_place (n + 1)) ⊎ (n ≡ most_records)
+
 -- the gates before that of record n are open, and their records stand
 pub record AreOpen (bytes : List ℕ) (n : ℕ) : Type 0 where
   pub gates : (k : ℕ) → k < n → slice_index bytes (gate_place k) ≡ 1
-  pub stand : (k : ℕ) → k < n → ¬ CannotStand bytes k
+  pub long : gate_place n < length bytes
+  pub few : n ≤ most_records
 
 -- just n records stand before a closed gate
 pub record EndsAt (bytes : List ℕ) (n : ℕ) : Type 0 where

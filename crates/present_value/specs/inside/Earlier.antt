@@ -1,10 +1,19 @@
 -- One year of a column.
-use Rattle.std.specs.Prelude.{ℕ, ◌+◌, ◌*◌}
-use Rattle.present_value.specs.Rounding.{UNIT, down, up, benefit_dividend, annuity_dividend}
+use Rattle.std.specs.Prelude.{ℕ, ◌+◌, ◌-◌, ◌*◌}
+use Rattle.rate_table.specs.Rates.{ONE}
+use Rattle.present_value.specs.Rounding.{UNIT, down, up}
 use Rattle.present_value.specs.Values.{pair_of}
 use Rattle.present_value.specs.declared.pair.Pair.{Pair}
 use Rattle.present_value.specs.declared.column.Stream.{Stream}
 use Rattle.present_value.specs.declared.column.Stream.TheVariants.{Insurance, Endowment, Annuity}
+
+-- a year's benefits at this rate before the value is divided by the year, the next year's value being given
+abbrev pub benefit_dividend : ℕ → ℕ → ℕ
+benefit_dividend rate later = 10000 * (rate * UNIT + (ONE - rate) * later)
+
+-- the same for premiums after the first
+abbrev pub annuity_dividend : ℕ → ℕ → ℕ
+annuity_dividend rate later = 10000 * (ONE - rate) * later
 
 -- a year earlier, at this rate of death in the year
 abbrev pub benefits_earlier : (rate year : ℕ) → Pair → Pair

@@ -3,7 +3,7 @@ use Rattle.std.specs.Prelude.{◌≡◌, ℕ, ◌+◌, ◌*◌, ◌/◌, ◌<◌
 use Rattle.snapshot_value.specs.Names.{Policy, policies_per_read, Placed, reads_of, Holding, OfficeOpening}
 use Rattle.policy_types.specs.declared.entry.Call.{Call}
 use Rattle.policy_types.specs.declared.entry.Call.TheVariants.{Read, Unpin}
-use Rattle.policy_types.specs.declared.watcher.NoMemory.{NoMemory as Lack}
+use Rattle.memory_requests.specs.declared.evidence.NoMemory.{NoMemory as Refusal}
 use Rattle.schedule_laws.specs.PinnedReads.{book_at}
 use Rattle.office_state.specs.declared.held.Held.{Held}
 use Rattle.snapshot_value.specs.Growing.{Grows}
@@ -59,7 +59,7 @@ module _ {D W : Type 0} where
 
   module _ {Made : Type 0} (IsOf : ℕ → List Policy → Made → Type 0) where
     -- all reads of a pin, and what was made of its policies, or for want of memory just some
-    abbrev pub HasMadeOfReads : Held → Holding (OfficeOpening D W) → Holding (OfficeOpening D W) → Result Made Lack → Type 0
+    abbrev pub HasMadeOfReads : Held → Holding (OfficeOpening D W) → Holding (OfficeOpening D W) → Result Made Refusal → Type 0
     HasMadeOfReads pin old new (Ok made) = HasReadEach pin old new × IsOf pin.position (policies_at old pin.position) made
     HasMadeOfReads pin old new (Err lack) = HasReadSome pin old new
 
@@ -67,7 +67,7 @@ module _ {D W : Type 0} where
     abbrev pub FollowsReads : Held → Holding (OfficeOpening D W) → List Call → Result Made ValueFault → Type 0
     FollowsReads pin old calls (Ok made) =
         (calls ≡ reads_of pin.number pin.policies ++ Unpin pin.number ∷ []) × IsOf pin.position (policies_at old pin.position) made
-    FollowsReads pin old calls (Err NoMemory) =
+    FollowsReads pin old calls (Err (NoMemory lack)) =
         (many : ℕ) × (calls ≡ take many (reads_of pin.number pin.policies) ++ Unpin pin.number ∷ [])
     FollowsReads pin old calls (Err (Pin refusal)) = ⊥
 

@@ -1,7 +1,8 @@
 -- What a valuation has at hand between two reads
 use Rattle.std.specs.Prelude.{◌≡◌, ◌≤◌, ◌*◌, ℕ, ℤ, List, ◌++◌, length, min}
 use Rattle.snapshot_value.specs.Names.{AllByRecursion, AllZip, Dated, Policy, IsSound, most_worth, IsWithinAmount, Measure, Row}
-use Rattle.snapshot_value.specs.Valuing.{IsValuedRow, most_amount}
+use Rattle.policy_value.specs.Rows.{IsValuedRow}
+use Rattle.snapshot_value.specs.Valuing.{most_amount}
 use Rattle.snapshot_value.specs.declared.worksheet.Worksheet.{Worksheet}
 use Rattle.snapshot_value.specs.inside.Workers.{IsReadyWorker, ValuesBy}
 

@@ -2,7 +2,8 @@
 use Rattle.std.specs.Prelude.{ℤ, List}
 use Rattle.snapshot_value.specs.Names.{Dated, Policy, IsSound, most_worth, IsWithinAmount, Measure, Row}
 use Rattle.policy_value.specs.Caches.{IsRightFor}
-use Rattle.snapshot_value.specs.Valuing.{IsValuedRow, most_amount}
+use Rattle.policy_value.specs.Rows.{IsValuedRow}
+use Rattle.snapshot_value.specs.Valuing.{most_amount}
 use Rattle.snapshot_value.specs.declared.worker.Worker.{Worker}
 
 -- the policy's row, whose bounds are within what a policy may insure

@@ -1,19 +1,20 @@
 -- A journal and a store on the two disks, once the snapshot is read from them, or why there is none
-use Rattle.std.specs.Prelude.{◌≡◌, IsTrue, List, []}
-use Rattle.stating_modes.specs.Names.{Ghosts, Command, opened_on, disk_of, is_clean, IsSnapshotOf, IsSoundSnapshot, store_disk, Snapshot, IsLeftAlone, IsLeftBy, IsShown, StartCause, OpensOn, Journal, Store}
+use Rattle.std.specs.Prelude.{◌≡◌, ◌⊎◌, IsTrue, List, []}
+use Rattle.memory_requests.specs.Evidence.{a_refusal}
+use Rattle.stating_modes.specs.Names.{Rose, Ghosts, Command, opened_on, disk_of, is_clean, IsSnapshotOf, IsSoundSnapshot, store_disk, Snapshot, IsLeftAlone, IsLeftBy, IsShown, StartCause, OpensOn, Journal, Store}
 use Rattle.posting_journal.specs.Starting.{HasStarted}
 use Rattle.checkpoint_store.specs.Starts.{HasLookedAt}
 use Rattle.checkpoint_store.specs.declared.faults.ReopenFault.{ReopenFault}
 use Rattle.checkpoint_store.specs.declared.faults.ReopenFault.TheVariants as fault
 use Rattle.office_state.specs.declared.faults.StartCause.TheVariants.{DiskFault, BadRecord, NoMemory}
 use Rattle.stating_modes.specs.declared.reopened.Reopened.{Reopened}
-use Rattle.stating_modes.specs.TwoDisks.{AreBothQuiet, AreTrue, HasOneFailed, IsHeldWhereTrue, IsMadeSafe, IsOnlyRead, TwoDisks}
+use Rattle.stating_modes.specs.TwoDisks.{AreBothQuiet, AreTrue, IsHeldWhereTrue, IsMadeSafe, IsOnlyRead, TwoDisks}
 
 -- the same fault, as a cause
 abbrev pub as_start_cause : ReopenFault → StartCause
 as_start_cause (fault.DiskFault count) = DiskFault count
 as_start_cause (fault.BadRecord n) = BadRecord n
-as_start_cause fault.NoMemory = NoMemory
+as_start_cause (fault.NoMemory lack) = NoMemory a_refusal
 
 -- the journal was started on this disk
 pub record HasJournalOn {D : Type 0} {g : Ghosts D} (old : D) (journal : Journal D g) : Type 0 where
@@ -54,7 +55,8 @@ pub record HasReopened {D E : Type 0} {g : Ghosts D} {e : Ghosts E} (disk : D) (
 
 -- one of the disks failed, or neither, by the cause
 abbrev pub TellsFaultOfOne : {D E : Type 0} → Ghosts D → Ghosts E → TwoDisks D E → StartCause → Type 0
-TellsFaultOfOne g e disks (DiskFault count) = HasOneFailed g e disks
+TellsFaultOfOne g e disks (DiskFault count) =
+    Rose (g.faults disks.old) (g.faults disks.new) ⊎ Rose (e.faults disks.second) (e.faults disks.kept)
 TellsFaultOfOne g e disks cause = AreBothQuiet g e disks
 
 -- no snapshot was read, for this cause

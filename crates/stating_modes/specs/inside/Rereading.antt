@@ -7,7 +7,8 @@ use Rattle.journal_replay.specs.declared.replaying.ReplayFault.{ReplayFault}
 use Rattle.office_state.specs.declared.faults.StartCause.TheVariants.{DiskFault as FaultyDisk}
 use Rattle.office_state.specs.inside.Replays.{as_replay_cause}
 use Rattle.stating_modes.specs.declared.rereading.Account.{Account}
-use Rattle.stating_modes.specs.Books.{policy_entries, policy_account}
+use Rattle.stating_modes.specs.Books.{policy_account}
+use Rattle.stating_modes.specs.inside.Accounts.{policy_entries}
 
 -- the account is that of its policy after the commands
 pub record IsAccount (account : Account) (commands : List Command) : Type 0 where
@@ -72,7 +73,7 @@ EndsReading g old new id output BadJournal =
     (cause : StartCause) × SaysWhy cause output × HasNotRead g old new cause
 EndsReading g old new id output DiskFault =
     (count : ℕ) × WroteLine output (codes "diskfault") × HasNotRead g old new (FaultyDisk count)
-EndsReading g old new id output NoMemory =
+EndsReading g old new id output (NoMemory lack) =
     WroteLine output (codes "nomemory")
     × (g.honest new → g.honest old) × (g.faults new ≡ g.faults old)
     × (g.honest new → ¬ IsUnfinished (g.reads old) → LooksOn g old new)

@@ -1,7 +1,10 @@
 -- How the saving of a snapshot ends, by the store before and after it
-use Rattle.std.specs.Prelude.{◌≡◌, ℕ, List, codes}
-use Rattle.stating_modes.specs.Names.{Rose, AppendsPart, Ghosts, Leaves, CheckpointBytes, IsKeptOrSavedBy, Knows, MightLeave, store_disk, Snapshot, Stream, WroteAll, WroteLine, Ending, Done, WriteFault, DiskFault, NoMemory, Store}
-use Rattle.stating_modes.specs.Saved.{checkpoint_text}
+use Rattle.std.specs.Prelude.{◌≡◌, ℕ, List, [], ◌∷◌, codes, decimal}
+use Rattle.stating_modes.specs.Names.{Rose, line_of, AppendsPart, Ghosts, Leaves, CheckpointBytes, IsKeptOrSavedBy, Knows, MightLeave, store_disk, Snapshot, Stream, WroteAll, WroteLine, Ending, Done, WriteFault, DiskFault, NoMemory, Store}
+
+-- the number of commands that were saved
+abbrev pub checkpoint_text : Snapshot → List ℕ
+checkpoint_text s = line_of (codes "checkpoint") (decimal s.position ∷ [])
 
 -- whether or not the saving succeeded, a crash leaves no checkpoint, or an earlier one, or the new one
 pub record HasTried {E : Type 0} {e : Ghosts E} (old new : Store E e) (snapshot : Snapshot) : Type 0 where
@@ -27,5 +30,5 @@ EndsSaving old new snapshot output WriteFault =
 EndsSaving {e = e} old new snapshot output DiskFault =
     HasTried old new snapshot × Rose (e.faults (store_disk old)) (e.faults (store_disk new))
     × WroteLine output (codes "diskfault")
-EndsSaving old new snapshot output NoMemory = (new ≡ old) × WroteLine output (codes "nomemory")
+EndsSaving old new snapshot output (NoMemory lack) = (new ≡ old) × WroteLine output (codes "nomemory")
 EndsSaving old new snapshot output _ = ⊥

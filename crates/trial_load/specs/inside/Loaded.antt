@@ -1,6 +1,6 @@
--- How the parts of `load` end
-use Rattle.std.specs.Prelude.{◌≡◌, ◌⊎◌, true, false, List, [], Result, Ok, Err}
-use Rattle.trial_load.specs.Names.{Appends, AllByRecursion, Rose, AppendsPart, IsValidPosting, Stream, WroteAll, Ending, Done, WriteFault, DiskFault, NoMemory, Lane, Row, IsWritableBlock}
+-- How `load` and its parts end
+use Rattle.std.specs.Prelude.{◌≡◌, ℕ, ◌⊎◌, true, false, List, [], ◌∷◌, codes, decimal, length, Result, Ok, Err}
+use Rattle.trial_load.specs.Names.{generated_lanes, Shelving, sum_fields, Terminal, Appends, AllByRecursion, Rose, AppendsPart, IsValidPosting, Stream, WroteAll, Ending, Done, WriteFault, DiskFault, NoMemory, Lane, Row, IsWritableBlock}
 use Rattle.snapshot_value.specs.declared.valuation.Valuation.{Valuation}
 use Rattle.snapshot_value.specs.declared.valuation.ValueFault.{ValueFault}
 use Rattle.snapshot_value.specs.declared.valuation.ValueFault.TheVariants.{Pin, NoMemory as NoValues}
@@ -8,7 +8,17 @@ use Rattle.policy_types.specs.Lanes.{lines_in}
 use Rattle.lane_runner.specs.declared.transcript.TranscriptLine.{TranscriptLine}
 use Rattle.lane_runner.specs.Tallies.{accepted_lines, any_faulted, any_lacked, refused_lines}
 use Rattle.transcript_text.specs.Lanes.{AreScriptLanes}
-use Rattle.trial_load.specs.Loading.{load_text}
+use Rattle.text_lines.specs.Lines.{line_of}
+use Rattle.outside_io.specs.declared.disks.Disk.{Ghosts}
+use Rattle.lone_office.specs.Beginning.{EndsOverBasis}
+use Rattle.trial_load.specs.Loading.{EndsLoading}
+
+-- how many postings were accepted and how many were refused, how many policies there are, the sums of the lower and of
+-- the upper bounds of their reserves, and how many have none
+abbrev pub load_text : (accepted refused : ℕ) → List Row → List ℕ
+load_text accepted refused rows =
+    line_of (codes "load")
+    (decimal accepted ∷ decimal refused ∷ decimal (length rows) ∷ sum_fields Terminal rows)
 
 -- lanes that can be run, and only post
 pub record AreLoadLanes (lanes : List Lane) : Type 0 where
@@ -18,7 +28,7 @@ pub record AreLoadLanes (lanes : List Lane) : Type 0 where
 -- the answers to a valuation behind postings alone: its rows, which can be written, or that it found no memory
 abbrev pub IsLoadAnswer : Result Valuation ValueFault → Type 0
 IsLoadAnswer (Ok valuation) = IsWritableBlock valuation
-IsLoadAnswer (Err NoValues) = Unit {0}
+IsLoadAnswer (Err (NoValues lack)) = Unit {0}
 IsLoadAnswer (Err (Pin refusal)) = ⊥
 
 -- what is written of the lines of a load and the rows of its valuation, and then by what is told of the lines
@@ -31,7 +41,7 @@ EndsLine lines rows output DiskFault =
 EndsLine lines rows output WriteFault =
     Rose output.faults_before output.faults_after
     × AppendsPart output.before output.after (load_text (accepted_lines lines) (refused_lines lines) rows)
-EndsLine lines rows output NoMemory =
+EndsLine lines rows output (NoMemory lack) =
     Appends output.before output.after []
     ⊎ ((any_faulted lines ≡ false) × (any_lacked lines ≡ true)
     × WroteAll output (load_text (accepted_lines lines) (refused_lines lines) rows))
@@ -40,5 +50,11 @@ EndsLine lines rows output _ = ⊥
 -- the same, where nothing is written of a valuation that found no memory
 abbrev pub EndsLoaded : List TranscriptLine → Result Valuation ValueFault → Stream → Ending → Type 0
 EndsLoaded lines (Ok valuation) output ending = EndsLine lines valuation.rows output ending
-EndsLoaded lines (Err NoValues) output NoMemory = Appends output.before output.after []
+EndsLoaded lines (Err (NoValues lack)) output (NoMemory other_lack) = Appends output.before output.after []
 EndsLoaded lines (Err fault) output _ = ⊥
+
+-- how `load` ends; without a basis, or without memory for the lanes, the disk isn't touched
+abbrev pub EndsLoad : {D : Type 0} → Ghosts D → D → D → (seed count lanes workers : ℕ) → Shelving → Stream → Ending → Type 0
+EndsLoad g old new seed count lanes workers shelf output ending =
+    EndsOverBasis old new (λ basis. EndsLoading g old new (generated_lanes seed lanes count) workers basis output ending)
+    (codes "basis.csv") shelf output ending

@@ -5,7 +5,7 @@ use Rattle.xtbml_subset.specs.declared.class.Class.TheVariants.{White}
 use Rattle.xtbml_subset.specs.declared.state.Phase.{Phase}
 use Rattle.xtbml_subset.specs.declared.state.Phase.TheVariants.{Opening, Prolog, Epilog}
 use Rattle.xtbml_subset.specs.Classes.{is_in}
-use Rattle.xtbml_subset.specs.Pieces.{Piece, byte, comment, declaration, start, whole, finish, IsMark, Spell}
+use Rattle.xtbml_subset.specs.Pieces.{Piece, byte, comment, declaration, start, whole, finish, IsMark, IsPiece, AreSpelled}
 
 -- After some pieces: the names of the elements that are open, the innermost first. Where none is, the phase
 -- says what may come: Opening is the start, where nothing stood but white space, Prolog lies between this and
@@ -74,5 +74,5 @@ pub record IsWalked (bytes : List ℕ) (end : State) : Type 0 where
   pub pieces : List Piece
   pub parts : bytes ≡ mark ++ rest
   pub is_mark : IsMark mark
-  pub spelled : Spell pieces rest
+  pub spelled : AreSpelled IsPiece pieces rest
   pub steps : Steps (outside Opening) pieces end

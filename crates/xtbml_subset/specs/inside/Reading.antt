@@ -4,7 +4,7 @@ use Rattle.xtbml_subset.specs.declared.class.Class.{Class}
 use Rattle.xtbml_subset.specs.declared.class.Class.TheVariants.{White, Name, DoubleQuoted, SingleQuoted, Declared}
 use Rattle.xtbml_subset.specs.Classes.{is_in, starts_name, front, after}
 use Rattle.xtbml_subset.specs.Texts.{◌>>=◌}
-use Rattle.xtbml_subset.specs.Pieces.{Attribute, Tag, Piece, byte, comment, declaration, start, whole, finish}
+use Rattle.xtbml_subset.specs.Pieces.{Tag, Piece, byte, comment, declaration, start, whole, finish}
 use Rattle.std.specs.Option.{option_map_or}
 
 abbrev pub byte_at : ℕ → List ℕ → Option (List ℕ)
@@ -32,6 +32,10 @@ unfoldable pub quoted_at : List ℕ → Option (List ℕ × List ℕ)
 quoted_at [] = None
 quoted_at (b ∷ bytes) =
     if b == 34 then closed_at 34 DoubleQuoted bytes else (if b == 39 then closed_at 39 SingleQuoted bytes else None)
+
+-- a name and a value
+abbrev pub Attribute : Type 0
+Attribute = List ℕ × List ℕ
 
 unfoldable pub attribute_at : List ℕ → Option (Attribute × List ℕ)
 attribute_at bytes = do

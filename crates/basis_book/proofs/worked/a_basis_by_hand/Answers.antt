@@ -1,5 +1,4 @@
 use Rattle.basis_book.proofs.Names.{refl, [], ◌∷◌, codes, lit≤, arith, ints, csv_on_literals, Reached}
-use Rattle.csv.specs.declared.parser.State.TheVariants as st
 use Rattle.basis_book.proofs.WorkedRows.{first_text, first_in, second_text, second_in, third_text, third_in, q_name, g_name, no_points, four_percent, twenty_percent}
 use Rattle.basis_book.proofs.worked.a_basis_by_hand.Goals as goal
 

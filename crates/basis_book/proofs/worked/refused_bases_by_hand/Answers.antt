@@ -1,4 +1,4 @@
-use Rattle.basis_book.proofs.Names.{◌≡◌, ◌<◌, ◌≤◌, refl, [], ◌∷◌, codes, pos, lit≤, lit<, arith, ints, csv_on_literals, Reached}
+use Rattle.basis_book.proofs.Names.{◌<◌, ◌≤◌, refl, [], ◌∷◌, codes, pos, lit≤, lit<, arith, ints, csv_on_literals, Reached}
 use Rattle.std.specs.Prelude.{replicate}
 use Rattle.basis_book.proofs.WorkedRows.{first_text, first_in, second_text, second_in, q_name, no_points, one_point, two_points, too_many_points, no_name}
 use Rattle.basis_book.proofs.worked.refused_bases_by_hand.Goals as goal
@@ -14,14 +14,12 @@ returns-clause-bad c = (
       record {
         before = (record { from_day = pos 10957; table = codes "q.xml"; bp = 0 }) ∷ [];
         fields = codes "2010-01-01" ∷ codes "q.xml" ∷ [];
-        stops = record {
-          good = (codes "2000-01-01" ∷ codes "q.xml" ∷ codes "0" ∷ []) ∷ [];
-          rest = [];
-          split = refl;
-          number = refl;
-          right = record { each = ((first_text, first_in, q_name, refl, no_points), tt); rise = tt };
-        };
-        bad = λ row h. h;
+        good = (codes "2000-01-01" ∷ codes "q.xml" ∷ codes "0" ∷ []) ∷ [];
+        rest = [];
+        split = refl;
+        number = refl;
+        right = record { each = ((first_text, first_in, q_name, refl, no_points), tt); rise = tt };
+        wrong = λ row h. h;
       },
     ),
   ),
@@ -33,8 +31,12 @@ returns-clause-bad c = (
       record {
         before = [];
         fields = codes "2000-01-01" ∷ codes "q.xml" ∷ codes "0" ∷ [] ∷ [];
-        stops = record { good = []; rest = []; split = refl; number = refl; right = record { each = tt; rise = tt } };
-        bad = λ row h. h;
+        good = [];
+        rest = [];
+        split = refl;
+        number = refl;
+        right = record { each = tt; rise = tt };
+        wrong = λ row h. h;
       },
     ),
   ),
@@ -46,8 +48,12 @@ returns-clause-bad c = (
       record {
         before = [];
         fields = codes "2000-01-01" ∷ codes "q.xml" ∷ codes "2001" ∷ [];
-        stops = record { good = []; rest = []; split = refl; number = refl; right = record { each = tt; rise = tt } };
-        bad = λ row h. too_many_points row.bp h.4;
+        good = [];
+        rest = [];
+        split = refl;
+        number = refl;
+        right = record { each = tt; rise = tt };
+        wrong = λ row h. too_many_points row.bp h.4;
       },
     ),
   ),
@@ -59,8 +65,12 @@ returns-clause-bad c = (
       record {
         before = [];
         fields = codes "2000-01-01" ∷ codes ".xml" ∷ codes "0" ∷ [];
-        stops = record { good = []; rest = []; split = refl; number = refl; right = record { each = tt; rise = tt } };
-        bad = λ row h. no_name h.2;
+        good = [];
+        rest = [];
+        split = refl;
+        number = refl;
+        right = record { each = tt; rise = tt };
+        wrong = λ row h. no_name h.2;
       },
     ),
   ),
@@ -79,24 +89,19 @@ returns-clause-falling c =
         record {
           before = (record { from_day = pos 10957; table = codes "q.xml"; bp = 0 }) ∷ (record { from_day = pos 14610; table = codes "q.xml"; bp = 1 }) ∷ [];
           fields = third;
-          row = record { from_day = pos 14610; table = codes "q.xml"; bp = 2 };
-          stops = record {
-            good = first ∷ second ∷ [];
-            rest = [];
-            split = refl;
-            number = refl;
-            right = record {
-              each = ((first_text, first_in, q_name, refl, no_points), ((second_text, second_in, q_name, refl, one_point), tt));
-              rise = (omega (arith, ints), tt);
-            };
+          good = first ∷ second ∷ [];
+          rest = [];
+          split = refl;
+          number = refl;
+          right = record {
+            each = ((first_text, first_in, q_name, refl, no_points), ((second_text, second_in, q_name, refl, one_point), tt));
+            rise = (omega (arith, ints), tt);
           };
-          is_row = (second_text, second_in, q_name, refl, two_points);
-          falls = record {
-            before = (record { from_day = pos 10957; table = codes "q.xml"; bp = 0 }) ∷ [];
-            last = record { from_day = pos 14610; table = codes "q.xml"; bp = 1 };
-            split = refl;
-            falls = omega (arith, ints);
-          };
+          wrong = (
+            record { from_day = pos 14610; table = codes "q.xml"; bp = 2 },
+            (second_text, second_in, q_name, refl, two_points),
+            λ rise. let last = rise.1.0 in omega (arith, ints),
+          );
         },
       ),
     )
@@ -111,8 +116,12 @@ returns-clause-many c = (
     record {
       before = [];
       fields = [];
-      stops = record { good = []; rest = replicate 999 []; split = refl; number = refl; right = record { each = tt; rise = tt } };
-      bad = λ row h. h;
+      good = [];
+      rest = replicate 999 [];
+      split = refl;
+      number = refl;
+      right = record { each = tt; rise = tt };
+      wrong = λ row h. h;
     },
   ),
 )

@@ -1,4 +1,3 @@
-use Rattle.std.proofs.Common.{◌≡◌}
 use Rattle.basis_shelf.proofs.NeverSelect.{told_fault}
 use Rattle.basis_shelf.proofs.ToldTable.{told_table}
 use Rattle.basis_shelf.proofs.tables.fetch_table.Goals as goal

@@ -14,7 +14,7 @@ is_table : SpellsAny certain_death (Aggregate (record { first_age = 60; rates = 
 unfolding select_on_literals
 is_table = any_judged _ _ refl (
   Ok (record { first_age = 60; rates = 1000000000 ∷ [] }),
-  (Ok tt, refl, (Ok (1000000000 ∷ []), (Ok (60, 1000000000), (Some 1000000000, one, refl), (Ok [], refl, refl)), refl)),
+  (Ok tt, refl, (Ok (1000000000 ∷ []), (Ok (Some 61, 1000000000), (Some 1000000000, one, refl), (Ok [], refl, refl)), refl)),
   refl,
 )
 
@@ -29,7 +29,7 @@ pub returns-clause-basis : goal.returns-clause-basis
 returns-clause-basis c = record {
   rows = the_row ∷ [];
   file = (one_row, (refl, lit≤ tt), one_right_row);
-  each = (record { from_day = refl; table = (certain_death, (refl, lit≤ tt), is_table); bp = refl }, tt);
+  each = ((refl, (certain_death, (refl, lit≤ tt), is_table), refl), tt);
 }
 
 pub returns-clause-bad : goal.returns-clause-bad

@@ -1,4 +1,5 @@
-use Rattle.cash_projection.proofs.Names.{◌≡◌, ◌++◌, take, asked_text, years_text}
+use Rattle.cash_projection.proofs.Names.{◌≡◌, ◌++◌, take, asked_text}
+use Rattle.cash_projection.proofs.YearLines.{years_text}
 use Rattle.cash_projection.proofs.printing.print_projection.Given as goal
 
 -- the years before this one are written

@@ -1,10 +1,10 @@
-use Rattle.cash_projection.proofs.Names.{lit<, lit≤, refl, alive, alive_by, total_of}
+use Rattle.cash_projection.proofs.Names.{lit<, lit≤, refl, alive, alive_by}
 use Rattle.cash_projection.proofs.worked.later_years_by_hand.Goals as goal
 
 pub returns : goal.returns
-unfolding alive alive_by total_of
+unfolding alive alive_by
 returns c = record {
-  first = record { premium = record { proper = lit< tt; above = lit≤ tt; below = lit≤ tt }; death = record { proper = lit< tt; above = lit≤ tt; below = lit≤ tt }; maturity = record { proper = lit< tt; above = lit≤ tt; below = lit≤ tt }; rounded = refl };
-  second = record { premium = record { proper = lit< tt; above = lit≤ tt; below = lit≤ tt }; death = record { proper = lit< tt; above = lit≤ tt; below = lit≤ tt }; maturity = record { proper = lit< tt; above = lit≤ tt; below = lit≤ tt }; rounded = refl };
-  over = record { premium = record { proper = lit< tt; above = lit≤ tt; below = lit≤ tt }; death = record { proper = lit< tt; above = lit≤ tt; below = lit≤ tt }; maturity = record { proper = lit< tt; above = lit≤ tt; below = lit≤ tt }; rounded = refl };
+  first = record { exact = record { premium = record { between = record { proper = lit< tt; above = lit≤ tt; below = lit≤ tt }; narrow = lit≤ tt; most = lit≤ tt }; death = record { between = record { proper = lit< tt; above = lit≤ tt; below = lit≤ tt }; narrow = lit≤ tt; most = lit≤ tt }; maturity = record { between = record { proper = lit< tt; above = lit≤ tt; below = lit≤ tt }; narrow = lit≤ tt; most = lit≤ tt } }; rounded = refl };
+  second = record { exact = record { premium = record { between = record { proper = lit< tt; above = lit≤ tt; below = lit≤ tt }; narrow = lit≤ tt; most = lit≤ tt }; death = record { between = record { proper = lit< tt; above = lit≤ tt; below = lit≤ tt }; narrow = lit≤ tt; most = lit≤ tt }; maturity = record { between = record { proper = lit< tt; above = lit≤ tt; below = lit≤ tt }; narrow = lit≤ tt; most = lit≤ tt } }; rounded = refl };
+  over = record { exact = record { premium = record { between = record { proper = lit< tt; above = lit≤ tt; below = lit≤ tt }; narrow = lit≤ tt; most = lit≤ tt }; death = record { between = record { proper = lit< tt; above = lit≤ tt; below = lit≤ tt }; narrow = lit≤ tt; most = lit≤ tt }; maturity = record { between = record { proper = lit< tt; above = lit≤ tt; below = lit≤ tt }; narrow = lit≤ tt; most = lit≤ tt } }; rounded = refl };
 }

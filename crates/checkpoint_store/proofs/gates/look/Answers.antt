@@ -33,4 +33,4 @@ returns-clause-gate g c = λ honest.
     let looks = c.is_shut.ensures.unwritten honest in
     let safe = looks_safe g.E.Disk c.len.new.self new (looks_safe g.E.Disk c.sync.new.self c.len.new.self (c.in_ok-sync.ensures.facts honest_mid).durable asked) looks in
     ok_map c.is_shut.result (λ shut. IsTrue shut ↔ IsShut (g.E.Disk.reads c.len.new.self)) (λ closed. LooksAtGate g.E.Disk new closed)
-    (λ closed is. looked_at g.E.Disk new closed safe (subst (λ b. IsTrue closed ↔ IsShut b) (sym looks.facts.reads) is)) (c.is_shut.ensures.shut honest)
+    (λ closed is. looked_at g.E.Disk new closed safe (subst (λ b. IsTrue closed ↔ IsShut b) (sym looks.reads) is)) (c.is_shut.ensures.shut honest)

@@ -18,5 +18,5 @@ pub returns-clause-unsound : goal.returns-clause-unsound
 unfolding IsDistinct
 returns-clause-unsound c = (
   λ s. eqb-false 7001 7001 s.distinct.0.0 refl,
-  λ s. let no : 1 ≤ 0 = s.figures.policies_in in omega (arith, no),
+  λ s. let no : 1 ≤ 0 = s.policies_in in omega (arith, no),
 )

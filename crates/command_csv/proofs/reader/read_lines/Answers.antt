@@ -40,7 +40,7 @@ pub loop-entries-preserved : goal.loop-entries-preserved
 loop-entries-preserved c =
     let inv = c.loop-entries.invariant in
     let r = found c.loop-entries.rows c.next_row.new.rows _ true (fields_of c.next_row.new.row) c.if-branch.true (c.in_ok-next_row.ensures.reads inv.plain) in
-    row_right c.args.bytes.now c.loop-entries.rows c.next_row.new.rows c.loop-entries.count c.loop-entries.valuations _ c.loop-entries.entries.items c.push.new.self.items (fields_of c.next_row.new.row) c.in-Ok.entry inv r
+    row_right c.args.bytes.now c.loop-entries.rows c.next_row.new.rows c.loop-entries.count c.loop-entries.valuations _ c.loop-entries.entries.items c.push.new.items.items (fields_of c.next_row.new.row) c.in-Ok.entry inv r
     (c.in_ok-next_row.ensures.ready inv.plain) c.in_ok-next_row.ensures.flexible c.in-Ok.ensures.ok c.valuations_of-valuations.ensures c.in_ok-push-in-Ok.ensures.items
 
 pub returns-in-Err-clause-fault : goal.returns-in-Err-clause-fault

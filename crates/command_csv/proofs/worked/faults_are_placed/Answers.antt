@@ -1,4 +1,4 @@
-use Rattle.command_csv.proofs.Names.{refl, [], ◌∷◌, ◌++◌, codes, pos, arith, lit≤, digits, ints, csv_on_literals, date_of, date_at, year_of, month_of, days_before, days_before_year, days_of_months, day_text, AllZip, decimal, replicate, Lapse, Now, Line, Post, Value, Trim, by_first, row_fields, IsLineRow, IsScriptLine, most_valuations}
+use Rattle.command_csv.proofs.Names.{false≢true, refl, [], ◌∷◌, ◌++◌, codes, pos, arith, lit≤, digits, ints, csv_on_literals, date_of, month_of, days_before_year, days_of_months, day_text, AllZip, decimal, replicate, Lapse, Now, Line, Post, Value, Trim, by_first, row_fields, IsLineRow, IsScriptLine, most_valuations}
 use Rattle.command_csv.proofs.Lines.{entry_of, surplus}
 use Rattle.command_csv.proofs.WorkedScripts.{row_is, row_of, rows_again, rows_both, bad_clerk, no_day, no_workers, no_room}
 use Rattle.command_csv.proofs.worked.faults_are_placed.Goals as goal
@@ -15,7 +15,7 @@ sixteen_rows =
     rows_both (replicate 8 (row_fields (entry_of 1 valued))) (replicate 8 (row_fields (entry_of 8 valued))) (replicate 8 (entry_of 1 valued)) (replicate 8 (entry_of 8 valued)) first last
 
 pub returns-clause-clerk : goal.returns-clause-clerk
-unfolding csv_on_literals digits day_text date_of date_at year_of month_of days_before days_before_year days_of_months
+unfolding csv_on_literals digits day_text date_of month_of days_before_year days_of_months
 returns-clause-clerk c =
     let rest = codes "lapse" ∷ codes "1" ∷ codes "2020-01-01" ∷ [] in
     record { before = []; faulty = decimal 9 ∷ rest; after = []; rows = refl; number = refl; entries = []; right = record { each = tt; few = lit≤ tt }; bad = bad_clerk 0 9 rest (omega arith) (λ h. omega (arith, h)) }
@@ -40,7 +40,7 @@ returns-clause-clerk_first c =
     record { before = []; faulty = decimal 9 ∷ rest; after = []; rows = refl; number = refl; entries = []; right = record { each = tt; few = lit≤ tt }; bad = bad_clerk 0 9 rest (omega arith) (λ h. omega (arith, h)) }
 
 pub returns-clause-missing : goal.returns-clause-missing
-unfolding csv_on_literals digits day_text date_of date_at year_of month_of days_before days_before_year days_of_months
+unfolding csv_on_literals digits day_text date_of month_of days_before_year days_of_months
 returns-clause-missing c =
     let first = Post (Lapse 1 (pos 18262)) in
     record {
@@ -55,7 +55,7 @@ returns-clause-missing c =
     }
 
 pub returns-clause-surplus : goal.returns-clause-surplus
-unfolding csv_on_literals digits day_text date_of date_at year_of month_of days_before days_before_year days_of_months
+unfolding csv_on_literals digits day_text date_of month_of days_before_year days_of_months
 returns-clause-surplus c =
     let first = Post (Lapse 1 (pos 18262)) in
     record {
@@ -66,7 +66,7 @@ returns-clause-surplus c =
       number = refl;
       entries = [];
       right = record { each = tt; few = lit≤ tt };
-      bad = surplus 0 (by_first first) (row_is first ((lit≤ tt, lit≤ tt), (omega (arith, ints), omega (arith, ints)))).allowed tt refl (λ e. cc) refl;
+      bad = surplus 0 (by_first first) (row_is first ((lit≤ tt, lit≤ tt), (omega (arith, ints), omega (arith, ints)))).0 (λ no. absurd (false≢true no)) refl (λ e. cc) refl;
     }
 
 pub returns-clause-trim : goal.returns-clause-trim
@@ -79,11 +79,11 @@ returns-clause-trim c = record {
   number = refl;
   entries = [];
   right = record { each = tt; few = lit≤ tt };
-  bad = surplus 0 (by_first Trim) (row_is Trim tt).allowed tt refl (λ e. cc) refl;
+  bad = surplus 0 (by_first Trim) (row_is Trim tt).0 (λ no. absurd (false≢true no)) refl (λ e. cc) refl;
 }
 
 pub returns-clause-workers : goal.returns-clause-workers
-unfolding csv_on_literals digits day_text date_of date_at year_of month_of days_before days_before_year days_of_months
+unfolding csv_on_literals digits day_text date_of month_of days_before_year days_of_months
 returns-clause-workers c = record {
   before = [];
   faulty = decimal 1 ∷ codes "value" ∷ day_text (pos 18628) ∷ codes "now" ∷ [];
@@ -96,7 +96,7 @@ returns-clause-workers c = record {
 }
 
 pub returns-clause-valuations : goal.returns-clause-valuations
-unfolding csv_on_literals digits day_text date_of date_at year_of month_of days_before days_before_year days_of_months
+unfolding csv_on_literals digits day_text date_of month_of days_before_year days_of_months
 returns-clause-valuations c =
     let rest = codes "value" ∷ day_text (pos 18262) ∷ codes "now" ∷ codes "1" ∷ [] in
     record {
@@ -111,7 +111,7 @@ returns-clause-valuations c =
     }
 
 pub returns-clause-valuations_of_none : goal.returns-clause-valuations_of_none
-unfolding csv_on_literals digits day_text date_of date_at year_of month_of days_before days_before_year days_of_months
+unfolding csv_on_literals digits day_text date_of month_of days_before_year days_of_months
 returns-clause-valuations_of_none c =
     let rest = codes "value" ∷ day_text (pos 18262) ∷ codes "now" ∷ codes "1" ∷ [] in
     record {

@@ -1,10 +1,10 @@
-use Rattle.command_csv.proofs.Names.{refl, [], ◌∷◌, pos, arith, lit≤, digits, ints, csv_on_literals, date_of, date_at, year_of, month_of, days_before, days_before_year, days_of_months, day_text, Lapse, Claim, Now, Post, Value, Trim, row_fields}
+use Rattle.command_csv.proofs.Names.{refl, [], ◌∷◌, pos, arith, lit≤, digits, ints, csv_on_literals, date_of, month_of, days_before_year, days_of_months, day_text, Lapse, Claim, Now, Post, Value, Trim, row_fields}
 use Rattle.command_csv.proofs.Lines.{entry_of}
 use Rattle.command_csv.proofs.WorkedScripts.{reads, row_of}
 use Rattle.command_csv.proofs.worked.lanes_are_dealt.Goals as goal
 
 pub returns : goal.returns
-unfolding csv_on_literals digits day_text date_of date_at year_of month_of days_before days_before_year days_of_months
+unfolding csv_on_literals digits day_text date_of month_of days_before_year days_of_months
 returns c =
     let first = Post (Lapse 7001 (pos 19025)) in
     let second = Post (Claim 7002 (pos 19357)) in

@@ -1,4 +1,4 @@
-use Rattle.decimal_text.proofs.Names.{◌≡◌, ℕ, List, [], ◌∷◌, ◌++◌, ◌+◌, ◌<◌, length, refl, inl, inr, codes, lit≤, arith, Decimal, IsPlain, Spells}
+use Rattle.decimal_text.proofs.Names.{◌≡◌, ℕ, List, [], ◌∷◌, ◌++◌, ◌+◌, ◌<◌, length, refl, inl, inr, codes, lit≤, lit<, arith, IsPlain}
 use Rattle.decimal_text.proofs.Spelt.{spelt}
 use Rattle.decimal_text.proofs.worked.rates_by_hand.Goals as goal
 
@@ -15,31 +15,31 @@ pub returns-clause-plain : goal.returns-clause-plain
 returns-clause-plain c = (
   (
     record { whole = codes "0"; fraction = codes "00042"; raised = 0; lowered = 0 },
-    spelt (codes "0.00042") (codes "0") (codes "00042") (inr refl) ((lit≤ tt, lit≤ tt), tt) ((lit≤ tt, lit≤ tt), ((lit≤ tt, lit≤ tt), ((lit≤ tt, lit≤ tt), ((lit≤ tt, lit≤ tt), ((lit≤ tt, lit≤ tt), tt))))) (lit≤ tt),
+    spelt (codes "0.00042") (codes "0") (codes "00042") (inr refl) (lit< tt, tt) (lit< tt, (lit< tt, (lit< tt, (lit< tt, (lit< tt, tt))))) (lit≤ tt),
     refl,
     lit≤ tt,
   ),
   (
     record { whole = codes "1"; fraction = []; raised = 0; lowered = 0 },
-    spelt (codes "1") (codes "1") [] (inl (refl, refl)) ((lit≤ tt, lit≤ tt), tt) tt (lit≤ tt),
+    spelt (codes "1") (codes "1") [] (inl (refl, refl)) (lit< tt, tt) tt (lit≤ tt),
     refl,
     lit≤ tt,
   ),
   (
     record { whole = []; fraction = codes "5"; raised = 0; lowered = 0 },
-    spelt (codes ".5") [] (codes "5") (inr refl) tt ((lit≤ tt, lit≤ tt), tt) (lit≤ tt),
+    spelt (codes ".5") [] (codes "5") (inr refl) tt (lit< tt, tt) (lit≤ tt),
     refl,
     lit≤ tt,
   ),
   (
     record { whole = codes "1"; fraction = []; raised = 0; lowered = 0 },
-    spelt (codes "1.") (codes "1") [] (inr refl) ((lit≤ tt, lit≤ tt), tt) tt (lit≤ tt),
+    spelt (codes "1.") (codes "1") [] (inr refl) (lit< tt, tt) tt (lit≤ tt),
     refl,
     lit≤ tt,
   ),
   (
     record { whole = codes "0"; fraction = []; raised = 0; lowered = 0 },
-    spelt (codes "0") (codes "0") [] (inl (refl, refl)) ((lit≤ tt, lit≤ tt), tt) tt (lit≤ tt),
+    spelt (codes "0") (codes "0") [] (inl (refl, refl)) (lit< tt, tt) tt (lit≤ tt),
     refl,
     lit≤ tt,
   ),
@@ -54,9 +54,9 @@ returns-clause-scaled c = (
       exponent = codes "E-05";
       joined = refl;
       plain_is = inr refl;
-      exponent_is = (inl refl, (codes "05", (((lit≤ tt, lit≤ tt), ((lit≤ tt, lit≤ tt), tt)), lit≤ tt, lit≤ tt), inr (refl, refl, refl)));
-      whole_digits = ((lit≤ tt, lit≤ tt), tt);
-      fraction_digits = ((lit≤ tt, lit≤ tt), tt);
+      exponent_is = (inl refl, (codes "05", (lit≤ tt, (lit< tt, (lit< tt, tt))), lit≤ tt, inr (refl, refl, refl)));
+      whole_digits = (lit< tt, tt);
+      fraction_digits = (lit< tt, tt);
       some_digit = lit≤ tt;
     },
     refl,
@@ -69,9 +69,9 @@ returns-clause-scaled c = (
       exponent = codes "e1";
       joined = refl;
       plain_is = inr refl;
-      exponent_is = (inr refl, (codes "1", (((lit≤ tt, lit≤ tt), tt), lit≤ tt, lit≤ tt), inl (inl refl, refl, refl)));
-      whole_digits = ((lit≤ tt, lit≤ tt), tt);
-      fraction_digits = ((lit≤ tt, lit≤ tt), tt);
+      exponent_is = (inr refl, (codes "1", (lit≤ tt, (lit< tt, tt)), lit≤ tt, inl (inl refl, refl, refl)));
+      whole_digits = (lit< tt, tt);
+      fraction_digits = (lit< tt, tt);
       some_digit = lit≤ tt;
     },
     refl,
@@ -84,9 +84,9 @@ returns-clause-scaled c = (
       exponent = codes "E+1";
       joined = refl;
       plain_is = inr refl;
-      exponent_is = (inl refl, (codes "1", (((lit≤ tt, lit≤ tt), tt), lit≤ tt, lit≤ tt), inl (inr refl, refl, refl)));
-      whole_digits = ((lit≤ tt, lit≤ tt), tt);
-      fraction_digits = ((lit≤ tt, lit≤ tt), ((lit≤ tt, lit≤ tt), tt));
+      exponent_is = (inl refl, (codes "1", (lit≤ tt, (lit< tt, tt)), lit≤ tt, inl (inr refl, refl, refl)));
+      whole_digits = (lit< tt, tt);
+      fraction_digits = (lit< tt, (lit< tt, tt));
       some_digit = lit≤ tt;
     },
     refl,

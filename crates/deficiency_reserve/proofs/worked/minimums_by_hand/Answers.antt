@@ -1,15 +1,15 @@
-use Rattle.deficiency_reserve.proofs.Names.{refl, less, times, over, plus, lesser, whole, ben, ann, survivors, sum_below, beta, excess, term_premium, renewal_premium, level_premium, reserve, rounded_ben, rounded_ann, ben_lo, ben_hi, ann_lo, ann_hi, gross, counted_premium, deferred, total_below, value_of_dues, greater, minimum, gross_lo, gross_hi}
-use Rattle.crvm_reserve.specs.Rounded.{term_lo, term_hi, level_lo, level_hi, excess_lo, excess_hi, beta_lo, beta_hi, reserve_lo, reserve_hi, amount_lo, amount_hi}
+use Rattle.deficiency_reserve.proofs.Names.{refl, less, times, over, plus, lesser, whole, ben, ann, survivors, beta, excess, term_premium, renewal_premium, level_premium, reserve, ben_bound, ann_bound, greater, minimum}
+use Rattle.crvm_reserve.specs.Rounded.{level_bound, excess_bound, beta_bound, reserve_bound}
 use Rattle.deficiency_reserve.proofs.worked.minimums_by_hand.Goals as goal
 
 pub returns-clause-short : goal.returns-clause-short
-unfolding minimum gross counted_premium deferred total_below value_of_dues greater gross_lo gross_hi reserve beta excess term_premium renewal_premium level_premium ben ann survivors sum_below less times over plus lesser whole rounded_ben rounded_ann ben_lo ben_hi ann_lo ann_hi term_lo term_hi level_lo level_hi excess_lo excess_hi beta_lo beta_hi reserve_lo reserve_hi amount_lo amount_hi
+unfolding minimum greater reserve beta excess term_premium renewal_premium level_premium ben ann survivors less times over plus lesser whole ben_bound ann_bound level_bound excess_bound beta_bound reserve_bound
 returns-clause-short c = (refl, refl, refl)
 
 pub returns-clause-enough : goal.returns-clause-enough
-unfolding minimum gross counted_premium deferred total_below value_of_dues greater gross_lo gross_hi reserve beta excess term_premium renewal_premium level_premium ben ann survivors sum_below less times over plus lesser whole rounded_ben rounded_ann ben_lo ben_hi ann_lo ann_hi term_lo term_hi level_lo level_hi excess_lo excess_hi beta_lo beta_hi reserve_lo reserve_hi amount_lo amount_hi
+unfolding minimum greater reserve beta excess term_premium renewal_premium level_premium ben ann survivors less times over plus lesser whole ben_bound ann_bound level_bound excess_bound beta_bound reserve_bound
 returns-clause-enough c = (refl, refl, refl)
 
 pub returns-clause-paid : goal.returns-clause-paid
-unfolding minimum gross counted_premium deferred total_below value_of_dues greater gross_lo gross_hi reserve beta excess term_premium renewal_premium level_premium ben ann survivors sum_below less times over plus lesser whole rounded_ben rounded_ann ben_lo ben_hi ann_lo ann_hi term_lo term_hi level_lo level_hi excess_lo excess_hi beta_lo beta_hi reserve_lo reserve_hi amount_lo amount_hi
+unfolding minimum greater reserve beta excess term_premium renewal_premium level_premium ben ann survivors less times over plus lesser whole ben_bound ann_bound level_bound excess_bound beta_bound reserve_bound
 returns-clause-paid c = (refl, refl, refl, refl, refl, refl)

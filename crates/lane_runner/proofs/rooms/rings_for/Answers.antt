@@ -1,7 +1,16 @@
-use Rattle.lane_runner.proofs.Names.{◌≤◌, ◌+◌, [], ◌∷◌, length, take, sym, subst, arith, AllZip, AreEnds, IsInletFor, IsRoomFor}
+use Rattle.lane_runner.proofs.Names.{◌≤◌, ◌+◌, [], ◌∷◌, length, take, ap, sym, subst, arith, AllZip, AreEnds, IsInletFor, IsRoomFor, Lane}
 use Rattle.lane_runner.proofs.AnswerSteps.{zip_append}
-use Rattle.lane_runner.proofs.SeatSteps.{zip_next_is}
+use Rattle.lane_runner.proofs.SeatSteps.{lines_of_one, zip_next_is}
 use Rattle.lane_runner.proofs.rooms.rings_for.Goals as goal
+
+pub ring_of-requires : goal.ring_of-requires
+ring_of-requires c =
+    omega (
+      arith,
+      lines_of_one c.args.lanes.now c.loop-lane.lane-index c.lane-item.result c.loop-lane-test.true,
+      ap (λ (lane : Lane). length lane.lines) c.lane-item.is,
+      c.requires.lines,
+    )
 
 pub loop-lane-preserved : goal.loop-lane-preserved
 loop-lane-preserved c = record {

@@ -1,6 +1,6 @@
-use Rattle.life_app.proofs.Names.{digits, refl, anniversary_of, day_number, date_of, date_at, year_of, month_of, days_before, days_before_year, days_of_months, day_text, account_line, count_text, entry_text, policy_text}
+use Rattle.life_app.proofs.Names.{digits, refl, anniversary_of, day_number, date_of, month_of, days_before_year, days_of_months, day_text, balance_text, entry_text, policy_text}
 use Rattle.life_app.proofs.worked.claimed_entries.Goals as goal
 
 pub returns : goal.returns
-unfolding digits anniversary_of day_number date_of date_at year_of month_of days_before days_before_year days_of_months day_text account_line count_text entry_text policy_text
+unfolding digits anniversary_of day_number date_of month_of days_before_year days_of_months day_text balance_text entry_text policy_text
 returns c = (refl, refl)

@@ -8,7 +8,7 @@ returns c = (
     rising = (lit< tt, (lit< tt, tt));
     clerks = ((1, lit< tt, refl), ((0, lit< tt, refl), ((1, lit< tt, refl), tt)));
     turns = (refl, (refl, (refl, tt)));
-    each = (refl, refl, (refl, refl, tt));
+    each = ((refl, refl), ((refl, refl), tt));
   },
   (refl, (refl, (refl, tt))),
 )

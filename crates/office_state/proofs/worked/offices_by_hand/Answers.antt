@@ -3,7 +3,7 @@ use Rattle.office_state.proofs.WorkedOffices.{just_the_issue, both, no_turns}
 use Rattle.office_state.proofs.worked.offices_by_hand.Goals as goal
 
 pub returns-clause-two : goal.returns-clause-two
-returns-clause-two c = (both, (λ h. h.records.end.closed refl))
+returns-clause-two c = (both, (λ h. h.records.end.1 refl))
 
 pub returns-clause-crashes : goal.returns-clause-crashes
 returns-clause-crashes c = (just_the_issue [], just_the_issue (take 30 premium_body), just_the_issue (premium_body ++ 0 ∷ []), (hand_premium ∷ [], inl both))
@@ -11,9 +11,9 @@ returns-clause-crashes c = (just_the_issue [], just_the_issue (take 30 premium_b
 pub returns-clause-now : goal.returns-clause-now
 returns-clause-now c = (
   inl (just_the_issue []),
-  inr (hand_premium, record { after = []; faulted = record { before = []; caller = 1; count = 4; turns = refl }; none = refl }, both),
+  inr (hand_premium, record { before = []; caller = 1; count = 4; after = []; turns = refl; then = refl }, both),
   (λ h. elim h [
-    | inl journal ↦ journal.records.end.closed refl
+    | inl journal ↦ journal.records.end.1 refl
     | inr more ↦ no_turns more.0 more.1
   ]),
   inl both,
@@ -21,14 +21,7 @@ returns-clause-now c = (
 
 pub returns-clause-once : goal.returns-clause-once
 returns-clause-once c = (
-  record { held = []; rest = hand_premium ∷ []; more = []; front = refl; one = tt; opens = inl (just_the_issue []) },
-  record { held = hand_premium ∷ []; rest = []; more = []; front = refl; one = tt; opens = inl both },
-  record {
-    held = [];
-    rest = [];
-    more = hand_premium ∷ [];
-    front = refl;
-    one = ([], (record { before = []; caller = 1; count = 4; turns = refl }, refl));
-    opens = inl both;
-  },
+  ([], hand_premium ∷ [], refl, inl (inl (just_the_issue []))),
+  (hand_premium ∷ [], [], refl, inl (inl both)),
+  ([], [], refl, inr (hand_premium, record { before = []; caller = 1; count = 4; after = []; turns = refl; then = refl }, inl both)),
 )

@@ -82,8 +82,8 @@ returns-then-n-room-clause-reads g c =
       tells = search rules;
     }
 
-pub returns-then-is_err-clause-reads : goal.returns-then-is_err-clause-reads
-returns-then-is_err-clause-reads g c =
+pub returns-in-Err-clause-reads : goal.returns-in-Err-clause-reads
+returns-in-Err-clause-reads g c =
     let came = c.loop-bytes.bytes.items in
     let last = take c.in_ok-n.n c.turn.new.piece in
     record {

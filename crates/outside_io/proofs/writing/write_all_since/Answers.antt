@@ -1,7 +1,7 @@
 -- After one more piece the sink took the front that is longer by it.
 use Rattle.std.proofs.Common.{arith, ◌∙◌}
 use Rattle.std.proofs.lemmas.List.{take_rest}
-use Rattle.outside_io.proofs.PieceSteps.{adds_one, none_added}
+use Rattle.outside_io.proofs.PieceSteps.{adds_one}
 use Rattle.outside_io.proofs.StreamLemmas.{appends_more}
 use Rattle.outside_io.proofs.writing.write_all_since.Goals as goal
 

@@ -1,15 +1,16 @@
-use Rattle.std.proofs.Common.{arith, rules}
+use Rattle.parallel_value.proofs.Names.{◌≡◌, ◌+◌, vec_len, arith, rules}
 use Rattle.parallel_value.proofs.PieceSteps.{still_as_before, values_next}
 use Rattle.parallel_value.proofs.mapping.map_alone.Goals as goal
 
 pub loop-item-preserved : goal.loop-item-preserved
-loop-item-preserved g c = record {
-  room = search rules;
-  long = omega (arith, c.push_reserved.ensures.len, c.loop-item.invariant.long);
-  piece = still_as_before _ _ c.args.piece.now c.loop-item.piece c.one.new.self c.loop-item.invariant.piece
-      (record { takes_still = c.one.ensures.takes; gives_only = c.one.ensures.gives });
-  values = values_next (g.P.Piece.gives c.args.piece.now) c.args.items.now c.loop-item.item-index c.item-item.result
-      c.loop-item.values.items c.push_reserved.new.self.items c.one.result c.loop-item-test.true c.item-item.is
-      c.loop-item.invariant.values c.push_reserved.ensures.items
-      (c.loop-item.invariant.piece.gives_only _ _ c.one.ensures.value);
-}
+loop-item-preserved g c =
+    let longer : vec_len c.push.new.items ≡ vec_len c.loop-item.values + 1 = search rules in
+    record {
+      long = omega (arith, longer, c.loop-item.invariant.long);
+      piece = still_as_before _ _ c.args.piece.now c.loop-item.piece c.one.new.self c.loop-item.invariant.piece
+          (record { takes_still = c.one.ensures.takes; gives_only = c.one.ensures.gives });
+      values = values_next (g.P.Piece.gives c.args.piece.now) c.args.items.now c.loop-item.item-index c.item-item.result
+          c.loop-item.values.items c.push.new.items.items c.one.result c.loop-item-test.true c.item-item.is
+          c.loop-item.invariant.values (search rules)
+          (c.loop-item.invariant.piece.gives_only _ _ c.one.ensures.value);
+    }

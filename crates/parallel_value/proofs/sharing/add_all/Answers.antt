@@ -3,6 +3,7 @@ use Rattle.parallel_value.proofs.sharing.add_all.Goals as goal
 
 pub add_parts-requires : goal.add_parts-requires
 add_parts-requires g c = record {
+  sized = c.requires.sized;
   taken = first_takes g.P.Piece.takes g.P.Piece.gives c.args.pieces.now c.make_parts.new.pieces c.args.items.now c.index-pieces-0.result
       c.make_parts.ensures.pieces c.requires.workers.0 c.requires.taken;
   part = c.requires.part;

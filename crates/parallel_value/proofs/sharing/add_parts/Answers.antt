@@ -5,6 +5,7 @@ use Rattle.parallel_value.proofs.sharing.add_parts.Goals as goal
 
 pub add_part-requires : goal.add_part-requires
 add_part-requires g c = record {
+  sized = c.requires.sized;
   taken = rw c.part_at-part.ensures
       (all_part (g.P.Piece.takes c.loop-first.piece) c.args.items_in_part c.loop-first.first c.args.items.now
       (all_more _ _ c.args.items.now c.loop-first.invariant.piece.takes_still c.requires.taken));

@@ -9,7 +9,7 @@ make_part-requires-clause-taken g c = all_more _ _ c.args.items.now c.loop.invar
 pub loop-preserved : goal.loop-preserved
 loop-preserved g c = record {
   piece = still_as_before _ _ c.args.piece.now c.loop.piece c.make_part.new.piece c.loop.invariant.piece c.make_part.ensures.piece;
-  made = all_push _ c.loop.made.items c.push.new.self.items c.in_ok-one.one c.loop.invariant.made
+  made = all_push _ c.loop.made.items c.push.new.items.items c.in_ok-one.one c.loop.invariant.made
       (made_before g.P.Piece.takes g.P.Piece.gives c.args.piece.now c.loop.piece c.args.items_in_part c.args.items.now c.in_ok-one.one c.loop.invariant.piece c.in_ok-one.ensures.made)
       (search rules);
 }

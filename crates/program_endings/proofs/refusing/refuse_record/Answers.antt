@@ -2,4 +2,4 @@ use Rattle.std.proofs.Common.{◌∙◌}
 use Rattle.program_endings.proofs.refusing.refuse_record.Goals as goal
 
 pub returns-in-Ok-clause-says : goal.returns-in-Ok-clause-says
-returns-in-Ok-clause-says g c = rw c.end.ensures.so (rw (c.as_bytes.ensures.value ∙ c.in-Ok.ensures.ok) at c.end.ensures.wrote)
+returns-in-Ok-clause-says g c = rw c.end.ensures.so (rw (c.as_slice.ensures ∙ c.in-Ok.ensures) at c.end.ensures.wrote)

@@ -14,11 +14,6 @@ returns-in-Err-clause-ends g c =
     })
     c.refuse.ensures.says
 
-pub count_postings-requires : goal.count_postings-requires
-count_postings-requires g c =
-    let read = c.in-Ok.ensures.ok in
-    rw c.as_slice-lanes.ensures (script_lanes read.0 _ read.1.1 read.1.0).right.lines
-
 pub run_office-requires-clause-lanes : goal.run_office-requires-clause-lanes
 run_office-requires-clause-lanes g c κs within =
     let read = c.in-Ok.ensures.ok in

@@ -3,10 +3,10 @@ use Rattle.script_run.proofs.RunSteps.{ends_as_told}
 use Rattle.script_run.proofs.WrittenSteps.{reports_failed, reports_short, reports_whole}
 use Rattle.script_run.proofs.running.write_reports.Goals as goal
 
-pub returns-in_default-clause-ends : goal.returns-in_default-clause-ends
-returns-in_default-clause-ends g c = λ first held whole.
+pub returns-in-Err-clause-ends : goal.returns-in-Err-clause-ends
+returns-in-Err-clause-ends g c = λ first held whole.
     reports_short c.args.lines.now c.args.reports.now first (g.K.Sink.faults c.args.output.now) (g.K.Sink.faults c.args.output.now)
-    (g.K.Sink.written c.args.output.now) (g.K.Sink.written c.args.output.now) (g.K.Sink.pieces c.args.output.now) held whole c.in_default.ensures.some
+    (g.K.Sink.written c.args.output.now) (g.K.Sink.written c.args.output.now) (g.K.Sink.pieces c.args.output.now) held whole c.in-Err.ensures.some
 
 pub returns-in-Ok-write_all_since-clause-ends : goal.returns-in-Ok-write_all_since-clause-ends
 returns-in-Ok-write_all_since-clause-ends g c = λ first held whole.
@@ -20,6 +20,6 @@ returns-in-Ok-write_all_since-clause-ends g c = λ first held whole.
 pub returns-clause-ends : goal.returns-clause-ends
 returns-clause-ends g c = λ first held whole.
     reports_failed c.args.lines.now c.args.reports.now first (g.K.Sink.faults c.args.output.now) (g.K.Sink.faults c.write_all_since.new.sink)
-    (g.K.Sink.written c.args.output.now) (g.K.Sink.written c.write_all_since.new.sink) (g.K.Sink.pieces c.write_all_since.new.sink) (omega (arith, held)) c.in-Err.ensures.cause.failed whole
+    (g.K.Sink.written c.args.output.now) (g.K.Sink.written c.write_all_since.new.sink) (g.K.Sink.pieces c.write_all_since.new.sink) (omega (arith, held)) c.in-Err-write_all_since.ensures.cause.failed whole
     (subst (AppendsPart (g.K.Sink.written c.args.output.now) (g.K.Sink.written c.write_all_since.new.sink)) (c.as_slice.ensures.value ∙ c.in-Ok.ensures.text)
-    c.in-Err.ensures.part)
+    c.in-Err-write_all_since.ensures.part)

@@ -1,4 +1,4 @@
-use Rattle.script_run.proofs.Names.{◌≡◌, ◌≤◌, ℕ, zero, suc, List, [], ◌∷◌, length, take, Some, ap, refl, inl, inr, codes, lit≤, arith, Appends, texts_joined}
+use Rattle.script_run.proofs.Names.{◌≡◌, ◌≤◌, ℕ, zero, suc, List, [], ◌∷◌, length, take, Some, ap, refl, inl, inr, codes, lit≤, arith, Appends, concat}
 use Rattle.std.specs.Fmt.{digits}
 use Rattle.script_run.specs.Worked.{two_texts}
 use Rattle.script_run.proofs.worked.scripts_by_hand.Goals as goal
@@ -21,27 +21,20 @@ returns-clause-long c = (
 pub returns-clause-row : goal.returns-clause-row
 unfolding digits
 returns-clause-row c = inr (
-  1,
-  (
-    1,
-    record {
-      bytes = codes "9,lapse,1,2020-01-01";
-      gave = record { given = refl; ended = tt; left = tt; end = tt };
-      short = lit≤ tt;
-      fault = c.faults_are_placed.ensures.clerk;
-    },
-    inl refl,
-  ),
+  codes "9,lapse,1,2020-01-01",
+  record { given = refl; ended = tt; left = tt; end = tt },
+  lit≤ tt,
+  (1, (1, c.faults_are_placed.ensures.clerk, inl refl)),
 )
 
 pub returns-clause-failed : goal.returns-clause-failed
 returns-clause-failed c = ((lit≤ tt, inl refl), (λ h. let no : 1 ≤ 0 = h.0 in omega arith))
 
 pub returns-clause-shown : goal.returns-clause-shown
-returns-clause-shown c = (tt, (λ is. is), (λ is. is), refl)
+returns-clause-shown c = refl
 
 -- no front of the two texts is of three bytes
-no_cut : (many : ℕ) → many ≤ 2 → Appends (Some []) (Some (codes "abc")) (texts_joined (take many two_texts)) → ⊥
+no_cut : (many : ℕ) → many ≤ 2 → Appends (Some []) (Some (codes "abc")) (concat (take many two_texts)) → ⊥
 no_cut zero few is = let no : 3 ≡ 0 = ap length is in omega (arith, no)
 no_cut (suc zero) few is = let no : 3 ≡ 2 = ap length is in omega (arith, no)
 no_cut (suc (suc zero)) few is = let no : 3 ≡ 4 = ap length is in omega (arith, no)
@@ -53,5 +46,4 @@ returns-clause-short c = (
   record { held = refl; many = 2; upto = lit≤ tt; wrote = refl; part = record { taken = 4; not_all = lit≤ tt; written = refl } },
   (λ cut. no_cut cut.many cut.upto cut.wrote),
   (λ failed. let no : 4 ≡ 3 = failed.held in omega (arith, no)),
-  record { taken = 3; not_all = lit≤ tt; written = refl },
 )

@@ -26,11 +26,11 @@ returns-in-Ok-begin-clause-ends g c =
 
 pub returns-clause-ends : goal.returns-clause-ends
 returns-clause-ends g c =
-    let disk = c.in-Err.finished.disk in
-    let ending = c.in-Err.finished.ending in
+    let disk = c.in-Err-begin.finished.disk in
+    let ending = c.in-Err-begin.finished.ending in
     let shelf : Shelving = shelf_between g.H.Shelf.faults g.H.Shelf.agrees c.args.shelf.now c.begin.new.shelf in
     let out : Stream = between g.K.Sink.faults g.K.Sink.written g.K.Sink.pieces c.args.output.now c.begin.new.output in
     let lanes = generated_lanes c.args.seed c.args.lanes c.args.count in
     ends_not_begun g.D.Disk c.args.disk disk (λ basis. EndsLoading g.D.Disk c.args.disk disk lanes c.args.workers basis out ending) (codes "basis.csv") shelf out ending
     (λ basis why. ends_unbegun g.D.Disk c.args.disk disk lanes c.args.workers basis out why.cause ending why.refused why.says)
-    (subst (λ (name : List ℕ). EndsOverBasis c.args.disk disk (λ basis. IsUnopened g.D.Disk c.args.disk disk out ending) name shelf out ending) c.in-Ok.ensures c.in-Err.ensures.ended)
+    (subst (λ (name : List ℕ). EndsOverBasis c.args.disk disk (λ basis. IsUnopened g.D.Disk c.args.disk disk out ending) name shelf out ending) c.in-Ok.ensures c.in-Err-begin.ensures.ended)

@@ -1,6 +1,6 @@
-use Rattle.trial_load.proofs.Names.{◌≡◌, ℕ, List, [], ◌∷◌, length, ap, refl, arith, slice_index}
+use Rattle.trial_load.proofs.Names.{◌≡◌, ℕ, List, [], ◌∷◌, ap, refl, arith, slice_index}
 use Rattle.std.specs.Fmt.{digits}
-use Rattle.life_dates.specs.Calendar.{date_of, date_at, year_of, month_of, days_before_year, days_of_months}
+use Rattle.life_dates.specs.Calendar.{date_of, month_of, days_before_year, days_of_months}
 use Rattle.life_dates.specs.DayText.{day_text}
 use Rattle.report_text.specs.Block.{total_text, heading_text}
 use Rattle.trial_load.proofs.worked.loads_by_hand.Goals as goal
@@ -10,8 +10,8 @@ unfolding digits
 returns-clause-lines c = (refl, refl)
 
 pub returns-clause-day : goal.returns-clause-day
-unfolding heading_text total_text day_text date_of date_at year_of month_of days_before_year days_of_months digits
-returns-clause-day c = (refl, refl)
+unfolding heading_text total_text day_text date_of month_of days_before_year days_of_months digits
+returns-clause-day c = refl
 
 pub returns-clause-refused : goal.returns-clause-refused
 returns-clause-refused c = refl
@@ -22,6 +22,4 @@ returns-clause-written c = (
   record { rows = []; each = tt; wrote = refl; found = refl; replies = (tt, refl) },
   (λ h. let no : 48 ≡ 49 = ap (λ (xs : List ℕ). slice_index xs 5) h.wrote in omega arith),
   (λ h. let no : 0 ∷ [] ≡ [] = h.found in cc),
-  refl,
-  (λ h. let no : 2 ≡ 1 = ap (λ (xs : List ℕ). length xs) h in omega arith),
 )

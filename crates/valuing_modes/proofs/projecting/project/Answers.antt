@@ -1,6 +1,6 @@
 use Rattle.valuing_modes.proofs.Names.{◌≡◌, inl, w32, to_z, of_z, to_z-of_z, ends_refused, EndsProjecting, IsProjected}
 use Rattle.lone_office.proofs.BeginningSteps.{ends_not_begun}
-use Rattle.valuing_modes.proofs.ProjectingSteps.{ends_alone, projected_printable}
+use Rattle.valuing_modes.proofs.ProjectingSteps.{answer_alone, ends_alone}
 use Rattle.valuing_modes.proofs.projecting.project.Goals as goal
 
 pub returns-in-Err-clause-ends : goal.returns-in-Err-clause-ends
@@ -16,8 +16,9 @@ pub write_answer-ending-requires : goal.write_answer-ending-requires
 write_answer-ending-requires g c =
     let on : to_z w32 (of_z w32 c.args.on) ≡ c.args.on = to_z-of_z w32 c.args.on c.ranges.on in
     record {
-      printable = projected_printable c.in-Ok.begun.basis c.args.on c.args.years c.requires.day c.requires.years.1 c.in-Ok.begun.pass
-          c.project-projected.new.pass c.project-projected.result.turn c.project-projected.result.answer (rw on at c.project-projected.ensures.projected);
+      answer = answer_alone g.D.Disk _ c.args.disk c.close-disk.result.0 _ c.args.on c.args.years c.project-projected.result.turn
+          c.in-Ok.begun.basis c.in-Ok.begun.pass c.project-projected.new.pass _ _ c.project-projected.result.answer c.in-Ok.ensures.opened.started
+          c.close-disk.ensures.facts c.close-disk.ensures.closed (rw on at c.project-projected.ensures.projected) c.requires.day c.requires.years.1;
     }
 
 pub returns-clause-ends : goal.returns-clause-ends

@@ -1,7 +1,6 @@
 use Rattle.valuing_modes.proofs.Names.{◌≡◌, inl, w32, to_z, of_z, to_z-of_z, ends_refused, EndsValuing, IsValued}
 use Rattle.lone_office.proofs.BeginningSteps.{ends_not_begun}
-use Rattle.valuing_modes.proofs.LoneSteps.{ends_lone}
-use Rattle.valuing_modes.proofs.ValueSteps.{valued_writable}
+use Rattle.valuing_modes.proofs.LoneSteps.{answer_lone, ends_lone}
 use Rattle.valuing_modes.proofs.valuing.value.Goals as goal
 
 pub returns-in-Err-clause-ends : goal.returns-in-Err-clause-ends
@@ -13,11 +12,12 @@ returns-in-Err-clause-ends g c =
     (λ basis not. inl (ends_refused g.D.Disk c.args.disk disk (IsValued g.D.Disk c.args.disk disk c.args.on c.args.at c.args.measure basis) _ not.cause
     c.in-Err.finished.ending not.refused not.says)) c.in-Err.ensures.ended
 
-pub write_answer-ending-requires-clause-writable : goal.write_answer-ending-requires-clause-writable
-write_answer-ending-requires-clause-writable g c κs within =
+pub write_answer-ending-requires-clause-answer : goal.write_answer-ending-requires-clause-answer
+write_answer-ending-requires-clause-answer g c κs within =
     let on : to_z w32 (of_z w32 c.args.on) ≡ c.args.on = to_z-of_z w32 c.args.on c.ranges.on in
-    valued_writable c.args.on c.args.measure c.in-Ok.begun.basis c.args.at c.args.workers c.in-Ok.begun.pass c.value-valued.new.pass
-    c.value-valued.result.turn c.value-valued.result.answer (rw on at c.value-valued.ensures.valued)
+    answer_lone g.D.Disk _ c.args.disk c.close-disk.result.0 _ c.args.on c.args.measure c.args.at c.args.workers c.value-valued.result.turn
+    c.in-Ok.begun.basis c.in-Ok.begun.pass c.value-valued.new.pass _ _ c.value-valued.result.answer c.in-Ok.ensures.opened.started
+    c.close-disk.ensures.facts c.close-disk.ensures.closed (rw on at c.value-valued.ensures.valued)
 
 pub returns-clause-ends : goal.returns-clause-ends
 returns-clause-ends g c =

@@ -1,4 +1,4 @@
-use Rattle.valuing_modes.proofs.Names.{◌≡◌, ◌<◌, ℕ, List, [], ap, refl, inl, inr, lit<, lit≤, arith, digits, date_of, date_at, year_of, month_of, days_before_year, days_of_months, day_text, total_text, heading_text}
+use Rattle.valuing_modes.proofs.Names.{◌≡◌, ◌<◌, ℕ, List, [], ap, refl, inl, inr, lit<, lit≤, arith, digits, date_of, month_of, days_before_year, days_of_months, day_text, total_text, heading_text}
 use Rattle.std.specs.Prelude.{slice_index}
 use Rattle.program_endings.proofs.WorkedEndings.{no_fault}
 use Rattle.valuing_modes.proofs.worked.valuations_by_hand.Goals as goal
@@ -7,7 +7,7 @@ pub returns-clause-positions : goal.returns-clause-positions
 returns-clause-positions c = (refl, refl, refl)
 
 pub returns-clause-nobody : goal.returns-clause-nobody
-unfolding heading_text total_text day_text date_of date_at year_of month_of days_before_year days_of_months digits
+unfolding heading_text total_text day_text date_of month_of days_before_year days_of_months digits
 returns-clause-nobody c = (
   record { reached = lit≤ tt; rows = []; each = tt; wrote = refl },
   record { reached = lit≤ tt; rows = []; each = tt; wrote = refl },

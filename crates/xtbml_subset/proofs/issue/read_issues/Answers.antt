@@ -32,13 +32,13 @@ loop-next-preserved c =
     let place = rw c.in-Some.is at c.loop-next.invariant.place in
     let more = all_more ReadsIssue None all rows c.loop-next.due issue behind next c.in_ok-age.rates.items c.in_ok-age.ensures.read so_far in
     let left = left_issues total c.next_sibling-next.result siblings c.next_sibling-next.ensures.siblings in
-    let told = rows_told c.loop-next.rows.items c.in_ok-age.rates c.push-in-Some.new.self.items (λ row. row.items) c.in_ok-push-2.ensures.items in
+    let told = rows_told c.loop-next.rows.items c.in_ok-age.rates c.push-in-Some.new.items.items (λ row. row.items) c.in_ok-push-2.ensures.items in
     let pushed = subst (λ (values : List (List ℕ)). AllSoFar ReadsIssue None all values next behind) (sym told) more in
     let places = c.loop-next.places.items in
     let at : List Issue → List ℕ = λ issues. map (λ one. one.at) issues in
     let where_told = place_told places issue.at (at behind) (at all) place in
     record {
-      so_far = subst (λ (items : List Issue). AllSoFar ReadsIssue None all (map (λ row. row.items) c.push-in-Some.new.self.items) next items) left pushed;
+      so_far = subst (λ (items : List Issue). AllSoFar ReadsIssue None all (map (λ row. row.items) c.push-in-Some.new.items.items) next items) left pushed;
       place = ap (λ (ps : List ℕ). ps ++ at (issues_left total c.next_sibling-next.result)) (c.in_ok-push.ensures.items ∙ ap (λ (n : ℕ). places ++ n ∷ []) c.place.ensures)
           ∙ ap (λ (issues : List Issue). (places ++ issue.at ∷ []) ++ at issues) (sym left) ∙ where_told;
     }

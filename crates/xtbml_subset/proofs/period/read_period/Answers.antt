@@ -43,7 +43,7 @@ loop-next-preserved c =
     let more = all_more ReadsDuration begin all c.loop-next.rates.items c.loop-next.due (row_of total row) (filled behind) c.in_ok-after.after c.in_ok-after.rate c.in_ok-after.ensures so_far_on in
     let left = left_siblings total c.next_sibling-next.result siblings c.next_sibling-next.ensures.siblings in
     let pushed = subst (λ rates. AllSoFar ReadsDuration begin all rates c.in_ok-after.after (filled behind)) (sym c.in_ok-push.ensures.items) more in
-    subst (λ (rows : List RateElement). AllSoFar ReadsDuration begin all c.push.new.self.items c.in_ok-after.after (filled rows)) left pushed
+    subst (λ (rows : List RateElement). AllSoFar ReadsDuration begin all c.push.new.items.items c.in_ok-after.after (filled rows)) left pushed
 
 pub returns-clause-read : goal.returns-clause-read
 returns-clause-read c =

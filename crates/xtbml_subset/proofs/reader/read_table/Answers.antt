@@ -1,4 +1,4 @@
-use Rattle.xtbml_subset.proofs.Names.{length, Result, Ok, Err, inl, err_from_is_err_and, Rates, Gives, SpellsTable, IsTableAnswer, parts_of, IsTable, TableFault, found_asks, found_of}
+use Rattle.xtbml_subset.proofs.Names.{length, Result, Ok, Err, inl, err_from_is_err_and, Rates, Gives, SpellsTable, IsTableAnswer, parts_of, IsTableBy, TableFault, found_asks, found_of}
 use Rattle.xtbml_subset.proofs.Final.{fault_told, gives_fault, judged_by, due_by, if_ok, if_fault, gives}
 use Rattle.xtbml_subset.proofs.reader.read_table.Goals as goal
 
@@ -27,10 +27,10 @@ returns c =
     let due_is : (answer : Result Rates TableFault) → IsTableAnswer bytes answer → Gives c.table_of.result answer =
     λ answer due. gives c.table_of.result answer parts c.table_of.ensures.read c.table_of.ensures.fault (due_by bytes root _ answer h.document h.root due) in
     record {
-      table = if_ok c.table_of.result (λ table. IsTable parts (Ok table)) (SpellsTable bytes)
+      table = if_ok c.table_of.result (λ table. IsTableBy parts (Ok table)) (SpellsTable bytes)
           (λ table is. judged_by bytes root _ (Ok table) h.document h.root is) c.table_of.ensures.read;
       read = λ table spelled. due_is (Ok table) (inl spelled);
-      fault = if_fault c.table_of.result (λ fault. IsTable parts (Err fault)) (λ fault. IsTableAnswer bytes (Err fault))
+      fault = if_fault c.table_of.result (λ fault. IsTableBy parts (Err fault)) (λ fault. IsTableAnswer bytes (Err fault))
           (λ fault is. inl (judged_by bytes root _ (Err fault) h.document h.root is)) c.table_of.ensures.fault;
       due = due_is;
     }

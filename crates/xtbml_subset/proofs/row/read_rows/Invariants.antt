@@ -1,10 +1,11 @@
-use Rattle.xtbml_subset.proofs.Names.{◌≡◌, length, rows_from, found_of, bytes_left}
-use Rattle.xtbml_subset.proofs.RowRuns.{ReadSoFar, rows_left}
+use Rattle.xtbml_subset.proofs.Names.{◌≡◌, None, length, ReadsRow, rows_from, found_of, bytes_left}
+use Rattle.xtbml_subset.proofs.ReadingRuns.{AllSoFar}
+use Rattle.xtbml_subset.proofs.RowRuns.{rows_left}
 use Rattle.xtbml_subset.proofs.row.read_rows.Given as goal
 
 abbrev pub invariant-loop-next : goal.invariant-loop-next
 invariant-loop-next l = record {
-  so_far : ReadSoFar (rows_from l.total (found_of l.first)) l.rates.items l.due (rows_left l.total l.next);
+  so_far : AllSoFar ReadsRow None (rows_from l.total (found_of l.first)) l.rates.items l.due (rows_left l.total l.next);
   count : length (rows_left l.total l.next) ≡ l.left;
 }
 

@@ -1,4 +1,4 @@
-use Rattle.xtbml_subset.proofs.Names.{◌≡◌, ℕ, List, map, None, Ok, Err, sym, ap, subst, ◌∙◌, codes, err_from_is_err_and, Selected, Issue, ultimate_of, select_parts, first_issue_age, issue_age_of, ReadsAll, ReadsIssue, ReadsUltimate, IsSelectTable, siblings_at, row_of, found_asks, issues_from, found_of}
+use Rattle.xtbml_subset.proofs.Names.{◌≡◌, ℕ, List, map, None, Ok, Err, sym, ap, subst, ◌∙◌, codes, err_from_is_err_and, Selected, Issue, ultimate_of, select_parts, first_issue_age, issue_age_of, ReadsAll, ReadsIssue, ReadsUltimate, IsSelectBy, siblings_at, row_of, found_asks, issues_from, found_of}
 use Rattle.xtbml_subset.proofs.Final.{unless_goes}
 use Rattle.xtbml_subset.proofs.SelectRates.{as_many, first_ages, ready}
 use Rattle.xtbml_subset.proofs.SelectReading.{issues_refused, ultimate_refused, gap_refused, joins, issues_by}
@@ -16,7 +16,7 @@ returns-in_err-issues-clause-fault c =
     let same : issues_from total first ≡ parts.issues = issues_by total table axis first (c.first_issue.ensures total table c.requires.axis) in
     let fault = c.in_err-issues.field-0.0 in
     let second = c.in_ok-check_ultimate_scale.ensures others c.next_sibling-second.ensures.siblings in
-    rw (p.1, p.2) (unless_goes fault (ReadsAll ReadsIssue None (issues_from total first) (Err fault)) (IsSelectTable parts (Err fault))
+    rw (p.1, p.2) (unless_goes fault (ReadsAll ReadsIssue None (issues_from total first) (Err fault)) (IsSelectBy parts (Err fault))
     (λ is. issues_refused parts fault c.in_ok-check_scale.ensures second (subst (λ (issues : List Issue). ReadsAll ReadsIssue None issues (Err fault)) same is))
     c.in_err-issues.ensures.fault)
 
@@ -36,7 +36,7 @@ returns-in_err-ultimate-clause-fault c =
     let rates = ultimate_of (found_asks total) others in
     let second = c.in_ok-check_ultimate_scale.ensures others c.next_sibling-second.ensures.siblings in
     let at : c.place.result ≡ parts.at = c.place.ensures in
-    rw (p.1, p.2) (unless_goes fault (ReadsUltimate c.place.result (map (λ rate. row_of total rate) rates) (Err fault)) (IsSelectTable parts (Err fault))
+    rw (p.1, p.2) (unless_goes fault (ReadsUltimate c.place.result (map (λ rate. row_of total rate) rates) (Err fault)) (IsSelectBy parts (Err fault))
     (λ is. ultimate_refused parts rows fault c.in_ok-check_scale.ensures second issues (subst (λ (n : ℕ). ReadsUltimate n parts.ultimate (Err fault)) at is))
     (c.in_err-ultimate.ensures.fault rates (c.first_ultimate.ensures total others c.next_sibling-second.ensures.siblings)))
 
@@ -102,4 +102,4 @@ returns-clause-read c =
     (c.in_ok-issues.ensures.first ∙ ap (λ (all : List Issue). first_issue_age all) same)
     (c.as_slice.ensures.value ∙ c.in_ok-issues.ensures.places ∙ ap (λ (all : List Issue). map (λ (one : Issue). one.at) all) same)
     c.in_default.ensures in
-    subst (λ (made : Selected). IsSelectTable parts (Ok made)) (sym c.in_ok-new.ensures) whole
+    subst (λ (made : Selected). IsSelectBy parts (Ok made)) (sym c.in_ok-new.ensures) whole

@@ -34,7 +34,7 @@ returns c = any_judged _ _ refl (
         ),
         (
           Ok (record { first_age = 5; rates = 100000000 ∷ [] }),
-          (Ok (100000000 ∷ []), (Ok (5, 100000000), (Some 100000000, a_tenth, refl), (Ok [], refl, refl)), refl),
+          (Ok (100000000 ∷ []), (Ok (Some 6, 100000000), (Some 100000000, a_tenth, refl), (Ok [], refl, refl)), refl),
           refl,
         ),
       ),

@@ -10,16 +10,16 @@ returns c = judged _ _ refl (
   (
     Ok (100000000 ∷ 500000000 ∷ 1000000000 ∷ []),
     (
-      Ok (0, 100000000),
+      Ok (Some 1, 100000000),
       (Some 100000000, a_tenth, refl),
       (
         Ok (500000000 ∷ 1000000000 ∷ []),
         (
-          Ok (1, 500000000),
+          Ok (Some 2, 500000000),
           (Some 500000000, a_half, refl),
           (
             Ok (1000000000 ∷ []),
-            (Ok (2, 1000000000), (Some 1000000000, one, refl), (Ok [], refl, refl)),
+            (Ok (Some 3, 1000000000), (Some 1000000000, one, refl), (Ok [], refl, refl)),
             refl,
           ),
         ),

@@ -1,4 +1,4 @@
-use Rattle.xtbml_subset.proofs.Names.{refl, Some, Ok, Err, inl, [], ◌∷◌, BadDuration, NoUltimate, UltimateGap, Bad}
+use Rattle.xtbml_subset.proofs.Names.{refl, Some, Ok, Err, [], ◌∷◌, BadDuration, NoUltimate, UltimateGap, Bad}
 use Rattle.xtbml_subset.proofs.WorkedTables.{a_half, one}
 use Rattle.xtbml_subset.proofs.WorkedSelectTables.{select_on_literals, any_judged}
 use Rattle.xtbml_subset.proofs.worked.refused_select_tables_by_hand.Goals as goal
@@ -6,12 +6,12 @@ use Rattle.xtbml_subset.proofs.worked.refused_select_tables_by_hand.Goals as goa
 pub returns : goal.returns
 unfolding select_on_literals
 returns c = (
-  inl (any_judged _ _ refl (
+  any_judged _ _ refl (
     Err (Bad 22 BadDuration),
     (Ok tt, refl, (Ok tt, refl, (Err (Bad 22 BadDuration), (Err (Bad 22 BadDuration), refl, refl), refl))),
     refl,
-  )),
-  inl (any_judged _ _ refl (
+  ),
+  any_judged _ _ refl (
     Err (Bad 40 BadDuration),
     (
       Ok tt,
@@ -27,8 +27,8 @@ returns c = (
       ),
     ),
     refl,
-  )),
-  inl (any_judged _ _ refl (
+  ),
+  any_judged _ _ refl (
     Err (Bad 7 NoUltimate),
     (
       Ok tt,
@@ -52,8 +52,8 @@ returns c = (
       ),
     ),
     refl,
-  )),
-  inl (any_judged _ _ refl (
+  ),
+  any_judged _ _ refl (
     Err (Bad 28 UltimateGap),
     (
       Ok tt,
@@ -74,12 +74,12 @@ returns c = (
           ),
           (
             Ok (record { first_age = 5; rates = 1000000000 ∷ [] }),
-            (Ok (1000000000 ∷ []), (Ok (5, 1000000000), (Some 1000000000, one, refl), (Ok [], refl, refl)), refl),
+            (Ok (1000000000 ∷ []), (Ok (Some 6, 1000000000), (Some 1000000000, one, refl), (Ok [], refl, refl)), refl),
             refl,
           ),
         ),
       ),
     ),
     refl,
-  )),
+  ),
 )

@@ -25,7 +25,7 @@ returns-clause-rates c = (
     refl,
     (
       Err (Bad 44 AgeGap),
-      (Ok (0, 100000000), (Some 100000000, a_tenth, refl), (Err (Bad 44 AgeGap), (Err (Bad 44 AgeGap), refl, refl), refl)),
+      (Ok (Some 1, 100000000), (Some 100000000, a_tenth, refl), (Err (Bad 44 AgeGap), (Err (Bad 44 AgeGap), refl, refl), refl)),
       refl,
     ),
   )),

@@ -1,4 +1,5 @@
-use Rattle.cash_projection.proofs.Names.{◌≡◌, ◌≤◌, ◌<◌, ℕ, length, get_or, vec_capacity, no_year}
+use Rattle.cash_projection.proofs.Names.{◌≡◌, ◌≤◌, ◌<◌, ℕ, length, get_or, vec_capacity}
+use Rattle.cash_projection.proofs.Tallying.{no_year}
 use Rattle.cash_projection.proofs.Tallying.{year_in}
 use Rattle.cash_projection.proofs.tally.Tally.cash.Given as goal
 

@@ -7,7 +7,7 @@ returns-then-self-gt0 c = λ places seen h.
     let under : length seen < places = omega (arith, h.left) in
     let grown = length_push seen c.args.digit in
     record {
-      count = rw (take-push_under places seen c.args.digit under) (omega (arith, h.count, c.min-self.ensures));
+      count = rw (take-push_under places seen c.args.digit c.requires under) (omega (arith, h.count, c.min-self.ensures));
       left = omega (arith, h.left);
       exact = rw (drop-push_under places seen c.args.digit under) h.exact;
     }
@@ -15,7 +15,7 @@ returns-then-self-gt0 c = λ places seen h.
 pub returns-then-digit-ne48 : goal.returns-then-digit-ne48
 returns-then-digit-ne48 c = λ places seen h.
     let grown = length_push seen c.args.digit in
-    let below = drop-push_past places seen c.args.digit (omega (arith, h.left)) in
+    let below = drop-push_past places seen c.args.digit c.requires (omega (arith, h.left)) in
     record {
       count = rw (take-push_past places seen c.args.digit (omega (arith, h.left))) h.count;
       left = omega (arith, h.left);
@@ -25,7 +25,7 @@ returns-then-digit-ne48 c = λ places seen h.
 pub returns-else-digit-ne48 : goal.returns-else-digit-ne48
 returns-else-digit-ne48 c = λ places seen h.
     let grown = length_push seen c.args.digit in
-    let below = drop-push_past places seen c.args.digit (omega (arith, h.left)) in
+    let below = drop-push_past places seen c.args.digit c.requires (omega (arith, h.left)) in
     record {
       count = rw (take-push_past places seen c.args.digit (omega (arith, h.left))) h.count;
       left = omega (arith, h.left);

@@ -1,4 +1,4 @@
-use Rattle.lane_runner.proofs.Names.{◌≡◌, [], ◌∷◌, ◌++◌, List, ℕ, ap, sym, ◌∙◌, subst, arith, received, TranscriptLine, accepted_lines, HasPutOut, IsShowing}
+use Rattle.lane_runner.proofs.Names.{◌≡◌, [], ◌∷◌, ◌++◌, List, ap, sym, ◌∙◌, subst, arith, received, TranscriptLine, accepted_lines, HasPutOut, IsShowing}
 use Rattle.lane_runner.proofs.GatherSteps.{put_same}
 use Rattle.lane_runner.proofs.ShowSteps.{counted_more}
 use Rattle.lane_runner.proofs.page.Page.put.Goals as goal

@@ -1,13 +1,12 @@
 -- The writes that are done whole make an image.
-use Rattle.memory_disk.proofs.Names.{◌≡◌, arith, take, image_of_writes}
-use Rattle.std.proofs.lemmas.Grind.{common_steps}
+use Rattle.memory_disk.proofs.Names.{◌≡◌, take, IfOk, image_of_writes}
 use Rattle.memory_disk.specs.Disk.{disk_first, disk_calls}
-use Rattle.memory_disk.proofs.KeptImage.{possible}
+use Rattle.memory_disk.proofs.KeptImage.{answer_possible}
 use Rattle.memory_disk.proofs.in_memory.MemoryDisk.image.Goals as goal
 
-pub returns-in-Ok-clause-possible : goal.returns-in-Ok-clause-possible
-returns-in-Ok-clause-possible c =
+pub returns-clause-possible : goal.returns-clause-possible
+returns-clause-possible c =
     let disk = c.args.self.now in
-    let calls = take c.args.moment (disk_calls disk) in
-    let made : c.in-Ok.image.items ≡ image_of_writes (disk_first disk) c.args.keep calls = grind (arith, common_steps) in
-    possible c.in-Ok.image.items (disk_first disk) (disk_calls disk) c.args.moment c.args.keep disk.history.within made
+    let made : IfOk c.image_of.result (λ image. image.items ≡ image_of_writes (disk_first disk) c.args.keep (take c.args.moment (disk_calls disk))) =
+    rw (c.first.ensures, c.deref.ensures.value) at c.image_of.ensures in
+    answer_possible c.image_of.result (disk_first disk) (disk_calls disk) c.args.moment c.args.keep disk.history.within made

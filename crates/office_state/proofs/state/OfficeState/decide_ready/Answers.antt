@@ -1,8 +1,9 @@
 use Rattle.office_state.proofs.Names.{◌≡◌, ℕ, List, refl, ap, sym, ◌∙◌, subst, Err, Ok, length, rules, Entry, Refused, Full, judged_after, commands_after, disk_of, TellsOne, StandsFor, commands_of, opening_of}
 use Rattle.office_state.proofs.HistorySteps.{is_full, is_refused, posting}
 use Rattle.office_state.proofs.PostedPins.{posted_floor, posted_pins}
-use Rattle.office_state.proofs.SafeSteps.{outlet_itself}
-use Rattle.office_state.proofs.TurnSteps.{crash_accepted, crash_faulted, stands_accepted, stands_faulted, stands_still}
+use Rattle.office_state.proofs.SafeSteps.{room_for_one}
+use Rattle.office_state.proofs.TurnSteps.{crash_accepted, crash_faulted, crash_refused, stands_accepted, stands_faulted, stands_still}
+use Rattle.office_state.specs.declared.answer.Answer.TheVariants.{Refused as RefusedAs}
 use Rattle.office_state.proofs.state.OfficeState.decide_ready.Goals as goal
 
 pub returns-in-Err-clause-stands : goal.returns-in-Err-clause-stands
@@ -17,7 +18,7 @@ returns-in-Err-clause-stands g c = λ (history : List Entry) (caller : ℕ) (sta
     (subst (λ cs. judged_after cs command ≡ Err c.in-Err.refusal) stands.listed found))
     old.pins (stands.pins ∙ posted_pins history caller command reply refl)
     (stands.floor ∙ posted_floor history caller command reply refl)
-    old.watchers (λ before heard told. told) old.outlet (outlet_itself old.outlet.ring) refl
+    old.watchers (λ before heard told. told)
 
 pub returns-then-count-eq-MOST_COMMANDS-clause-stands : goal.returns-then-count-eq-MOST_COMMANDS-clause-stands
 returns-then-count-eq-MOST_COMMANDS-clause-stands g c = λ (history : List Entry) (caller : ℕ) (stands : StandsFor c.args.self.now history).
@@ -31,7 +32,15 @@ returns-then-count-eq-MOST_COMMANDS-clause-stands g c = λ (history : List Entry
     (sym (ap length stands.listed) ∙ sym c.count.ensures ∙ c.if-count-eq-MOST_COMMANDS.true))
     old.pins (stands.pins ∙ posted_pins history caller command (Refused Full) refl)
     (stands.floor ∙ posted_floor history caller command (Refused Full) refl)
-    old.watchers (λ before heard told. told) old.outlet (outlet_itself old.outlet.ring) refl
+    old.watchers (λ before heard told. told)
+
+pub tell-requires : goal.tell-requires
+tell-requires g c =
+    let old = c.args.self.now in
+    record {
+      room = room_for_one old.outlet.ring (length (commands_of old)) old.books.kept.few
+          (λ full. c.if-count-eq-MOST_COMMANDS.false (c.count.ensures ∙ full)) c.requires.stands.1.room;
+    }
 
 pub returns-in-Ok-record-clause-stands : goal.returns-in-Ok-record-clause-stands
 returns-in-Ok-record-clause-stands g c = λ (history : List Entry) (caller : ℕ) (stands : StandsFor c.args.self.now history).
@@ -61,3 +70,11 @@ returns-in-Err-record-clause-crash g c = λ (history : List Entry) (stands : Sta
     crash_faulted c.args.self.now history stands c.args.command.now c.in-Ok.after c.record.new.journal c.record.result c.requires.valid
     (sym {b = judged_after (commands_of c.args.self.now) c.args.command.now} c.judgement.ensures ∙ c.in-Ok.is)
     c.record.ensures.disk.honesty (rw c.encode.ensures at c.record.ensures.records) c.in-Err-record.fault.count
+
+pub returns-in-Err-clause-crash : goal.returns-in-Err-clause-crash
+returns-in-Err-clause-crash g c = λ (history : List Entry) (stands : StandsFor c.args.self.now history) honest.
+    crash_refused c.args.self.now history c.args.command.now (RefusedAs c.in-Err.refusal) g.met.D.Disk.only_now stands honest (λ taken. taken)
+
+pub returns-then-count-eq-MOST_COMMANDS-clause-crash : goal.returns-then-count-eq-MOST_COMMANDS-clause-crash
+returns-then-count-eq-MOST_COMMANDS-clause-crash g c = λ (history : List Entry) (stands : StandsFor c.args.self.now history) honest.
+    crash_refused c.args.self.now history c.args.command.now (RefusedAs Full) g.met.D.Disk.only_now stands honest (λ taken. taken)

@@ -17,7 +17,7 @@ returns-in-Ok-clause-opened g c =
     } in
     MatchResult-weaker c.office_of.result {P = λ state. IsOfficeOf c.in-Ok.journal c.of-begun.result.value c.args.watchers c.args.outlet.ring state}
     c.office_of.ensures.opened
-    (λ state made. made_office g.D.Disk c.args.disk c.in-Ok.journal started c.args.watchers c.requires.fresh c.args.outlet.ring c.requires.untold state
+    (λ state made. made_office g.D.Disk c.args.disk c.in-Ok.journal started c.args.watchers c.requires.fresh c.args.outlet.ring c.requires.untold c.requires.room state
     (subst (λ begun. IsOfficeOf c.in-Ok.journal begun c.args.watchers c.args.outlet.ring state) c.of-begun.ensures made)
     g.met.D.Disk.counts_now g.met.D.Disk.reads_as_image g.met.D.Disk.only_now)
     (λ fault u. u)

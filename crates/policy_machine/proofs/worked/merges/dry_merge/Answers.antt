@@ -1,9 +1,9 @@
-use Rattle.policy_machine.proofs.Names.{refl, arith, pos, [], ◌∷◌, IsDistinct, anniversary_of, day_number, date_of, date_at, year_of, month_of, days_before, days_before_year, days_of_months, Post, Pin, Unpin, Trim, Accepted, Pinned, Unpinned, Floor, policy_issue, premium_on, turn}
+use Rattle.policy_machine.proofs.Names.{refl, arith, pos, [], ◌∷◌, IsDistinct, anniversary_of, day_number, date_of, month_of, days_before_year, days_of_months, Post, Pin, Unpin, Trim, Accepted, Pinned, Unpinned, Floor, policy_issue, premium_on, turn}
 use Rattle.policy_machine.proofs.Turns.{◌then◌}
 use Rattle.policy_machine.proofs.worked.merges.dry_merge.Goals as goal
 
 pub returns-clause-legal : goal.returns-clause-legal
-unfolding anniversary_of day_number date_of date_at year_of month_of days_before days_before_year days_of_months
+unfolding anniversary_of day_number date_of month_of days_before_year days_of_months
 returns-clause-legal c =
     let pin = turn 5 Pin (Pinned 1 1) in
     (refl, refl) then (omega arith, refl, refl) then (refl, refl) then refl then

@@ -1,4 +1,4 @@
-use Rattle.policy_value.proofs.Names.{refl, sym, ap, ◌∙◌, lookup, LruCache, Premium, IsRightPremium, ColumnCache, CacheKey}
+use Rattle.policy_value.proofs.Names.{refl, sym, ap, ◌∙◌, lookup, LruCache, Premium, IsRightPremium, CacheKey}
 use Rattle.policy_value.specs.contracts.key.CacheKeyPartialEq.TheImpl.{eq-value}
 use Rattle.policy_value.proofs.Asking.{asked_hit, missing, not_promoted, some_value, none_value}
 use Rattle.policy_value.proofs.Keeping.{All-promoted}

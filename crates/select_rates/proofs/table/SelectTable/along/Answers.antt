@@ -1,4 +1,4 @@
-use Rattle.select_rates.proofs.Names.{◌≡◌, ◌<◌, ◌-◌, ◌∙◌, ap, sym, length, arith, Selected}
+use Rattle.select_rates.proofs.Names.{◌<◌, ◌-◌, ◌∙◌, ap, length, arith, Selected}
 use Rattle.select_rates.specs.Table.{select_table}
 use Rattle.select_rates.proofs.Values.{prepared_is}
 use Rattle.select_rates.proofs.table.SelectTable.along.Goals as goal

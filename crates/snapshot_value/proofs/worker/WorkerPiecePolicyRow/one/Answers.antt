@@ -7,6 +7,6 @@ pub returns-clause-value : goal.returns-clause-value
 returns-clause-value c =
     let fits : FitsSigned w32 c.args.self.now.on = search rules in
     let same = to_z-of_z w32 c.args.self.now.on fits in (
-      record { valued = rw same at c.row.ensures.row; exact = rw same at c.row.ensures.exact },
+      rw same at c.row.ensures.row,
       within_most c.args.self.now.measure _ c.row.result.worth c.requires.1.issue_in.amount_in.1 c.row.ensures.most,
     )

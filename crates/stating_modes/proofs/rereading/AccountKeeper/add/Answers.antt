@@ -45,7 +45,7 @@ returns-clause-kept c = λ (commands : List Command) (holds : IsAccount c.args.s
     eq-eqb (id_of c.args.command.now) c.args.self.now.id (sym c.id.ensures ∙ c.if-id-self.false) in
     let decided : next c.args.self.now.policy c.args.command.now ≡ Ok c.in-Ok.policy =
     ap (λ (p : Option Policy). next p c.args.command.now) (sym c.as_ref.ensures.value) ∙ sym c.in-Ok.ensures.decided in
-    account_own c.args.self.now (record { id = c.args.self.now.id; entries = c.push.new.self; policy = Some c.in-Ok.policy }) commands
+    account_own c.args.self.now (record { id = c.args.self.now.id; entries = c.push.new.items; policy = Some c.in-Ok.policy }) commands
     c.args.command.now c.in-Ok.policy c.args.n holds c.requires.valid each own refl c.in-Ok-push.ensures.items refl decided
 
 pub returns-clause-takes : goal.returns-clause-takes

@@ -4,8 +4,8 @@ use Rattle.turn_lock.proofs.Passing.{first_pass, facts_of}
 use Rattle.turn_lock.proofs.turnstile.Turnstile.new.Goals.{In-Ok}
 use Rattle.turn_lock.proofs.turnstile.Turnstile.new.Goals as goal
 
-pub new-requires : goal.new-requires
-new-requires g c = let T = g.T.Stands in let o = T.opening c.of-first.result.value in let items : c.push.new.self.items ≡ Some c.first.result ∷ [] = search rules in
+pub table_of-requires : goal.table_of-requires
+table_of-requires g c = let T = g.T.Stands in let o = T.opening c.of-first.result.value in let items : c.push_first.new.items.items ≡ Some c.first.result ∷ [] = search rules in
     subst (λ xs. LockRule T.opening T.legal T.stands o (opening (0 ∷ 1 ∷ []) xs (first_view o))) (sym items)
     (starts T.opening T.legal T.stands o T.is_legal c.first.result (ap T.opening (c.first.ensures.0 ∙ sym c.of-first.ensures)) (subst (λ x. T.stands x []) (sym c.first.ensures.0) c.requires) c.first.ensures.1)
 

@@ -18,10 +18,10 @@ returns-in-Some-clause-room g c =
 pub returns-in_ok-reserve-in-None-clause-room : goal.returns-in_ok-reserve-in-None-clause-room
 returns-in_ok-reserve-in-None-clause-room g c =
     let none = none_at c.args.self.now.chains c.args.place.key (sym c.requires.place ∙ c.in-None.is) in
-    let listing : vec_len c.reserve-in-None.new.self < vec_capacity c.reserve-in-None.new.self = search rules in
-    on_ok c.reserve-in-None-2.result
+    let listing : vec_len c.reserve-in-None.new.items < vec_capacity c.reserve-in-None.new.items = search rules in
+    on_ok c.reserve_keys.result
     (λ spare. record {
       fresh = λ still. (omega (arith, spare), listing);
-      more = λ chain got. (let clash : Some chain ≡ None = sym got ∙ ap (lookup (nat_eq c.args.place.key)) c.reserve-in-None-2.ensures.entries ∙ none in cc);
+      more = λ chain got. (let clash : Some chain ≡ None = sym got ∙ ap (lookup (nat_eq c.args.place.key)) c.reserve_keys.ensures.entries ∙ none in cc);
     })
-    c.reserve-in-None-2.ensures.ok
+    c.reserve_keys.ensures.ok

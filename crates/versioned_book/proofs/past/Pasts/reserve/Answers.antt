@@ -24,7 +24,7 @@ returns-then-is_of-clause-room g c =
 
 pub returns-clause-room : goal.returns-clause-room
 returns-clause-room g c =
-    let listing : vec_len c.reserve.new.self < vec_capacity c.reserve.new.self = search rules in
+    let listing : vec_len c.reserve.new.items < vec_capacity c.reserve.new.items = search rules in
     on_ok c.reserve_exact.result
     (λ room. room_new _ c.args.self.now.list.items c.args.place c.args.key c.reserve.ensures.items (sym c.is_of.ensures ∙ c.if-is_of.false) listing (omega (arith, room)))
     c.reserve_exact.ensures.ok

@@ -1,0 +1,5 @@
+-- The evidence that memory was refused. It tells nothing more: all are alike
+use Rattle.memory_requests.specs.declared.evidence.NoMemory.{NoMemory}
+
+abbrev pub a_refusal : NoMemory
+a_refusal = record { refused = tt }

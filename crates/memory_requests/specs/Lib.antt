@@ -1,0 +1,4 @@
+pub mod Limits
+pub mod Evidence
+pub mod Rows
+pub mod Words
