@@ -15,10 +15,14 @@ from public_clauses import Public, all_public
 PAGE = known.TOP / "docs" / "PROOF.md"
 HEAD = "| what | definitions | files | lines | words |\n|---|---|---|---|---|\n"
 GIVEN = ["transcript_text.specs.Transcript.run_wording", "life_app.specs.TableReserves.table_reserves"]
+PREMISES = ["life_args.specs.Words.IsRun", "program_endings.specs.Writing.IsWholeInput", "command_csv.specs.Reads.Reads",
+            "life_app.specs.Headline.IsGivenBasis", "basis_shelf.specs.Bases.IsBasis", "office_state.specs.Journals.Opens"]
+DISK_MODEL = [f"outside_io.specs.FileCalls.{name}" for name in ("AreAllowed", "FileImage", "FileLeft")]
 COUNTED: tuple[tuple[str, list[str]], ...] = (
     ("the headline, whatever its texts and reserves are", ["life_app.specs.Headline.IsPromised"]),
-    ("the same with the program's texts and reserves", ["life_app.specs.Headline.IsPromised", *GIVEN]),
-    ("so, and the line of a run without a transcript", ["life_app.specs.Headline.IsPromised",
+    ("with the program's texts and reserves", ["life_app.specs.Headline.IsPromised", *GIVEN]),
+    ("with these, its premises and the disk model", ["life_app.specs.Headline.IsPromised", *GIVEN, *PREMISES, *DISK_MODEL]),
+    ("with those texts, and the line of a run without a transcript", ["life_app.specs.Headline.IsPromised",
      "life_app.specs.Headline.IsUnrun", *GIVEN]),
     ("what `run_shipped` promises", ["life_cli.specs.ShippedRun.IsShipped"]),
     ("the contract of `run_shipped`", ["life_cli/src/shipped.rt"]),

@@ -1,5 +1,7 @@
 -- A script's run is as is promised, over both disks; and so the shipped program is
-use Rattle.life_cli.proofs.Names.{◌≡◌, ◌⊎◌, ◌∷◌, ◌++◌, ℕ, List, [], Option, Some, ap, inr, map, refl, NoMemory, With, filing_between, shipped_auditors}
+use Rattle.life_cli.proofs.Names.{◌≡◌, ◌⊎◌, ◌∷◌, ◌++◌, ℕ, List, [], Option, Some, ap, codes, inr, map, refl, NoMemory, With, filing_between, shipped_auditors}
+use Rattle.life_args.specs.Words.{AreWords, IsRun}
+use Rattle.life_args.specs.declared.mode.Mode.TheVariants.{Run}
 use Rattle.watcher_set.specs.Evidence.{a_lack}
 use Rattle.watcher_set.specs.Noted.{Auditor}
 use Rattle.outside_io.specs.declared.disks.Disk.{Ghosts}
@@ -17,6 +19,10 @@ use Rattle.life_cli.specs.ShippedRun.{IsShipped}
 pub seen_of_two : {X Y : Type 0} → (see : X → Y) (none ready one two : List X) (first second : X) (a b : Y) → two ≡ one ++ second ∷ [] → one ≡ ready ++ first ∷ []
     → ready ≡ none → none ≡ [] → see first ≡ a → see second ≡ b → map see two ≡ a ∷ b ∷ []
 seen_of_two see none ready one two first second a b e₁ e₂ e₃ e₄ is_a is_b = rw (e₁, e₂, e₃, e₄, is_a, is_b) refl
+
+-- Words that are `run` and its options ask for a run.
+asked_for : (name : List ℕ) (words options : List (List ℕ)) → words ≡ codes "run" ∷ options → IsRun options name → AreWords words (Run name)
+asked_for name words options same run = rw same (refl, run)
 
 -- The auditors that were handed over are these.
 module _ {D E : Type 0} (g : Ghosts D) (e : Ghosts E) (old new : D) (second kept : Option E) (words : List (List ℕ)) (input : Input) (output : Stream)
@@ -37,8 +43,9 @@ module _ {D E : Type 0} (g : Ghosts D) (e : Ghosts E) (old new : D) (second kept
       → IsShipped g e old new second kept words input output shelf A B status
   shipped reason due unopened = record {
     obeys = obeys;
-    promised = λ name script lanes basis run whole reads given.
-        headline g old new output name input shelf only_now e (Some second) (Some kept) lanes basis shipped_auditors script words A B status obeys run whole reads given;
+    promised = λ name script options lanes basis same run whole reads given.
+        headline g old new output name input shelf only_now e (Some second) (Some kept) lanes basis shipped_auditors script words A B status obeys
+        (asked_for name words options same run) whole reads given;
     reason = reason;
     due = due;
     unopened = unopened;

@@ -1,10 +1,9 @@
 -- The shipped program, from its start to its end
-use Rattle.std.specs.Prelude.{◌≡◌, ◌⊎◌, ℕ, List, Some}
+use Rattle.std.specs.Prelude.{◌≡◌, ◌⊎◌, ℕ, List, ◌∷◌, Some, codes}
 use Rattle.basis_book.specs.Dated.{Dated}
 use Rattle.basis_shelf.specs.Bases.{IsBasis}
 use Rattle.command_csv.specs.Reads.{Reads}
-use Rattle.life_args.specs.Words.{AreWords}
-use Rattle.life_args.specs.declared.mode.Mode.TheVariants.{Run}
+use Rattle.life_args.specs.Words.{IsRun}
 use Rattle.life_cli.specs.Names.{Opens, OpensToNone, Ghosts, Input, IsWholeInput, Shelving, Stream, IsGivenBasis, IsPromised, IsUnrun, Obeys, With, filing_between}
 use Rattle.policy_types.specs.declared.script.Lane.{Lane}
 use Rattle.program_endings.specs.Status.{status_of}
@@ -20,8 +19,9 @@ use Rattle.life_cli.specs.Shipped.{shipped_auditors}
 pub record IsShipped {D E : Type 0} (g : Ghosts D) (e : Ghosts E) (old new : D) (second kept : E) (words : List (List ℕ))
     (input : Input) (output : Stream) (shelf : Shelving) (InputStays ShelfStays : Type 0) (status : ℕ) : Type 0 where
   pub obeys : Obeys g e old new (Some second) (Some kept) words shipped_auditors input output shelf InputStays ShelfStays status
-  pub promised : (name script : List ℕ) (lanes : List Lane) (basis : List Dated) → AreWords words (Run name)
-      → IsWholeInput input script → Reads script lanes → IsGivenBasis IsBasis lanes name shelf basis
+  pub promised : (name script : List ℕ) (options : List (List ℕ)) (lanes : List Lane) (basis : List Dated)
+      → words ≡ codes "run" ∷ options → IsRun options name → IsWholeInput input script → Reads script lanes
+      → IsGivenBasis IsBasis lanes name shelf basis
       → IsPromised g Opens run_wording table_reserves old new lanes basis shipped_auditors output status
       ⊎ IsUnrun g Opens old new name input output shelf status
   -- the status has its reason

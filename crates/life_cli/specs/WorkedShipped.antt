@@ -3,10 +3,11 @@ use Rattle.std.specs.Prelude.{[], ◌∷◌, codes}
 use Rattle.life_app.specs.WorkedRun.Both.{second_disk}
 use Rattle.life_app.specs.WorkedRun.Calls.{called, cut_disk, last_disk}
 use Rattle.life_app.specs.WorkedRun.Promise.{given_script, output_of, premium_text, shelf_that_told}
+use Rattle.life_args.specs.Words.{IsRun}
 use Rattle.life_cli.specs.ShippedRun.{IsShipped}
 
 -- standard input gave the script, standard output took the transcript, and the folder was asked for nothing; the journal's
--- file was that which the crash had cut, and the second one had a checkpoint of it
+-- file was that which the crash had cut, and the second one had a checkpoint of it. No option names the basis.
 abbrev pub ShippedByHand : Type 0
-ShippedByHand = IsShipped called called cut_disk last_disk second_disk second_disk (codes "run" ∷ []) given_script
+ShippedByHand = IsRun [] (codes "basis.csv") × IsShipped called called cut_disk last_disk second_disk second_disk (codes "run" ∷ []) given_script
     (output_of premium_text) (shelf_that_told []) ⊥ (Unit {0}) 0
