@@ -18,7 +18,7 @@ from typing import Any
 
 MINUTES_BETWEEN_LINES = 5
 # what a run from nothing may cost, in processor minutes; one above it is told, and not refused
-MOST_MINUTES = 190
+MOST_MINUTES = 180
 TICKS = os.sysconf("SC_CLK_TCK")
 PARTS = ("proofs", "tests", "seeds", "edits", "compiling")
 # a machine is as fast as the standard one where `fixed_loop` takes a second of its processor

@@ -1,6 +1,6 @@
 """How much a statement rests on: the definitions of ours that are reached from a name, or from a function's contract.
 
-    python3 .ci/definitions.py life_app.specs.Headline.IsHeadline      a definition
+    python3 .ci/definitions.py life_app.specs.Headline.IsPromised      a definition
     python3 .ci/definitions.py life_app/src/program.rt                 the ghost names of a file's contracts
     python3 .ci/definitions.py --list ...                              each of them, by file
 

@@ -27,7 +27,7 @@ LIMITS = {
     "docs/OPERATIONS.md": 2650,
     "docs/FORMATS.md": 6150,
     "docs/ARCHITECTURE.md": 5240,
-    "docs/PROOF.md": 8440,
+    "docs/PROOF.md": 8500,
     "docs/DECISIONS.md": 4760,
     "docs/FIGURES.md": 2230,
 }

@@ -52,5 +52,13 @@ forge <<'LINES'
     };
 LINES
 ! grep -q error said || { complain "a body that asks doesn't compile"; cat said; }
-[ "$failed" = 0 ] && echo "forged: each of 9 ways to make it up is refused, and asking compiles"
+
+# An auditor that isn't ready gives one, too. The program brings none: its two are always ready, and no other is made.
+others=$(grep -rnE 'TightWatcher::new|Watcher for ' "$root"/crates/*/src | grep -vE '/crates/(\w+_tests|measure|policy_types|watcher_set)/src/')
+[ -z "$others" ] || complain "the program brings another auditor: $others"
+for auditor in counting premiums; do
+    grep -A 2 'fn ready' "$root/crates/watcher_set/src/$auditor.rt" | tr -d ' \n' | grep -q 'NotReady>{Ok(())}' ||
+        complain "the auditor in $auditor.rt may not be ready"
+done
+[ "$failed" = 0 ] && echo "forged: each of 9 ways to make it up is refused, asking compiles, and no auditor is brought that isn't ready"
 exit "$failed"
