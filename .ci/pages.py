@@ -28,7 +28,7 @@ LIMITS = {
     "docs/FORMATS.md": 6150,
     "docs/ARCHITECTURE.md": 5240,
     "docs/PROOF.md": 8500,
-    "docs/DECISIONS.md": 4760,
+    "docs/DECISIONS.md": 4780,
     "docs/FIGURES.md": 2230,
 }
 MOST_IN_A_SENTENCE = 35
