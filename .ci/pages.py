@@ -27,7 +27,7 @@ LIMITS = {
     "docs/OPERATIONS.md": 2650,
     "docs/FORMATS.md": 6150,
     "docs/ARCHITECTURE.md": 5240,
-    "docs/PROOF.md": 8500,
+    "docs/PROOF.md": 8570,
     "docs/DECISIONS.md": 4780,
     "docs/FIGURES.md": 2230,
 }
