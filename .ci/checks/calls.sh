@@ -4,26 +4,7 @@
 # that can only be read, and a line that is written before its record is safe.
 . "$(dirname "$0")/../common.sh"
 needs strace
-begin "three postings"
-head -n 3 "$examples/first-issues.csv" >three
-"$life" run <three >expected || exit 2
-rm journal.life
-
-# into this file those of a program with a word
-record_calls() {
-    record=$1
-    shift
-    strace -f -s 400 -xx -o "$record" -e trace=openat,flock,pread64,read,pwrite64,write,fsync,fdatasync,ftruncate,close,dup,dup2 \
-        "$@"
-}
-record() {
-    record_calls "$1" "$program" "$2" <three >out || {
-        echo "calls: the program could not be recorded" >&2
-        exit 1
-    }
-}
-record fresh run
-cmp -s expected out || { echo "calls: another transcript under strace" >&2; exit 1; }
+. "$root/.ci/calls/three_postings.sh"
 record again run
 record unkept state
 rm checkpoint.life

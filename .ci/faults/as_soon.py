@@ -2,10 +2,10 @@
 record is safe: the program is run with each sync held back, and the moments at which its lines are read are put between
 those of its syncs.
 
-usage: python3 as_soon.py PROGRAM FOLDER [--held-back]
+usage: python3 as_soon.py PROGRAM FOLDER [--held-back | --clerk N]
 
 The program is first run so, and then behind a command that holds back what it writes, which has to be found; with
---held-back only this is done.
+--held-back only this is done. With a clerk's number he posts in the place of clerk 1, and only the first is done.
 """
 import re
 import subprocess
@@ -13,25 +13,33 @@ import sys
 import time
 from pathlib import Path
 
+from runs import is_preview
+
 POSTINGS = 6
-HELD_MS = 50
+# a preview is slow
+HELD_MS = 200 if is_preview(sys.argv[1]) else 50
+# a run takes a second or two, or for ever
+LONGEST_SECONDS = "30"
 SCRIPT = "".join(f"1,issue,{7001 + k},2020-01-01,whole,40,0,1000.00,{20 + k}.00\n" for k in range(POSTINGS))
 # a record is two syncs: of its body, and of its gate
 SYNCS = 2
 
 
-def watch(program: str, folder: Path, behind: list[str]) -> tuple[list[float], list[float]]:
+def watch(program: str, folder: Path, behind: list[str], clerk: str = "1") -> tuple[list[float], list[float]]:
     """When each accepted line was read, and when each sync of the journal's records began."""
     script, log = folder / "script.csv", folder / "calls"
-    script.write_text(SCRIPT)
+    script.write_text(SCRIPT.replace("1,issue,", f"{clerk},issue,"))
     traced = ["strace", "-f", "-ttt", "-o", str(log), "-e", "trace=fsync,fdatasync",
-              "-e", f"inject=fsync,fdatasync:delay_exit={HELD_MS * 1000}", program, "run"]
+              "-e", f"inject=fsync,fdatasync:delay_exit={HELD_MS * 1000}", "timeout", LONGEST_SECONDS, program, "run"]
     with open(script, "rb") as given:
         run = subprocess.Popen(traced, stdin=given, stdout=subprocess.PIPE, cwd=folder)
         last = subprocess.Popen(behind, stdin=run.stdout, stdout=subprocess.PIPE) if behind else run
         assert last.stdout is not None
         read = [time.time() for line in iter(last.stdout.readline, b"") if b",accepted," in line]
-        if last.wait() or run.wait():
+        last.wait()
+        if run.wait() == 124:
+            sys.exit("as_soon: the run doesn't return")
+        if last.returncode or run.returncode:
             sys.exit("as_soon: the program failed under strace")
     began = [float(found[1]) for found in re.finditer(r"^\d+ +(\d+\.\d+) f(?:data)?sync\(", log.read_text(), re.M)]
     return read, began[-SYNCS * POSTINGS:]
@@ -56,6 +64,10 @@ def amiss(read: list[float], began: list[float]) -> list[str]:
 def main() -> int:
     program, folder = sys.argv[1], Path(sys.argv[2])
     failed = False
+    if "--clerk" in sys.argv:
+        told = amiss(*watch(program, folder, [], sys.argv[4]))
+        print("".join(f"as_soon: {line}\n" for line in told), end="", file=sys.stderr)
+        return int(bool(told))
     if "--held-back" not in sys.argv:
         plain = folder / "plain"
         plain.mkdir()

@@ -1,6 +1,6 @@
 """The program where one call of the system fails: strace makes the k-th call of each kind fail, for every k of a run.
 
-usage: python3 calls.py PROGRAM FOLDER
+usage: python3 calls.py PROGRAM FOLDER [KIND K ERROR]     with a kind: its k-th call on the journal, of one clerk's first run
 
 An undisturbed run is recorded first: how many calls of each kind each thread makes of each file, and which of them the
 first thread makes to open the journal, before there is a second thread or a record is written. strace counts the calls
@@ -193,6 +193,10 @@ def errors_of(target: Target) -> list[str]:
 
 def main() -> None:
     program, folder = sys.argv[1:3]
+    if len(sys.argv) > 3:
+        kind, k, error = sys.argv[3:]
+        Trial(program, folder, SCENES[0]).try_one(0, Target(kind, JOURNAL, int(k)), error)
+        return
     seen: collections.Counter[str] = collections.Counter()
     trials = 0
     for scene in SCENES:

@@ -1,6 +1,6 @@
 """Runs whose journal is taken away: removed, renamed, replaced by another file, or cut, while strace holds up a call.
 
-usage: python3 taken.py PROGRAM FOLDER
+usage: python3 taken.py PROGRAM FOLDER [DEED KIND K | link]     with a deed and a call, or a link: just this one
 
 From then on no line may be answered `accepted`, and the status is 8. What was accepted before is in the file that was taken
 away; the file that took its place isn't touched. Where the name is a symbolic link, it is so of the file to which it leads,
@@ -17,7 +17,7 @@ from typing import Any
 
 from judge import commands_in, demand_file, follow, reason
 from life_tools.journals import RECORD_SIZE, file_of, read_journal
-from runs import JOURNAL, Desk, read_bytes, write_bytes
+from runs import JOURNAL, Desk, is_preview, read_bytes, write_bytes
 from scenes import ONE_CLERK, book_before
 from life_tools.tables import BasisRow, read_basis
 from life_tools.formats import Wrong, demand
@@ -25,6 +25,8 @@ from life_tools.formats import Wrong, demand
 AT_ONCE = 4
 # a call is held up for so long, in microseconds; the deed is done once the file has stood still for so long, in seconds
 HELD_UP, STILL = 1_500_000, 0.2
+# the same for a preview, which is slow
+HELD_UP_LONG, STILL_LONG = 6_000_000, 1.0
 # The calls of the journal that are held up: the first sync and the question behind it; of the second posting the question
 # before it, both syncs and the question behind the second; and the last sync of all and the question behind it. The opening
 # makes one sync and asks four times; a posting makes two, and asks before its first write and behind its last sync.
@@ -55,7 +57,8 @@ DEEDS = [remove, rename, replace, cut]
 def wait_until_still(desk: Any, run: Any) -> None:
     """Waits until the program makes no progress: it is held up."""
     last, since = None, time.monotonic()
-    while run.poll() is None and time.monotonic() - since < STILL:
+    still = STILL_LONG if is_preview(desk.program) else STILL
+    while run.poll() is None and time.monotonic() - since < still:
         try:
             found = os.stat(desk.path(JOURNAL))
             now = (found.st_size, found.st_mtime_ns, os.path.getsize(desk.path("log")))
@@ -69,7 +72,8 @@ def wait_until_still(desk: Any, run: Any) -> None:
 
 def held_up(desk: Any, kind: str, k: Any) -> Any:
     """Starts a run of the four lines in which a call is held up."""
-    hold = ["-e", f"trace={kind}", "-e", f"inject={kind}:delay_enter={HELD_UP}:when={k}"]
+    span = HELD_UP_LONG if is_preview(desk.program) else HELD_UP
+    hold = ["-e", f"trace={kind}", "-e", f"inject={kind}:delay_enter={span}:when={k}"]
     return desk.start(["run"], ["strace", "-f", "-qq", "-o", desk.path("log"), "-P", desk.path(JOURNAL), "-P", JOURNAL, *hold])
 
 
@@ -130,8 +134,19 @@ def try_a_link(program: str, folder: str) -> None:
     demand(ended.status == 8 and ",fault\n" in ended.text, f"the far file was removed: {ended.status}, {ended.text[:200]!r}")
 
 
+def try_alone(program: str, folder: str, words: list[str]) -> None:
+    if words == ["link"]:
+        try_a_link(program, folder)
+    else:
+        deeds = {deed.__name__: deed for deed in DEEDS}
+        try_one(program, folder, deeds[words[0]], words[1], int(words[2]))
+
+
 def main() -> None:
     program, folder = sys.argv[1:3]
+    if len(sys.argv) > 3:
+        try_alone(program, folder, sys.argv[3:])
+        return
     tried = [(deed, kind, k) for deed in DEEDS for kind, k in HELD]
     with concurrent.futures.ThreadPoolExecutor(AT_ONCE) as pool:
         runs = [pool.submit(try_one, program, os.path.join(folder, str(n)), *it) for n, it in enumerate(tried)]
