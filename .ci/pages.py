@@ -26,7 +26,7 @@ LIMITS = {
     "docs/AUDIT.md": 2700,
     "docs/OPERATIONS.md": 2650,
     "docs/FORMATS.md": 6150,
-    "docs/ARCHITECTURE.md": 5240,
+    "docs/ARCHITECTURE.md": 5245,
     "docs/PROOF.md": 8570,
     "docs/DECISIONS.md": 4780,
     "docs/FIGURES.md": 2230,
