@@ -28,7 +28,7 @@ LIMITS = {
     "docs/FORMATS.md": 6150,
     "docs/ARCHITECTURE.md": 5245,
     "docs/PROOF.md": 8570,
-    "docs/DECISIONS.md": 4780,
+    "docs/DECISIONS.md": 4815,
     "docs/FIGURES.md": 2230,
 }
 MOST_IN_A_SENTENCE = 35
