@@ -1,6 +1,6 @@
 -- The promise refuses what wrong programs would leave of the worked run.
-use Rattle.life_app.proofs.Names.{◌≡◌, ◌≢◌, ◌<◌, ◌+◌, ℕ, ℤ, Option, Bool, true, List, [], ◌∷◌, ◌++◌, length, take, get_or, refl, ap, ap₂, sym, ◌∙◌, subst, inl, inr, lit≤, lit<, arith, append-nil, codes, Some, None, digits, AllByRecursion, AllZip, ◌==◌, Command, Entry, Reply, Accepted, Faulted, Refused, Blank, accepted_of, fault_of, opened_on, reports_of, run_wording, posting_text, IsToldText, IsToldLine, IsPromised, IsEnclosingRow, Row, WasFaulted, table_reserves, Opens, opens_to_one, shown_opens_to_none, hand_issue, hand_premium, NotAJournal, BadRecord, Rose, Ending, Done, NoMemory, BadJournal, DiskFault, WriteFault, BadBasis, BadScript, ReadFault, status_of, EndsUnread, EndsNoBasis, EndsNoOffice, WroteAll, WroteAsEnded, Stream, TakenPiece, called, CalledDisk, cut_disk, cut_file, last_disk, looked_disk, both_commands, given_script, premium_lanes, premium_script, premium_text, output_of, shelf_that_told, two_auditors}
-use Rattle.std.specs.Prelude.{◌||◌}
+use Rattle.life_app.proofs.Names.{le-leb, puts, untorn, file_reads, writes_within, spelling_of, IsJournal, ◌≡◌, ◌≢◌, ◌<◌, ◌+◌, ℕ, ℤ, Option, Bool, true, List, [], ◌∷◌, ◌++◌, length, take, get_or, refl, ap, ap₂, sym, ◌∙◌, subst, inl, inr, lit≤, lit<, arith, append-nil, codes, Some, None, digits, AllByRecursion, AllZip, ◌==◌, Command, Entry, Reply, Accepted, Faulted, Refused, Blank, accepted_of, fault_of, opened_on, reports_of, run_wording, posting_text, IsToldText, IsToldLine, IsPromised, IsEnclosingRow, Row, WasFaulted, table_reserves, Opens, opens_to_one, shown_opens_to_none, hand_issue, hand_premium, NotAJournal, BadRecord, Rose, Ending, Done, NoMemory, BadJournal, DiskFault, WriteFault, BadBasis, BadScript, ReadFault, status_of, EndsUnread, EndsNoBasis, EndsNoOffice, WroteAll, WroteAsEnded, Stream, TakenPiece, called, CalledDisk, cut_disk, cut_file, last_disk, looked_disk, both_commands, given_script, premium_lanes, premium_script, premium_text, output_of, shelf_that_told, two_auditors}
+use Rattle.std.specs.Prelude.{◌||◌, nat_le}
 use Rattle.std.specs.List.{Contains, concat}
 use Rattle.basis_shelf.specs.FirstBad.{IsFirstBadFile}
 use Rattle.basis_shelf.specs.declared.fault.BadBasis.{BadBasis as ABadBasis}
@@ -23,9 +23,10 @@ use Rattle.program_endings.specs.Replies.{AreAnswered}
 use Rattle.program_endings.specs.Writing.{GaveAll}
 use Rattle.script_run.specs.Script.{IsRefused}
 use Rattle.script_run.proofs.ScriptStatus.{never_long, never_readable}
-use Rattle.life_app.specs.WorkedRun.Refused.{Admits, CausesByHand, ForgedByHand, TruthByHand, longer_text, output_at, unanswered_text}
+use Rattle.life_app.specs.WorkedRun.Refused.{Admits, CausesByHand, ForgedByHand, TruthByHand, longer_text, output_at, remade_disk, unanswered_text, unmaking}
 use Rattle.life_app.proofs.WorkedRun.Due.{none_failed}
-use Rattle.life_app.proofs.WorkedRun.First.{cut, honest_last, journal_of_issue}
+use Rattle.life_app.proofs.WorkedRun.Calls.{both_true, looks_allowed, posted_within, reads}
+use Rattle.life_app.proofs.WorkedRun.First.{cut, honest_last, journal_of_issue, premium_size}
 use Rattle.life_app.proofs.WorkedRun.OneLine.{IsOneLine, IsOneTurn, answered_once, one_turn}
 use Rattle.life_app.proofs.WorkedRun.Promise.{no_unrun, not_both, one_alone, reads_premium, staged_file, still_staged}
 use Rattle.life_app.proofs.WorkedRun.Row.{honest_looked, legal_second}
@@ -323,5 +324,51 @@ too_soon moment before admits =
     (record { bytes = premium_text; since = moment }) refl refl (lit< tt) staged_file (still_staged moment before) in
     not_both opens.0 opens.1
 
+-- ---- nor a file that was unmade on the way
+
+unmade_file : List ℕ
+unmade_file = file_reads cut_file untorn unmaking
+
+unmade : get_or unmade_file 0 0 ≡ 0
+unfolding unmade_file
+unmade = refl
+
+never_opens : (command : Command) (more : List Command) → Opens unmade_file (command ∷ more) → ⊥
+never_opens command more (inl journal) = let no : 0 ≡ 1 = sym unmade ∙ journal.records.made.finished in omega (arith, no)
+never_opens command more (inr unfinished) = let no = unfinished.0 in cc
+
+never_found : called.may_leave cut_disk unmade_file → ⊥
+never_found (inl same) = let no : 0 ≡ 1 = sym unmade ∙ ap (λ (file : List ℕ). get_or file 0 0) same ∙ cut.made.finished in omega (arith, no)
+never_found (inr none) = none
+
+remade_reads : reads cut_file (puts 0 (1 ∷ []) unmaking) ≡ cut_file
+remade_reads = refl
+
+remade_within : writes_within cut_file untorn remade_disk.calls ≡ true
+remade_within =
+    let journal = subst (λ (file : List ℕ). IsJournal file (spelling_of hand_issue ∷ [])) (sym remade_reads) cut in
+    posted_within cut_file (puts 0 (1 ∷ []) unmaking) (spelling_of hand_issue ∷ []) hand_premium (lit< tt) premium_size journal (λ image left. left) refl
+    (both_true (nat_le 0 (length (reads cut_file unmaking))) (writes_within cut_file untorn unmaking) (le-leb 0 (length (reads cut_file unmaking)) (omega arith))
+    (both_true (nat_le 0 (length cut_file)) true (le-leb 0 (length cut_file) (omega arith)) refl))
+
+honest_remade : called.honest remade_disk
+honest_remade = (((((((((looks_allowed 2 cut_file, tt), tt), tt), tt), tt), tt), tt), tt), remade_within)
+
+left_unmade : called.left_since remade_disk 0 unmade_file
+unfolding unmade_file
+left_unmade = inl (inl (inl (inl (inl (inl (inr (lit≤ tt, refl)))))))
+
+lost : Admits remade_disk (output_at (called.clock remade_disk)) 0 → ⊥
+lost admits =
+    let is = promised remade_disk (output_at (called.clock remade_disk)) admits in
+    let opened = commands_are remade_disk (output_at (called.clock remade_disk)) is honest_remade in
+    elim (is.since honest_remade unmade_file left_unmade) [
+      | inl found ↦ never_found found
+      | inr (held, rest, split, inl opens) ↦
+          never_opens hand_issue held (subst (λ (cs : List Command). Opens unmade_file (cs ++ held)) opened opens)
+      | inr (held, rest, split, inr (command, was, opens)) ↦
+          never_faulted remade_disk (output_at (called.clock remade_disk)) is honest_remade held command was
+    ]
+
 pub forged_by_hand : ForgedByHand
-forged_by_hand = (unanswered, longer, unposted, too_soon)
+forged_by_hand = (unanswered, longer, unposted, too_soon, lost)

@@ -1,8 +1,8 @@
 -- What the promise refuses: it can't hold of what wrong programs would leave of the worked run's script
 use Rattle.std.specs.Prelude.{◌⊎◌, ℕ, ◌<◌, List, [], ◌∷◌, ◌++◌, codes}
-use Rattle.life_app.specs.WorkedRun.Names.{Dated, Opens, Stream, IsPromised, IsUnrun, table_reserves, run_wording}
+use Rattle.life_app.specs.WorkedRun.Names.{Dated, FileCall, Opens, hand_premium, Stream, IsPromised, IsUnrun, table_reserves, run_wording}
 use Rattle.program_endings.specs.Writing.{WroteAll}
-use Rattle.life_app.specs.WorkedRun.Calls.{CalledDisk, called, cut_disk, last_disk}
+use Rattle.life_app.specs.WorkedRun.Calls.{CalledDisk, called, cut_disk, cut_file, called_disk, last_disk, posts, puts, reopening}
 use Rattle.life_app.specs.WorkedRun.Due.{stocked_shelf, value_lanes, value_script}
 use Rattle.life_app.specs.WorkedRun.Promise.{given_script, output_of, premium_lanes, premium_text, shelf_that_told, two_auditors}
 use Rattle.life_app.specs.WorkedRun.Runs.{both_commands, looked_disk}
@@ -45,13 +45,21 @@ longer_text = premium_text ++ codes "1,premium,7001,accepted,3" ++ 10 ∷ []
 abbrev pub output_at : ℕ → Stream
 output_at moment = record (output_of premium_text) { pieces_after = (record { bytes = premium_text; since = moment }) ∷ [] }
 
+-- a disk on which the file was unmade, and made again, before the premium was posted
+abbrev pub unmaking : List FileCall
+unmaking = puts 0 (0 ∷ []) reopening
+
+abbrev pub remade_disk : CalledDisk
+remade_disk = called_disk cut_file (posts 1 hand_premium (puts 0 (1 ∷ []) unmaking))
+
 -- So with 0 it can't have printed either of these; nor the transcript where nothing is posted; nor have handed that on by a
--- moment before the last sync, be its gate written by then, but not made safe.
+-- moment before the last sync, be its gate written by then, but not made safe; nor have lost the issue on the way.
 abbrev pub ForgedByHand : Type 0
 ForgedByHand = (Admits last_disk (output_of unanswered_text) 0 → ⊥)
     × (Admits last_disk (output_of longer_text) 0 → ⊥)
     × (Admits looked_disk (output_of premium_text) 0 → ⊥)
     × ((moment : ℕ) → moment < called.clock last_disk → Admits last_disk (output_at moment) 0 → ⊥)
+    × (Admits remade_disk (output_at (called.clock remade_disk)) 0 → ⊥)
 
 -- the same of a run of the valuation's script, by whatever basis, which only looked at the file
 abbrev pub AdmitsValues : List Dated → Stream → ℕ → Type 0
