@@ -7,3 +7,6 @@ pub mod Both
 pub mod Told
 pub mod LanesDisk
 pub mod Lanes
+pub mod OneLine
+pub mod Refused
+pub mod Valued

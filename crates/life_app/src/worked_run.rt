@@ -6,6 +6,7 @@ ghost use Rattle.life_app.specs.WorkedRun.Promise.{GivenByHand, HeadlineByHand, 
 ghost use Rattle.life_app.specs.WorkedRun.Due.{BasisByHand, DueByHand, DueOfTheRun, NeedsByHand};
 ghost use Rattle.life_app.specs.WorkedRun.Both.{DueOfBothByHand, DueOfTheSaving, LeftOfTwoByHand, OtherwiseByHand, PartsOfTwoByHand, RowOfTwoByHand, SavedByHand, StatedByHand, TrustedByHand};
 ghost use Rattle.life_app.specs.WorkedRun.Lanes.{LeftLanes, LegalLanes, PromisedLanes, ReopenedLanes};
+ghost use Rattle.life_app.specs.WorkedRun.Refused.{CausesByHand, ForgedByHand, TruthByHand, ValuedByHand};
 ghost use Rattle.life_app.specs.WorkedRun.Told.{EnclosedByHand, EndedByHand, ModesByHand, ReasonsByHand};
 
 use basis_shelf::shelves_by_hand;
@@ -84,4 +85,14 @@ pub fn lanes_by_hand()
     ensures promised { PromisedLanes }
     ensures left { LeftLanes }
     ensures reopened { ReopenedLanes }
+{}
+
+/// What wrong programs would leave of the script of the third posting is refused by the promise: a made-up cause of another
+/// status, and with 0 a forged transcript, a missing answer, nothing posted, and a line told too soon. Of a valuation's, that
+/// it was told without its rows.
+pub fn refused_by_hand()
+    ensures causes { CausesByHand }
+    ensures truth { TruthByHand }
+    ensures forged { ForgedByHand }
+    ensures valued { ValuedByHand }
 {}

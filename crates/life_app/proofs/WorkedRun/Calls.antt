@@ -28,7 +28,7 @@ is_safe : (failed : Bool) (safe before : Type 0) → failed ≡ false → SafeUn
 is_safe true safe before none left = cc
 is_safe false safe before none left = left
 
-both_true : (a b : Bool) → a ≡ true → b ≡ true → (a && b) ≡ true
+pub both_true : (a b : Bool) → a ≡ true → b ≡ true → (a && b) ≡ true
 both_true true b one other = other
 both_true false b one other = cc
 

@@ -1,5 +1,5 @@
 -- The worked run is as the headline says.
-use Rattle.life_app.proofs.Names.{◌≡◌, ◌+◌, ◌++◌, ℕ, List, [], ◌∷◌, length, arith, refl, ap, sym, subst, inl, inr, lit≤, lit<, codes, Option, None, digits, IsDistinct, flat_map, date_of, month_of, days_before_year, days_of_months, day_text, Reads, Accepted, Run, Command, accepted_of, Opens, hand_issue, hand_premium, premium_turn, valid_premium, Ending, Done, BadScript, BadBasis, BadJournal, ReadFault, DiskFault, NoMemory, status_of, IsWholeInput, IsRunOf, EndsLanes, EndsRead, EndsRun, posting_text, reports_text, reports_of, IsPromised, IsUnrun, Does, Obeys, table_reserves, run_wording, AskForRun, CalledDisk, Unsynced, called, cut_disk, cut_file, last_disk, untorn, second_turns, GivenByHand, HeadlineByHand, ObeyedByHand, PromisedByHand, ToldOnceSafe, given_script, output_of, premium_lanes, premium_line, premium_script, premium_text, shelf_that_told, two_auditors, FileCall, FileLeft, TakenPiece, opens_to_one, EndsUnread, EndsNoBasis, EndsNoOffice}
+use Rattle.life_app.proofs.Names.{◌≡◌, ◌+◌, ◌++◌, ℕ, List, [], ◌∷◌, length, arith, refl, ap, sym, subst, inl, inr, lit≤, lit<, codes, Option, None, digits, IsDistinct, flat_map, date_of, month_of, days_before_year, days_of_months, day_text, Reads, Accepted, Run, Command, accepted_of, Opens, hand_issue, hand_premium, premium_turn, valid_premium, Ending, Done, BadScript, BadBasis, BadJournal, ReadFault, DiskFault, NoMemory, status_of, Input, Shelving, Stream, IsWholeInput, IsRunOf, EndsLanes, EndsRead, EndsRun, posting_text, reports_text, reports_of, IsPromised, IsUnrun, Does, Obeys, table_reserves, run_wording, AskForRun, CalledDisk, called, cut_disk, cut_file, last_disk, untorn, second_turns, GivenByHand, HeadlineByHand, ObeyedByHand, PromisedByHand, ToldOnceSafe, given_script, output_of, premium_lanes, premium_line, premium_script, premium_text, shelf_that_told, two_auditors, TakenPiece, spelling_of, ◌<◌, file_reads, reopening, stages, opens_to_one, EndsUnread, EndsNoBasis, EndsNoOffice}
 use Rattle.std.specs.Prelude.{take}
 use Rattle.csv.proofs.OnLiterals.{csv_on_literals}
 use Rattle.command_csv.proofs.WorkedScripts.{says_one}
@@ -8,7 +8,8 @@ use Rattle.lane_runner.specs.AnsweredLines.{AnsweredLine, AreLinesOf}
 use Rattle.policy_machine.specs.Merge.{IsMerge, Placed}
 use Rattle.script_run.specs.Shown.{AreSafeWhenShown}
 use Rattle.life_app.proofs.HeadlineLaws.{by_script, headline}
-use Rattle.life_app.proofs.WorkedRun.First.{honest_last}
+use Rattle.life_app.proofs.WorkedRun.Calls.{is_still, looks_safe}
+use Rattle.life_app.proofs.WorkedRun.First.{cut, honest_last, journal_of_issue, premium_size}
 use Rattle.life_app.proofs.WorkedRun.Row.{both_now, facts, legal_second, second_left}
 
 pub asks_run : AskForRun (codes "run" ∷ []) (codes "basis.csv")
@@ -85,19 +86,38 @@ shown later earlier piece split before after line there position accepted reache
     subst (λ (l : AnsweredLine). (more : List Command) × Opens image ((hand_issue ∷ []) ++ accepted_of (take (l.first.0 + 1) second_turns) ++ more)) one
     ([], inl (both_now image now))
 
--- before the first call the file was as it was found
-as_found : (first : List ℕ) (calls : List FileCall) → FileLeft first untorn Unsynced calls 0 first
-as_found first [] = (lit≤ tt, inl refl)
-as_found first (call ∷ earlier) = inl (as_found first earlier)
+-- the file when the premium's body is written, and not yet its gate
+pub staged_file : List ℕ
+staged_file = file_reads cut_file untorn (stages 1 hand_premium reopening)
 
-too_soon : AreSafeWhenShown called Opens last_disk (hand_issue ∷ []) second_turns (premium_line ∷ []) (told ∷ [])
-    ((record { bytes = premium_text; since = 0 }) ∷ []) → ⊥
-too_soon safe =
-    let opens = safe [] [] (record { bytes = premium_text; since = 0 }) refl [] [] premium_line refl 2 refl (lit< tt) cut_file
-    (as_found cut_file last_disk.calls) in
-    let same : hand_issue ∷ [] ≡ (hand_issue ∷ []) ++ hand_premium ∷ opens.0 =
-    opens_to_one cut_file (hand_issue ∷ []) ((hand_issue ∷ []) ++ hand_premium ∷ opens.0) (second_left.opened honest_last) opens.1 in
-    absurd (let long = ap length same in omega (arith, long))
+-- where the gate isn't made safe, a crash may leave it so
+pub staged_opens : Opens staged_file (hand_issue ∷ [])
+unfolding staged_file
+staged_opens = inl (journal_of_issue staged_file
+    (is_still cut_file reopening (spelling_of hand_issue ∷ []) hand_premium (lit< tt) premium_size cut (looks_safe 2 cut_file) refl))
+
+pub still_staged : (moment : ℕ) → moment < called.clock last_disk → called.left_since last_disk moment staged_file
+unfolding staged_file
+still_staged moment before = inl (inr (
+  omega (arith, before),
+  (staged_file, refl, record { before = refl; after = refl; no_shorter = omega arith; no_longer = omega arith }),
+))
+
+-- it doesn't open to the premium too
+pub not_both : (more : List Command) → Opens staged_file ((hand_issue ∷ []) ++ hand_premium ∷ more) → ⊥
+not_both more opens =
+    let same : hand_issue ∷ [] ≡ (hand_issue ∷ []) ++ hand_premium ∷ more =
+    opens_to_one staged_file (hand_issue ∷ []) ((hand_issue ∷ []) ++ hand_premium ∷ more) staged_opens opens in
+    let long = ap length same in
+    omega (arith, long)
+
+too_soon : (moment : ℕ) → moment < called.clock last_disk
+    → AreSafeWhenShown called Opens last_disk (hand_issue ∷ []) second_turns (premium_line ∷ []) (told ∷ [])
+    ((record { bytes = premium_text; since = moment }) ∷ []) → ⊥
+too_soon moment before safe =
+    let opens = safe [] [] (record { bytes = premium_text; since = moment }) refl [] [] premium_line refl 2 refl (lit< tt) staged_file
+    (still_staged moment before) in
+    not_both opens.0 opens.1
 
 ran : IsRunOf called cut_disk last_disk premium_lanes [] two_auditors (output_of premium_text) Done
 unfolding answered told digits only_piece
@@ -147,30 +167,34 @@ pub obeyed_by_hand : ObeyedByHand
 obeyed_by_hand = (ran, inl ran, read, run_ended, obeyed)
 
 -- a run that says in a line why it failed has no status 0
-unread_fails : (ending : Ending) → EndsUnread given_script (output_of premium_text) ending → 0 ≡ status_of ending → ⊥
-unread_fails BadScript says none = cc
-unread_fails ReadFault says none = cc
-unread_fails (NoMemory lack) says none = cc
-unread_fails _ says none = says
+module _ (new : CalledDisk) (output : Stream) (name : List ℕ) (input : Input) (shelf : Shelving) where
+  unread_fails : (ending : Ending) → EndsUnread input output ending → 0 ≡ status_of ending → ⊥
+  unread_fails BadScript says none = cc
+  unread_fails ReadFault says none = cc
+  unread_fails (NoMemory lack) says none = cc
+  unread_fails _ says none = says
 
-unbased_fails : (ending : Ending) → EndsNoBasis (codes "basis.csv") (shelf_that_told []) (output_of premium_text) ending → 0 ≡ status_of ending → ⊥
-unbased_fails BadBasis says none = cc
-unbased_fails ReadFault says none = cc
-unbased_fails (NoMemory lack) says none = cc
-unbased_fails _ says none = says
+  unbased_fails : (ending : Ending) → EndsNoBasis name shelf output ending → 0 ≡ status_of ending → ⊥
+  unbased_fails BadBasis says none = cc
+  unbased_fails ReadFault says none = cc
+  unbased_fails (NoMemory lack) says none = cc
+  unbased_fails _ says none = says
 
-unopened_fails : (ending : Ending) → EndsNoOffice called cut_disk last_disk (output_of premium_text) ending → 0 ≡ status_of ending → ⊥
-unopened_fails BadJournal says none = cc
-unopened_fails DiskFault says none = cc
-unopened_fails (NoMemory lack) says none = cc
-unopened_fails _ says none = says
+  unopened_fails : (ending : Ending) → EndsNoOffice called cut_disk new output ending → 0 ≡ status_of ending → ⊥
+  unopened_fails BadJournal says none = cc
+  unopened_fails DiskFault says none = cc
+  unopened_fails (NoMemory lack) says none = cc
+  unopened_fails _ says none = says
 
-no_unrun : IsUnrun called Opens cut_disk last_disk (codes "basis.csv") given_script (output_of premium_text) (shelf_that_told []) 0 → ⊥
-no_unrun unrun = elim unrun.says [
-  | inl says ↦ unread_fails unrun.ending says unrun.exits
-  | inr (inl says) ↦ unbased_fails unrun.ending says unrun.exits
-  | inr (inr says) ↦ unopened_fails unrun.ending says unrun.exits
-]
+  pub no_unrun : IsUnrun called Opens cut_disk new name input output shelf 0 → ⊥
+  no_unrun unrun = elim unrun.says [
+    | inl says ↦ unread_fails unrun.ending says unrun.exits
+    | inr (inl says) ↦ unbased_fails unrun.ending says unrun.exits
+    | inr (inr says) ↦ unopened_fails unrun.ending says unrun.exits
+  ]
+
+not_unrun : IsUnrun called Opens cut_disk last_disk (codes "basis.csv") given_script (output_of premium_text) (shelf_that_told []) 0 → ⊥
+not_unrun = no_unrun last_disk (output_of premium_text) (codes "basis.csv") given_script (shelf_that_told [])
 
 pub headline_by_hand : HeadlineByHand
 headline_by_hand = headline called cut_disk last_disk (output_of premium_text) (codes "basis.csv") given_script (shelf_that_told [])
@@ -181,12 +205,12 @@ promised : IsPromised called Opens run_wording table_reserves cut_disk last_disk
 promised = elim (by_script called cut_disk last_disk (output_of premium_text) (codes "basis.csv") given_script (shelf_that_told [])
     facts.only_now premium_lanes [] two_auditors premium_script (Unit {0}) Done whole reads_premium (inl (refl, refl)) run_ended) [
       | inl told ↦ told
-      | inr unrun ↦ absurd (no_unrun unrun)
+      | inr unrun ↦ absurd (not_unrun unrun)
     ]
 
 pub promised_by_hand : PromisedByHand
-promised_by_hand = (promised, no_unrun)
+promised_by_hand = (promised, not_unrun)
 
 pub told_once_safe : ToldOnceSafe
 unfolding told digits only_piece
-told_once_safe = (shown, too_soon)
+told_once_safe = (shown, lit< tt, too_soon)

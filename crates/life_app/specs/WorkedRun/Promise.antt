@@ -1,5 +1,5 @@
 -- What the headline says of the worked run's second half: the script, what is written, and the basis that is given
-use Rattle.std.specs.Prelude.{◌⊎◌, ◌==◌, ℕ, false, length, List, [], ◌∷◌, ◌++◌, Option, Some, codes}
+use Rattle.std.specs.Prelude.{◌⊎◌, ◌==◌, ℕ, ◌<◌, false, length, List, [], ◌∷◌, ◌++◌, Option, Some, codes}
 use Rattle.life_app.specs.WorkedRun.Names.{IsBasis, Reads, lane_of, Agrees, Answer, Lane, Post, Opens, AnsweredLine, hand_issue, hand_premium, premium_turn, Accepted, Input, IsWholeInput, Shelving, Stream, Done, EndsRead, EndsRun, Auditor, AreSafeWhenShown, EndsScript, IsRunOf, input_that_gave, IsGivenBasis, IsPromised, IsUnrun, Obeys, table_reserves, run_wording, AreWords, Run}
 use Rattle.watcher_set.specs.Premiums.{premiums_of}
 use Rattle.life_app.specs.WorkedRun.Calls.{CalledDisk, called, cut_disk, last_disk}
@@ -67,10 +67,12 @@ PromisedByHand = IsPromised called Opens run_wording table_reserves cut_disk las
 abbrev pub premium_line : AnsweredLine
 premium_line = record { clerk = 1; line = Post hand_premium; first = (0, premium_turn (Accepted 2)); rest = [] }
 
--- handed on by the disk's last moment it is told once safe; handed on by the first one, since which a crash may have left the
--- file as it was found, it isn't
+-- handed on by the disk's last moment it is told once safe; handed on by an earlier one, it isn't: since the first a crash may
+-- have left the file as it was found, and since the one before the last sync the premium behind a closed gate
 abbrev pub ToldOnceSafe : Type 0
 ToldOnceSafe = AreSafeWhenShown called Opens last_disk (hand_issue ∷ []) second_turns (premium_line ∷ [])
     ((codes "1,premium,7001,accepted,2" ++ 10 ∷ []) ∷ []) ((record { bytes = premium_text; since = called.clock last_disk }) ∷ [])
-    × (AreSafeWhenShown called Opens last_disk (hand_issue ∷ []) second_turns (premium_line ∷ [])
-    ((codes "1,premium,7001,accepted,2" ++ 10 ∷ []) ∷ []) ((record { bytes = premium_text; since = 0 }) ∷ []) → ⊥)
+    × (7 < called.clock last_disk)
+    × ((moment : ℕ) → moment < called.clock last_disk
+    → AreSafeWhenShown called Opens last_disk (hand_issue ∷ []) second_turns (premium_line ∷ [])
+    ((codes "1,premium,7001,accepted,2" ++ 10 ∷ []) ∷ []) ((record { bytes = premium_text; since = moment }) ∷ []) → ⊥)
