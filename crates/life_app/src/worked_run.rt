@@ -88,8 +88,8 @@ pub fn lanes_by_hand()
 {}
 
 /// What wrong programs would leave of the script of the third posting is refused by the promise: a made-up cause of another
-/// status, and with 0 a forged transcript, a missing answer, nothing posted, and a line told too soon. Of a valuation's, that
-/// it was told without its rows.
+/// status; and with 0 a forged transcript, a missing answer, nothing posted, a line told too soon, and a file that was unmade on
+/// the way. Of a valuation's, that it was told without its rows.
 pub fn refused_by_hand()
     ensures causes { CausesByHand }
     ensures truth { TruthByHand }
