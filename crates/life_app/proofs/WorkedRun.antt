@@ -7,3 +7,4 @@ pub mod Both
 pub mod Told
 pub mod LanesDisk
 pub mod Lanes
+pub mod LanesGiven

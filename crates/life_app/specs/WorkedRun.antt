@@ -6,3 +6,4 @@ pub mod Due
 pub mod Both
 pub mod Told
 pub mod Lanes
+pub mod LanesGiven
