@@ -36,7 +36,7 @@ OF_A_DISK = set("""
 
 # Held by no worked case, for good, by the reason.
 EXCEPTIONS = {
-    "How a mode ends with a basis: no worked run has one. It puts together what is held apart, and says no value of its own.":
+    "How a trial load ends: no worked run is one. It puts together what is held apart, and says no value of its own.":
         "trial_load.specs.Loading.IsLoadOf",
     "The devices of a contract, as one value.": """
         program_endings.specs.Writing.between program_endings.specs.Writing.input_between

@@ -7,6 +7,7 @@ pub mod Both
 pub mod Told
 pub mod LanesDisk
 pub mod Lanes
+pub mod LanesGiven
 pub mod OneLine
 pub mod Refused
 pub mod Valued

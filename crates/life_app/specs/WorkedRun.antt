@@ -6,4 +6,5 @@ pub mod Due
 pub mod Both
 pub mod Told
 pub mod Lanes
+pub mod LanesGiven
 pub mod Refused

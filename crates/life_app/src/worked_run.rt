@@ -6,6 +6,7 @@ ghost use Rattle.life_app.specs.WorkedRun.Promise.{GivenByHand, HeadlineByHand, 
 ghost use Rattle.life_app.specs.WorkedRun.Due.{BasisByHand, DueByHand, DueOfTheRun, NeedsByHand};
 ghost use Rattle.life_app.specs.WorkedRun.Both.{DueOfBothByHand, DueOfTheSaving, LeftOfTwoByHand, OtherwiseByHand, PartsOfTwoByHand, RowOfTwoByHand, SavedByHand, StatedByHand, TrustedByHand};
 ghost use Rattle.life_app.specs.WorkedRun.Lanes.{LeftLanes, LegalLanes, PromisedLanes, ReopenedLanes};
+ghost use Rattle.life_app.specs.WorkedRun.LanesGiven.{DueLanes, GivenLanes, ObeyedLanes};
 ghost use Rattle.life_app.specs.WorkedRun.Refused.{CausesByHand, ForgedByHand, TruthByHand, ValuedByHand};
 ghost use Rattle.life_app.specs.WorkedRun.Told.{EnclosedByHand, EndedByHand, ModesByHand, ReasonsByHand};
 
@@ -78,9 +79,12 @@ pub fn told_by_hand()
     lines_are_written();
 }
 
-/// Two lanes: a premium is refused, two policies are valued by rates while the other clerk posts, the disk fails in a posting,
-/// and the file is opened again.
+/// Two lanes, from the words and the files of the basis on: a premium is refused, two policies are valued by rates while the
+/// other clerk posts, the disk fails in a posting, and the file is opened again.
 pub fn lanes_by_hand()
+    ensures given { GivenLanes }
+    ensures obeyed { ObeyedLanes }
+    ensures due { DueLanes }
     ensures legal { LegalLanes }
     ensures promised { PromisedLanes }
     ensures left { LeftLanes }
