@@ -15,6 +15,7 @@ OF_THE_KIT = {f"std.specs.{name}" for name in (
     "Prelude.ℕ", "Prelude.ℤ", "Prelude.Bool", "Prelude.List", "Prelude.Option", "Prelude.String", "Global.Global")}
 PARAMETERS = set("DEH")
 PLAIN = re.compile(r"[\w\s()×]+")
+FIELD = re.compile(r"^\s+(?:pub )?[^\s:]+ : ", re.M)
 CONSTRUCTOR = re.compile(r"^\s+[^\s:]+ : (.*)$", re.M)
 NO_VALUES = re.compile(r"\benum\s+(\w+)[^{;]*\{\s*\}")
 
@@ -55,7 +56,7 @@ class PlainData:
         if re.search(r"\brecord\b", lines[0]):
             bound = conditions.binders(lines[0].partition(one.name)[2].rpartition(" : ")[0])
             given = frozenset(name for names, kind in bound for name in names if kind.startswith("Type "))
-            return all(self.holds(field, places, given) for field in statements.fields_of(lines))
+            return self.holds(FIELD.sub(" ", "\n".join(["", *lines[1:]])), places, given)
         if re.search(r"\bdata\b", lines[0]):
             made = [statements.split(kind, "→") for kind in CONSTRUCTOR.findall("\n".join(lines[1:]))]
             return any(result.strip() == one.name and all(self.holds(part, places) for part in parts) for *parts, result in made)

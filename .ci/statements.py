@@ -10,7 +10,7 @@ import re
 import definitions as known
 
 OPEN, CLOSE = "({⦃", ")}⦄"
-CLAUSE = re.compile(r"\b(requires|ensures)\b(?:\s+\w+)?\s*\{")
+CLAUSE = re.compile(r"\b(requires|ensures)\b\*?(?:\s+\w+)?\s*\{")
 BINDER = re.compile(r"^[^():→×⊎{}]+ : (.*)$", re.S)
 LAMBDA = re.compile(r"^λ[^.]*(?:\([^)]*\))?[^.]*\. (.*)$", re.S)
 NEGATION = re.compile(r"^¬\s*(.*)$", re.S)
@@ -141,7 +141,8 @@ def sides_of(one: known.Definition) -> Sides:
 
 
 def functions_of(text: str) -> list[tuple[str, list[tuple[bool, str]]]]:
-    """The public functions of a file: the head of each, and its clauses, whether each is shown and what it says."""
+    """The public functions of a file: the head of each as it is indented, and its clauses, whether each is shown and what it
+    says."""
     found = []
     for function in re.split(r"\n(?=pub fn |    pub fn |fn |impl |pub struct |struct |#\[)", bare(text)):
         if not function.lstrip().startswith("pub fn "):
@@ -153,7 +154,7 @@ def functions_of(text: str) -> list[tuple[str, list[tuple[bool, str]]]]:
                 depth += {"{": 1, "}": -1}.get(function[place], 0)
                 place += 1
             clauses.append((clause.group(1) == "ensures", function[clause.end():place - 1]))
-        found.append((re.split(r"\b(?:requires|ensures)\b|\{", function, maxsplit=1)[0].strip(), clauses))
+        found.append((re.split(r"\b(?:requires|ensures)\b|\{", function, maxsplit=1)[0].rstrip(), clauses))
     return found
 
 

@@ -8,8 +8,9 @@ stands; so it holds what it names itself, and what it builds. Each definition un
 
 A premise of such a clause, and each statement of these two crates under one, has to be built: a case shows it, as a part
 that is no choice, by its name or in a field of what it builds (`statements.py`). A premise that nothing builds might never
-hold, and then the law under it says nothing. So might a case of which a part stands under a hypothesis that no case builds
-(`conditions.py`): it is conditional, builds nothing, and has to stand below with the reason.
+hold, and then the law under it says nothing. So might a case of which a part, or the function that shows it, stands under a
+hypothesis that no case builds (`conditions.py`, `plain_data.py`): it is conditional, builds nothing, and has to stand below
+with the reason. `worked_tries.py` tries that.
 
 usage: python3 .ci/worked.py [--all]      with --all: each definition that no case holds, each premise, each conditional case
 """
@@ -221,9 +222,10 @@ def parts_of(texts: Texts) -> list[conditions.Part]:
 
 
 def given_to(head: str, text: str) -> tuple[str, ...]:
-    """What a function is given, but for devices as parameters: whoever can't give it is shown nothing."""
+    """What a function is given, but for devices as parameters: whoever can't give it is shown nothing. All of its head is, where
+    it is of a type's own, which may have parameters too."""
     found = re.fullmatch(r"pub fn \w+(?:<([^()]*)>)?\(\)( -> [^()]*)?", " ".join(head.split()))
-    if not found:
+    if not found or head.startswith(" "):
         return (" ".join(head.split()),)
     return tuple(one for one in (found[1] or "").split(", ") if one and not is_device(one, text))
 

@@ -32,6 +32,9 @@ data Twice : Type 0 where
 pub record Deep : Type 0 where
   pub deeper : Deep
 
+record Hidden : Type 0 where
+  same : 1 ≡ 0
+
 pub record Claim : Type 0 where
   pub same : 1 ≡ 0
 
@@ -49,8 +52,8 @@ Under said = nothing → said
 
 # Before the arrow in front of a case.
 HYPOTHESES = ("⊥", "1 ≡ 0", "(1 ≡ 0)", "{_ : ⊥}", "⦃ v : ⊥ ⦄", "(v : Void)", "(v : List Void)", "(v : Twice)", "(v : Deep)",
-              "(v : Claim)", "nothing", "(v : nothing)", "(n : ℕ) (v : n ≡ n + 1)", "(n : ℕ) → n ≡ n + 1", "(D ≡ E)",
-              "(x : ⊥) × List ℕ", "(v : ℕ × ⊥)", "(v : ℕ → ⊥)", "¬ ℕ", "(P : Type 0) → P")
+              "(v : Hidden)", "(v : Claim)", "nothing", "(v : nothing)", "(n : ℕ) (v : n ≡ n + 1)", "(n : ℕ) → n ≡ n + 1",
+              "(D ≡ E)", "(x : ⊥) × List ℕ", "(v : ℕ × ⊥)", "(v : ℕ → ⊥)", "¬ ℕ", "(P : Type 0) → P")
 # A value can be made of these, and the last is shown by another case.
 NO_LESS = ("(n : ℕ)", "{pair : Pair} (words : List (Option ℕ))", "(disk : CalledDisk) (lane : Lane)",
            "(disk : CalledDisk) → called.honest disk")
@@ -72,6 +75,9 @@ WAYS = [
     (CONTRACT, "    ensures given {", "    requires { ⊥ }\n    ensures given {", PROMISED),
     (CONTRACT, "    ensures given {", "    requires never { 1 ≡ 0 }\n    ensures given {", PROMISED),
     (CONTRACT, "    ensures legal {", "    requires { ⊥ }\n    ensures legal {", "Lanes.PromisedLanes"),
+    (CONTRACT, "    ensures given {", "    requires* { ⌜ ⊥ ⌝ }\n    ensures given {", PROMISED),
+    (CONTRACT, "fn promise_by_hand()", "fn promise_by_hand()\n    ghost nothing: { ⊥ }", PROMISED),
+    (CONTRACT, "pub fn promise_by_hand()", "impl<T: Nothing> Of<T> {\n    pub fn promise_by_hand()", PROMISED),
     (CONTRACT, "fn promise_by_hand()", "fn promise_by_hand(void: Void)", PROMISED),
     (CONTRACT, "fn promise_by_hand()", "fn promise_by_hand<D: Disk>()", PROMISED),
     (LANES, "PromisedLanes = AreLinesOf", "PromisedLanes = ⊥ → AreLinesOf", "Lanes.PromisedLanes"),
