@@ -1,7 +1,8 @@
 """What a worked case shows, and under which hypotheses: the parts of a statement, each with what stands before its arrows.
 
 Whoever reads `A → B` holds nothing of B before A is shown. A hypothesis is met where a case shows it, under none or under
-met ones, for some values of its variables. In `A → B → ⊥` it is B that is denied, and A that is supposed.
+met ones, for some values of its variables; `⊥` never is. A binder is one too, but of plain data, that has a value. In
+`A → B → ⊥` it is B that is denied, and A that is supposed; in `A × B → ⊥` as well.
 """
 from __future__ import annotations
 
@@ -14,7 +15,7 @@ import statements
 
 BINDER = re.compile(r"^([^():→×⊎{}≡]+) : (.*)$", re.S)
 LAMBDA = re.compile(r"λ\s+(.*?)\.\s", re.S)
-SIGNS = "≡≢≤<∷"
+SIGNS = "→≡≢≤<∷"
 
 # What a name means in a file, where that is read in its place: its parameters, its clauses, and its own file.
 Meaning = tuple[list[str], list[str], str]
@@ -31,6 +32,11 @@ class Part:
     places: frozenset[str]
 
 
+# Parts that are shown, by their shapes.
+Shown = dict[tuple[str, int], list[Part]]
+
+
+@functools.cache
 def bare(text: str) -> str:
     """In one line, without brackets around all of it."""
     text = " ".join(text.split())
@@ -39,6 +45,7 @@ def bare(text: str) -> str:
     return text
 
 
+@functools.cache
 def closes(text: str) -> int:
     """Where the bracket closes that opens the text."""
     depth = 0
@@ -92,29 +99,54 @@ def put(text: str, values: dict[str, str]) -> str:
 
 
 class Reader:
-    """Reads what a case shows. `meaning` tells what a name of a worked file means, and `is_said` whether a type says more
-    than of what kind a value is."""
+    """Reads what a case shows. `meaning` tells what a name of a worked file means, if it is known, and `is_data` whether a
+    type is of plain data, that has a value. `heads` are the names by which the parts begin."""
 
-    def __init__(self, case: str, meaning: Callable[[str, str], Meaning | None], is_said: Callable[[str], bool]) -> None:
-        self.case, self.meaning, self.is_said = case, meaning, is_said
+    def __init__(self, case: str, meaning: Callable[[str, str], Meaning | None],
+                 is_data: Callable[[str, frozenset[str]], bool]) -> None:
+        self.case, self.meaning, self.is_data = case, meaning, is_data
         self.parts: list[Part] = []
+        self.heads: set[str] = set()
 
     def read(self, text: str, within: Part) -> None:
         """`within` has what stands around the text."""
         before = statements.split(bare(text), "→")
         after = before.pop().strip()
-        if after == "⊥" and before:
-            before.pop()
-        supposed, names = within.supposed, within.names
+        denied = before.pop() if after == "⊥" and before else ""
+        names, supposed = within.names, within.supposed
         for one in before:
-            bound = binders(one)
-            names |= {name for group in bound for name in group[0]}
-            supposed += tuple(bare(kind) for _, kind in bound if self.is_said(kind)) if bound else (bare(one),)
+            names |= {name for group in binders(one) for name in group[0]}
+            supposed += self.asked(one, within.places)
         within = Part(self.case, after, supposed, names, within.places)
-        if after == "⊥":
-            self.parts.append(within)
+        if denied:
+            self.read_denied(denied, within)
         else:
             self.read_factors(within)
+
+    def asked(self, one: str, places: frozenset[str]) -> tuple[str, ...]:
+        """What stands before an arrow, but for plain data."""
+        bound = binders(one)
+        return tuple(bare(kind) for _, kind in bound if not self.is_data(kind, places)) if bound else (bare(one),)
+
+    def read_denied(self, text: str, within: Part) -> None:
+        """Of several factors the last is denied, under the others. Whoever denies `⊥` says nothing."""
+        *others, last = statements.split(self.unfolded(bare(text), within), "×")
+        supposed = within.supposed + tuple(one for other in others for one in self.asked(other, within.places))
+        denied = " × ".join(self.asked(last, within.places)) or bare(last)
+        if denied == "⊥":
+            supposed += ("⊥",)
+        self.parts.append(Part(self.case, f"{denied} → ⊥", supposed, within.names, within.places))
+
+    def unfolded(self, text: str, within: Part) -> str:
+        """What a name of a worked file means, put in its place where it is one statement."""
+        words = items(text)
+        meant = self.meant(words[0], within) if words else None
+        if meant and len(meant[0]) == len(words) - 1 and len(meant[1]) == 1:
+            return self.unfolded(bare(put(meant[1][0], dict(zip(meant[0], words[1:])))), within)
+        return text
+
+    def meant(self, word: str, within: Part) -> Meaning | None:
+        return next(filter(None, (self.meaning(word, place) for place in sorted(within.places))), None)
 
     def read_factors(self, whole: Part) -> None:
         factors = statements.split(whole.text, "×")
@@ -131,13 +163,17 @@ class Reader:
             self.read(text, within)
         elif len(statements.split(text, "⊎")) > 1:
             self.read_choices(statements.split(text, "⊎"), within)
+        elif text.startswith("¬"):
+            self.read_denied(text[1:], within)
         elif not self.read_meaning(items(text), within):
+            self.heads.update(items(text)[:1])
             self.parts.append(Part(self.case, text, within.supposed, within.names, within.places))
             for group in statements.groups(text)[1]:
-                inner = LAMBDA.match(group.strip())
-                if inner and "→" in group:
-                    names = within.names | set(re.findall(r"\w+", inner[1]))
-                    self.read(group.strip()[inner.end():], Part(self.case, "", within.supposed, names, within.places))
+                if "→" in group:
+                    inner = LAMBDA.match(group.strip())
+                    names = within.names | set(re.findall(r"\w+", inner[1]) if inner else ())
+                    said = group.strip()[inner.end() if inner else 0:]
+                    self.read(said, Part(self.case, "", within.supposed, names, within.places))
 
     def read_choices(self, choices: list[str], within: Part) -> None:
         """One of them holds, so none of them is shown."""
@@ -147,9 +183,10 @@ class Reader:
         self.parts[known:] = [Part(self.case, "⊎", one.supposed, one.names, one.places) for one in self.parts[known:]]
 
     def read_meaning(self, words: tuple[str, ...], within: Part) -> bool:
-        meant = next(filter(None, (self.meaning(words[0], place) for place in within.places)), None) if words else None
+        meant = self.meant(words[0], within) if words else None
         if not meant or len(meant[0]) != len(words) - 1:
             return False
+        self.heads.add(words[0])
         inside = Part(self.case, "", within.supposed, within.names, within.places | {meant[2]})
         clauses = [put(clause, dict(zip(meant[0], words[1:]))) for clause in meant[1]]
         if len(clauses) == 1:
@@ -160,10 +197,13 @@ class Reader:
 
 
 def fits(one: str, names: frozenset[str], other: str, others: frozenset[str], bound: dict[str, str]) -> bool:
-    """Whether the second is the first for some values of these names; what they are is noted."""
+    """Whether the second is the first for some values of these names; what they are is noted. So is what the second's own
+    names have to be, by a mark, since each stands for any value, but for one at a time."""
     if one in names:
         return bound.setdefault(one, other) == other
-    if one == other or other in others:
+    if other in others:
+        return bound.setdefault("'" + other, one) == one
+    if one == other:
         return True
     (sign, left), (same, right) = sides(one), sides(other)
     if not sign and len(left) == 1 and len(right) == 1:
@@ -178,14 +218,30 @@ def fits_member(one: str, names: frozenset[str], other: str, bound: dict[str, st
     return bool(member) and member == same and owner in names and bound.setdefault(owner, value) == value
 
 
-def unmet(part: Part, shown: list[Part]) -> Iterator[str]:
+@functools.cache
+def may_fit(one: str, names: frozenset[str], other: str, others: frozenset[str]) -> bool:
+    """Whether it does where nothing is known of the names yet."""
+    return one != "⊥" and fits(one, names, other, others, {})
+
+
+def by_shape(parts: list[Part], before: Shown | None = None) -> Shown:
+    """The parts by the sign of each and how many terms are beside it, behind those before."""
+    found = {shape: list(known) for shape, known in (before or {}).items()}
+    for part in parts:
+        sign, terms = sides(part.text)
+        found.setdefault((sign, len(terms)), []).append(part)
+    return found
+
+
+def unmet(part: Part, shown: Shown) -> Iterator[str]:
     """What the part supposes, and none of these shows."""
     bound: dict[str, str] = {}
     for one in part.supposed:
-        for other in shown:
+        sign, terms = sides(one)
+        for other in shown.get((sign, len(terms)), []):
             tried = dict(bound)
-            if fits(one, part.names, other.text, other.names, tried):
-                bound = tried
+            if may_fit(one, part.names, other.text, other.names) and fits(one, part.names, other.text, other.names, tried):
+                bound = {name: value for name, value in tried.items() if name[0] != "'"}
                 break
         else:
             yield one
@@ -194,10 +250,13 @@ def unmet(part: Part, shown: list[Part]) -> Iterator[str]:
 def met(parts: list[Part]) -> tuple[list[Part], list[Part]]:
     """The parts that stand under no hypothesis, or under met ones; and the others."""
     shown: list[Part] = []
+    shapes: Shown = {}
     others = parts
     while True:
-        more = [part for part in others if not any(unmet(part, shown))]
+        more: list[Part] = []
+        left: list[Part] = []
+        for part in others:
+            (left if any(unmet(part, shapes)) else more).append(part)
         if not more:
             return shown, others
-        shown = shown + more
-        others = [part for part in others if part not in more]
+        shown, others, shapes = shown + more, left, by_shape(more, shapes)

@@ -4,15 +4,17 @@ Whoever holds to `A → B` shows B, and asks for A. In `A → ⊥` and `¬ A` it
 fields show; a definition by several clauses, and each side of `⊎`, are choices: one of them is enough.
 """
 
+import functools
 import re
 
 import definitions as known
 
 OPEN, CLOSE = "({⦃", ")}⦄"
-CLAUSE = re.compile(r"\b(requires|ensures)\b(?:\s+\w+)?\s*\{")
+CLAUSE = re.compile(r"\b(requires|ensures)\b\*?(?:\s+\w+)?\s*\{")
 BINDER = re.compile(r"^[^():→×⊎{}]+ : (.*)$", re.S)
 LAMBDA = re.compile(r"^λ[^.]*(?:\([^)]*\))?[^.]*\. (.*)$", re.S)
 NEGATION = re.compile(r"^¬\s*(.*)$", re.S)
+NAME_ENDS = re.compile(r"\b(?!\s*:)")
 
 
 def bare(text: str) -> str:
@@ -22,6 +24,8 @@ def bare(text: str) -> str:
 
 def split(text: str, marks: str) -> list[str]:
     """At these marks, but for those in brackets."""
+    if not any(mark in text for mark in marks):
+        return [text]
     parts, depth, begun = [], 0, 0
     for place, letter in enumerate(text):
         if letter in OPEN:
@@ -34,6 +38,7 @@ def split(text: str, marks: str) -> list[str]:
     return parts + [text[begun:]]
 
 
+@functools.cache
 def groups(text: str) -> tuple[str, list[str]]:
     """What stands outside of brackets, and what is in each of the outermost ones."""
     outside, inside, depth, begun = [], [], 0, 0
@@ -105,8 +110,8 @@ def clauses_of(name: str, lines: list[str]) -> list[str]:
     """The right sides of a definition's clauses."""
     clauses = []
     for line in lines:
-        begins = re.match(r"\s*" + re.escape(name) + r"\b(?!\s*:)(.*)$", line)
-        if begins and " =" in line:
+        bare_line = line.lstrip()
+        if bare_line.startswith(name) and NAME_ENDS.match(bare_line, len(name)) and " =" in line:
             clauses.append(line[line.index(" =") + 2:])
         elif clauses:
             clauses[-1] += "\n" + line
@@ -135,8 +140,9 @@ def sides_of(one: known.Definition) -> Sides:
     return sides
 
 
-def functions_of(text: str) -> list[list[tuple[bool, str]]]:
-    """The clauses of each public function of a file: whether each is shown, and what it says."""
+def functions_of(text: str) -> list[tuple[str, list[tuple[bool, str]]]]:
+    """The public functions of a file: the head of each as it is indented, and its clauses, whether each is shown and what it
+    says."""
     found = []
     for function in re.split(r"\n(?=pub fn |    pub fn |fn |impl |pub struct |struct |#\[)", bare(text)):
         if not function.lstrip().startswith("pub fn "):
@@ -148,10 +154,10 @@ def functions_of(text: str) -> list[list[tuple[bool, str]]]:
                 depth += {"{": 1, "}": -1}.get(function[place], 0)
                 place += 1
             clauses.append((clause.group(1) == "ensures", function[clause.end():place - 1]))
-        found.append(clauses)
+        found.append((re.split(r"\b(?:requires|ensures)\b|\{", function, maxsplit=1)[0].rstrip(), clauses))
     return found
 
 
 def contracts_of(text: str) -> list[tuple[bool, str]]:
     """The clauses of all public functions of a file."""
-    return [clause for clauses in functions_of(text) for clause in clauses]
+    return [clause for _, clauses in functions_of(text) for clause in clauses]

@@ -8,20 +8,23 @@ stands; so it holds what it names itself, and what it builds. Each definition un
 
 A premise of such a clause, and each statement of these two crates under one, has to be built: a case shows it, as a part
 that is no choice, by its name or in a field of what it builds (`statements.py`). A premise that nothing builds might never
-hold, and then the law under it says nothing. So might a case of which a part stands under a hypothesis that no case builds
-(`conditions.py`): it is conditional, builds nothing, and has to stand below with the reason.
+hold, and then the law under it says nothing. So might a case of which a part, or the function that shows it, stands under a
+hypothesis that no case builds (`conditions.py`, `plain_data.py`): it is conditional, builds nothing, and has to stand below
+with the reason. `worked_tries.py` tries that.
 
 usage: python3 .ci/worked.py [--all]      with --all: each definition that no case holds, each premise, each conditional case
 """
 from __future__ import annotations
 
-
+import copy
+import pathlib
 import re
 import sys
-from typing import Any
+from dataclasses import replace
 
 import conditions
 import definitions as known
+import plain_data
 import statements
 
 HOME = ("life_app.specs.", "life_cli.specs.")
@@ -43,10 +46,15 @@ EXCEPTIONS = {
         program_endings.specs.Writing.shelf_between""",
 }
 
+# They say something of each value, or of the one that they find, by the statement that they are given.
+TAKE_STATEMENTS = {"AllZip", "HoldsStill", "IsToldText", "JournalIs", "NeedsBasis", "ShelfHas"}
+
+EXCEPTED = {key for names in EXCEPTIONS.values() for key in names.split()}
+
 # Conditional, by the reason: which hypotheses, and the cases that stand under them.
 CONDITIONAL = {
     "What a mode's record means over any disk, which it leaves open.": (
-        r"\w+ D\b.*|D\.reads [\w.]+ ≡ (\[\]|codes \"hello\")|E\.may_leave disks\.kept image", """
+        r"\w+ D\b.*|D\.honest new|D\.reads [\w.]+ ≡ (\[\]|codes \"hello\")|E\.may_leave disks\.kept image", """
         life_app.specs.Worked.BothRefuseHello program_endings.specs.Worked.RefusesHello
         stating_modes.specs.Worked.KeepsAnEmptyFile stating_modes.specs.Worked.KnowsNobody
         stating_modes.specs.Worked.RefusesHelloByTwo stating_modes.specs.Worked.SavesNothing
@@ -67,39 +75,88 @@ CONDITIONAL = {
 
 
 class Texts:
-    """All definitions of specs/, what each shows and asks for, and what its words mean."""
+    """All definitions of specs/, what each shows and asks for, and what its words mean; and the code."""
 
     def __init__(self) -> None:
         self.definitions, self.imports = known.read_specs()
-        self.sides = {key: statements.sides_of(one) for key, one in self.definitions.items()}
-        self.says = self.statements()
-        self.said_names = {self.definitions[key].name for key in self.says}
+        self.code = {path: path.read_text(encoding="utf-8") for path in sorted(known.TOP.glob("crates/*/src/**/*.rt"))}
+        self.imports |= {str(path): known.imports_of(text) for path, text in self.code.items()}
+        self.read()
+
+    def read(self) -> None:
+        self.is_data = plain_data.PlainData(self.definitions, self.imports).holds
+        self.meanings: dict[tuple[str, str], conditions.Meaning | None] = {}
+        self.sides: dict[str, statements.Sides] = {}
+
+    def changed(self, path: pathlib.Path, text: str) -> Texts:
+        """The same with another text of a file."""
+        other = copy.copy(self)
+        if path in self.code:
+            other.code = self.code | {path: text}
+            other.imports = self.imports | {str(path): known.imports_of(text)}
+        else:
+            place, fresh = known.place_of(path), dict[str, known.Definition]()
+            known.read_file(place, text, fresh)
+            other.imports = self.imports | {place: known.imports_of(text)}
+            other.definitions = {key: one for key, one in self.definitions.items() if one.place != place} | fresh
+        other.read()
+        return other
 
     def meant(self, words: set[str], imports: dict[str, str], place: str = "") -> set[str]:
         found = {imports[word] for word in words if word in imports} | {f"{place}.{word}" for word in words}
         return found & self.definitions.keys()
 
-    def is_said(self, kind: str) -> bool:
-        """Whether a type says more than of what kind a value is."""
-        return bool(re.search("[≡≢≤<⊥]", kind) or self.said_names & set(known.WORD.findall(kind)))
-
     def meaning(self, word: str, place: str) -> conditions.Meaning | None:
         """What a name of a worked file means in this file: its parameters, its clauses, and its own file."""
+        if (word, place) not in self.meanings:
+            self.meanings[word, place] = self.meaning_of(word, place)
+        return self.meanings[word, place]
+
+    def meaning_of(self, word: str, place: str) -> conditions.Meaning | None:
         key = self.imports[place].get(word, f"{place}.{word}")
         if key not in self.definitions or not WORKED.search(key):
             return None
         one = self.definitions[key]
         lines = statements.bare("\n".join(one.lines)).splitlines()
         if re.match(r"\s*pub record", lines[0]):
-            return [], [" × ".join(f"({field})" for field in statements.fields_of(lines))], one.place
+            bound = conditions.binders(lines[0].partition(one.name)[2].rpartition(" : ")[0])
+            fields = " × ".join(f"({field})" for field in statements.fields_of(lines))
+            return [name for names, _ in bound for name in names], [fields], one.place
         head = next((line for line in lines if re.match(r"\s*" + re.escape(one.name) + r"\b(?!\s*:).* =", line)), "")
         given = [name for name in head.partition(" =")[0].split()[1:] if not name.startswith("{")]
         is_type = re.search(r"Type \d+\s*$", lines[0].partition(" : ")[2]) and head
         return (given, statements.clauses_of(one.name, lines), one.place) if is_type else None
 
+    def as_read(self, part: conditions.Part) -> conditions.Part:
+        """Under one more hypothesis where it begins by a name whose meaning isn't read here: one of a worked file, or another
+        that is given a statement and may make of it what it likes."""
+        word = "" if conditions.sides(part.text)[0] else conditions.items(part.text)[0]
+        unread = word[:1].isupper() and any(map(WORKED.search, self.keys_of(word, part.places))) or (
+            word not in TAKE_STATEMENTS and self.gives_statement(part.text, part.places))
+        return replace(part, supposed=part.supposed + (f"what {word} says",)) if unread else part
+
+    def gives_statement(self, text: str, places: frozenset[str]) -> bool:
+        """Whether something in brackets begins by the name of a statement, also behind a `λ`."""
+        for group in statements.groups(text)[1]:
+            said = re.split(r"[×→⊎:]|λ[^.]*\.\s", group)
+            if any(self.is_statement(conditions.items(one)[0], places) for one in said if one.strip()):
+                return True
+            if self.gives_statement(group, places):
+                return True
+        return False
+
+    def keys_of(self, word: str, places: frozenset[str]) -> set[str]:
+        return {self.imports[place].get(word, f"{place}.{word}") for place in places} & self.definitions.keys()
+
+    def is_statement(self, word: str, places: frozenset[str]) -> bool:
+        """Whether a name means a type that isn't of plain data."""
+        return word[:1].isupper() and bool(self.keys_of(word, places)) and not self.is_data(word, places)
+
     def side(self, key: str, side: str) -> set[str]:
         """The definitions that this one shows for sure (`sure`), shows perhaps (`choice`), or asks for (`asked`)."""
         place = self.definitions[key].place
+        if key not in self.sides:
+            self.sides[key] = statements.sides_of(self.definitions[key])
         return self.meant(getattr(self.sides[key], side), self.imports[place], place)
 
     def under(self, roots: set[str], less: set[str]) -> set[str]:
@@ -119,11 +176,10 @@ def contracts(texts: Texts) -> tuple[set[str], set[str]]:
     """The definitions that public clauses of the two crates name, and those under them that are asked for."""
     named, open_names = set(), []
     for crate in (prefix.split(".")[0] for prefix in HOME):
-        for path in sorted(known.TOP.glob(f"crates/{crate}/src/**/*.rt")):
-            if path.name.startswith("worked"):
+        for path, text in texts.code.items():
+            if not path.is_relative_to(known.TOP / "crates" / crate) or path.name.startswith("worked"):
                 continue
-            text = path.read_text(encoding="utf-8")
-            imports = known.imports_of(text)
+            imports = texts.imports[str(path)]
             for shown, clause in statements.contracts_of(text):
                 sides = statements.Sides().read(clause, shown)
                 named |= texts.meant(set(known.WORD.findall(clause)), imports)
@@ -144,28 +200,45 @@ def asked_for(texts: Texts, open_names: list[tuple[str, bool]]) -> set[str]:
         if key.startswith(HOME):
             open_names += [(under, shown) for under in texts.side(key, "sure") | texts.side(key, "choice")]
             open_names += [(under, not shown) for under in texts.side(key, "asked")]
-    return {key for key, shown in seen if not shown and key in texts.says}
+    says = texts.statements()
+    return {key for key, shown in seen if not shown and key in says}
 
 
 def parts_of(texts: Texts) -> list[conditions.Part]:
     """What the worked cases show, the definitions of worked files that clauses name, each under what its function asks for."""
-    parts = []
-    for path in sorted(known.TOP.glob("crates/*/src/**/*.rt")):
-        text = path.read_text(encoding="utf-8")
-        texts.imports[str(path)] = imports = known.imports_of(text)
-        for clauses in statements.functions_of(text) if any(map(WORKED.search, imports.values())) else []:
-            asked = tuple(conditions.bare(clause) for shown, clause in clauses if not shown)
-            for case, clause in cases_in(texts, clauses, imports):
-                within = conditions.Part(case, "", asked, frozenset("DE"), frozenset([str(path)]))
-                reader = conditions.Reader(case, texts.meaning, texts.is_said)
+    parts: list[conditions.Part] = []
+    for path, text in texts.code.items():
+        imports = texts.imports[str(path)]
+        for head, clauses in statements.functions_of(text) if any(map(WORKED.search, imports.values())) else []:
+            asked = given_to(head, text) + tuple(conditions.bare(clause) for shown, clause in clauses if not shown)
+            for word, clause in cases_in(texts, clauses, imports):
+                within = conditions.Part(imports[word], "", asked, frozenset(), frozenset([str(path)]))
+                reader = conditions.Reader(imports[word], texts.meaning, texts.is_data)
                 reader.read(re.sub(r"\b([DE])\.Disk\b", r"\1", clause), within)
-                parts += reader.parts
+                parts += (texts.as_read(part) for part in reader.parts)
+                if word not in reader.heads and (word[0].isupper() or texts.meaning(word, str(path))):
+                    parts.append(replace(within, supposed=(f"{word} by itself",)))
     return parts
 
 
+def given_to(head: str, text: str) -> tuple[str, ...]:
+    """What a function is given, but for devices as parameters: whoever can't give it is shown nothing. All of its head is, where
+    it is of a type's own, which may have parameters too."""
+    found = re.fullmatch(r"pub fn \w+(?:<([^()]*)>)?\(\)( -> [^()]*)?", " ".join(head.split()))
+    if not found or head.startswith(" "):
+        return (" ".join(head.split()),)
+    return tuple(one for one in (found[1] or "").split(", ") if one and not is_device(one, text))
+
+
+def is_device(one: str, text: str) -> bool:
+    """Whether it is a parameter bound by a trait of devices, which the file has from the crate of these."""
+    name, _, bound = one.partition(": ")
+    return name in plain_data.PARAMETERS and bool(re.search(rf"\buse outside_io::[^;]*\b{re.escape(bound)}\b", text))
+
+
 def cases_in(texts: Texts, clauses: list[tuple[bool, str]], imports: dict[str, str]) -> list[tuple[str, str]]:
-    """The worked cases that clauses show, each with the clause."""
-    return [(imports[word], clause) for shown, clause in clauses if shown for word in sorted(set(known.WORD.findall(clause)))
+    """The names of worked cases that clauses show, each with the clause."""
+    return [(word, clause) for shown, clause in clauses if shown for word in sorted(set(known.WORD.findall(clause)))
             if word in imports and WORKED.search(imports[word]) and imports[word] in texts.definitions]
 
 
@@ -173,7 +246,7 @@ def built_by(texts: Texts, shown: list[conditions.Part]) -> set[str]:
     """What these parts show for sure, and what that shows so."""
     built, open_names = set(), {part.case for part in shown}
     for part in shown:
-        words = statements.Sides().read(part.text).sure
+        words = set() if part.text.endswith("→ ⊥") else statements.Sides().read(part.text).sure
         open_names |= set().union(*(texts.meant(words, texts.imports[place], place) for place in part.places))
     while open_names:
         key = open_names.pop()
@@ -196,39 +269,51 @@ def held_by(texts: Texts, cases: set[str], built: set[str]) -> set[str]:
 def told_conditional(shown: list[conditions.Part], others: list[conditions.Part]) -> tuple[list[str], set[str]]:
     """What is wrong of the cases under hypotheses that no case builds, and each of them."""
     listed = {case: pattern for pattern, cases in CONDITIONAL.values() for case in cases.split()}
-    found = sorted({(part.case, one) for part in others for one in conditions.unmet(part, shown)})
+    shapes = conditions.by_shape(shown)
+    found = sorted({(part.case, one) for part in others for one in conditions.unmet(part, shapes)})
     wrong = [f"{case} is conditional: no case builds {one}" for case, one in found
-             if not re.fullmatch(listed.get(case, "⊥"), one)]
+             if case not in listed or not re.fullmatch(listed[case], one)]
     cases = {case for case, _ in found}
     wrong += [f"{case} isn't conditional, or gone, and needs no reason" for case in sorted(listed.keys() - cases)]
     return wrong, cases
 
 
-def main() -> Any:
-    texts = Texts()
-    parts = parts_of(texts)
-    shown, others = conditions.met(parts)
-    named, premises = contracts(texts)
-    promise = {key for key in texts.under(named, set()) if ".Worked" not in key}
-    cases, built = {part.case for part in parts}, built_by(texts, shown)
-    bare = promise - held_by(texts, cases, built)
-    excepted = {key for names in EXCEPTIONS.values() for key in names.split()}
-    wrong = [f"no worked case rests on {key}" for key in sorted(bare - excepted)]
-    wrong += [f"{key} is held, or gone, and needs no exception" for key in sorted(excepted - bare)]
-    wrong += [f"no worked case builds the premise {key}" for key in sorted(premises - built)]
-    told, conditional = told_conditional(shown, others)
-    wrong += told
-    if len(excepted) >= 20:
-        wrong.append(f"{len(excepted)} exceptions are too many")
-    for what in wrong:
+def told_data(texts: Texts) -> list[str]:
+    """What is wrong of types of the code, each of which is taken for data."""
+    return [f"no value can be had of {one}, so it is no data" for one in plain_data.without_values(texts.code)]
+
+
+class Found:
+    """What is wrong of these texts, and what was counted."""
+
+    def __init__(self, texts: Texts) -> None:
+        parts = parts_of(texts)
+        shown, others = conditions.met(parts)
+        named, self.premises = contracts(texts)
+        self.promise = {key for key in texts.under(named, set()) if ".Worked" not in key}
+        self.cases, built = {part.case for part in parts}, built_by(texts, shown)
+        self.bare = self.promise - held_by(texts, self.cases, built)
+        self.wrong = [f"no worked case rests on {key}" for key in sorted(self.bare - EXCEPTED)]
+        self.wrong += [f"{key} is held, or gone, and needs no exception" for key in sorted(EXCEPTED - self.bare)]
+        self.wrong += [f"no worked case builds the premise {key}" for key in sorted(self.premises - built)]
+        told, self.conditional = told_conditional(shown, others)
+        self.wrong += told + told_data(texts)
+        if len(EXCEPTED) >= 20:
+            self.wrong.append(f"{len(EXCEPTED)} exceptions are too many")
+
+
+def main() -> int:
+    found = Found(Texts())
+    for what in found.wrong:
         print(f"worked: {what}", file=sys.stderr)
     if "--all" in sys.argv:
-        print(*sorted(bare), *(f"premise {key}" for key in sorted(premises)), sep="\n")
-        print(*(f"conditional {case}" for case in sorted(conditional)), sep="\n")
-    if not wrong:
-        print(f"worked: {len(cases)} cases hold {len(promise - bare)} of the {len(promise)} definitions under the promise, "
-              f"and build its {len(premises)} premises; {len(excepted)} are excepted, and {len(conditional)} cases conditional")
-    return 1 if wrong else 0
+        print(*sorted(found.bare), *(f"premise {key}" for key in sorted(found.premises)), sep="\n")
+        print(*(f"conditional {case}" for case in sorted(found.conditional)), sep="\n")
+    if not found.wrong:
+        promise, held = len(found.promise), len(found.promise - found.bare)
+        print(f"worked: {len(found.cases)} cases hold {held} of the {promise} definitions under the promise, and build "
+              f"its {len(found.premises)} premises; {len(EXCEPTED)} are excepted, and {len(found.conditional)} cases conditional")
+    return 1 if found.wrong else 0
 
 
 if __name__ == "__main__":

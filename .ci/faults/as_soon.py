@@ -1,11 +1,13 @@
 """Each accepted line is read at the other end of a pipe behind the sync that makes its record safe, and before the next
 record is safe: the program is run with each sync held back, and the moments at which its lines are read are put between
-those of its syncs.
+those of its syncs. No sync is behind the last line; that is read before the watchers' lines are written, for which the
+program waits until the thread has ended that writes for the clerks, and that end is held back.
 
 usage: python3 as_soon.py PROGRAM FOLDER [--held-back | --clerk N]
 
-The program is first run so, and then behind a command that holds back what it writes, which has to be found; with
---held-back only this is done. With a clerk's number he posts in the place of clerk 1, and only the first is done.
+The program is first run so, and then behind a command that holds back what it writes, and behind one that holds back the
+last line alone, which both have to be found; with --held-back only this is done. With a clerk's number he posts in the
+place of clerk 1, and only the first is done.
 """
 import re
 import subprocess
@@ -18,19 +20,25 @@ from runs import is_preview
 POSTINGS = 6
 # a preview is slow
 HELD_MS = 200 if is_preview(sys.argv[1]) else 50
+# more, since nothing but the reader has to come before it
+ENDS_MS = 500
 # a run takes a second or two, or for ever
 LONGEST_SECONDS = "30"
 SCRIPT = "".join(f"1,issue,{7001 + k},2020-01-01,whole,40,0,1000.00,{20 + k}.00\n" for k in range(POSTINGS))
 # a record is two syncs: of its body, and of its gate
 SYNCS = 2
+HOLDS = ["dd", "bs=8192", "iflag=fullblock", "status=none"]
+HOLDS_LAST = ["sh", "-c", f"sed -u {POSTINGS - 1}q; exec {' '.join(HOLDS)}"]
 
 
-def watch(program: str, folder: Path, behind: list[str], clerk: str = "1") -> tuple[list[float], list[float]]:
-    """When each accepted line was read, and when each sync of the journal's records began."""
+def watch(program: str, folder: Path, behind: list[str],
+          clerk: str = "1") -> tuple[list[float], list[float], list[float]]:
+    """When each accepted line was read, and when each sync of the journal's records and each write of watchers' lines began."""
     script, log = folder / "script.csv", folder / "calls"
     script.write_text(SCRIPT.replace("1,issue,", f"{clerk},issue,"))
-    traced = ["strace", "-f", "-ttt", "-o", str(log), "-e", "trace=fsync,fdatasync",
-              "-e", f"inject=fsync,fdatasync:delay_exit={HELD_MS * 1000}", "timeout", LONGEST_SECONDS, program, "run"]
+    traced = ["strace", "-f", "-ttt", "-o", str(log), "-s", "200", "-e", "trace=fsync,fdatasync,write,exit",
+              "-e", f"inject=fsync,fdatasync:delay_exit={HELD_MS * 1000}",
+              "-e", f"inject=exit:delay_enter={ENDS_MS * 1000}", "timeout", LONGEST_SECONDS, program, "run"]
     with open(script, "rb") as given:
         run = subprocess.Popen(traced, stdin=given, stdout=subprocess.PIPE, cwd=folder)
         last = subprocess.Popen(behind, stdin=run.stdout, stdout=subprocess.PIPE) if behind else run
@@ -41,12 +49,15 @@ def watch(program: str, folder: Path, behind: list[str], clerk: str = "1") -> tu
             sys.exit("as_soon: the run doesn't return")
         if last.returncode or run.returncode:
             sys.exit("as_soon: the program failed under strace")
-    began = [float(found[1]) for found in re.finditer(r"^\d+ +(\d+\.\d+) f(?:data)?sync\(", log.read_text(), re.M)]
-    return read, began[-SYNCS * POSTINGS:]
+    began, told = ([float(moment) for moment in re.findall(r"^\d+ +(\d+\.\d+) " + call, log.read_text(), re.M)]
+                   for call in (r"f(?:data)?sync\(", r'write\(1, ".*watcher,'))
+    return read, began[-SYNCS * POSTINGS:], told
 
 
-def amiss(read: list[float], began: list[float]) -> list[str]:
+def amiss(read: list[float], began: list[float], watched: list[float]) -> list[str]:
     """What is wrong with the moments at which the lines were read."""
+    if not watched:
+        return ["no watcher's line was written, before which the last line has to be read"]
     if len(read) != POSTINGS or len(began) != SYNCS * POSTINGS:
         return [f"{len(read)} accepted lines and {len(began)} syncs of {POSTINGS} postings"]
     told = []
@@ -58,6 +69,8 @@ def amiss(read: list[float], began: list[float]) -> list[str]:
         if k + 1 < POSTINGS and moment > began[SYNCS * (k + 1) + 1]:
             late = (moment - began[SYNCS * (k + 1) + 1]) * 1000
             told.append(f"line {k + 1} was read {late:.0f} ms after the next body was safe")
+    if read[-1] > watched[0]:
+        told.append(f"the last line was read {(read[-1] - watched[0]) * 1000:.0f} ms after the watchers' lines were written")
     return told
 
 
@@ -74,11 +87,12 @@ def main() -> int:
         for line in amiss(*watch(program, plain, [])):
             print(f"as_soon: {line}", file=sys.stderr)
             failed = True
-    held = folder / "held"
-    held.mkdir()
-    if not amiss(*watch(program, held, ["dd", "bs=8192", "iflag=fullblock", "status=none"])):
-        print("as_soon: a command that holds back what is written isn't found", file=sys.stderr)
-        failed = True
+    for name, behind in (("held", HOLDS), ("last", HOLDS_LAST)):
+        held = folder / name
+        held.mkdir()
+        if not any(line.startswith("the last line") for line in amiss(*watch(program, held, behind))):
+            print(f"as_soon: {' '.join(behind)}, which holds back the last line, isn't found", file=sys.stderr)
+            failed = True
     return int(failed)
 
 
