@@ -1,5 +1,5 @@
 -- The promise refuses what wrong programs would leave of the worked run.
-use Rattle.life_app.proofs.Names.{le-leb, puts, untorn, file_reads, writes_within, spelling_of, IsJournal, ◌≡◌, ◌≢◌, ◌<◌, ◌+◌, ℕ, ℤ, Option, Bool, true, List, [], ◌∷◌, ◌++◌, length, take, get_or, refl, ap, ap₂, sym, ◌∙◌, subst, inl, inr, lit≤, lit<, arith, append-nil, codes, Some, None, digits, AllByRecursion, AllZip, ◌==◌, Command, Entry, Reply, Accepted, Faulted, Refused, Blank, accepted_of, fault_of, opened_on, reports_of, run_wording, posting_text, IsToldText, IsToldLine, IsPromised, IsEnclosingRow, Row, WasFaulted, table_reserves, Opens, opens_to_one, shown_opens_to_none, hand_issue, hand_premium, NotAJournal, BadRecord, Rose, Ending, Done, NoMemory, BadJournal, DiskFault, WriteFault, BadBasis, BadScript, ReadFault, status_of, EndsUnread, EndsNoBasis, EndsNoOffice, WroteAll, WroteAsEnded, Stream, TakenPiece, called, CalledDisk, cut_disk, cut_file, last_disk, looked_disk, both_commands, given_script, premium_lanes, premium_script, premium_text, output_of, shelf_that_told, two_auditors}
+use Rattle.life_app.proofs.Names.{le-leb, puts, untorn, file_reads, writes_within, spelling_of, IsJournal, ◌≡◌, ◌≢◌, ◌<◌, ℕ, ℤ, Option, Bool, true, List, [], ◌∷◌, ◌++◌, length, take, get_or, refl, ap, ap₂, sym, ◌∙◌, subst, inl, inr, lit≤, lit<, arith, append-nil, codes, Some, None, digits, AllByRecursion, AllZip, ◌==◌, Command, Entry, Reply, Accepted, Faulted, Refused, Blank, accepted_of, fault_of, opened_on, reports_of, run_wording, posting_text, IsToldText, IsToldLine, IsPromised, IsEnclosingRow, Row, WasFaulted, table_reserves, Opens, opens_to_one, shown_opens_to_none, hand_issue, hand_premium, NotAJournal, BadRecord, Rose, Ending, Done, NoMemory, BadJournal, DiskFault, WriteFault, BadBasis, BadScript, ReadFault, status_of, EndsUnread, EndsNoBasis, EndsNoOffice, WroteAll, WroteAsEnded, Stream, TakenPiece, called, CalledDisk, cut_disk, cut_file, last_disk, looked_disk, both_commands, given_script, premium_lanes, premium_script, premium_text, output_of, shelf_that_told, two_auditors}
 use Rattle.std.specs.Prelude.{◌||◌, nat_le}
 use Rattle.std.specs.List.{Contains, concat}
 use Rattle.basis_shelf.specs.FirstBad.{IsFirstBadFile}
