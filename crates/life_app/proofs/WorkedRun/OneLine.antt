@@ -73,17 +73,18 @@ first_turn first rest [] same = cc
 first_turn first rest (entry ∷ later) same = (entry, (later, ap (λ (turns : List Placed). get_or turns 0 first) same, refl))
 
 -- a posting is answered by one turn, and there is no other
-pub record IsOneTurn (command : Command) (placed : Placed) (history : List Entry) : Type 0 where
+pub record IsOneTurn (command : Command) (placed : Placed) (rest : List Placed) (history : List Entry) : Type 0 where
   pub entry : Entry
   pub first : placed ≡ (0, entry)
   pub only : history ≡ entry ∷ []
   pub call : entry.call ≡ Post command
+  pub alone : rest ≡ []
 
 pub one_turn : (command : Command) (dry : List ℕ) (first : Placed) (rest : List Placed) (history : List Entry)
-    → AnswersLine dry (PostLine command) (first ∷ rest) → (first ∷ rest) ++ [] ≡ enumerate_from 0 history → IsOneTurn command first history
+    → AnswersLine dry (PostLine command) (first ∷ rest) → (first ∷ rest) ++ [] ≡ enumerate_from 0 history → IsOneTurn command first rest history
 one_turn command dry first (other ∷ rest) history answers same = absurd answers
 one_turn command dry first [] [] answers same = cc
 one_turn command dry first [] (entry ∷ []) answers same =
     let is : first ≡ (0, entry) = ap (λ (turns : List Placed). get_or turns 0 first) same in
-    record { entry = entry; first = is; only = refl; call = subst (λ (placed : Placed). placed.1.call ≡ Post command) is answers }
+    record { entry = entry; first = is; only = refl; call = subst (λ (placed : Placed). placed.1.call ≡ Post command) is answers; alone = refl }
 one_turn command dry first [] (entry ∷ other ∷ history) answers same = absurd (let long = ap length same in omega (arith, long))

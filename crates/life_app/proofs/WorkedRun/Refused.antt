@@ -1,5 +1,5 @@
 -- The promise refuses what wrong programs would leave of the worked run.
-use Rattle.life_app.proofs.Names.{le-leb, puts, untorn, file_reads, writes_within, spelling_of, IsJournal, ◌≡◌, ◌≢◌, ◌<◌, ◌+◌, ℕ, ℤ, Option, Bool, true, List, [], ◌∷◌, ◌++◌, length, take, get_or, refl, ap, ap₂, sym, ◌∙◌, subst, inl, inr, lit≤, lit<, arith, append-nil, codes, Some, None, digits, AllByRecursion, AllZip, ◌==◌, Command, Entry, Reply, Accepted, Faulted, Refused, Blank, accepted_of, fault_of, opened_on, reports_of, run_wording, posting_text, IsToldText, IsToldLine, IsPromised, IsEnclosingRow, Row, WasFaulted, table_reserves, Opens, opens_to_one, shown_opens_to_none, hand_issue, hand_premium, NotAJournal, BadRecord, Rose, Ending, Done, NoMemory, BadJournal, DiskFault, WriteFault, BadBasis, BadScript, ReadFault, status_of, EndsUnread, EndsNoBasis, EndsNoOffice, WroteAll, WroteAsEnded, Stream, TakenPiece, called, CalledDisk, cut_disk, cut_file, last_disk, looked_disk, both_commands, given_script, premium_lanes, premium_script, premium_text, output_of, shelf_that_told, two_auditors}
+use Rattle.life_app.proofs.Names.{le-leb, puts, untorn, file_reads, writes_within, spelling_of, IsJournal, ◌≡◌, ◌≢◌, ◌<◌, ℕ, ℤ, Option, Bool, true, List, [], ◌∷◌, ◌++◌, length, take, get_or, refl, ap, ap₂, sym, ◌∙◌, subst, inl, inr, lit≤, lit<, arith, append-nil, codes, Some, None, digits, AllByRecursion, AllZip, ◌==◌, Command, Entry, Reply, Accepted, Faulted, Refused, Blank, accepted_of, fault_of, opened_on, reports_of, run_wording, posting_text, IsToldText, IsToldLine, IsPromised, IsEnclosingRow, Row, WasFaulted, table_reserves, Opens, opens_to_one, shown_opens_to_none, hand_issue, hand_premium, NotAJournal, BadRecord, Rose, Ending, Done, NoMemory, BadJournal, DiskFault, WriteFault, BadBasis, BadScript, ReadFault, status_of, EndsUnread, EndsNoBasis, EndsNoOffice, WroteAll, WroteAsEnded, Stream, TakenPiece, called, CalledDisk, cut_disk, cut_file, last_disk, looked_disk, both_commands, given_script, premium_lanes, premium_script, premium_text, output_of, shelf_that_told, two_auditors}
 use Rattle.std.specs.Prelude.{◌||◌, nat_le}
 use Rattle.std.specs.List.{Contains, concat}
 use Rattle.basis_shelf.specs.FirstBad.{IsFirstBadFile}
@@ -10,7 +10,6 @@ use Rattle.lane_runner.specs.AnsweredLines.{AnsweredLine}
 use Rattle.office_state.specs.Journals.{IsShown}
 use Rattle.office_state.specs.declared.faults.StartCause.{StartCause}
 use Rattle.outside_io.specs.Shelves.{Files}
-use Rattle.outside_io.specs.Streams.{taken_bytes}
 use Rattle.policy_machine.specs.History.{IsDue, IsLegalAfter}
 use Rattle.policy_machine.specs.Merge.{Placed}
 use Rattle.policy_types.specs.declared.entry.Call.{Call}
@@ -22,8 +21,9 @@ use Rattle.program_endings.specs.Refusals.{SaysWhy}
 use Rattle.program_endings.specs.Replies.{AreAnswered}
 use Rattle.program_endings.specs.Writing.{GaveAll}
 use Rattle.script_run.specs.Script.{IsRefused}
+use Rattle.script_run.specs.Shown.{AreSafeWhenShown}
 use Rattle.script_run.proofs.ScriptStatus.{never_long, never_readable}
-use Rattle.life_app.specs.WorkedRun.Refused.{Admits, CausesByHand, ForgedByHand, TruthByHand, longer_text, output_at, remade_disk, unanswered_text, unmaking}
+use Rattle.life_app.specs.WorkedRun.Refused.{Admits, CausesByHand, ForgedByHand, TruthByHand, answered_by, longer_text, output_at, premium_turn_by, remade_disk, unanswered_text, unmaking}
 use Rattle.life_app.proofs.WorkedRun.Due.{none_failed}
 use Rattle.life_app.proofs.WorkedRun.Calls.{both_true, looks_allowed, posted_within, reads}
 use Rattle.life_app.proofs.WorkedRun.First.{cut, honest_last, journal_of_issue, premium_size}
@@ -195,6 +195,16 @@ accepted caller _ due unfailed filled = absurd due
 abbrev turn_by : ℕ → Call → Reply → Entry
 turn_by caller call reply = record { caller = caller; call = call; reply = reply }
 
+abbrev placed_by : ℕ → Call → Reply → Placed
+placed_by caller call reply = (0, turn_by caller call reply)
+
+abbrev line_with : ℕ → Line → Placed → List Placed → AnsweredLine
+line_with clerk line first rest = record { clerk = clerk; line = line; first = first; rest = rest }
+
+made : (clerk other : ℕ) (line another : Line) (first placed : Placed) (rest more : List Placed) → clerk ≡ other → line ≡ another
+    → first ≡ placed → rest ≡ more → line_with clerk line first rest ≡ line_with other another placed more
+made clerk other line another first placed rest more a b c d = cc
+
 told_so : (IsRow : ℤ → Policy → Row → Type 0) (clerk : ℕ) (line : Line) (reply : Reply) (commands : List Command) (IsDry : Type 0) (text : List ℕ)
     → IsToldText run_wording IsRow clerk line reply commands IsDry text → clerk ≡ 1 → line ≡ PostLine hand_premium → reply ≡ Accepted 2
     → text ≡ posting_text 1 hand_premium (Accepted 2)
@@ -215,6 +225,10 @@ written : concat (posting_text 1 hand_premium (Accepted 2) ∷ []) ++ run_wordin
 unfolding digits
 written = refl
 
+spelled : posting_text 1 hand_premium (Accepted 2) ≡ codes "1,premium,7001,accepted,2" ++ 10 ∷ []
+unfolding digits
+spelled = refl
+
 -- with 0 all is written and answered
 pub all_written : (new : CalledDisk) (history : List Entry) (dry : List ℕ) (texts : List (List ℕ)) (reports : List ℕ) (output : Stream)
     (ending : Ending) → 0 ≡ status_of ending → WroteAsEnded called cut_disk new history dry texts reports output ending
@@ -233,7 +247,7 @@ module _ (new : CalledDisk) (output : Stream)
   one : IsOneLine (PostLine hand_premium) is.dry is.lines is.history
   one = answered_once (PostLine hand_premium) is.dry is.history is.lines is.callers is.answered is.theirs
 
-  turn : IsOneTurn hand_premium one.line.first is.history
+  turn : IsOneTurn hand_premium one.line.first one.line.rest is.history
   turn = one_turn hand_premium is.dry one.line.first one.line.rest is.history one.answers one.turns
 
   wrote : WroteAll output (concat is.texts ++ run_wording.reports (reports_of two_auditors (accepted_of is.history))) × AreAnswered is.history is.dry
@@ -261,7 +275,7 @@ module _ (new : CalledDisk) (output : Stream)
       (subst (λ (ls : List AnsweredLine). AllZip (IsToldLine run_wording (IsEnclosingRow table_reserves []) is.commands is.history is.dry) ls is.texts) one.only is.told)
       one.clerk one.asks first_reply
 
-  pub wrote_transcript : WroteAll output premium_text
+  wrote_transcript : WroteAll output premium_text
   wrote_transcript = subst (λ (bytes : List ℕ). WroteAll output bytes)
       (ap₂ (λ (ts : List (List ℕ)) (cs : List Command). concat ts ++ run_wording.reports (reports_of two_auditors cs)) texts_are accepted_is ∙ written)
       wrote.0
@@ -271,26 +285,38 @@ module _ (new : CalledDisk) (output : Stream)
       let same = ap (λ (entry : Entry). entry.reply) (one_alone _ _ was.before was.after (sym history_is ∙ was.turns)) in
       cc
 
-  pub holds_both : (image : List ℕ) → called.may_leave new image → Opens image both_commands
+  holds_both : (image : List ℕ) → called.may_leave new image → Opens image both_commands
   holds_both image left = elim (is.now honest image left) [
     | inl opens ↦ subst (λ (cs : List Command). Opens image cs) (ap₂ (λ (a b : List Command). a ++ b) commands_are accepted_is) opens
     | inr (command, was, opens) ↦ absurd (never_faulted (accepted_of is.history) command was)
   ]
 
-  -- what was handed on in one piece, was so since both are safe
-  pub handed_on : (piece : TakenPiece) → output.pieces_after ≡ piece ∷ [] → output.pieces_before ≡ [] → 0 < length (taken_bytes (piece ∷ []))
-      → (image : List ℕ) → called.left_since new piece.since image → (more : List Command) × Opens image ((hand_issue ∷ []) ++ hand_premium ∷ more)
-  handed_on piece after before some image left =
+  caller : ℕ
+  caller = turn.entry.caller
+
+  line_is : one.line ≡ answered_by caller
+  unfolding caller
+  line_is = made one.line.clerk 1 one.line.line (PostLine hand_premium) one.line.first (placed_by caller (Post hand_premium) (Accepted 2))
+      one.line.rest [] one.clerk one.asks (turn.first ∙ ap₂ (λ (c : Call) (r : Reply). placed_by caller c r) turn.call reply_is) turn.alone
+
+  -- the pieces that were handed on, and that they were so once both are safe
+  handed_on : (run : List TakenPiece) × (output.pieces_after ≡ run ++ output.pieces_before)
+      × AreSafeWhenShown called Opens new (hand_issue ∷ []) (premium_turn_by caller ∷ []) (answered_by caller ∷ [])
+      ((codes "1,premium,7001,accepted,2" ++ 10 ∷ []) ∷ []) run
+  unfolding caller
+  handed_on =
       let shown = is.shown honest in
-      let run : shown.0 ≡ [] ++ piece ∷ [] =
-      sym (append-nil shown.0) ∙ ap (λ (ps : List TakenPiece). shown.0 ++ ps) (sym before) ∙ sym shown.1 ∙ after in
-      let opens = shown.2 [] [] piece run [] [] one.line one.only 2 first_reply some image left in
-      let place : accepted_of (take (one.line.first.0 + 1) is.history) ≡ hand_premium ∷ [] =
-      ap₂ (λ (placed : Placed) (h : List Entry). accepted_of (take (placed.0 + 1) h)) turn.first history_is in
-      (opens.0, subst (λ (cs : List Command). Opens image cs) (ap₂ (λ (a b : List Command). (a ++ b) ++ opens.0) commands_are place) opens.1)
+      let opened = subst (λ (cs : List Command). AreSafeWhenShown called Opens new cs is.history is.lines is.texts shown.0) commands_are shown.2 in
+      let answered = subst (λ (h : List Entry). AreSafeWhenShown called Opens new (hand_issue ∷ []) h is.lines is.texts shown.0) history_is opened in
+      let asked = subst (λ (ls : List AnsweredLine). AreSafeWhenShown called Opens new (hand_issue ∷ []) (premium_turn_by caller ∷ []) ls is.texts shown.0)
+      (one.only ∙ ap (λ (l : AnsweredLine). l ∷ []) line_is) answered in
+      let told = subst (λ (ts : List (List ℕ)). AreSafeWhenShown called Opens new (hand_issue ∷ []) (premium_turn_by caller ∷ []) (answered_by caller ∷ []) ts shown.0)
+      (texts_are ∙ ap (λ (t : List ℕ). t ∷ []) spelled) asked in
+      (shown.0, shown.1, told)
 
 pub truth_by_hand : TruthByHand
-truth_by_hand = λ new output is honest. (wrote_transcript new output is honest, holds_both new output is honest)
+truth_by_hand = λ new output is honest.
+    (wrote_transcript new output is honest, holds_both new output is honest, (caller new output is honest, handed_on new output is honest))
 
 -- ---- so with 0 no other is admitted
 
@@ -320,8 +346,10 @@ unposted admits =
 
 too_soon : (moment : ℕ) → moment < called.clock last_disk → Admits last_disk (output_at moment) 0 → ⊥
 too_soon moment before admits =
-    let opens = handed_on last_disk (output_at moment) (promised last_disk (output_at moment) admits) honest_last
-    (record { bytes = premium_text; since = moment }) refl refl (lit< tt) staged_file (still_staged moment before) in
+    let handed = handed_on last_disk (output_at moment) (promised last_disk (output_at moment) admits) honest_last in
+    let by = caller last_disk (output_at moment) (promised last_disk (output_at moment) admits) honest_last in
+    let opens = handed.2 [] [] (record { bytes = premium_text; since = moment }) (sym (append-nil handed.0) ∙ sym handed.1) [] [] (answered_by by) refl 2
+    refl (lit< tt) staged_file (still_staged moment before) in
     not_both opens.0 opens.1
 
 -- ---- nor a file that was unmade on the way

@@ -1,6 +1,8 @@
 -- What the promise refuses: it can't hold of what wrong programs would leave of the worked run's script
-use Rattle.std.specs.Prelude.{◌⊎◌, ℕ, ◌<◌, List, [], ◌∷◌, ◌++◌, codes}
-use Rattle.life_app.specs.WorkedRun.Names.{Dated, FileCall, Opens, hand_premium, Stream, IsPromised, IsUnrun, table_reserves, run_wording}
+use Rattle.std.specs.Prelude.{◌≡◌, ◌⊎◌, ℕ, ◌<◌, List, [], ◌∷◌, ◌++◌, codes}
+use Rattle.life_app.specs.WorkedRun.Names.{Accepted, AnsweredLine, AreSafeWhenShown, Dated, Entry, FileCall, Opens, PostLine, hand_issue, hand_premium, Stream, IsPromised, IsUnrun, table_reserves, run_wording}
+use Rattle.outside_io.specs.Streams.{TakenPiece}
+use Rattle.policy_types.specs.declared.entry.Call.TheVariants.{Post}
 use Rattle.program_endings.specs.Writing.{WroteAll}
 use Rattle.life_app.specs.WorkedRun.Calls.{CalledDisk, called, cut_disk, cut_file, called_disk, last_disk, posts, puts, reopening}
 use Rattle.life_app.specs.WorkedRun.Due.{stocked_shelf, value_lanes, value_script}
@@ -28,11 +30,22 @@ CausesByHand = NeverEnds 2 × NeverEnds 3 × NeverEnds 4 × NeverEnds 6 × Never
     × ((output : Stream) → Admits looked_disk output 8 → ⊥)
     × ((output : Stream) → Admits last_disk output 8 → ⊥)
 
--- with 0, the transcript is what was written, and no other, and whatever a crash leaves opens to both commands
+-- the premium's turn under some caller's number, and the clerk's line that it answers
+abbrev pub premium_turn_by : ℕ → Entry
+premium_turn_by caller = record { caller = caller; call = Post hand_premium; reply = Accepted 2 }
+
+abbrev pub answered_by : ℕ → AnsweredLine
+answered_by caller = record { clerk = 1; line = PostLine hand_premium; first = (0, premium_turn_by caller); rest = [] }
+
+-- With 0, the transcript is what was written, and no other; whatever a crash leaves opens to both commands; and the line was
+-- told once that was so.
 abbrev pub TruthByHand : Type 0
 TruthByHand = (new : CalledDisk) (output : Stream)
     → IsPromised called Opens run_wording table_reserves cut_disk new premium_lanes [] two_auditors output 0 → called.honest new
     → WroteAll output premium_text × ((image : List ℕ) → called.may_leave new image → Opens image both_commands)
+    × ((caller : ℕ) × ((run : List TakenPiece) × (output.pieces_after ≡ run ++ output.pieces_before)
+    × AreSafeWhenShown called Opens new (hand_issue ∷ []) (premium_turn_by caller ∷ []) (answered_by caller ∷ [])
+    ((codes "1,premium,7001,accepted,2" ++ 10 ∷ []) ∷ []) run))
 
 -- `nomemory` in the place of the answer, and one line more behind the transcript
 abbrev pub unanswered_text : List ℕ
