@@ -27,7 +27,7 @@ LIMITS = {
     "docs/OPERATIONS.md": 2650,
     "docs/FORMATS.md": 6150,
     "docs/ARCHITECTURE.md": 5245,
-    "docs/PROOF.md": 8600,
+    "docs/PROOF.md": 8610,
     "docs/DECISIONS.md": 4815,
     "docs/FIGURES.md": 2230,
 }
