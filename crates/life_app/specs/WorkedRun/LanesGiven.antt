@@ -41,11 +41,11 @@ ObeyedLanes = EndsRead called lanes_disk fault_disk (codes "basis.csv") two_audi
     × EndsRun called lanes_disk fault_disk (codes "basis.csv") two_auditors lanes_input (output_by fault_disk lanes_text) lanes_shelf ⊥ DiskFault
     × ((second : Option CalledDisk) → Obeys called called lanes_disk fault_disk second second (codes "run" ∷ []) two_auditors lanes_input (output_by fault_disk lanes_text) lanes_shelf ⊥ ⊥ 8)
 
--- and isn't one that failed and answered no line
+-- so the run isn't one that failed and answered no line
 abbrev pub AnsweredLanes : Type 0
 AnsweredLanes = IsUnrun called Opens lanes_disk fault_disk (codes "basis.csv") lanes_input (output_by fault_disk lanes_text) lanes_shelf 8 → ⊥
 
--- a disk's fault is due, and so whatever is due comes about
+-- a disk's fault is due, and whatever is due comes about
 abbrev pub DueLanes : Type 0
 DueLanes = IsDueEnding (codes "run" ∷ []) lanes_input (output_by fault_disk lanes_text) lanes_shelf (filing_between called lanes_disk fault_disk) Without DiskFault
     × ((ending : Ending) → IsDueEnding (codes "run" ∷ []) lanes_input (output_by fault_disk lanes_text) lanes_shelf (filing_between called lanes_disk fault_disk) Without ending
