@@ -6,7 +6,7 @@ ghost use Rattle.life_app.specs.WorkedRun.Promise.{GivenByHand, HeadlineByHand, 
 ghost use Rattle.life_app.specs.WorkedRun.Due.{BasisByHand, DueByHand, DueOfTheRun, NeedsByHand};
 ghost use Rattle.life_app.specs.WorkedRun.Both.{DueOfBothByHand, DueOfTheSaving, LeftOfTwoByHand, OtherwiseByHand, PartsOfTwoByHand, RowOfTwoByHand, SavedByHand, StatedByHand, TrustedByHand};
 ghost use Rattle.life_app.specs.WorkedRun.Lanes.{LeftLanes, LegalLanes, PromisedLanes, ReopenedLanes};
-ghost use Rattle.life_app.specs.WorkedRun.LanesGiven.{DueLanes, GivenLanes, ObeyedLanes};
+ghost use Rattle.life_app.specs.WorkedRun.LanesGiven.{AnsweredLanes, DueLanes, GivenLanes, ObeyedLanes};
 ghost use Rattle.life_app.specs.WorkedRun.Refused.{CausesByHand, ForgedByHand, TruthByHand, ValuedByHand};
 ghost use Rattle.life_app.specs.WorkedRun.Told.{EnclosedByHand, EndedByHand, ModesByHand, ReasonsByHand};
 
@@ -84,6 +84,7 @@ pub fn told_by_hand()
 pub fn lanes_by_hand()
     ensures given { GivenLanes }
     ensures obeyed { ObeyedLanes }
+    ensures answered { AnsweredLanes }
     ensures due { DueLanes }
     ensures legal { LegalLanes }
     ensures promised { PromisedLanes }

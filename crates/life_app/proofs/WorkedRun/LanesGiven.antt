@@ -1,5 +1,5 @@
 -- The two lanes are run from their words on: the files make the basis, and the program obeyed.
-use Rattle.life_app.proofs.Names.{◌≡◌, ◌<◌, ◌⊎◌, ℕ, List, [], ◌∷◌, refl, inl, inr, lit≤, lit<, arith, ints, codes, pos, Option, Some, None, Ok, All-from_recursion, day_number, days_before_year, days_of_months, DiskFault, Does, Ending, EndsRead, EndsRun, IsDueEnding, Obeys, Run, filing_between, status_of, CalledDisk, called, two_auditors}
+use Rattle.life_app.proofs.Names.{◌≡◌, ◌<◌, ◌⊎◌, ◌++◌, ℕ, get_or, ap, List, [], ◌∷◌, refl, inl, inr, lit≤, lit<, arith, ints, codes, pos, Option, Some, None, Ok, All-from_recursion, day_number, days_before_year, days_of_months, BadBasis, BadJournal, BadScript, DiskFault, NoMemory, ReadFault, WroteLine, EndsNoBasis, EndsNoOffice, EndsUnread, Does, Ending, EndsRead, EndsRun, IsDueEnding, Obeys, Run, filing_between, status_of, CalledDisk, called, two_auditors}
 use Rattle.std.specs.Prelude.{if◌then◌else◌}
 use Rattle.std.specs.Str.{bytes_eq}
 use Rattle.csv.proofs.OnLiterals.{csv_on_literals}
@@ -24,7 +24,7 @@ use Rattle.life_app.proofs.WorkedRun.Due.{none_failed}
 use Rattle.life_app.proofs.WorkedRun.Lanes.{legal_lanes, promised_lanes}
 use Rattle.life_app.proofs.WorkedRun.Promise.{asks_run}
 use Rattle.life_app.specs.WorkedRun.Lanes.{fault_disk, lanes_disk, lanes_script, lanes_text, output_by, typed_lanes}
-use Rattle.life_app.specs.WorkedRun.LanesGiven.{DueLanes, GivenLanes, ObeyedLanes, five_ages_text, lanes_found, lanes_input, lanes_rows, lanes_shelf}
+use Rattle.life_app.specs.WorkedRun.LanesGiven.{AnsweredLanes, DueLanes, GivenLanes, ObeyedLanes, five_ages_text, lanes_found, lanes_input, lanes_rows, lanes_shelf}
 use Rattle.life_app.specs.WorkedRun.Told.{two_bases}
 
 -- ---- the two tables
@@ -201,3 +201,37 @@ due_beside_lanes second ending is = due called called lanes_disk fault_disk seco
 
 pub due_lanes : DueLanes
 due_lanes = ((let rose : 0 < 1 = lit< tt in rose, none_failed), due_beside_lanes None)
+
+-- ---- a run that answered no line writes one that this output hasn't
+
+wrote_none : WroteLine (output_by fault_disk lanes_text) (codes "diskfault") → ⊥
+wrote_none (inl all) =
+    let same : lanes_text ≡ codes "diskfault" ++ 10 ∷ [] = all in
+    let first : 49 ≡ 100 = ap (λ (text : List ℕ). get_or text 0 0) same in
+    absurd (omega (arith, first))
+wrote_none (inr part) = none_failed part.0
+
+unread_fails : (ending : Ending) → EndsUnread lanes_input (output_by fault_disk lanes_text) ending → 8 ≡ status_of ending → ⊥
+unread_fails BadScript says same = (let no : 8 ≡ 3 = same in absurd (omega (arith, no)))
+unread_fails ReadFault says same = (let no : 8 ≡ 6 = same in absurd (omega (arith, no)))
+unread_fails (NoMemory lack) says same = (let no : 8 ≡ 9 = same in absurd (omega (arith, no)))
+unread_fails _ says same = says
+
+unbased_fails : (ending : Ending) → EndsNoBasis (codes "basis.csv") lanes_shelf (output_by fault_disk lanes_text) ending → 8 ≡ status_of ending → ⊥
+unbased_fails BadBasis says same = (let no : 8 ≡ 4 = same in absurd (omega (arith, no)))
+unbased_fails ReadFault says same = (let no : 8 ≡ 6 = same in absurd (omega (arith, no)))
+unbased_fails (NoMemory lack) says same = (let no : 8 ≡ 9 = same in absurd (omega (arith, no)))
+unbased_fails _ says same = says
+
+unopened_fails : (ending : Ending) → EndsNoOffice called lanes_disk fault_disk (output_by fault_disk lanes_text) ending → 8 ≡ status_of ending → ⊥
+unopened_fails BadJournal says same = (let no : 8 ≡ 5 = same in absurd (omega (arith, no)))
+unopened_fails DiskFault says same = wrote_none says.0
+unopened_fails (NoMemory lack) says same = (let no : 8 ≡ 9 = same in absurd (omega (arith, no)))
+unopened_fails _ says same = says
+
+pub answered_lanes : AnsweredLanes
+answered_lanes unrun = elim unrun.says [
+  | inl says ↦ unread_fails unrun.ending says unrun.exits
+  | inr (inl says) ↦ unbased_fails unrun.ending says unrun.exits
+  | inr (inr says) ↦ unopened_fails unrun.ending says unrun.exits
+]

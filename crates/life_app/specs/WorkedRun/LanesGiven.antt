@@ -1,7 +1,7 @@
 -- The run of the two lanes from its typed words on: the script that the input gave, and the basis that three files make
 use Rattle.std.specs.Prelude.{◌≡◌, ◌⊎◌, ℕ, List, [], ◌∷◌, Option, codes}
 use Rattle.basis_shelf.specs.Worked.{certain_death}
-use Rattle.life_app.specs.WorkedRun.Names.{Answer, AreWords, DiskFault, EndsRead, EndsRun, Ending, Found, Input, IsBasis, IsDueEnding, IsGivenBasis, IsWholeInput, Obeys, Reads, Run, Shelving, Without, filing_between, input_that_gave, status_of}
+use Rattle.life_app.specs.WorkedRun.Names.{Answer, AreWords, DiskFault, EndsRead, EndsRun, Ending, Found, Input, IsBasis, IsDueEnding, IsGivenBasis, IsUnrun, IsWholeInput, Obeys, Opens, Reads, Run, Shelving, Without, filing_between, input_that_gave, status_of}
 use Rattle.life_app.specs.WorkedRun.Calls.{CalledDisk, called}
 use Rattle.life_app.specs.WorkedRun.Lanes.{fault_disk, lanes_disk, lanes_script, lanes_text, output_by, typed_lanes}
 use Rattle.life_app.specs.WorkedRun.Promise.{shelf_that_told, two_auditors}
@@ -41,7 +41,11 @@ ObeyedLanes = EndsRead called lanes_disk fault_disk (codes "basis.csv") two_audi
     × EndsRun called lanes_disk fault_disk (codes "basis.csv") two_auditors lanes_input (output_by fault_disk lanes_text) lanes_shelf ⊥ DiskFault
     × ((second : Option CalledDisk) → Obeys called called lanes_disk fault_disk second second (codes "run" ∷ []) two_auditors lanes_input (output_by fault_disk lanes_text) lanes_shelf ⊥ ⊥ 8)
 
--- a disk's fault is due, and so whatever is due comes about
+-- so the run isn't one that failed and answered no line
+abbrev pub AnsweredLanes : Type 0
+AnsweredLanes = IsUnrun called Opens lanes_disk fault_disk (codes "basis.csv") lanes_input (output_by fault_disk lanes_text) lanes_shelf 8 → ⊥
+
+-- a disk's fault is due, and whatever is due comes about
 abbrev pub DueLanes : Type 0
 DueLanes = IsDueEnding (codes "run" ∷ []) lanes_input (output_by fault_disk lanes_text) lanes_shelf (filing_between called lanes_disk fault_disk) Without DiskFault
     × ((ending : Ending) → IsDueEnding (codes "run" ∷ []) lanes_input (output_by fault_disk lanes_text) lanes_shelf (filing_between called lanes_disk fault_disk) Without ending

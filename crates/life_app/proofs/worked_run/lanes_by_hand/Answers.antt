@@ -8,6 +8,9 @@ returns-clause-given c = from_words.given_lanes
 pub returns-clause-obeyed : goal.returns-clause-obeyed
 returns-clause-obeyed c = from_words.obeyed_lanes
 
+pub returns-clause-answered : goal.returns-clause-answered
+returns-clause-answered c = from_words.answered_lanes
+
 pub returns-clause-due : goal.returns-clause-due
 returns-clause-due c = from_words.due_lanes
 
