@@ -87,4 +87,5 @@ passes faults/as_soon.py --clerk 8
 sort changes >all
 name=all
 sort tried | cmp -s - all || complain "tried aren't these: $(sort tried | comm -3 - all | tr -d '\t' | paste -sd ' ')"
+grep -q "makes $(wc -l <tried) wrong changes" "$root/docs/PROOF.md" || complain "docs/PROOF.md tells another number"
 end "each of $(wc -l <tried) changed adapters is refused: of the files, the folder, the bell and the status"
