@@ -5,6 +5,7 @@ use Rattle.std.specs.BTreeMap.{BTreeMap, get_by_text}
 use Rattle.std.specs.declared.alloc.Global.{Global}
 use Rattle.outside_io.specs.declared.bytes_in.BytesSource.{BytesSource}
 use Rattle.outside_io.specs.declared.bytes_out.BytesSink.{BytesSink}
+use Rattle.outside_io.specs.declared.disks.Disk.{Ghosts}
 use Rattle.outside_io.specs.declared.map_shelf.MapShelf.{MapShelf}
 use Rattle.outside_io.specs.declared.fault_plan.FaultPlan.{FaultPlan}
 
@@ -25,11 +26,11 @@ abbrev pub SourceEnded : BytesSource → Type 0
 SourceEnded source = IsTrue source.ended
 
 -- the calls that are to fail, and those that were made
-abbrev pub sink_plan : {D : Type 0} → BytesSink D → FaultPlan
+abbrev pub sink_plan : {D : Type 0} {g : Ghosts D} → BytesSink D g → FaultPlan
 sink_plan sink = sink.plan
 
 -- the bytes that were written
-abbrev pub sink_bytes : {D : Type 0} → BytesSink D → List ℕ
+abbrev pub sink_bytes : {D : Type 0} {g : Ghosts D} → BytesSink D g → List ℕ
 sink_bytes sink = sink.bytes.items
 
 -- the bytes at a name of the map, where it has the name

@@ -2,9 +2,8 @@
 ghost use Rattle.std.specs.Prelude.{◌≡◌, ℕ, ◌<◌, ◌≤◌, [], Some, List, length, IfOk, OnOk, IsErr};
 ghost use Rattle.std.specs.Io.KnownBytes.{WriteAppends};
 ghost use Rattle.outside_io.specs.Faults.{HasCause};
-ghost use Rattle.outside_io.specs.Streams.{StillTells, TakesPiece, pieces_by};
+ghost use Rattle.outside_io.specs.Streams.{StillTells, TakesPiece, pieces_by, taken_bytes};
 ghost use Rattle.outside_io.specs.Plans.{FailsNext, plan_faults, plan_failing, plan_calls, number_after};
-ghost use Rattle.outside_io.specs.Memory.{sink_bytes, sink_plan};
 
 use crate::pieces::Pieces;
 use crate::taken_moments::Moments;
@@ -19,9 +18,12 @@ pub struct BytesSink<D: Disk> {
     plan: FaultPlan,
     taken: Pieces,
     by: Moments<D>,
+    ghost tied: { bytes.items ≡ taken_bytes (pieces_by taken by) },
 }
 
 impl<D: Disk> BytesSink<D> {
+    ghost use Rattle.outside_io.specs.Memory.{sink_bytes, sink_plan};
+
     pub fn new(alloc: Global, failing: Vec<u64>) -> BytesSink<D>
         ensures bytes { sink_bytes result ≡ [] }
         ensures failing { plan_failing (sink_plan result) ≡ failing.items }
@@ -45,6 +47,8 @@ impl<D: Disk> BytesSink<D> {
 }
 
 impl<D: Disk> Sink for BytesSink<D> {
+    ghost use Rattle.outside_io.specs.Memory.{sink_bytes, sink_plan};
+
     type Beside = D;
 
     ghost faults = { λ s. plan_faults (sink_plan s) };
@@ -52,6 +56,8 @@ impl<D: Disk> Sink for BytesSink<D> {
     ghost written = { λ s. Some (sink_bytes s) };
 
     ghost pieces = { λ s. pieces_by s.taken s.by };
+
+    ghost tied = { λ s. s.tied };
 
     fn faults(&self) -> u64 {
         self.plan.faults()

@@ -3,7 +3,7 @@ ghost use Rattle.std.specs.Prelude.{◌≡◌, ◌≢◌, ◌⊎◌, ◌<◌, �
 ghost use Rattle.std.specs.IoError.{error_kind};
 ghost use Rattle.std.specs.Io.KnownBytes.{ReadConsumes, WriteAppends};
 ghost use Rattle.outside_io.specs.Faults.{HasCause};
-ghost use Rattle.outside_io.specs.Streams.{passed_bytes, pieces_by, HasEnd, ReadGives, SeesEnd, StillTells, TakesPiece};
+ghost use Rattle.outside_io.specs.Streams.{passed_bytes, pieces_by, taken_bytes, HasEnd, ReadGives, SeesEnd, StillTells, TakesPiece};
 ghost use Rattle.outside_io.specs.StreamLaws.{nothing_told};
 
 use crate::counting::counted;
@@ -75,6 +75,7 @@ pub struct StdSink<W: Write, D: Disk> {
     faults: u64,
     taken: Pieces,
     by: Moments<D>,
+    ghost tied: { passed_bytes taken ≡ taken_bytes (pieces_by taken by) },
 }
 
 impl<W: Write, D: Disk> StdSink<W, D> {
@@ -101,6 +102,8 @@ impl<W: Write, D: Disk> Sink for StdSink<W, D> {
     ghost written = { λ s. Some (passed_bytes s.taken) };
 
     ghost pieces = { λ s. pieces_by s.taken s.by };
+
+    ghost tied = { λ s. s.tied };
 
     fn faults(&self) -> u64 {
         self.faults

@@ -1,8 +1,8 @@
 // Output: a sink takes bytes in pieces, and `write_all` gives it all of a list.
-ghost use Rattle.std.specs.Prelude.{◌≡◌, ℕ, ◌<◌, ◌≤◌, Option, List, length, IfOk, OnOk, OnErr};
+ghost use Rattle.std.specs.Prelude.{◌≡◌, ℕ, ◌<◌, ◌≤◌, Option, List, length, IfOk, IfSome, OnOk, OnErr};
 ghost use Rattle.std.specs.Io.KnownBytes.{WriteAppends, Appends};
 ghost use Rattle.outside_io.specs.Faults.{HasCause};
-ghost use Rattle.outside_io.specs.Streams.{StillTells, AppendsPart, AddsPieces, TakenPiece, TakesPiece};
+ghost use Rattle.outside_io.specs.Streams.{StillTells, AppendsPart, AddsPieces, TakenPiece, TakesPiece, taken_bytes};
 
 use crate::{Disk, Failed, Moment, WriteFault};
 
@@ -19,6 +19,9 @@ pub trait Sink {
 
     /// The pieces that it took, newest first, each with the moment by which it was handed on.
     ghost pieces: { Self → List TakenPiece };
+
+    /// The bytes that were written are the bytes of its pieces, in order.
+    ghost tied: { (sink : Self) → IfSome (written sink) (λ bytes. bytes ≡ taken_bytes (pieces sink)) };
 
     /// How many faults it has had. The count stands still at its type's end.
     fn faults(&self) -> u64
