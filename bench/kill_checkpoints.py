@@ -19,10 +19,10 @@ from typing import Any
 
 sys.path.insert(0, os.path.join(os.path.dirname(os.path.dirname(os.path.abspath(__file__))), "tools"))
 
-from life_tools.checkpoints import checkpoint_in, checkpoint_of  # noqa: E402
-from life_tools.formats import Wrong, demand  # noqa: E402
-from life_tools.journals import file_of, read_journal  # noqa: E402
-from life_tools.script_lines import lines_in  # noqa: E402
+from life_tools.journal.checkpoints import checkpoint_in, checkpoint_of  # noqa: E402
+from life_tools.common.formats import Wrong, demand  # noqa: E402
+from life_tools.journal.file import file_of, read_journal  # noqa: E402
+from life_tools.scripts.lines import lines_in  # noqa: E402
 
 POLICIES = 1500
 JOURNAL, KEPT = "journal.life", "checkpoint.life"

@@ -58,7 +58,7 @@ def body(policy: int) -> bytes:
             + (100000).to_bytes(8, "big") + (40000).to_bytes(8, "big") + bytes(36))
 
 
-def front_of(policies: list[int]) -> bytes:
+def prefix_of(policies: list[int]) -> bytes:
     """The file up to the end of the last of these records."""
     return b"\1" + HEADER + b"".join(b"\1" + body(policy) for policy in policies)
 
@@ -161,7 +161,7 @@ def judge_left(office: Office, asked: list[int]) -> tuple[str, int]:
     need(told == due[:len(told)], "it printed other lines than are due")
     need(len(kept) + len(told) <= count, "it printed %d accepted lines, and left %d records" % (len(told), count))
     office.kept = kept + asked[:count - len(kept)]
-    need(image.startswith(front_of(office.kept)), "the open records aren't those of the scripts in order")
+    need(image.startswith(prefix_of(office.kept)), "the open records aren't those of the scripts in order")
     staged = image[gate_of(count) + 1:]
     ahead = asked[count - len(kept):][:1]
     need(len(staged) <= 65, "%d bytes stand behind the closed gate" % len(staged))
@@ -184,7 +184,7 @@ def reopen(office: Office, count: int, new: int, drawn: int) -> None:
     need(answered == wanted, "the answers on reopening are %r, wanted %r" % (answered, wanted))
     office.kept = office.kept + [new]
     image = office.image() or b""
-    need(image.startswith(front_of(office.kept)), "the records after reopening aren't those before and the new one")
+    need(image.startswith(prefix_of(office.kept)), "the records after reopening aren't those before and the new one")
     need(open_gates(image) == count + 1, "%d records are open after reopening" % open_gates(image))
     need(gate_of(count + 1) < len(image), "the last record after reopening has no gate behind it")
 

@@ -33,11 +33,11 @@ from typing import NamedTuple
 ROOT = os.path.dirname(os.path.dirname(os.path.abspath(__file__)))
 sys.path.insert(0, os.path.join(ROOT, "tools"))
 
-from life_tools.arrays import np  # noqa: E402
-from life_tools.commands import PLAN_CODES  # noqa: E402
-from life_tools.day_columns import anniversaries  # noqa: E402
-from life_tools.journal_columns import ISSUE, PREMIUM, RECORD  # noqa: E402
-from life_tools.journals import EMPTY, FIRST_GATE  # noqa: E402
+from life_tools.common.arrays import np  # noqa: E402
+from life_tools.rules.commands import PLAN_CODES  # noqa: E402
+from life_tools.journal.day_columns import anniversaries  # noqa: E402
+from life_tools.journal.records import ISSUE, PREMIUM, RECORD  # noqa: E402
+from life_tools.journal.file import EMPTY, FIRST_GATE  # noqa: E402
 
 ON = "2024-12-31"
 PREMIUM_CENTS, AMOUNT_CENTS = 40000, 10_000_000

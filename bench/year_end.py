@@ -19,7 +19,7 @@ import tempfile
 ROOT = os.path.dirname(os.path.dirname(os.path.abspath(__file__)))
 sys.path[:0] = [os.path.join(ROOT, "tools"), os.path.join(ROOT, ".ci", "tools")]
 
-from life_tools.journals import file_of  # noqa: E402
+from life_tools.journal.file import file_of  # noqa: E402
 from lived_book import Times, lived  # noqa: E402
 from year_end_office import Office, need  # noqa: E402
 from year_end_walks import Walk  # noqa: E402

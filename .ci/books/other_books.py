@@ -6,8 +6,8 @@ import sys
 
 sys.path.insert(0, sys.argv[1])
 
-from life_tools.book_runs import Task, run_once, sum_of  # noqa: E402
-from life_tools.formats import bytes_of  # noqa: E402
+from life_tools.books.runs import Task, run_once, sum_of  # noqa: E402
+from life_tools.common.formats import bytes_of  # noqa: E402
 
 PROGRAM, FOLDER = sys.argv[2], os.path.abspath("book1")
 WORDS = ("value", "2010-12-31")

@@ -6,8 +6,8 @@ import sys
 
 sys.path.insert(0, sys.argv[1])
 
-from life_tools.checkpoints import bytes_of_checkpoint, checkpoint_of  # noqa: E402
-from life_tools.journals import journal_at  # noqa: E402
+from life_tools.journal.checkpoints import bytes_of_checkpoint, checkpoint_of  # noqa: E402
+from life_tools.journal.file import journal_at  # noqa: E402
 
 made = bytes_of_checkpoint(checkpoint_of(journal_at("journal.life").commands))
 sys.exit(not pathlib.Path("checkpoint.life").read_bytes().startswith(made))

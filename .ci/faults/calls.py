@@ -20,12 +20,12 @@ from typing import Any
 
 from judge import (commands_in, demand_faults, demand_file, judge_early_end, judge_front, judge_transcript,
                    judge_unanswered, reason)
-from life_tools.journals import file_of
+from life_tools.journal.file import file_of
 from runs import JOURNAL, KEPT, Desk, Ended, read_bytes
 from scenes import SCENES, Scene, book_before, checkpoint_before
-from life_tools.tables import read_basis
-from life_tools.formats import Wrong, demand
-from life_tools.reserves import Known
+from life_tools.tables.basis import read_basis
+from life_tools.common.formats import Wrong, demand
+from life_tools.reserves.exact import Known
 
 AT_ONCE = 2
 KINDS = ["openat", "flock", "statx", "newfstatat", "pread64", "read", "pwrite64", "write", "fsync", "fdatasync"]

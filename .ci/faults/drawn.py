@@ -16,14 +16,14 @@ from concurrent.futures import ThreadPoolExecutor
 from typing import Any
 
 from judge import demand_faults, judge_early_end, judge_transcript, reason
-from life_tools.journals import file_of, read_journal
+from life_tools.journal.file import file_of, read_journal
 from runs import JOURNAL, ROOT, Desk, read_bytes
-from life_tools.tables import read_basis
+from life_tools.tables.basis import read_basis
 
 sys.path.insert(0, os.path.join(ROOT, ".ci", "stress"))
 from scripts import draws, make_book, make_script  # noqa: E402
-from life_tools.formats import Wrong, demand  # noqa: E402
-from life_tools.reserves import Known  # noqa: E402
+from life_tools.common.formats import Wrong, demand  # noqa: E402
+from life_tools.reserves.exact import Known  # noqa: E402
 
 AT_ONCE = 2
 SCRIPTS, FAULTS_EACH = 4, 10

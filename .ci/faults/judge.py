@@ -12,14 +12,14 @@ import sys
 from typing import Any
 
 sys.path.insert(0, os.path.join(os.path.dirname(os.path.abspath(__file__)), "..", "..", "tools"))
-from life_tools.transcript_check import Run, answers_in, is_block  # noqa: E402
-from life_tools.commands import Command, words_of  # noqa: E402
-from life_tools.formats import Wrong, demand  # noqa: E402
-from life_tools.journals import read_journal  # noqa: E402
-from life_tools.rules import Book, Refusal  # noqa: E402
-from life_tools.script_lines import Line, lanes_of, lines_in  # noqa: E402
-from life_tools.reserves import Known  # noqa: E402
-from life_tools.tables import BasisRow  # noqa: E402
+from life_tools.scripts.transcript_check import Run, answers_in, is_block  # noqa: E402
+from life_tools.rules.commands import Command, words_of  # noqa: E402
+from life_tools.common.formats import Wrong, demand  # noqa: E402
+from life_tools.journal.file import read_journal  # noqa: E402
+from life_tools.rules.policies import Book, Refusal  # noqa: E402
+from life_tools.scripts.lines import Line, lanes_of, lines_in  # noqa: E402
+from life_tools.reserves.exact import Known  # noqa: E402
+from life_tools.tables.basis import BasisRow  # noqa: E402
 from runs import Ended  # noqa: E402
 
 # the last line of a run that ends before its lanes begin
@@ -97,7 +97,7 @@ def judge_transcript(script: bytes, ended: Ended, before: bytes, basis: list[Bas
     return run
 
 
-def front_of(text: str) -> str:
+def prefix_of(text: str) -> str:
     """What is whole of a text that may be cut anywhere: its ended lines, but for those of a valuation without its total."""
     lines, whole, amid = text.split("\n")[:-1], 0, False
     for count, line in enumerate(lines, 1):
@@ -110,7 +110,7 @@ def front_of(text: str) -> str:
 def judge_front(script: bytes, text: str, before: bytes, after: bytes, basis: list[BasisRow], known: Known) -> FaultyRun:
     """A run whose transcript is cut: what is whole of it is a front of one, and the file has what it tells was accepted."""
     run = FaultyRun(lines_in(script), read_journal(before).book, basis, known)
-    answers, watchers = answers_in(front_of(text))
+    answers, watchers = answers_in(prefix_of(text))
     for answer in answers:
         run.follow(answer)
     left = [line.row.text for lines in run.left.values() for line in lines]

@@ -9,10 +9,10 @@ import os
 from dataclasses import dataclass
 
 from judge import demand_file, follow, judge_early_end, judge_front, judge_lacking
-from life_tools.reserves import Known
-from life_tools.tables import read_basis
+from life_tools.reserves.exact import Known
+from life_tools.tables.basis import read_basis
 from runs import Desk, Ended
-from life_tools.formats import demand
+from life_tools.common.formats import demand
 
 
 @dataclass

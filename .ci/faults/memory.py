@@ -19,10 +19,10 @@ from typing import Any
 
 from judge import judge_lacking, reason
 from lacking import Lacking, Mode
-from life_tools.journals import file_of
+from life_tools.journal.file import file_of
 from runs import Desk, is_preview, read_bytes
 from scenes import eight_clerks, many_policies
-from life_tools.formats import Wrong, demand
+from life_tools.common.formats import Wrong, demand
 
 AT_ONCE = 2
 KIB = 1024

@@ -18,10 +18,10 @@ from concurrent.futures import ThreadPoolExecutor
 
 from judge import judge_unanswered, reason
 from lacking import Lacking, Mode
-from life_tools.checkpoints import bytes_of_checkpoint, checkpoint_of
-from life_tools.journals import read_journal
+from life_tools.journal.checkpoints import bytes_of_checkpoint, checkpoint_of
+from life_tools.journal.file import read_journal
 from runs import ROOT, Desk, Ended, is_preview, read_bytes, write_bytes
-from life_tools.formats import Wrong, demand
+from life_tools.common.formats import Wrong, demand
 
 AT_ONCE = 4
 # of each mode the first so many requests are refused, and so many of those behind

@@ -10,8 +10,8 @@ import sys
 from dataclasses import dataclass
 
 sys.path.insert(0, os.path.join(os.path.dirname(os.path.abspath(__file__)), "..", "..", "tools"))
-from life_tools.formats import demand  # noqa: E402
-from life_tools.journals import read_journal  # noqa: E402
+from life_tools.common.formats import demand  # noqa: E402
+from life_tools.journal.file import read_journal  # noqa: E402
 
 ROOT = os.path.join(os.path.dirname(os.path.abspath(__file__)), "..", "..")
 JOURNAL = "journal.life"

@@ -4,10 +4,10 @@ from __future__ import annotations
 from dataclasses import dataclass
 
 from runs import JOURNAL, KEPT  # noqa: F401: it also puts tools/ on the path
-from life_tools.checkpoints import bytes_of_checkpoint, checkpoint_of
-from life_tools.commands import Command
-from life_tools.formats import day_in
-from life_tools.rules import Book
+from life_tools.journal.checkpoints import bytes_of_checkpoint, checkpoint_of
+from life_tools.rules.commands import Command
+from life_tools.common.formats import day_in
+from life_tools.rules.policies import Book
 from typing import Any
 
 # Two clerks whose policies are their own. The second has the policies of whole life, and asks for values. The last one's

@@ -13,12 +13,12 @@ from typing import Any
 
 from judge import demand_faults, judge_early_end, judge_lacking, judge_transcript, judge_unanswered
 from lacking import Mode
-from life_tools.journals import RECORD_SIZE, file_of, read_journal
+from life_tools.journal.file import RECORD_SIZE, file_of, read_journal
 from refused import Refused
 from runs import JOURNAL, Desk, Ended, read_bytes
 from scenes import ONE_CLERK, TWO_CLERKS, book_before
-from life_tools.tables import read_basis
-from life_tools.formats import Wrong, demand
+from life_tools.tables.basis import read_basis
+from life_tools.common.formats import Wrong, demand
 
 
 def disturbed(program: str, folder: str, script: bytes, kind: str, when: int, file: str) -> tuple[Desk, bytes, Ended]:

@@ -16,12 +16,12 @@ import time
 from typing import Any
 
 from judge import judge_front, judge_transcript, judge_unanswered, reason
-from life_tools.journals import file_of
+from life_tools.journal.file import file_of
 from runs import Desk, Ended, default_signals
 from scenes import eight_clerks, many_policies
-from life_tools.tables import read_basis
-from life_tools.formats import Wrong, demand
-from life_tools.reserves import Known
+from life_tools.tables.basis import read_basis
+from life_tools.common.formats import Wrong, demand
+from life_tools.reserves.exact import Known
 from collections.abc import Sequence
 
 SIGNALS = [signal.SIGTERM, signal.SIGINT, signal.SIGKILL]

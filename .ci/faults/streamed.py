@@ -17,12 +17,12 @@ import time
 from typing import Any
 
 from judge import judge_front, judge_transcript, judge_unanswered
-from life_tools.journals import file_of
-from life_tools.tables import BasisRow, read_basis
+from life_tools.journal.file import file_of
+from life_tools.tables.basis import BasisRow, read_basis
 from runs import Desk, Ended, default_signals
 from scenes import eight_clerks, many_policies
-from life_tools.formats import demand
-from life_tools.reserves import Known
+from life_tools.common.formats import demand
+from life_tools.reserves.exact import Known
 
 LINES, BEFORE, EACH, MANY = 20000, 150, 60, 500
 

@@ -16,11 +16,11 @@ import time
 from typing import Any
 
 from judge import commands_in, demand_file, follow, reason
-from life_tools.journals import RECORD_SIZE, file_of, read_journal
+from life_tools.journal.file import RECORD_SIZE, file_of, read_journal
 from runs import JOURNAL, Desk, is_preview, read_bytes, write_bytes
 from scenes import ONE_CLERK, book_before
-from life_tools.tables import BasisRow, read_basis
-from life_tools.formats import Wrong, demand
+from life_tools.tables.basis import BasisRow, read_basis
+from life_tools.common.formats import Wrong, demand
 
 AT_ONCE = 4
 # a call is held up for so long, in microseconds; the deed is done once the file has stood still for so long, in seconds

@@ -16,9 +16,9 @@ from typing import Any
 
 sys.path.insert(0, os.path.join(os.path.dirname(os.path.abspath(__file__)), "..", "..", "tools"))
 
-from life_tools.commands import LAST_AGE, Command  # noqa: E402
-from life_tools.formats import MOST_CENTS  # noqa: E402
-from life_tools.journals import EMPTY, FIRST_GATE, RECORD_SIZE, file_of  # noqa: E402
+from life_tools.rules.commands import LAST_AGE, Command  # noqa: E402
+from life_tools.common.formats import MOST_CENTS  # noqa: E402
+from life_tools.journal.file import EMPTY, FIRST_GATE, RECORD_SIZE, file_of  # noqa: E402
 
 DAY = datetime.date(2020, 1, 1)
 BLOCK = 65_536

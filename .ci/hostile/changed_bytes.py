@@ -14,10 +14,10 @@ import random
 import sys
 
 from trial import Trial, judge_basis, judge_journal, judge_posting, judge_script, judge_table, try_for
-from life_tools.journals import file_of
-from life_tools.script_lines import lines_in
-from life_tools.formats import KINDS, Wrong, demand
-from life_tools.rules import Book
+from life_tools.journal.file import file_of
+from life_tools.scripts.lines import lines_in
+from life_tools.common.formats import KINDS, Wrong, demand
+from life_tools.rules.policies import Book
 
 VALUES = (0, 1, 2, 127, 255)
 HERE = os.path.dirname(os.path.abspath(__file__))

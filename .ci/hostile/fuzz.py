@@ -13,14 +13,14 @@ import random
 import sys
 
 from changed_bytes import BASIS, SELECT, TABLE, book_of_forty, book_of_values, script_of_forty
-from life_tools.formats import Wrong
-from life_tools.rules import Book
+from life_tools.common.formats import Wrong
+from life_tools.rules.policies import Book
 from scripts import MIDDLE, make_script
 from trial import (ROOT, Trial, judge_basis, judge_checkpoint, judge_journal, judge_posting, judge_script, judge_table,
                    judge_words,
                    try_for)
-from life_tools.checkpoints import bytes_of_checkpoint, checkpoint_of
-from life_tools.journals import file_of
+from life_tools.journal.checkpoints import bytes_of_checkpoint, checkpoint_of
+from life_tools.journal.file import file_of
 
 MOST = 12_000
 KINDS = ("script", "words", "journal", "checkpoint", "basis", "table")

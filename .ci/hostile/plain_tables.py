@@ -1,13 +1,13 @@
 """A plain reading of the mortality table file, piece by piece as docs/FORMATS.md has them.
 
 It takes all files of the profile, some of which are no XML. The checks behind the document are those of
-tools/life_tools/tables.py.
+tools/life_tools/tables/basis.py.
 """
 from __future__ import annotations
 
 import re
 
-from life_tools.tables import MARK, MOST_DEPTH, BadBasis, Element, SelectTable, Table, table_of
+from life_tools.tables.basis import MARK, MOST_DEPTH, BadBasis, Element, SelectTable, Table, table_of
 
 WHITE = b" \t\n\r"
 NAME = rb"[A-Za-z_\x80-\xff][A-Za-z_\x80-\xff0-9.:-]*"

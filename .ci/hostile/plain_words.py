@@ -6,10 +6,10 @@ import re
 from dataclasses import dataclass
 from typing import Any, Callable, Tuple
 
-from life_tools.formats import (MOST_COMMANDS, MOST_LANES, MOST_NUMBER, MOST_WORKERS, MOST_YEARS, day_of, measure_of, number_of,
-                                printed_rows)
-from life_tools.script_lines import Fault, read_script
-from life_tools.tables import NAME
+from life_tools.common.formats import (MOST_COMMANDS, MOST_LANES, MOST_NUMBER, MOST_WORKERS, MOST_YEARS, day_of, measure_of,
+                                       number_of, printed_rows)
+from life_tools.scripts.lines import Fault, read_script
+from life_tools.tables.basis import NAME
 
 OPTIONS: dict[str, tuple[str, ...]] = {
     "run": ("--basis",), "value": ("--at", "--workers", "--basis"), "project": ("--workers", "--basis"), "state": (),

@@ -18,21 +18,21 @@ from typing import Any
 ROOT = os.path.abspath(os.path.join(os.path.dirname(os.path.abspath(__file__)), "..", ".."))
 sys.path[:0] = [os.path.join(ROOT, "tools"), os.path.join(ROOT, ".ci", "stress")]
 
-from life_tools.projection_check import check_years  # noqa: E402
-from life_tools.transcript_check import asks_for_values, check  # noqa: E402
-from life_tools.valuation_check import check_block  # noqa: E402
-from life_tools.checkpoints import Checkpoint, bytes_of_checkpoint, checkpoint_in, checkpoint_of  # noqa: E402
-from life_tools.formats import MEASURES, MOST_BASIS_BYTES, Wrong, day_in, demand, money, printed_rows  # noqa: E402
-from life_tools.journals import EMPTY, file_of, gate_of, read_journal  # noqa: E402
+from life_tools.reserves.projection_check import check_years  # noqa: E402
+from life_tools.scripts.transcript_check import asks_for_values, check  # noqa: E402
+from life_tools.reserves.valuation_check import check_block  # noqa: E402
+from life_tools.journal.checkpoints import Checkpoint, bytes_of_checkpoint, checkpoint_in, checkpoint_of  # noqa: E402
+from life_tools.common.formats import MEASURES, MOST_BASIS_BYTES, Wrong, day_in, demand, money, printed_rows  # noqa: E402
+from life_tools.journal.file import EMPTY, file_of, gate_of, read_journal  # noqa: E402
 from plain_tables import read_plain_table  # noqa: E402
 from plain_words import meaning_of  # noqa: E402
-from life_tools.projections import printed_projection  # noqa: E402
-from life_tools.rules import Book, Policy, Refusal, balances_of, booking_of  # noqa: E402
-from life_tools.script_lines import Fault, lines_in, read_script  # noqa: E402
+from life_tools.reserves.projections import printed_projection  # noqa: E402
+from life_tools.rules.policies import Book, Policy, Refusal, balances_of, booking_of  # noqa: E402
+from life_tools.scripts.lines import Fault, lines_in, read_script  # noqa: E402
 from scripts import folder_for  # noqa: E402
-from life_tools.tables import BasisRow, NotXml, SelectTable, Table, read_basis, read_table  # noqa: E402
-from life_tools.commands import Command  # noqa: E402
-from life_tools.reserves import Known  # noqa: E402
+from life_tools.tables.basis import BasisRow, NotXml, SelectTable, Table, read_basis, read_table  # noqa: E402
+from life_tools.rules.commands import Command  # noqa: E402
+from life_tools.reserves.exact import Known  # noqa: E402
 
 SECONDS = 30
 # so many cases are tried whatever their time
@@ -237,7 +237,7 @@ def judge_basis(trial: Trial, data: bytes, book: Book) -> str:
 
 def judge_table(trial: Trial, data: bytes, book: Book) -> str:
     """Any bytes as the table t.xml of a basis of one row, beside the journal of the book. Where an XML parser takes the
-    file, what tools/life_tools/tables.py makes of it has to be the same."""
+    file, what tools/life_tools/tables/basis.py makes of it has to be the same."""
     trial.write("basis.csv", b"1900-01-01,t.xml,250\n")
     trial.write("t.xml", data)
     trial.write("journal.life", file_of(book.commands))

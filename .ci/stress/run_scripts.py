@@ -18,12 +18,12 @@ import sys
 from typing import Any
 
 from scripts import draws, folder_for, make_book, make_script, value_words, valued_on
-from life_tools.transcript_check import check
-from life_tools.valuation_check import check_block
-from life_tools.formats import MEASURES, Wrong, printed_rows
-from life_tools.journals import file_of, read_journal
-from life_tools.tables import BasisRow, read_basis
-from life_tools.reserves import Known
+from life_tools.scripts.transcript_check import check
+from life_tools.reserves.valuation_check import check_block
+from life_tools.common.formats import MEASURES, Wrong, printed_rows
+from life_tools.journal.file import file_of, read_journal
+from life_tools.tables.basis import BasisRow, read_basis
+from life_tools.reserves.exact import Known
 
 # all but `full`
 REASONS = 16

@@ -13,12 +13,12 @@ from collections.abc import Callable, Iterator
 from typing import Any
 
 from scripts import Office, draws, folder_for, make_script
-from life_tools.transcript_check import check
-from life_tools.formats import Wrong, money
-from life_tools.journals import file_of, read_journal
-from life_tools.rules import Book
-from life_tools.tables import read_basis
-from life_tools.reserves import Known
+from life_tools.scripts.transcript_check import check
+from life_tools.common.formats import Wrong, money
+from life_tools.journal.file import file_of, read_journal
+from life_tools.rules.policies import Book
+from life_tools.tables.basis import read_basis
+from life_tools.reserves.exact import Known
 
 SCRIPTS = 4
 PLACES = 6

@@ -17,10 +17,10 @@ from pathlib import Path
 ROOT = Path(sys.argv[1])
 sys.path[:0] = [str(ROOT / "tools"), str(ROOT / ".ci" / "tools")]
 
-from life_tools.commands import Command, words_of  # noqa: E402
-from life_tools.deaths import standing  # noqa: E402
-from life_tools.formats import KINDS, STATUSES  # noqa: E402
-from life_tools.remedies import BENEFITS, REMEDIES, remedy_of  # noqa: E402
+from life_tools.rules.commands import Command, words_of  # noqa: E402
+from life_tools.rules.deaths import standing  # noqa: E402
+from life_tools.common.formats import KINDS, STATUSES  # noqa: E402
+from life_tools.rules.remedies import BENEFITS, REMEDIES, remedy_of  # noqa: E402
 from lived_book import drawn_issue, life_of  # noqa: E402
 
 DAY = datetime.timedelta(1)

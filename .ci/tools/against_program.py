@@ -14,12 +14,12 @@ from typing import Any
 ROOT = sys.argv[2]
 sys.path[:0] = [os.path.join(ROOT, "tools"), os.path.join(ROOT, ".ci", "stress")]
 
-from life_tools.formats import Wrong, money  # noqa: E402
-from life_tools.journals import file_of, read_journal  # noqa: E402
-from life_tools.rules import Book, balances_of  # noqa: E402
+from life_tools.common.formats import Wrong, money  # noqa: E402
+from life_tools.journal.file import file_of, read_journal  # noqa: E402
+from life_tools.rules.policies import Book, balances_of  # noqa: E402
 from scripts import make_book, make_script  # noqa: E402
-from life_tools.script_lines import Fault, read_script  # noqa: E402
-from life_tools.tables import NotXml, read_basis  # noqa: E402
+from life_tools.scripts.lines import Fault, read_script  # noqa: E402
+from life_tools.tables.basis import NotXml, read_basis  # noqa: E402
 
 JOURNALS, SCRIPTS, TABLES, SELECT_TABLES = 150, 150, 200, 250
 

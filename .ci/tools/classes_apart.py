@@ -16,13 +16,13 @@ from typing import Any
 ROOT, PROGRAM = sys.argv[1:3]
 sys.path.insert(0, os.path.join(ROOT, "tools"))
 
-from life_tools.arrays import np  # noqa: E402
-from life_tools.class_bases import bases_in, one_basis  # noqa: E402
-from life_tools.columns import columns_at  # noqa: E402
-from life_tools.entry import main  # noqa: E402
-from life_tools.journals import file_of  # noqa: E402
-from life_tools.periods import Asked  # noqa: E402
-from life_tools.statement import of_books, statement_of  # noqa: E402
+from life_tools.common.arrays import np  # noqa: E402
+from life_tools.valuations.class_bases import bases_in, one_basis  # noqa: E402
+from life_tools.journal.columns import columns_at  # noqa: E402
+from life_tools.cli.entry import main  # noqa: E402
+from life_tools.journal.file import file_of  # noqa: E402
+from life_tools.reports.periods import Asked  # noqa: E402
+from life_tools.reports.statement import of_books, statement_of  # noqa: E402
 
 BASES = {"north": "basis.csv", "south": "other.csv", "east": "basis.csv"}
 ON1, ON2 = datetime.date(2013, 12, 31), datetime.date(2017, 6, 30)

@@ -16,16 +16,16 @@ from typing import Callable
 HERE = Path(__file__).resolve().parent
 sys.path[:0] = [str(HERE.parents[1] / "tools"), str(HERE.parent / "stress"), str(HERE)]
 
-from life_tools import replays  # noqa: E402
-from life_tools.arrays import np  # noqa: E402
-from life_tools.checkpoint_columns import CheckpointColumns, checkpoint_columns  # noqa: E402
-from life_tools.checkpoints import Checkpoint, bytes_of_checkpoint, checkpoint_in, checkpoint_of  # noqa: E402
-from life_tools.columns import Columns, judged  # noqa: E402
-from life_tools.commands import CODES, Command, words_of  # noqa: E402
-from life_tools.formats import FIRST_DAY, LAST_DAY, MOST_NUMBER, Wrong, money  # noqa: E402
-from life_tools.journals import RECORD_SIZE, Journal, file_of, gate_of, read_journal  # noqa: E402
-from life_tools.record_texts import lines_of, plain_template, transactions_of  # noqa: E402
-from life_tools.rules import ACCOUNTS, Book, bookings  # noqa: E402
+from life_tools.journal import replays  # noqa: E402
+from life_tools.common.arrays import np  # noqa: E402
+from life_tools.journal.checkpoint_columns import CheckpointColumns, checkpoint_columns  # noqa: E402
+from life_tools.journal.checkpoints import Checkpoint, bytes_of_checkpoint, checkpoint_in, checkpoint_of  # noqa: E402
+from life_tools.journal.columns import Columns, judged  # noqa: E402
+from life_tools.rules.commands import CODES, Command, words_of  # noqa: E402
+from life_tools.common.formats import FIRST_DAY, LAST_DAY, MOST_NUMBER, Wrong, money  # noqa: E402
+from life_tools.journal.file import RECORD_SIZE, Journal, file_of, gate_of, read_journal  # noqa: E402
+from life_tools.journal.record_texts import lines_of, plain_template, transactions_of  # noqa: E402
+from life_tools.rules.policies import ACCOUNTS, Book, bookings  # noqa: E402
 from lived_book import lived  # noqa: E402
 from scripts import make_book, make_script  # noqa: E402
 
@@ -169,7 +169,7 @@ def compare_checkpoint(draw: random.Random, columns: Columns, book: Book, seed: 
         return False
     assert isinstance(slow, Checkpoint) and isinstance(found, CheckpointColumns)
     made = [found.policies.policy(place) for place in range(len(found.policies))]
-    need(made == slow.policies and found.front.balances == slow.balances, f"{seed}: another checkpoint")
+    need(made == slow.policies and found.header.balances == slow.balances, f"{seed}: another checkpoint")
     if slow.position <= columns.count:
         front = whole if slow.position == columns.count else checkpoint_of(book.commands[:slow.position])
         need(found.is_of(columns) == (slow == front), f"{seed}: whether a checkpoint is of the journal")

@@ -17,9 +17,9 @@ from pathlib import Path
 ROOT, PROGRAM = sys.argv[1:3]
 sys.path[:0] = [os.path.join(ROOT, "tools"), os.path.join(ROOT, ".ci", "stress")]
 
-from life_tools.commands import words_of  # noqa: E402
-from life_tools.formats import KINDS  # noqa: E402
-from life_tools.journals import file_of, journal_at  # noqa: E402
+from life_tools.rules.commands import words_of  # noqa: E402
+from life_tools.common.formats import KINDS  # noqa: E402
+from life_tools.journal.file import file_of, journal_at  # noqa: E402
 from scripts import folder_for, make_book, make_script  # noqa: E402
 
 TOOLS = os.path.join(ROOT, "tools", "life-tools")

@@ -13,7 +13,7 @@ import sys
 ROOT = sys.argv[1]
 sys.path[:0] = [os.path.join(ROOT, "tools"), os.path.join(ROOT, ".ci", "stress")]
 
-from life_tools.journals import file_of  # noqa: E402
+from life_tools.journal.file import file_of  # noqa: E402
 from scripts import BASIS, MIDDLE, make_book, make_script  # noqa: E402
 
 

@@ -14,10 +14,10 @@ import sys
 
 from lived_book import lived
 
-from life_tools.columns import columns_at
-from life_tools.entry import main as main_of_tools
-from life_tools.journals import file_of
-from life_tools.rules import Book, Policy
+from life_tools.journal.columns import columns_at
+from life_tools.cli.entry import main as main_of_tools
+from life_tools.journal.file import file_of
+from life_tools.rules.policies import Book, Policy
 
 PROGRAM, FOLDER = sys.argv[1:]
 DAYS = {1: ("2012-02-29", "2025-01-01"), 2: ("2024-12-31", "2025-03-01")}

@@ -15,8 +15,8 @@ from typing import IO, NoReturn
 
 sys.path.insert(0, str(Path(__file__).resolve().parents[2] / "tools"))
 
-from life_tools.entry import ENTRIES, main as main_of_tools  # noqa: E402
-from life_tools.formats import Wrong  # noqa: E402
+from life_tools.cli.entry import ENTRIES, main as main_of_tools  # noqa: E402
+from life_tools.common.formats import Wrong  # noqa: E402
 
 # an entry that isn't done by then is stopped by a signal
 SECONDS = 60
@@ -37,7 +37,7 @@ def read_modules(names: Iterable[str]) -> None:
     for name in names:
         if name in ENTRIES:
             with suppress(Wrong):
-                importlib.import_module(f"life_tools.entries.{ENTRIES[name][0]}")
+                importlib.import_module(f"life_tools.cli.{ENTRIES[name][0]}")
 
 
 def answer(words: list[str], out: int, told: int) -> NoReturn:

@@ -6,8 +6,8 @@ import sys
 
 sys.path.insert(0, sys.argv[1])
 
-from life_tools.commands import OLDEST_AT_ISSUE, Command, years_fit  # noqa: E402
-from life_tools.journals import file_of  # noqa: E402
+from life_tools.rules.commands import OLDEST_AT_ISSUE, Command, years_fit  # noqa: E402
+from life_tools.journal.file import file_of  # noqa: E402
 
 DAY = datetime.date(2000, 2, 29)
 

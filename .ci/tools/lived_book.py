@@ -12,9 +12,9 @@ from typing import NamedTuple
 
 sys.path.insert(0, str(Path(__file__).resolve().parents[2] / "tools"))
 
-from life_tools.commands import UPGRADE, Command  # noqa: E402
-from life_tools.journals import file_of  # noqa: E402
-from life_tools.rules import Policy, decide, due_of, end_of, missed_by, payments_of  # noqa: E402
+from life_tools.rules.commands import UPGRADE, Command  # noqa: E402
+from life_tools.journal.file import file_of  # noqa: E402
+from life_tools.rules.policies import Policy, decide, due_of, end_of, missed_by, payments_of  # noqa: E402
 
 LEAP_YEARS = (2000, 2004, 2008, 2012, 2016, 2020)
 BEFALLS = ("claim", "lapse", "lapse", "paidup", "alter", "stop")

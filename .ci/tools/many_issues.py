@@ -6,9 +6,9 @@ import sys
 
 sys.path.insert(0, sys.argv[1])
 
-from life_tools.commands import Command  # noqa: E402
-from life_tools.formats import PLANS  # noqa: E402
-from life_tools.journals import file_of  # noqa: E402
+from life_tools.rules.commands import Command  # noqa: E402
+from life_tools.common.formats import PLANS  # noqa: E402
+from life_tools.journal.file import file_of  # noqa: E402
 
 FIRST, NAMES = datetime.date(2000, 1, 1), sorted(PLANS.values())
 

@@ -18,7 +18,7 @@ from typing import Any
 ROOT, PROGRAM = sys.argv[1:3]
 sys.path.insert(0, os.path.join(ROOT, "tools"))
 
-from life_tools.entry import main  # noqa: E402
+from life_tools.cli.entry import main  # noqa: E402
 
 FIRST, LAST = datetime.date(2000, 1, 1), datetime.date(2030, 12, 31)
 

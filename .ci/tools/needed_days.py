@@ -12,11 +12,11 @@ import sys
 
 sys.path.insert(0, os.path.join(sys.argv[1], "tools"))
 
-from life_tools.arrays import np  # noqa: E402
-from life_tools.columns import columns_in  # noqa: E402
-from life_tools.commands import Command  # noqa: E402
-from life_tools.headroom import first_beyond, needed_by  # noqa: E402
-from life_tools.journals import file_of  # noqa: E402
+from life_tools.common.arrays import np  # noqa: E402
+from life_tools.journal.columns import columns_in  # noqa: E402
+from life_tools.rules.commands import Command  # noqa: E402
+from life_tools.books.headroom import first_beyond, needed_by  # noqa: E402
+from life_tools.journal.file import file_of  # noqa: E402
 
 EPOCH = datetime.date(1970, 1, 1)
 TODAY = datetime.date(2024, 6, 1)

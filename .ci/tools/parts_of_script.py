@@ -7,7 +7,7 @@ import sys
 
 sys.path.insert(0, sys.argv[1])
 
-from life_tools.entries import import_book  # noqa: E402
+from life_tools.cli import import_book  # noqa: E402
 
 WORDS = ["book.csv", "--map", "map.csv", "--script", "parts.csv", "--left", "parts-left.txt"]
 

@@ -8,10 +8,10 @@ import sys
 
 sys.path.insert(0, sys.argv[1])
 
-from life_tools.formats import day_in, money  # noqa: E402
-from life_tools.reserves import Known, insured_on  # noqa: E402
-from life_tools.rules import Policy  # noqa: E402
-from life_tools.tables import BasisRow, read_basis  # noqa: E402
+from life_tools.common.formats import day_in, money  # noqa: E402
+from life_tools.reserves.exact import Known, insured_on  # noqa: E402
+from life_tools.rules.policies import Policy  # noqa: E402
+from life_tools.tables.basis import BasisRow, read_basis  # noqa: E402
 
 DAY, AMOUNT = day_in("2021-03-01"), 1234567
 

@@ -13,13 +13,13 @@ from typing import Callable, TypeVar
 HERE = Path(__file__).resolve().parent
 sys.path[:0] = [str(HERE.parents[1] / "tools"), str(HERE)]
 
-from life_tools import printed_columns  # noqa: E402
-from life_tools.checkpoints import checkpoint_of  # noqa: E402
-from life_tools.day_columns import texts_at  # noqa: E402
-from life_tools.formats import PLANS, STATUSES, Wrong, money  # noqa: E402
-from life_tools.printed_books import state_in, valuation_in  # noqa: E402
-from life_tools.printed_columns import state_of, valuation_of  # noqa: E402
-from life_tools.rules import Book, balances_of  # noqa: E402
+from life_tools.valuations import printed_columns  # noqa: E402
+from life_tools.journal.checkpoints import checkpoint_of  # noqa: E402
+from life_tools.journal.day_columns import texts_at  # noqa: E402
+from life_tools.common.formats import PLANS, STATUSES, Wrong, money  # noqa: E402
+from life_tools.valuations.printed_books import state_in, valuation_in  # noqa: E402
+from life_tools.valuations.printed_columns import state_of, valuation_of  # noqa: E402
+from life_tools.rules.policies import Book, balances_of  # noqa: E402
 from lived_book import lived  # noqa: E402
 
 WORDS = ("nobasis", "belowtable", "pasttable", "ratehigh")

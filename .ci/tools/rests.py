@@ -12,12 +12,12 @@ import sys
 ROOT = sys.argv[1]
 sys.path[:0] = [os.path.join(ROOT, "tools"), os.path.join(ROOT, ".ci", "stress")]
 
-from life_tools.commands import Command, words_of  # noqa: E402
-from life_tools.formats import Wrong  # noqa: E402
-from life_tools.printed_fronts import read_front  # noqa: E402
-from life_tools.rests import History, NoRun, demand_records, rest_of  # noqa: E402
-from life_tools.rules import Book, Policy, Refusal, Upgraded  # noqa: E402
-from life_tools.script_lines import Line, lanes_of, lines_in  # noqa: E402
+from life_tools.rules.commands import Command, words_of  # noqa: E402
+from life_tools.common.formats import Wrong  # noqa: E402
+from life_tools.scripts.cut_transcripts import read_prefix  # noqa: E402
+from life_tools.scripts.remainder import History, NoRun, demand_records, rest_of  # noqa: E402
+from life_tools.rules.policies import Book, Policy, Refusal, Upgraded  # noqa: E402
+from life_tools.scripts.lines import Line, lanes_of, lines_in  # noqa: E402
 from scripts import make_script  # noqa: E402
 
 RUNS, EQUAL_RUNS, CUTS = 8, 40, 6
@@ -64,7 +64,7 @@ def run_up_to(draw: random.Random, lines: list[Line], book: Book, turns: int) ->
     return answered, shown, told
 
 
-def front_of(draw: random.Random, told: list[tuple[int, str]]) -> tuple[str, dict[int, int]]:
+def prefix_of(draw: random.Random, told: list[tuple[int, str]]) -> tuple[str, dict[int, int]]:
     """A front of a transcript that is cut anywhere, and how many of each lane's answers are whole in it."""
     whole = draw.randrange(len(told) + 1)
     part = told[whole][1][:draw.randrange(len(told[whole][1]))] if whole < len(told) else ""
@@ -115,8 +115,8 @@ def judge_drawn(draw: random.Random) -> None:
     _, shown, told = run_up_to(draw, lines, book, draw.randrange(len(lines) + 1))
     judge_rest(lines, rest_of(lines, History(0, book.commands)), shown, text)
     for _ in range(CUTS):
-        front, counts = front_of(draw, told)
-        printed, history = read_front(front, lines), History(0, book.commands)
+        front, counts = prefix_of(draw, told)
+        printed, history = read_prefix(front, lines), History(0, book.commands)
         need(printed.begun in (None, 0), f"the run of {text} is said to begin at {printed.begun}")
         need(printed.answered == counts, f"of {front!r} these are whole: {counts}, and read as so {printed.answered}")
         demand_records(printed, history)
@@ -155,9 +155,9 @@ def judge_equal(draw: random.Random) -> None:
     for cut in range(CUTS):
         book = Book(opening)
         _, _, told = run_up_to(draw, lines, book, draw.randrange(len(lines) + 1))
-        front, counts = front_of(draw, told)
+        front, counts = prefix_of(draw, told)
         for text in ("", front):
-            printed, history = read_front(text, lines), History(len(opening), book.commands)
+            printed, history = read_prefix(text, lines), History(len(opening), book.commands)
             need(printed.begun in (None, len(opening)), f"{text!r} is said to begin at {printed.begun}")
             demand_records(printed, history)
             rest = rest_of(lines, history, printed)
@@ -183,11 +183,11 @@ def judge_strange(draw: random.Random) -> None:
 
 def judge_printed_strange(lines: list[Line], opening: list[Command], command: Command) -> None:
     """What is printed as accepted and isn't in the journal is refused; a faulted line may be the journal's last."""
-    printed = read_front("1,settle,1,accepted,3\n", lines)
+    printed = read_prefix("1,settle,1,accepted,3\n", lines)
     try:
         demand_records(printed, History(len(opening), opening))
     except NoRun:
-        printed = read_front("1,settle,1,fault\n2,settle,1,nomemory\n", lines)
+        printed = read_prefix("1,settle,1,fault\n2,settle,1,nomemory\n", lines)
         need(printed.begun is None and [word for word, _ in printed.unposted] == ["fault", "nomemory"],
              "unposted lines aren't told")
         for commands in (opening, [*opening, command]):
@@ -198,7 +198,7 @@ def judge_printed_strange(lines: list[Line], opening: list[Command], command: Co
     for text in ("1,settle,1,accepted,3\n1,settle,1,accepted,4\n", "1,settle,2,accepted,3\n", "row,1,inforce,0,0.00,0.00\n",
                  "1,settle,1,accepted,3\n2,settle,1,accepted,5\n"):
         try:
-            read_front(text, lines)
+            read_prefix(text, lines)
         except Wrong:
             continue
         sys.exit(f"tools: {text!r} is read as a front of another script's transcript")

@@ -12,7 +12,7 @@ from pathlib import Path
 
 sys.path.insert(0, str(Path(sys.argv[1]) / "tools"))
 
-from life_tools.sampling import draw, draw_at  # noqa: E402
+from life_tools.audit.sampling import draw, draw_at  # noqa: E402
 
 SEEDS = 10_000
 # so many deviations from what is expected that none of some hundred rows lies farther off by chance

@@ -9,8 +9,8 @@ from pathlib import Path
 
 sys.path.insert(0, str(Path(sys.argv[1]) / "tools"))
 
-from life_tools.journals import gate_of  # noqa: E402
-from life_tools.seals import differences, seal_at, seal_in, seal_of, text_of  # noqa: E402
+from life_tools.journal.file import gate_of  # noqa: E402
+from life_tools.journal.seals import differences, seal_at, seal_in, seal_of, text_of  # noqa: E402
 
 JOURNAL = Path("journal.life")
 POSITION = 3

@@ -13,8 +13,8 @@ from typing import Any
 ROOT = sys.argv[1]
 sys.path.insert(0, os.path.join(ROOT, "tools"))
 
-from life_tools import new_books  # noqa: E402
-from life_tools.formats import Wrong  # noqa: E402
+from life_tools.books import new_books  # noqa: E402
+from life_tools.common.formats import Wrong  # noqa: E402
 
 STEPS = ("mkdir", "fsync", "rename", "posix_fadvise", "open")
 SHARED = {"old.seal": b"a seal\n", "basis.csv": b"1900-01-01,q.xml,0\n", "q.xml": b"a table\n"}

@@ -22,17 +22,17 @@ from typing import Any
 ROOT, PROGRAM = sys.argv[1:3]
 sys.path.insert(0, os.path.join(ROOT, "tools"))
 
-from life_tools.arrays import np  # noqa: E402
-from life_tools.class_bases import one_basis  # noqa: E402
-from life_tools.columns import columns_at  # noqa: E402
-from life_tools.entry import main  # noqa: E402
-from life_tools.formats import FIELDS  # noqa: E402
-from life_tools.journals import file_of  # noqa: E402
-from life_tools.periods import Asked  # noqa: E402
-from life_tools.reserves import insured_by, terms_of  # noqa: E402
-from life_tools.rules import Book, anniversary, completed  # noqa: E402
-from life_tools.statement import statement_of  # noqa: E402
-from life_tools.tables import read_basis  # noqa: E402
+from life_tools.common.arrays import np  # noqa: E402
+from life_tools.valuations.class_bases import one_basis  # noqa: E402
+from life_tools.journal.columns import columns_at  # noqa: E402
+from life_tools.cli.entry import main  # noqa: E402
+from life_tools.common.formats import FIELDS  # noqa: E402
+from life_tools.journal.file import file_of  # noqa: E402
+from life_tools.reports.periods import Asked  # noqa: E402
+from life_tools.reserves.exact import insured_by, terms_of  # noqa: E402
+from life_tools.rules.policies import Book, anniversary, completed  # noqa: E402
+from life_tools.reports.statement import statement_of  # noqa: E402
+from life_tools.tables.basis import read_basis  # noqa: E402
 
 FIRST, LAST = datetime.date(2000, 1, 1), datetime.date(2026, 12, 31)
 # what is in force at a position: the last command that changes a status, and the last that sets an amount

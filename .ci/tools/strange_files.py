@@ -15,7 +15,7 @@ import sys
 from collections.abc import Iterator
 
 from forked import Ended, ended, files_here, read_modules
-from life_tools.entry import ENTRIES
+from life_tools.cli.entry import ENTRIES
 
 # Where @ stands, a strange file is handed; the others are those of the folder.
 WORDS = """

@@ -9,7 +9,7 @@ from typing import Any
 
 sys.path.insert(0, os.path.join(os.path.dirname(os.path.abspath(__file__)), "..", "..", "tools"))
 
-from life_tools.packages import package  # noqa: E402
+from life_tools.common.packages import package  # noqa: E402
 
 webdriver = package("selenium.webdriver", "python3-selenium")
 By = package("selenium.webdriver.common.by", "python3-selenium").By

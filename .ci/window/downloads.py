@@ -17,7 +17,7 @@ from hostile import Window
 
 sys.path.insert(0, os.path.join(os.path.dirname(os.path.abspath(__file__)), "..", "..", "tools"))
 
-from life_tools.packages import package  # noqa: E402
+from life_tools.common.packages import package  # noqa: E402
 
 openpyxl = package("openpyxl", "python3-openpyxl")
 NUMBER = re.compile(r"-?[0-9]+(\.[0-9]{2})?")

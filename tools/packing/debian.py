@@ -9,7 +9,7 @@ import shutil
 import subprocess
 import tempfile
 
-from life_tools.formats import Wrong
+from life_tools.common.formats import Wrong
 from packing.tree import NAME, Release, lay, settle, write
 
 # what the tools need beside Python's own library; each says which one it misses, so none is demanded

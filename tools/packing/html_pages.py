@@ -7,8 +7,8 @@ import re
 from types import ModuleType
 from typing import Any
 
-from life_tools.formats import Wrong, demand
-from life_tools.packages import package
+from life_tools.common.formats import Wrong, demand
+from life_tools.common.packages import package
 
 # a page of the repository, and its file; README.md is where one begins
 PAGES = {

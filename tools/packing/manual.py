@@ -4,7 +4,7 @@ from __future__ import annotations
 import argparse
 import re
 
-from life_tools.entry import ENTRIES, parser_of
+from life_tools.cli.entry import ENTRIES, parser_of
 
 HEAD = r""".TH LIFE-TOOLS 1 "" "life" "User commands"
 .SH NAME

@@ -13,7 +13,7 @@ ROOT = os.path.dirname(os.path.dirname(HERE))
 sys.dont_write_bytecode = True
 sys.path.insert(0, os.path.dirname(HERE))
 
-from life_tools.formats import Wrong, remark  # noqa: E402
+from life_tools.common.formats import Wrong, remark  # noqa: E402
 from packing.changelog import newest_of  # noqa: E402
 from packing.debian import make_both  # noqa: E402
 from packing.html_pages import converter  # noqa: E402

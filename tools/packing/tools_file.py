@@ -16,11 +16,11 @@ if __name__ == "__main__":
     sys.dont_write_bytecode = True
     sys.path.insert(0, os.path.dirname(HERE))
 
-from life_tools.entry import ENTRIES  # noqa: E402
+from life_tools.cli.entry import ENTRIES  # noqa: E402
 from packing.changelog import newest_of  # noqa: E402
 
 FIRST_LINE = b"#!/usr/bin/env python3\n"
-MAIN = "import sys\n\nfrom life_tools.entry import main\n\nsys.exit(main())\n"
+MAIN = "import sys\n\nfrom life_tools.cli.entry import main\n\nsys.exit(main())\n"
 BUILT = "life_tools/built.json"
 # each file has this time, so that the same tools make the same bytes
 TIME = (1980, 1, 1, 0, 0, 0)

@@ -4,7 +4,7 @@ from __future__ import annotations
 import datetime
 from typing import Iterable, Mapping, Sequence
 
-from life_tools.formats import FIRST_DAY, LAST_DAY, MOST_COMMANDS, Wrong, day_of, number_of
+from life_tools.common.formats import FIRST_DAY, LAST_DAY, MOST_COMMANDS, Wrong, day_of, number_of
 
 
 class BadRequest(Wrong):

@@ -5,13 +5,13 @@ import csv
 import os
 from typing import Sequence
 
-from life_tools.formats import MOST_COMMANDS, money
-from life_tools.printed_books import row_of
+from life_tools.common.formats import MOST_COMMANDS, money
+from life_tools.valuations.printed_books import row_of
 from life_tools.window.asked import Asked, BadRequest
 from life_tools.window.downloads import csv_parts
 from life_tools.window.find_pages import policy_cell
 from life_tools.window.lists import newest_day
-from life_tools.window.looked_at import LookedAt
+from life_tools.window.book_copy import BookCopy
 from life_tools.window.parts import RIGHT, Answer, Cell, File, Head, Page, Table, cells, heads, link
 from life_tools.window.policies import STATUSES as STATUS_WORDS
 from life_tools.window.tool_runs import ToolRun, tool_run
@@ -25,18 +25,18 @@ MOST_ROWS = 10_000
 
 # --- a seal, and the file ---
 
-def sealed(book: LookedAt, at: int) -> ToolRun:
+def sealed(book: BookCopy, at: int) -> ToolRun:
     return tool_run(book, ["seal", "--at", str(at), "--basis", book.book.basis], f"a seal of position {at:,}", False)
 
 
-def verified(book: LookedAt) -> ToolRun:
+def verified(book: BookCopy) -> ToolRun:
     """What `verify` says of the journal as it lies there now."""
     stat = os.stat(book.book.journal)
     now = stat.st_size, stat.st_mtime_ns
     return tool_run(book, ["verify", book.book.journal], "whether the journal's file is whole", True, now)
 
 
-def audit(book: LookedAt, asked: Asked, at: int) -> Answer:
+def audit(book: BookCopy, asked: Asked, at: int) -> Answer:
     asked.only(("at",))
     seal, whole = sealed(book, at), verified(book)
     with book.tables() as database:
@@ -46,14 +46,14 @@ def audit(book: LookedAt, asked: Asked, at: int) -> Answer:
     return Page("audit.html", "Audit", values)
 
 
-def seal_file(book: LookedAt, asked: Asked, at: int) -> Answer:
+def seal_file(book: BookCopy, asked: Asked, at: int) -> Answer:
     asked.only(("at",))
     return File(f"seal-{at}.txt", "text/plain", [sealed(book, at).printed])
 
 
 # --- flags ---
 
-def flagged(book: LookedAt, asked: Asked, at: int) -> tuple[ToolRun, int]:
+def flagged(book: BookCopy, asked: Asked, at: int) -> tuple[ToolRun, int]:
     asked.only(("at", "after"))
     after = asked.position("after", at, 0)
     return tool_run(book, ["audit", "flags", "--after", str(after), "--at", str(at)], f"postings to look at, up to {at:,}"), after
@@ -63,7 +63,7 @@ def csv_of(run: ToolRun) -> list[list[str]]:
     return list(csv.reader(run.printed.splitlines()))
 
 
-def flags(book: LookedAt, asked: Asked, at: int) -> Answer:
+def flags(book: BookCopy, asked: Asked, at: int) -> Answer:
     run, after = flagged(book, asked, at)
     rows = csv_of(run)
     names, found = (rows[0], rows[1:]) if rows else ([], [])
@@ -75,20 +75,20 @@ def flags(book: LookedAt, asked: Asked, at: int) -> Answer:
     return Page("flags.html", "Postings to look at", values)
 
 
-def flag_cell(book: LookedAt, name: str, text: str, at: int) -> Cell:
+def flag_cell(book: BookCopy, name: str, text: str, at: int) -> Cell:
     if name == "policy" and text.isdigit():
         return policy_cell(book, int(text), at)
     return cells([text])[0]
 
 
-def flags_csv(book: LookedAt, asked: Asked, at: int) -> Answer:
+def flags_csv(book: BookCopy, asked: Asked, at: int) -> Answer:
     run, _ = flagged(book, asked, at)
     return File(f"flags-{at}.csv", "text/csv", csv_parts(csv_of(run)))
 
 
 # --- a sample ---
 
-def drawn(book: LookedAt, asked: Asked, at: int) -> tuple[ToolRun, dict[str, object]]:
+def drawn(book: BookCopy, asked: Asked, at: int) -> tuple[ToolRun, dict[str, object]]:
     """A sample of the position that is looked at; the same words draw the same."""
     asked.only(SAMPLE_WORDS)
     on = asked.day_or_none("on")
@@ -107,7 +107,7 @@ def sample_rows(run: ToolRun) -> list[Sequence[str]]:
     return [(str(it.number), it.status, str(it.year), *map(money, it.bounds)) for it in rows]
 
 
-def sample(book: LookedAt, asked: Asked, at: int) -> Answer:
+def sample(book: BookCopy, asked: Asked, at: int) -> Answer:
     run, words = drawn(book, asked, at)
     rows = sample_rows(run)
     table = Table("The drawn rows", [Head("policy", RIGHT), Head("status"), *heads(("year", "lower bound", "upper bound"), 0)],
@@ -120,16 +120,16 @@ def sample(book: LookedAt, asked: Asked, at: int) -> Answer:
     return Page("sample.html", f"Sample of {words['on']}", values)
 
 
-def policy_link(book: LookedAt, number: str, at: int, words: dict[str, object]) -> Cell:
+def policy_link(book: BookCopy, number: str, at: int, words: dict[str, object]) -> Cell:
     return Cell(number, link(book.number, "policy", at, number=number, on=words["on"]))
 
 
-def sample_file(book: LookedAt, asked: Asked, at: int) -> Answer:
+def sample_file(book: BookCopy, asked: Asked, at: int) -> Answer:
     run, words = drawn(book, asked, at)
     return File(f"sample-{words['on']}-{words['seed']}.txt", "text/plain", [run.printed])
 
 
-def papers(book: LookedAt, asked: Asked, at: int) -> Answer:
+def papers(book: BookCopy, asked: Asked, at: int) -> Answer:
     """The page that `audit papers` writes, as a file: it brings its own style, which this window doesn't let in."""
     run, words = drawn(book, asked, at)
     made = tool_run(book, ["audit", "papers", run.file("printed"), "--html", "OUT/papers.html"], "papers of the sample")
@@ -137,7 +137,7 @@ def papers(book: LookedAt, asked: Asked, at: int) -> Answer:
         return File(f"papers-{words['on']}-{words['seed']}.html", "text/html", file.read())
 
 
-def letters(book: LookedAt, asked: Asked, at: int) -> Answer:
+def letters(book: BookCopy, asked: Asked, at: int) -> Answer:
     run, words = drawn(book, asked, at)
     made = tool_run(book, ["audit", "letters", run.file("printed")], "letters of the sample")
     return File(f"letters-{words['on']}-{words['seed']}.csv", "text/csv", csv_parts(csv_of(made)))

@@ -4,15 +4,15 @@ from __future__ import annotations
 import datetime
 from itertools import islice
 
-from life_tools.entries.due import MOST_DAYS, WHATS
-from life_tools.report_pages import money
+from life_tools.cli.due import MOST_DAYS, WHATS
+from life_tools.reports.report_pages import money
 from life_tools.window.asked import Asked
 from life_tools.window.downloads import csv_parts
 from life_tools.window.due_lists import (SAYS, SORTED, TITLES, DueOn, csv_rows, due_on, is_sent_as_it_stands, lines_to_send,
                                          page_of)
 from life_tools.window.find_pages import policy_cell
 from life_tools.window.lists import A_PAGE
-from life_tools.window.looked_at import LookedAt
+from life_tools.window.book_copy import BookCopy
 from life_tools.window.parts import RIGHT, Answer, Cell, File, Head, Page, Table, cells, link, sorting_head, turns
 
 WORDS = ("at", "day", "within")
@@ -20,11 +20,11 @@ LIST_WORDS = (*WORDS, "what", "sort", "order", "page")
 LINES_SHOWN = 200
 
 
-def found(book: LookedAt, asked: Asked, at: int) -> DueOn:
+def found(book: BookCopy, asked: Asked, at: int) -> DueOn:
     return due_on(book, asked.day("day", datetime.date.today()), asked.number("within", 0, MOST_DAYS, 0), at)
 
 
-def day(book: LookedAt, asked: Asked, at: int) -> Answer:
+def day(book: BookCopy, asked: Asked, at: int) -> Answer:
     asked.only(WORDS)
     it = found(book, asked, at)
     words = {"day": it.day, "within": it.within or ""}
@@ -37,7 +37,7 @@ def day(book: LookedAt, asked: Asked, at: int) -> Answer:
     return Page("day.html", f"The day {it.day}", {"table": table, "day": it.day, "within": it.within, "most_days": MOST_DAYS})
 
 
-def day_list(book: LookedAt, asked: Asked, at: int) -> Answer:
+def day_list(book: BookCopy, asked: Asked, at: int) -> Answer:
     asked.only(LIST_WORDS)
     it, what = found(book, asked, at), asked.one_of("what", WHATS, "premium")
     sort, is_falling = asked.one_of("sort", SORTED, "day"), asked.one_of("order", ("up", "down")) == "down"
@@ -65,13 +65,13 @@ def day_list(book: LookedAt, asked: Asked, at: int) -> Answer:
     return Page("day_list.html", f"{TITLES[what]} on {it.day}", values)
 
 
-def day_csv(book: LookedAt, asked: Asked, at: int) -> Answer:
+def day_csv(book: BookCopy, asked: Asked, at: int) -> Answer:
     asked.only((*WORDS, "what"))
     it, what = found(book, asked, at), asked.one_of("what", WHATS, "premium")
     return File(f"due-{what}-{it.day}.csv", "text/csv", csv_parts(csv_rows(it, what)))
 
 
-def day_lines(book: LookedAt, asked: Asked, at: int) -> Answer:
+def day_lines(book: BookCopy, asked: Asked, at: int) -> Answer:
     asked.only((*WORDS, "what"))
     it, what = found(book, asked, at), asked.one_of("what", WHATS, "premium")
     return File(f"{what}-{it.day}.csv", "text/csv", (line + "\n" for line in lines_to_send(it, what)))

@@ -5,9 +5,9 @@ import csv
 import io
 from typing import Any, Iterable, Iterator, Sequence
 
-from life_tools.formats import CENTS, NUMBER
-from life_tools.packages import package
-from life_tools.report_files import cell_of
+from life_tools.common.formats import CENTS, NUMBER
+from life_tools.common.packages import package
+from life_tools.reports.report_files import cell_of
 
 BEGINS_FORMULA = ("=", "+", "-", "@", "\t", "\r")
 A_PART = 512

@@ -5,13 +5,13 @@ import datetime
 from dataclasses import dataclass
 from typing import Iterator
 
-from life_tools.arrays import Array, np
-from life_tools.day_columns import NEVER, day_at, number_at
-from life_tools.entries.due import SENT, WHATS, Due, Items
-from life_tools.formats import money
+from life_tools.common.arrays import Array, np
+from life_tools.journal.day_columns import NEVER, day_at, number_at
+from life_tools.cli.due import SENT, WHATS, Due, Items
+from life_tools.common.formats import money
 from life_tools.window.jobs import Job
 from life_tools.window.kept_columns import keep, kept
-from life_tools.window.looked_at import LookedAt
+from life_tools.window.book_copy import BookCopy
 
 # what the lines to send need beside the day: the amount
 WITH_AMOUNT = ("premium", "grace", "reinstate", "settle")
@@ -56,13 +56,13 @@ class Item:
     first: datetime.date
 
 
-def due_on(book: LookedAt, day: datetime.date, within: int, position: int) -> DueOn:
+def due_on(book: BookCopy, day: datetime.date, within: int, position: int) -> DueOn:
     found = book.kept(("due", day, within, position), f"what is due on {day}", lambda job: made(book, day, within, position, job))
     assert isinstance(found, DueOn)
     return found
 
 
-def made(book: LookedAt, day: datetime.date, within: int, position: int, job: Job) -> DueOn:
+def made(book: BookCopy, day: datetime.date, within: int, position: int, job: Job) -> DueOn:
     job.at("looking through the policies")
     items = Items(book.policies(position), number_at(day), within).find_all()
     sums = {}
@@ -107,7 +107,7 @@ def is_sent_as_it_stands(what: str) -> bool:
     return what in SENT
 
 
-def of_policy(book: LookedAt, number: int, position: int, day: datetime.date) -> list[tuple[str, Item]]:
+def of_policy(book: BookCopy, number: int, position: int, day: datetime.date) -> list[tuple[str, Item]]:
     """What is due of one policy on a day."""
     policies = book.policies(position)
     found = Items(policies.at(np.flatnonzero(policies.number == number)), number_at(day), 0).find_all()

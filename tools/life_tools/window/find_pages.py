@@ -3,11 +3,11 @@ from __future__ import annotations
 
 from typing import Any, Sequence
 
-from life_tools.formats import PLANS, STATUSES
-from life_tools.report_pages import money
+from life_tools.common.formats import PLANS, STATUSES
+from life_tools.reports.report_pages import money
 from life_tools.window.asked import Asked
 from life_tools.window.lists import A_PAGE, SORTED, WORDS, Kind, Sought, found_in, has_policy, kinds_of, newest_day, sought_in
-from life_tools.window.looked_at import LookedAt
+from life_tools.window.book_copy import BookCopy
 from life_tools.window.parts import RIGHT, Answer, Cell, Head, Page, Table, cells, heads, link, sorting_head, turns
 from life_tools.window.policies import STATUSES as STATUS_WORDS
 
@@ -19,7 +19,7 @@ COLUMNS = (("policy", "policy", RIGHT), ("status", "status", ""), ("plan", "plan
 MONEY = ("amount_cents", "premium_cents", "outstanding_cents")
 
 
-def overview(book: LookedAt, asked: Asked, at: int) -> Answer:
+def overview(book: BookCopy, asked: Asked, at: int) -> Answer:
     """What is in the book, and what was posted last."""
     asked.only(("at",))
     with book.tables() as database:
@@ -32,7 +32,7 @@ def overview(book: LookedAt, asked: Asked, at: int) -> Answer:
     return Page("overview.html", "The book", values)
 
 
-def by_status(book: LookedAt, kinds: Sequence[Kind], at: int) -> Table:
+def by_status(book: BookCopy, kinds: Sequence[Kind], at: int) -> Table:
     rows = [[Cell(it.plan, link(book.number, "find", at, plan=it.plan, status=it.status)), Cell(STATUS_WORDS[it.status]),
              *cells((it.policies, money(it.cents)))] for it in kinds]
     total = sum(it.policies for it in kinds), money(sum(it.cents for it in kinds))
@@ -40,18 +40,18 @@ def by_status(book: LookedAt, kinds: Sequence[Kind], at: int) -> Table:
                  [[Cell("all"), Cell(""), *cells(total)]])
 
 
-def posted(book: LookedAt, rows: Sequence[Any], at: int) -> Table:
+def posted(book: BookCopy, rows: Sequence[Any], at: int) -> Table:
     names = [Head("position", RIGHT), Head("day"), Head("posting"), Head("policy", RIGHT), Head("amount", RIGHT)]
     return Table("The newest postings", names, [
         [*cells((row["position"],)), Cell(row["day"] or ""), Cell(row["kind"]), policy_cell(book, row["policy"], at),
          Cell(money(row["amount_cents"]) if row["amount_cents"] else "")] for row in rows])
 
 
-def policy_cell(book: LookedAt, number: int | None, at: int) -> Cell:
+def policy_cell(book: BookCopy, number: int | None, at: int) -> Cell:
     return Cell(str(number), link(book.number, "policy", at, number=number)) if number else Cell("")
 
 
-def find(book: LookedAt, asked: Asked, at: int) -> Answer:
+def find(book: BookCopy, asked: Asked, at: int) -> Answer:
     """A list of policies; where some have a part of the number, the one that has just this number is told apart."""
     asked.only(("at", *WORDS))
     sought = sought_in(asked)
@@ -71,13 +71,13 @@ def find(book: LookedAt, asked: Asked, at: int) -> Answer:
     return Page("find.html", "Find a policy", values)
 
 
-def head(book: LookedAt, sought: Sought, at: int, name: str, says: str, kind: str) -> Head:
+def head(book: BookCopy, sought: Sought, at: int, name: str, says: str, kind: str) -> Head:
     way = ("descending" if sought.is_falling else "ascending") if sought.sort == name else ""
     words = {**sought.words(), "sort": name, "page": ""}
     return sorting_head(says, kind, way, lambda order: link(book.number, "find", at, **{**words, "order": order}))
 
 
-def cell(book: LookedAt, row: Any, name: str, at: int) -> Cell:
+def cell(book: BookCopy, row: Any, name: str, at: int) -> Cell:
     column = SORTED[name]
     value = row[column]
     if name == "policy":

@@ -10,13 +10,13 @@ from fractions import Fraction
 from html import escape
 from typing import NamedTuple, Sequence
 
-from life_tools.explained_rows import compared
-from life_tools.printed_books import ValuedRow
-from life_tools.report_pages import money
-from life_tools.reserves import InForce, Insured, PaidUp, Terms, exact_value, insured_on, is_insured, row_for, terms_of
-from life_tools.rules import Policy
-from life_tools.tables import BasisRow
-from life_tools.worked_rows import WORDS, Worked, cents_about, decimal
+from life_tools.valuations.explained_rows import compared
+from life_tools.valuations.printed_books import ValuedRow
+from life_tools.reports.report_pages import money
+from life_tools.reserves.exact import InForce, Insured, PaidUp, Terms, exact_value, insured_on, is_insured, row_for, terms_of
+from life_tools.rules.policies import Policy
+from life_tools.tables.basis import BasisRow
+from life_tools.reserves.worked_rows import WORDS, Worked, cents_about, decimal
 
 
 class Line(NamedTuple):

@@ -6,7 +6,7 @@ import time
 from collections import OrderedDict, deque
 from typing import Any, Callable, Hashable
 
-from life_tools.formats import Wrong
+from life_tools.common.formats import Wrong
 
 MOST_WAITING = 8
 # an answer that is there within so many seconds is shown at once

@@ -4,7 +4,7 @@ from __future__ import annotations
 import os
 from typing import Iterable
 
-from life_tools.arrays import Array, np
+from life_tools.common.arrays import Array, np
 
 
 def keep(folder: str, names: Iterable[str], columns: object) -> None:

@@ -5,12 +5,12 @@ import sqlite3
 from dataclasses import dataclass
 from typing import Any, NamedTuple
 
-from life_tools.arrays import Array, np
-from life_tools.formats import MOST_COMMANDS, PLANS, STATUSES
-from life_tools.groups import added
-from life_tools.journal_columns import RECORD, UPGRADE
-from life_tools.journals import FIRST_GATE
-from life_tools.policy_columns import Policies
+from life_tools.common.arrays import Array, np
+from life_tools.common.formats import MOST_COMMANDS, PLANS, STATUSES
+from life_tools.valuations.groups import added
+from life_tools.journal.records import RECORD, UPGRADE
+from life_tools.journal.file import FIRST_GATE
+from life_tools.journal.policy_columns import Policies
 from life_tools.window.asked import Asked
 
 A_PAGE = 50

@@ -4,25 +4,25 @@ from __future__ import annotations
 import datetime
 import re
 
-from life_tools.day_columns import number_at
-from life_tools.entries.report import HEADS
-from life_tools.formats import MEASURES
-from life_tools.positions import on_day
-from life_tools.provenance import provenance
-from life_tools.report_pages import apart, money
-from life_tools.revisions import revision
-from life_tools.sheets import BY_BOUNDS
+from life_tools.journal.day_columns import number_at
+from life_tools.cli.report import HEADS
+from life_tools.common.formats import MEASURES
+from life_tools.journal.positions import on_day
+from life_tools.reports.provenance import provenance
+from life_tools.reports.report_pages import apart, money
+from life_tools.common.revisions import revision
+from life_tools.reports.sheets import BY_BOUNDS
 from life_tools.window import pictures
 from life_tools.window.asked import Asked, BadRequest
 from life_tools.window.downloads import csv_parts, workbook
 from life_tools.window.lists import days_of, newest_day
-from life_tools.window.looked_at import LookedAt
+from life_tools.window.book_copy import BookCopy
 from life_tools.window.parts import Answer, Cell, File, Head, Page, Table, cells, heads, link
 from life_tools.window.policies import STATUSES as STATUS_WORDS
 from life_tools.window.policy_pages import MEASURE_WORDS
 from life_tools.window.tool_runs import ToolRun, tool_run
 from life_tools.window.valuations import Valuation, kept_valuation, words_of
-from life_tools.worked_rows import WORDS as WHY_NO_VALUE
+from life_tools.reserves.worked_rows import WORDS as WHY_NO_VALUE
 
 REPORT_WORDS = ("at", "on", "p", "measure")
 MOVEMENT_WORDS = ("at", "on1", "p1", "on2", "p2")
@@ -34,7 +34,7 @@ KEY_WORDS = {"plan": "plan", "status": "status", "issue-year": "year of issue", 
 
 # --- which day, and at which position ---
 
-def month(book: LookedAt, asked: Asked, at: int) -> Answer:
+def month(book: BookCopy, asked: Asked, at: int) -> Answer:
     """A day is chosen, its position is told, and what can be asked of both."""
     asked.only(("at", "on", "before"))
     with book.tables() as database:
@@ -56,7 +56,7 @@ def year_end_before(newest: str | None) -> datetime.date:
 
 # --- a report ---
 
-def asked_valuation(book: LookedAt, asked: Asked, at: int) -> Valuation:
+def asked_valuation(book: BookCopy, asked: Asked, at: int) -> Valuation:
     asked.only(REPORT_WORDS)
     on = asked.day_or_none("on")
     if on is None:
@@ -83,7 +83,7 @@ def printed_row(it: Valuation) -> list[Cell]:
     return [Cell("printed by life"), *cells((it.policies, "", "", *map(money, it.total), it.words, ""))]
 
 
-def report(book: LookedAt, asked: Asked, at: int) -> Answer:
+def report(book: BookCopy, asked: Asked, at: int) -> Answer:
     it = asked_valuation(book, asked, at)
     words = {"on": it.on, "p": it.position, "measure": it.measure if it.measure != "terminal" else ""}
     missing = [(word, WHY_NO_VALUE.get(word, ""), count, numbers) for word, count, numbers in words_of(it, NAMED)]
@@ -115,12 +115,12 @@ def report_rows(it: Valuation) -> list[list[str]]:
     return [*rows, ["all", "total", *it.whole.cells()]]
 
 
-def report_csv(book: LookedAt, asked: Asked, at: int) -> Answer:
+def report_csv(book: BookCopy, asked: Asked, at: int) -> Answer:
     it = asked_valuation(book, asked, at)
     return File(f"{file_name(it)}.csv", "text/csv", csv_parts(report_rows(it)))
 
 
-def report_xlsx(book: LookedAt, asked: Asked, at: int) -> Answer:
+def report_xlsx(book: BookCopy, asked: Asked, at: int) -> Answer:
     """A sheet for each grouping, and one that tells of what the workbook is."""
     it = asked_valuation(book, asked, at)
     sheets = [("about", about(book, it))]
@@ -130,13 +130,13 @@ def report_xlsx(book: LookedAt, asked: Asked, at: int) -> Answer:
     return File(f"{file_name(it)}.xlsx", XLSX, workbook(sheets))
 
 
-def about(book: LookedAt, it: Valuation) -> list[list[str]]:
+def about(book: BookCopy, it: Valuation) -> list[list[str]]:
     return [["what", "is"], ["book", book.book.name], ["day", str(it.on)], ["position", str(it.position)],
             ["measure", it.measure], ["basis", book.book.basis], ["printed by life", ", ".join(map(money, it.total))],
             *origin_of(book, it.position)]
 
 
-def origin_of(book: LookedAt, position: int) -> list[list[str]]:
+def origin_of(book: BookCopy, position: int) -> list[list[str]]:
     """Journal, program, tools and moment."""
     facts = provenance(book.desk, position, book.book.name)
     return [[name, facts[name]] for name in ("journal", "program", "made")] + [["tools", revision()]]
@@ -144,7 +144,7 @@ def origin_of(book: LookedAt, position: int) -> list[list[str]]:
 
 # --- a movement ---
 
-def asked_movement(book: LookedAt, asked: Asked, at: int) -> tuple[ToolRun, list[str]]:
+def asked_movement(book: BookCopy, asked: Asked, at: int) -> tuple[ToolRun, list[str]]:
     """A run of `movement`, which ends with 1 where it doesn't add up, and then prints nothing."""
     asked.only(MOVEMENT_WORDS)
     days = [asked.day_or_none(name) for name in ("on1", "on2")]
@@ -175,7 +175,7 @@ def moved_rows(run: ToolRun) -> tuple[list[list[str]], list[str]]:
     return rows, [AMOUNT.sub(lambda it: apart(it[0]), each) for each in said if each]
 
 
-def movement(book: LookedAt, asked: Asked, at: int) -> Answer:
+def movement(book: BookCopy, asked: Asked, at: int) -> Answer:
     run, words = asked_movement(book, asked, at)
     closing_day = asked.day_or_none("on2")
     assert closing_day is not None
@@ -210,19 +210,19 @@ def movement_table(run: ToolRun) -> list[list[str]]:
     return [["line", "policies", *(column.name for column in BY_BOUNDS)], *moved_rows(run)[0]]
 
 
-def movement_csv(book: LookedAt, asked: Asked, at: int) -> Answer:
+def movement_csv(book: BookCopy, asked: Asked, at: int) -> Answer:
     run, words = asked_movement(book, asked, at)
     return File(f"movement-{words[0]}-{words[2]}.csv", "text/csv", csv_parts(movement_table(run)))
 
 
-def movement_xlsx(book: LookedAt, asked: Asked, at: int) -> Answer:
+def movement_xlsx(book: BookCopy, asked: Asked, at: int) -> Answer:
     run, words = asked_movement(book, asked, at)
     of_what = [["what", "is"], ["book", book.book.name], ["from", f"{words[0]} at position {words[1]}"],
                ["to", f"{words[2]} at position {words[3]}"], *origin_of(book, int(words[3]))]
     return File(f"movement-{words[0]}-{words[2]}.xlsx", XLSX, workbook([("about", of_what), ("movement", movement_table(run))]))
 
 
-def movement_policies(book: LookedAt, asked: Asked, at: int) -> Answer:
+def movement_policies(book: BookCopy, asked: Asked, at: int) -> Answer:
     run, words = asked_movement(book, asked, at)
     with open(run.file("policies.csv"), "rb") as file:
         return File(f"movement-{words[0]}-{words[2]}-policies.csv", "text/csv", file.read())

@@ -12,14 +12,14 @@ import time
 from types import FrameType
 from typing import Any
 
-from life_tools.book_lists import ListedBook
-from life_tools.formats import Wrong, remark
-from life_tools.packages import ANEW, package
-from life_tools.program import life_command
-from life_tools.progress import Progress
+from life_tools.books.lists import ListedBook
+from life_tools.common.formats import Wrong, remark
+from life_tools.common.packages import ANEW, package
+from life_tools.common.program import life_command
+from life_tools.common.progress import Progress
 from life_tools.window.door import Door
 from life_tools.window.jobs import Failed, Working
-from life_tools.window.looked_at import LookedAt
+from life_tools.window.book_copy import BookCopy
 from life_tools.window.runs import end_all
 from life_tools.window.site import Site
 
@@ -57,7 +57,7 @@ def served(door: Door, port: int) -> Any:
         raise Wrong(f"port {port} can't be had: {getattr(error, 'strerror', None) or 'it is taken'}") from None
 
 
-def tell_progress(book: LookedAt) -> None:
+def tell_progress(book: BookCopy) -> None:
     """How far the opening of the first book is, on the terminal; it is told where the book can't be opened."""
     progress = Progress(f"opening {book.book.name}")
     while True:
@@ -94,7 +94,7 @@ def browse(books: list[ListedBook], port: int) -> int:
     for number in (signal.SIGINT, signal.SIGTERM, signal.SIGHUP):
         signal.signal(number, ended)
     try:
-        looked_at = [LookedAt(number, book, private, life) for number, book in enumerate(books, 1)]
+        looked_at = [BookCopy(number, book, private, life) for number, book in enumerate(books, 1)]
         serve(looked_at, port)
     except Ended:
         pass
@@ -116,7 +116,7 @@ def put_away(private: str) -> None:
     remark(f"life-tools browse: {private} couldn't be removed")
 
 
-def serve(books: list[LookedAt], port: int) -> None:
+def serve(books: list[BookCopy], port: int) -> None:
     # the port is known once it is bound, and the door has to know it
     door = Door(lambda environ, start: [], port)
     server = served(door, port)

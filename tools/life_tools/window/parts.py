@@ -5,7 +5,7 @@ from dataclasses import dataclass, field
 from typing import Any, Callable, Iterable, Mapping, Sequence, Union
 from urllib.parse import urlencode
 
-from life_tools.report_pages import apart
+from life_tools.reports.report_pages import apart
 
 # a cell on the right is a number or an amount
 RIGHT = "right"

@@ -4,8 +4,8 @@ from __future__ import annotations
 from html import escape
 from typing import Sequence
 
-from life_tools.drawing import unit_for
-from life_tools.report_pages import apart, money
+from life_tools.reports.drawing import unit_for
+from life_tools.reports.report_pages import apart, money
 
 WIDTH, HEIGHT = 720, 300
 LEFT, RIGHT, TOP, BOTTOM = 128, 24, 16, 46

@@ -5,15 +5,15 @@ import datetime
 import os
 from typing import Iterator, NamedTuple
 
-from life_tools.commands import UPGRADE, Command
-from life_tools.formats import LAST_DAY, MOST_VALUATIONS, demand
-from life_tools.journals import file_of
-from life_tools.printed_books import ValuedRow, row_of
-from life_tools.report_pages import money
-from life_tools.rules import GRACE, Policy, anniversary, booking_of, due_of, end_of, payments_of, years_of
+from life_tools.rules.commands import UPGRADE, Command
+from life_tools.common.formats import LAST_DAY, MOST_VALUATIONS, demand
+from life_tools.journal.file import file_of
+from life_tools.valuations.printed_books import ValuedRow, row_of
+from life_tools.reports.report_pages import money
+from life_tools.rules.policies import GRACE, Policy, anniversary, booking_of, due_of, end_of, payments_of, years_of
 from life_tools.window.due_lists import Item
 from life_tools.window.jobs import Job
-from life_tools.window.looked_at import LookedAt
+from life_tools.window.book_copy import BookCopy
 from life_tools.window.runs import lines_of, printed_by
 from life_tools.window.tables import postings_of, steps_of
 
@@ -38,7 +38,7 @@ class Known(NamedTuple):
     steps: list[Step]
 
 
-def policy_at(book: LookedAt, number: int, position: int) -> Known | None:
+def policy_at(book: BookCopy, number: int, position: int) -> Known | None:
     """The policy as the rules make it of its postings."""
     with book.tables() as database:
         postings = postings_of(database, number, position)
@@ -105,7 +105,7 @@ def anniversaries_of(policy: Policy) -> list[datetime.date]:
     return [day for day in days if day <= LAST_DAY]
 
 
-def curve_of(book: LookedAt, known: Known, position: int) -> Curve:
+def curve_of(book: BookCopy, known: Known, position: int) -> Curve:
     """What the program prints on each anniversary of a journal that has this policy's postings alone."""
     title = f"policy {known.policy.number} over the years"
     found = book.kept(("curve", known.policy.number, position), title, lambda job: drawn(book, known, job))
@@ -113,7 +113,7 @@ def curve_of(book: LookedAt, known: Known, position: int) -> Curve:
     return found
 
 
-def drawn(book: LookedAt, known: Known, job: Job) -> Curve:
+def drawn(book: BookCopy, known: Known, job: Job) -> Curve:
     with book.desk_at(0) as desk:
         commands = [step.command for step in known.steps]
         if any(each.kind == "paidup" for each in commands):
@@ -128,7 +128,7 @@ def drawn(book: LookedAt, known: Known, job: Job) -> Curve:
         return Curve(list(zip(days, rows)))
 
 
-def rows_on(book: LookedAt, desk: str, days: list[datetime.date]) -> Iterator[ValuedRow]:
+def rows_on(book: BookCopy, desk: str, days: list[datetime.date]) -> Iterator[ValuedRow]:
     """The rows of one policy that a script of valuations prints."""
     script = os.path.join(desk, "script")
     with open(script, "w", encoding="ascii") as file:

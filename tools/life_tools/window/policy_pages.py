@@ -5,16 +5,16 @@ import datetime
 import os
 from typing import Any
 
-from life_tools.formats import MEASURES, MOST_NUMBER
-from life_tools.printed_books import ValuedRow
-from life_tools.report_pages import money
-from life_tools.rules import completed
-from life_tools.tables import read_basis
+from life_tools.common.formats import MEASURES, MOST_NUMBER
+from life_tools.valuations.printed_books import ValuedRow
+from life_tools.reports.report_pages import money
+from life_tools.rules.policies import completed
+from life_tools.tables.basis import read_basis
 from life_tools.window import pictures
 from life_tools.window.asked import Asked, BadRequest
 from life_tools.window.due_lists import of_policy
 from life_tools.window.formulas import Explained, explained
-from life_tools.window.looked_at import LookedAt
+from life_tools.window.book_copy import BookCopy
 from life_tools.window.parts import RIGHT, Answer, Cell, Head, Page, Table, cells, heads, link
 from life_tools.window.policies import STATUSES, Known, curve_of, due_words, policy_at, standing_of, terms_of
 from life_tools.window.valuations import kept_valuation, row_of
@@ -23,7 +23,7 @@ WORDS = ("at", "number", "on", "day", "measure")
 MEASURE_WORDS = {"terminal": "terminal", "mean": "mean", "deficiency": "with the minimum (deficiency)"}
 
 
-def policy(book: LookedAt, asked: Asked, at: int) -> Answer:
+def policy(book: BookCopy, asked: Asked, at: int) -> Answer:
     """What a policy is, what was posted, what is due, and where a day is chosen its reserve."""
     asked.only(WORDS)
     number = asked.number("number", 1, MOST_NUMBER, 0)
@@ -54,7 +54,7 @@ def postings_of(known: Known) -> Table:
     return Table("Postings", [*names, Head("booked", "says")], rows)
 
 
-def anniversaries_near(known: Known, book: LookedAt, at: int, day: datetime.date, measure: str) -> list[tuple[str, str]]:
+def anniversaries_near(known: Known, book: BookCopy, at: int, day: datetime.date, measure: str) -> list[tuple[str, str]]:
     """Days on which the reserve is likely to be asked for: the ends of the last years that the postings reach."""
     first, last = known.policy.issued.year, max(known.policy.last.year, known.policy.issued.year)
     years = [year for year in range(last, last - 3, -1) if year >= first]
@@ -62,7 +62,7 @@ def anniversaries_near(known: Known, book: LookedAt, at: int, day: datetime.date
                                    measure=measure if measure != "terminal" else "")) for year in sorted(years)]
 
 
-def reserve_of(book: LookedAt, known: Known, at: int, on: datetime.date, measure: str) -> dict[str, Any]:
+def reserve_of(book: BookCopy, known: Known, at: int, on: datetime.date, measure: str) -> dict[str, Any]:
     """The printed row of the whole book's valuation, and the same worked out."""
     valuation = kept_valuation(book, on, at, measure)
     row = row_of(valuation, known.policy.number)
@@ -79,7 +79,7 @@ def reserve_of(book: LookedAt, known: Known, at: int, on: datetime.date, measure
     return {"row": row, "status": STATUSES[row.status], "bounds": bounds, "worked": worked, "rates": rates}
 
 
-def picture_of(book: LookedAt, known: Known, at: int, on: datetime.date | None) -> dict[str, Any]:
+def picture_of(book: BookCopy, known: Known, at: int, on: datetime.date | None) -> dict[str, Any]:
     it = known.policy
     if it.status not in ("inforce", "paidup"):
         return {"picture": "", "curve": None}

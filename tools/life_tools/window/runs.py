@@ -8,8 +8,8 @@ import sys
 import threading
 from typing import Iterator, Sequence
 
-from life_tools.formats import Wrong, demand
-from life_tools.packages import ANEW
+from life_tools.common.formats import Wrong, demand
+from life_tools.common.packages import ANEW
 
 # the seconds that a run may take: far more than the largest book needs
 LIMIT = 300

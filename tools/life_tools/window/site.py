@@ -8,19 +8,19 @@ import pkgutil
 from typing import Any, Callable
 from urllib.parse import quote, urlencode
 
-from life_tools.provenance import program_words
-from life_tools.revisions import revision
-from life_tools.formats import Wrong
+from life_tools.reports.provenance import program_words
+from life_tools.common.revisions import revision
+from life_tools.common.formats import Wrong
 from life_tools.window import audit_pages, day_pages, find_pages, month_pages, policy_pages, stand_pages, statement_pages
 from life_tools.window.asked import Asked, BadRequest
 from life_tools.window.door import Application
 from life_tools.window.jobs import Failed, Job, TooMuch, Working
 from life_tools.window.lists import newest_day
-from life_tools.window.looked_at import LookedAt
+from life_tools.window.book_copy import BookCopy
 from life_tools.window.parts import Answer, Elsewhere, File, Page, link
 
 PACKAGE = "life_tools.window"
-Show = Callable[[LookedAt, Asked, int], Answer]
+Show = Callable[[BookCopy, Asked, int], Answer]
 PAGES: dict[str, Show] = {
     "": find_pages.overview, "find": find_pages.find, "policy": policy_pages.policy,
     "day": day_pages.day, "day/list": day_pages.day_list, "day/list.csv": day_pages.day_csv, "day/lines.csv": day_pages.day_lines,
@@ -52,7 +52,7 @@ def file_of_package(name: str) -> bytes:
 class Site:
     """The books of a window, and Flask's application over them."""
 
-    def __init__(self, books: list[LookedAt], port: int) -> None:
+    def __init__(self, books: list[BookCopy], port: int) -> None:
         self.flask: Any = importlib.import_module("flask")
         jinja: Any = importlib.import_module("jinja2")
         self.books, self.port = books, port
@@ -104,7 +104,7 @@ class Site:
         except Wrong as wrong:
             return self.told(409, "That couldn't be done", str(wrong), book)
 
-    def position(self, book: LookedAt, asked: Asked) -> int:
+    def position(self, book: BookCopy, asked: Asked) -> int:
         """The position that is looked at: one of those that the tables were made for."""
         at = asked.position("at", book.newest, book.newest)
         if at not in book.positions:
@@ -112,7 +112,7 @@ class Site:
             raise BadRequest(f"at: the tables were made for {known}, and not for {at:,}; reports and movements take any position")
         return at
 
-    def answered(self, book: LookedAt, name: str, answer: Answer, asked: Asked) -> Any:
+    def answered(self, book: BookCopy, name: str, answer: Answer, asked: Asked) -> Any:
         if isinstance(answer, Elsewhere):
             return self.flask.redirect(answer.link, 303)
         if isinstance(answer, File):
@@ -121,7 +121,7 @@ class Site:
             return response
         return self.page(book, name, answer, self.position(book, asked))
 
-    def page(self, book: LookedAt, name: str, answer: Page, at: int) -> Any:
+    def page(self, book: BookCopy, name: str, answer: Page, at: int) -> Any:
         with book.tables() as database:
             day = newest_day(database, at)
         under = UNDER.get(name, name)
@@ -135,7 +135,7 @@ class Site:
         text = self.flask.render_template(template, title=title, window=self, link=link, **values)
         return self.flask.Response(text, status=status, mimetype="text/html")
 
-    def waiting(self, book: LookedAt, job: Job) -> Any:
+    def waiting(self, book: BookCopy, job: Job) -> Any:
         request = self.flask.request
         response = self.rendered("working.html", "One moment", {"book": book, "job": job, "is_file": "." in request.path}, 202)
         # told with its address, since a page that was come to by a place within it would else not be fetched again
@@ -143,7 +143,7 @@ class Site:
         response.headers["Refresh"] = f"{REFRESH}; url={quote(request.path)}?{words}"
         return response
 
-    def told(self, status: int, what: str, why: str, book: LookedAt | None = None) -> Any:
+    def told(self, status: int, what: str, why: str, book: BookCopy | None = None) -> Any:
         return self.rendered("told.html", what, {"why": why, "book": book, "status": status}, status)
 
     def failed(self, error: Exception) -> Any:

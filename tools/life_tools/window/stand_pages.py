@@ -5,15 +5,15 @@ import getpass
 import os
 import socket
 
-from life_tools.formats import MOST_COMMANDS
+from life_tools.common.formats import MOST_COMMANDS
 from life_tools.window.asked import Asked
-from life_tools.window.looked_at import LookedAt
+from life_tools.window.book_copy import BookCopy
 from life_tools.window.parts import RIGHT, Answer, Cell, Elsewhere, Head, Page, Table, cells, heads, link
 from life_tools.window.standing import backups_near, logged_runs
 from life_tools.window.tool_runs import ToolRun, tool_run
 
 
-def headroom(book: LookedAt) -> ToolRun:
+def headroom(book: BookCopy) -> ToolRun:
     """A run of `books headroom` over a list of the private copy alone."""
     path = os.path.join(book.folder, "list.csv")
     with open(path, "w", encoding="utf-8") as file:
@@ -27,7 +27,7 @@ def headroom_table(run: ToolRun) -> Table:
     return Table("Room in the journal", heads(names), [cells(row) for row in rows[1:]])
 
 
-def stands(book: LookedAt, asked: Asked, at: int) -> Answer:
+def stands(book: BookCopy, asked: Asked, at: int) -> Answer:
     asked.only(("at",))
     room, version = headroom(book), tool_run(book, ["version"], "which program this is")
     runs, open_ones = logged_runs(book.book.folder)
@@ -47,7 +47,7 @@ def stands(book: LookedAt, asked: Asked, at: int) -> Answer:
     return Page("stands.html", "How it stands", values)
 
 
-def newest(book: LookedAt, asked: Asked, at: int) -> Answer:
+def newest(book: BookCopy, asked: Asked, at: int) -> Answer:
     """Takes what was posted since, and goes on from there."""
     asked.only(("at",))
     behind = book.behind()

@@ -5,9 +5,9 @@ import datetime
 import os
 from dataclasses import dataclass
 
-from life_tools.copied_folder import JOURNAL
-from life_tools.journals import EMPTY, FIRST_GATE
-from life_tools.record_columns import front_count, front_sum
+from life_tools.journal.copied_folder import JOURNAL
+from life_tools.journal.file import EMPTY, FIRST_GATE
+from life_tools.journal.record_columns import prefix_count, prefix_sum
 
 OWN = (JOURNAL, "checkpoint.life")
 MOST_RUNS = 5
@@ -90,8 +90,8 @@ def backup_at(path: str, journal: str, newest: int) -> Backup | None:
             if file.read(FIRST_GATE) != EMPTY[:FIRST_GATE]:
                 return None
         made = datetime.datetime.fromtimestamp(os.path.getmtime(path))
-        count = front_count(path)
-        is_front = count is not None and count <= newest and front_sum(path, count) == front_sum(journal, count)
+        count = prefix_count(path)
+        is_front = count is not None and count <= newest and prefix_sum(path, count) == prefix_sum(journal, count)
     except OSError:
         return None
     return Backup(path, f"{made:%Y-%m-%d %H:%M}", count or 0, is_front)

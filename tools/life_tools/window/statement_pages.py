@@ -4,11 +4,11 @@ from __future__ import annotations
 import csv
 import os
 
-from life_tools.report_pages import apart, money
-from life_tools.sheet_files import NOTE_ON
+from life_tools.reports.report_pages import apart, money
+from life_tools.reports.sheet_files import NOTE_ON
 from life_tools.window.asked import Asked, BadRequest
 from life_tools.window.downloads import csv_parts, is_number
-from life_tools.window.looked_at import LookedAt
+from life_tools.window.book_copy import BookCopy
 from life_tools.window.month_pages import XLSX
 from life_tools.window.parts import RIGHT, Answer, File, Head, Page, Table, cells, link
 from life_tools.window.tool_runs import ToolRun, tool_run
@@ -35,7 +35,7 @@ def asked_words(asked: Asked, at: int) -> dict[str, str]:
     return {"on1": str(on1), "p1": str(first), "on2": str(on2), "p2": str(last), "measure": measure}
 
 
-def written(book: LookedAt, words: dict[str, str], form: str, to: str) -> ToolRun:
+def written(book: BookCopy, words: dict[str, str], form: str, to: str) -> ToolRun:
     """A run of `statement`, which ends with 1 where it doesn't add up, and then writes nothing."""
     told = ["statement", *(words[name] for name in ("on1", "p1", "on2", "p2"))]
     told += ["--basis", book.book.basis, "--title", book.book.name]
@@ -69,7 +69,7 @@ def closing_row(rows: list[list[str]]) -> list[str]:
     return next(row[-2:] for row in rows if row[0] == CLOSING)
 
 
-def statement(book: LookedAt, asked: Asked, at: int) -> Answer:
+def statement(book: BookCopy, asked: Asked, at: int) -> Answer:
     words = asked_words(asked, at)
     on2 = asked.day_or_none("on2")
     assert on2 is not None
@@ -88,14 +88,14 @@ def statement(book: LookedAt, asked: Asked, at: int) -> Answer:
     return Page("statement.html", f"Statement to {words['on2']}", values)
 
 
-def statement_csv(book: LookedAt, asked: Asked, at: int) -> Answer:
+def statement_csv(book: BookCopy, asked: Asked, at: int) -> Answer:
     sheet = asked.one_of("sheet", TITLES, "exhibit")
     words = asked_words(Asked((name, text) for name, text in asked.words.items() if name != "sheet"), at)
     run = written(book, words, "--csv", "sheets")
     return File(f"{sheet}-{words['on1']}-{words['on2']}.csv", "text/csv", csv_parts(sheet_in(run, sheet)))
 
 
-def statement_xlsx(book: LookedAt, asked: Asked, at: int) -> Answer:
+def statement_xlsx(book: BookCopy, asked: Asked, at: int) -> Answer:
     words = asked_words(asked, at)
     run = written(book, words, "--xlsx", "statement.xlsx")
     with open(run.file("statement.xlsx"), "rb") as file:

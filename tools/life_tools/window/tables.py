@@ -11,14 +11,14 @@ from contextlib import closing
 from dataclasses import fields, replace
 from typing import Any, Callable, Iterable, Iterator, Sequence
 
-from life_tools.arrays import np
-from life_tools.columns import Columns, columns_at
-from life_tools.commands import Command
-from life_tools.export_tables import COMMAND, POLICY, command_rows, policy_rows
-from life_tools.formats import MOST_COMMANDS, Wrong
-from life_tools.journal_columns import Records
-from life_tools.rules import Policy, Refusal, decide
-from life_tools.valuation_rows import TableRow
+from life_tools.common.arrays import np
+from life_tools.journal.columns import Columns, columns_at
+from life_tools.rules.commands import Command
+from life_tools.reports.export_tables import COMMAND, POLICY, command_rows, policy_rows
+from life_tools.common.formats import MOST_COMMANDS, Wrong
+from life_tools.journal.records import Records
+from life_tools.rules.policies import Policy, Refusal, decide
+from life_tools.valuations.rows import TableRow
 
 Tell = Callable[[str, int, "int | None"], None]
 WHOLE = ("position", "policy", "age", "years", "premiums_paid", "amount_cents", "premium_cents", "outstanding_cents")

@@ -5,9 +5,9 @@ import os
 from dataclasses import dataclass
 from typing import Sequence
 
-from life_tools.formats import Wrong
+from life_tools.common.formats import Wrong
 from life_tools.window.jobs import Job
-from life_tools.window.looked_at import LookedAt
+from life_tools.window.book_copy import BookCopy
 from life_tools.window.runs import run_to, tool_words
 
 
@@ -29,7 +29,7 @@ class ToolRun:
         return os.path.join(self.path, name)
 
 
-def tool_run(book: LookedAt, words: Sequence[str], title: str, is_wrong_shown: bool = True, of: tuple[int, ...] = ()) -> ToolRun:
+def tool_run(book: BookCopy, words: Sequence[str], title: str, is_wrong_shown: bool = True, of: tuple[int, ...] = ()) -> ToolRun:
     """A run of a tool; `OUT/` in its words is a private folder of its own. Raises Working while it runs.
 
     What it is `of` beside its words is asked anew where that changes.
@@ -39,7 +39,7 @@ def tool_run(book: LookedAt, words: Sequence[str], title: str, is_wrong_shown: b
     return found
 
 
-def ran(book: LookedAt, words: Sequence[str], job: Job, is_wrong_shown: bool) -> ToolRun:
+def ran(book: BookCopy, words: Sequence[str], job: Job, is_wrong_shown: bool) -> ToolRun:
     folder = book.new_file()
     os.mkdir(folder, 0o700)
     job.at(f"life-tools {words[0]}")

@@ -10,16 +10,16 @@ import os
 from dataclasses import dataclass, fields
 from typing import Iterator
 
-from life_tools.arrays import np
-from life_tools.class_bases import measure_words, one_basis
-from life_tools.class_columns import basis_rows
-from life_tools.fronts import WORKERS
-from life_tools.groups import KEYS, Groups, Sums, demand_whole, grouped, joined, whole
-from life_tools.printed_books import ValuedRow
-from life_tools.printed_columns import NO_WORDS, Rows, state_of, valuation_of
+from life_tools.common.arrays import np
+from life_tools.valuations.class_bases import measure_words, one_basis
+from life_tools.valuations.class_columns import basis_rows
+from life_tools.journal.at_position import WORKERS
+from life_tools.valuations.groups import KEYS, Groups, Sums, demand_whole, grouped, joined, whole
+from life_tools.valuations.printed_books import ValuedRow
+from life_tools.valuations.printed_columns import NO_WORDS, Rows, state_of, valuation_of
 from life_tools.window.jobs import Job
 from life_tools.window.kept_columns import keep, kept
-from life_tools.window.looked_at import LookedAt
+from life_tools.window.book_copy import BookCopy
 from life_tools.window.runs import printed_by
 
 AT_ONCE = 1 << 18
@@ -49,7 +49,7 @@ class Valuation:
         return Rows(*kept(self.path, COLUMNS))
 
 
-def kept_valuation(book: LookedAt, on: datetime.date, position: int, measure: str) -> Valuation:
+def kept_valuation(book: BookCopy, on: datetime.date, position: int, measure: str) -> Valuation:
     """The valuation of a day at a position; raises Working while the program is asked."""
     title = f"the {measure} reserves on {on} at position {position:,}"
     found = book.kept(("value", on, position, measure), title, lambda job: valued(book, on, position, measure, job))
@@ -66,7 +66,7 @@ def parts_of(path: str, doing: str, job: Job) -> Iterator[bytes]:
             done += len(part)
 
 
-def valued(book: LookedAt, on: datetime.date, position: int, measure: str, job: Job) -> Valuation:
+def valued(book: BookCopy, on: datetime.date, position: int, measure: str, job: Job) -> Valuation:
     job.at("copying the front of the journal")
     with book.desk_at(position) as desk:
         job.at("life value")

@@ -1,0 +1,1 @@
+"""The audit: flags, samples, papers and letters of confirmation."""

@@ -1,0 +1,153 @@
+"""How many commands a book has left, how fast they are used, and what its policies will still need.
+
+Days are numbers from 1970-01-01.
+"""
+from __future__ import annotations
+
+import datetime
+import os
+import re
+from typing import Iterable, Iterator, NamedTuple
+
+from life_tools.common.arrays import Array, np
+from life_tools.journal.columns import Columns
+from life_tools.journal.day_columns import anniversaries, day_at, number_at
+from life_tools.common.formats import LAST_DAY, MOST_COMMANDS, Wrong, bytes_of, number_of, rows_in
+from life_tools.journal.policy_columns import INFORCE, MADE_PAIDUP, TERM, Policies
+
+YEAR = 365
+# more days than from any today to the end of any policy
+MOST_DAYS = 200_000
+# a book is told so many days before it is full, where nothing else is asked for
+AHEAD = 2 * YEAR
+DAY_IN_NAME = re.compile(r"(?<![0-9])[0-9]{4}-[0-9]{2}-[0-9]{2}(?![0-9])")
+
+
+class Needed(NamedTuple):
+    """The commands that policies still need: premiums; maturities and settlements at the end; and all by days from today on."""
+
+    premiums: int
+    at_end: int
+    by_day: Array
+
+
+class Room(NamedTuple):
+    """The room of a book: the days are those on which a command finds it full, or none."""
+
+    commands: int
+    used: int
+    full: int | None
+    premiums: int
+    at_end: int
+    full_alone: int | None
+
+    @property
+    def left(self) -> int:
+        return MOST_COMMANDS - self.commands
+
+    def row(self) -> str:
+        return (f"{self.commands},{self.left},{self.used},{until(self.full)},{self.premiums},{self.at_end},"
+                f"{until(self.full_alone)}")
+
+    def warnings(self, today: int, least: int, within: int) -> Iterator[str]:
+        """What is told of it: fewer commands than are wanted, or full within so many days."""
+        if self.left < least:
+            yield f"{self.left} commands are left, fewer than {least}"
+        days = [day for day in (self.full, self.full_alone) if day is not None]
+        if days and min(days) <= today + within:
+            yield (f"{self.left} commands are left, {self.used} were used in the last year, and it is full on "
+                   f"{day_at(min(days))}: life-tools books split divides it")
+
+
+HEAD = "commands,left,in_last_year,full,premiums,at_end,full_without_issues"
+
+
+def until(day: int | None) -> str:
+    if day is None:
+        return "never"
+    return str(day_at(day)) if day <= number_at(LAST_DAY) else f"after {LAST_DAY}"
+
+
+# --- what policies need ---
+
+def needed_by(policies: Policies, today: int) -> Needed:
+    """What policies need, each command on its day, or today where that has gone by."""
+    is_insured = (policies.status == INFORCE) | (policies.status == MADE_PAIDUP)
+    at_end = np.where(is_insured, np.where(policies.plan == TERM, 1, 2), 0) + (policies.outstanding > 0)
+    by_day = counted(np.where(is_insured, policies.end, today), today, at_end)
+    paying = np.flatnonzero((policies.status == INFORCE) & (policies.paid < policies.payments))
+    issued, paid, payments = policies.issued[paying], policies.paid[paying], policies.payments[paying]
+    premiums = int((payments - paid).sum())
+    while len(paid):
+        by_day += counted(anniversaries(issued, paid), today)
+        is_paying = paid + 1 < payments
+        issued, paid, payments = issued[is_paying], paid[is_paying] + 1, payments[is_paying]
+    return Needed(premiums, int(at_end.sum()), by_day)
+
+
+def counted(days: Array, today: int, each: Array | None = None) -> Array:
+    """How many commands fall on each day from today on; those of days before fall on today."""
+    return np.bincount(np.maximum(days - today, 0), each, MOST_DAYS).astype(np.int64)
+
+
+def first_beyond(by_day: Array, left: int, today: int) -> int | None:
+    """The day of the first command that finds no room."""
+    is_beyond = by_day.cumsum() > left
+    return today + int(is_beyond.argmax()) if is_beyond.any() else None
+
+
+# --- how fast commands are used ---
+
+class Recorded(NamedTuple):
+    """The count that was noted on a day."""
+
+    day: int
+    commands: int
+
+
+def used_in_year(days: Array, today: int, recorded: Iterable[Recorded]) -> int:
+    """The commands of the last year: by their days, or by what was noted of the count, whichever are more."""
+    by_days = int(((days > today - YEAR) & (days <= today)).sum())
+    noted = sorted(it for it in recorded if it.day <= today and it.commands <= len(days))
+    before = [it for it in noted if it.day <= today - YEAR]
+    base = before[-1] if before else noted[0] if noted else None
+    return max(by_days, len(days) - base.commands if base else 0)
+
+
+def recorded_in_log(log: str) -> Iterator[Recorded]:
+    """The counts before each script in the log of day.sh, whose folders begin with the day."""
+    for name in os.listdir(log) if os.path.isdir(log) else ():
+        found = DAY_IN_NAME.match(name)
+        path = os.path.join(log, name, "before")
+        if found and os.path.isfile(path):
+            count = number_of(bytes_of(path)[:20].decode("ascii", "replace").strip(), 0, MOST_COMMANDS)
+            if count is not None:
+                yield Recorded(day_in_name(name), count)
+
+
+def day_in_name(path: str) -> int:
+    """The day that a name has in it."""
+    found = DAY_IN_NAME.search(os.path.basename(path))
+    try:
+        return number_at(datetime.date.fromisoformat(found[0] if found else ""))
+    except ValueError:
+        raise Wrong(f"{path} has no day YYYY-MM-DD in its name, on which its positions were noted") from None
+
+
+def recorded_at(path: str) -> dict[str, Recorded]:
+    """The positions of a month-end, by the books' names: rows of a name and a position, in a file named by its day."""
+    day, found = day_in_name(path), {}
+    for row in rows_in(bytes_of(path)):
+        count = number_of(row.fields[1], 0, MOST_COMMANDS) if len(row.fields) == 2 else None
+        if count is None:
+            raise Wrong(f"{path}, line {row.line}: {row.text} is no name with a position")
+        found[row.fields[0]] = Recorded(day, count)
+    return found
+
+
+def room_of(book: Columns, recorded: Iterable[Recorded], today: int) -> Room:
+    """The room of a book, with the counts that were noted of it."""
+    left, needed = MOST_COMMANDS - book.count, needed_by(book.policies, today)
+    used = used_in_year(book.records.day, today, recorded)
+    return Room(book.count, used, today + left * YEAR // used if used else None, needed.premiums, needed.at_end,
+                first_beyond(needed.by_day, left, today))

@@ -1,0 +1,196 @@
+"""What an auditor looks at: postings that are rare or doubtful, a sample of the policies, papers and letters on it.
+
+    audit flags [--after P0] [--at P]             postings for people to look at, as CSV
+    audit sample N --seed S --on DAY > SAMPLE     a monetary unit sample of a valuation's rows
+    audit papers SAMPLE --html FILE | --pdf FILE  a page to print for each policy of a sample
+    audit letters SAMPLE                          what a letter of confirmation says of each, as CSV
+
+`audit flags --help` and so on tell the words of each.
+"""
+from __future__ import annotations
+
+import argparse
+import csv
+import os
+import sys
+from collections import Counter
+from typing import Iterable, Sequence
+
+from life_tools.valuations.class_bases import Bases, basis_arguments, bases_in, class_arguments
+from life_tools.journal.copied_folder import JOURNAL
+from life_tools.audit.drawn_samples import sample_of
+from life_tools.cli.report import write_text, written_whole
+from life_tools.cli.why import position_in
+from life_tools.audit.flags import DAYS_LATE, FLAGS, Flag, flags_at
+from life_tools.common.formats import Wrong, day_in, demand, money, number_of, remark
+from life_tools.audit.letters import HEADS, letters_of
+from life_tools.audit.paper_pages import page
+from life_tools.audit.papers import NotTheSample, Papers, papers_of
+from life_tools.common.printing import demand_printer, write_pdf
+from life_tools.audit.samples import BY, MEASURED, Sample, asked_in, sample_at, seed_in, text_of
+
+MOST_DAYS = 36_500
+FLAG_HEADS = ("flag", "position", "policy", "kind", "day", "amount", "since", "why")
+
+
+def folder_arguments(parser: argparse.ArgumentParser) -> None:
+    parser.add_argument("--folder", metavar="FOLDER", default=".", help="where journal.life, the basis and the tables lie (.)")
+
+
+# --- flags ---
+
+def late_argument(parser: argparse._ActionsContainer, default: str | None) -> None:
+    parser.add_argument("--late", metavar="DAYS", default=default, help="flags: a maturity is told where it is more than so "
+                        f"many days behind the end ({DAYS_LATE})")
+
+
+def flags_arguments(parser: argparse.ArgumentParser) -> None:
+    parser.add_argument("--after", metavar="P0", help="only postings behind this position, as that of the last year's end")
+    parser.add_argument("--at", metavar="P", help="only the first P postings (all)")
+    late_argument(parser, str(DAYS_LATE))
+    folder_arguments(parser)
+    parser.set_defaults(piece=run_flags)
+
+
+def late_in(text: str) -> int:
+    days = number_of(text, 0, MOST_DAYS)
+    if days is None:
+        raise Wrong(f"--late {text}: 0 to {MOST_DAYS} days are wanted")
+    return days
+
+
+def row_of(flag: Flag) -> list[str]:
+    numbers = [str(flag.position), str(flag.policy), flag.kind, str(flag.day), money(flag.cents), str(flag.since)]
+    return [flag.flag, *numbers, flag.why]
+
+
+def write_rows(head: Sequence[str], rows: Iterable[Sequence[str]]) -> None:
+    writer = csv.writer(sys.stdout, lineterminator="\n")
+    writer.writerow(head)
+    writer.writerows(rows)
+    sys.stdout.flush()
+
+
+def tell_flags(found: Sequence[Flag]) -> int:
+    counts = Counter(each.flag for each in found)
+    remark("; ".join(f"{flag}: {counts[flag]}" for flag in FLAGS))
+    return 1 if found else 0
+
+
+def run_flags(options: argparse.Namespace) -> int:
+    days, after = late_in(options.late), position_in(options.after) or 0
+    flags = flags_at(os.path.join(options.folder, JOURNAL), position_in(options.at), days)
+    found = [each for each in flags if each.position > after]
+    write_rows(FLAG_HEADS, map(row_of, found))
+    return tell_flags(found)
+
+
+# --- a sample ---
+
+def sample_arguments(parser: argparse.ArgumentParser) -> None:
+    parser.add_argument("count", metavar="N", help="how many rows are wished for; fewer come where rows are above the interval")
+    parser.add_argument("--seed", metavar="S", required=True, help="a whole number: the same seed draws the same rows")
+    parser.add_argument("--on", metavar="DAY", required=True, help="the day of the valuation")
+    parser.add_argument("--at", metavar="P", help="the position (the newest)")
+    parser.add_argument("--by", choices=BY, default="reserve", help="the size of a row: the amount insured on the day, or the "
+                        "reserve's upper bound (reserve)")
+    basis_arguments(parser)
+    parser.add_argument("--mean", dest="measure", action="store_const", const=MEASURED[1], default=MEASURED[0],
+                        help="by mean reserves")
+    parser.add_argument("--life", metavar="PROGRAM", help="the program to ask")
+    folder_arguments(parser)
+    parser.set_defaults(piece=run_sample)
+
+
+def run_sample(options: argparse.Namespace) -> int:
+    """The status is 1 where rows have a word: they count for nothing by a reserve, though the policies are insured."""
+    asked, seed, on = asked_in(options.count), seed_in(options.seed), day_in(options.on)
+    bases, at = bases_in(options.basis, options.classes, options.bases), position_in(options.at)
+    drawn = sample_of(options.folder, on, asked, seed, options.by, bases, at, options.measure, options.life)
+    sys.stdout.write(text_of(drawn.sample))
+    sys.stdout.flush()
+    for line in drawn.told():
+        remark(line)
+    return 1 if drawn.words and options.by == "reserve" else 0
+
+
+# --- papers and letters on a sample ---
+
+def paper_arguments(parser: argparse._ActionsContainer) -> None:
+    """The files that papers are."""
+    parser.add_argument("--html", metavar="FILE", help="one page, which needs no network")
+    parser.add_argument("--pdf", metavar="FILE", help="the page as PDF, by Chromium or LibreOffice, where one is there")
+
+
+def papers_arguments(parser: argparse.ArgumentParser) -> None:
+    parser.add_argument("sample", metavar="SAMPLE", help="what audit sample printed")
+    paper_arguments(parser.add_mutually_exclusive_group(required=True))
+    class_arguments(parser)
+    parser.add_argument("--life", metavar="PROGRAM", help="the program to ask")
+    folder_arguments(parser)
+    parser.set_defaults(piece=run_papers)
+
+
+def write_papers(papers: Papers, html: str | None, pdf: str | None) -> int:
+    """A row that isn't right is written, and told."""
+    text = page(papers)
+    written_whole(pdf or html or "", lambda path: write_pdf(path, text) if pdf else write_text(path, text))
+    for number in papers.wrong:
+        remark(f"wrong: the printed row of policy {number} isn't what was worked out")
+    return 1 if papers.wrong else 0
+
+
+def bases_of(sample: Sample, options: argparse.Namespace) -> Bases:
+    """Those of a sample, which names its one basis; of classes it names all."""
+    is_told = options.classes or len(sample.bases) == 1
+    demand(is_told, f"{options.sample} is by classes: --classes and --bases are wanted")
+    return bases_in(None if options.classes else sample.bases[0], options.classes, options.bases)
+
+
+def run_papers(options: argparse.Namespace) -> int:
+    """Writes nothing where the seed draws other rows of this book."""
+    sample = sample_at(options.sample)
+    bases = bases_of(sample, options)
+    if options.pdf:
+        demand_printer()
+    try:
+        papers = papers_of(sample, options.folder, bases, options.life)
+    except NotTheSample as other:
+        remark(f"wrong: {options.sample}: {other}")
+        return 1
+    return write_papers(papers, options.html, options.pdf)
+
+
+def letters_arguments(parser: argparse.ArgumentParser) -> None:
+    parser.add_argument("sample", metavar="SAMPLE", help="what audit sample printed")
+    folder_arguments(parser)
+    parser.set_defaults(piece=run_letters)
+
+
+def run_letters(options: argparse.Namespace) -> int:
+    book = os.path.basename(os.path.realpath(options.folder))
+    rows = letters_of(sample_at(options.sample), os.path.join(options.folder, JOURNAL), book)
+    write_rows(HEADS, rows)
+    return 0
+
+
+def arguments(parser: argparse.ArgumentParser) -> None:
+    pieces = parser.add_subparsers(dest="what", metavar="PIECE", required=True)
+    for name, (tell, does) in PIECES.items():
+        tell(pieces.add_parser(name, help=does, description=does))
+
+
+PIECES = {
+    "flags": (flags_arguments, "postings that are rare or doubtful, for people to look at; the status is 1 where there are any: "
+              "claims within a year of a reinstatement, claims on the very day of the policy's posting before them, claims that "
+              "are settled to the cent on their own day, reinstatements on the last day of the right, maturities long after the "
+              "end"),
+    "sample": (sample_arguments, "a monetary unit sample of a valuation's rows"),
+    "papers": (papers_arguments, "a page to print for each policy of a sample: its row worked out, its postings, its basis row"),
+    "letters": (letters_arguments, "what a letter of confirmation says of each policy of a sample, as CSV"),
+}
+
+
+def run(options: argparse.Namespace) -> int:
+    status: int = options.piece(options)
+    return status

@@ -1,0 +1,107 @@
+"""Looks a script over before it is sent, beside a folder's journal; nothing is posted.
+
+A row is told where its day is behind today, or before that of its lane's posting above; where it is more than 400 days from
+its policy's newest posting, a maturity from the end of the term, and a claim only while premiums are awaited; where its
+policy's number is unknown; where an accepted posting equals it, as where a settlement is sent twice; where its
+amount isn't the policy's premium, or more than is outstanding; where it is a claim within a year of a reinstatement; and
+where the program refuses it on a copy of the journal, with what to do. Of a claim that is refused it tells whether the policy
+was insured on the day of death: it never is a reason to reinstate.
+The rows are looked at in the order in which that dry run answered them. The status is 1 where a row is told. The copy lies
+where that of `dry-run` does.
+
+With --hold the rows of a future day, those more than 400 days off, an issue of a number that is used already, and all later
+rows of their numbers go into a file of their own, for a person to look at; the others into another, to be sent.
+"""
+from __future__ import annotations
+
+import argparse
+import datetime
+import sys
+
+from life_tools.common.formats import MOST_COMMANDS, Wrong, day_in, demand, number_of, remark
+from life_tools.scripts.held_back import Holding, divide, policies_in
+from life_tools.common.packages import stay
+from life_tools.common.program import life_command
+from life_tools.scripts.lines import Line, lanes_of, script_at
+from life_tools.scripts.warnings import Desk
+from life_tools.scripts.transcript_check import answers_in
+from life_tools.scripts.dry_run import Trial, trial_of
+from life_tools.journal.wholeness import tell_doubt
+
+
+def arguments(parser: argparse.ArgumentParser) -> None:
+    parser.add_argument("script", metavar="SCRIPT", help="the script's file")
+    parser.add_argument("--today", metavar="DAY", help="the day on which it is sent, YYYY-MM-DD (that of this machine)")
+    parser.add_argument("--folder", metavar="FOLDER", default=".", help="where journal.life and the basis lie (.)")
+    parser.add_argument("--basis", metavar="NAME", default="basis.csv", help="the name of the basis file there (basis.csv)")
+    parser.add_argument("--hold", metavar=("SEND", "HELD"), nargs=2, help="write the rows to send, and those held back, if any")
+    parser.add_argument("--also-held", metavar="FILE", action="append", default=[],
+                        help="rows that were held back before: all of their numbers are, too")
+    parser.add_argument("--life", metavar="PROGRAM", help="the program to run")
+
+
+def look_over(lines: list[Line], transcript: str, desk: Desk, holding: Holding) -> dict[int, list[str]]:
+    """What is told of rows, by their numbers."""
+    left = {lane: iter(rows) for lane, rows in lanes_of(lines).items()}
+    told: dict[int, list[str]] = {}
+    for head, *_ in answers_in(transcript)[0]:
+        line = next(left.get(number_of(head[0], 1, 8) or 0, iter(())), None)
+        if line is None:
+            raise Wrong(f"the dry run answered {','.join(head)}, and no row is left for that")
+        holding.look(line, desk)
+        told[line.row.number] = desk.warnings(line, line.command) if line.command else []
+        answer = head[len(line.head):]
+        if answer[:1] == ["accepted"] and line.command:
+            desk.take(line.command, number_of(answer[1], 1, MOST_COMMANDS) or 0)
+        elif answer[:1] == ["refused"]:
+            told[line.row.number] += [f"it is refused: {','.join(answer[1:])}", *desk.advice(line, answer[1:])]
+    holding.end(lines)
+    return told
+
+
+def answered(trial: Trial) -> str:
+    """The transcript of the dry run, in which the program judges the journal."""
+    status, transcript = trial.answer()
+    if transcript.startswith("badjournal,"):
+        from life_tools.journal.columns import looked_at, taken
+
+        taken(looked_at(trial.copy)[0], trial.path)
+    demand(status == 0, f"the dry run ended with {status}: {transcript[:200].strip()}")
+    return transcript
+
+
+def tried(options: argparse.Namespace, lines: list[Line], desk: Desk) -> str:
+    """The transcript of the dry run; the desk gets what the policies of the lines have in the journal."""
+    with trial_of(options.script, options.folder, options.basis, life_command(options.life)) as trial:
+        tell_doubt(trial.path, trial.seen)
+        with trial.records() as (data, count):
+            # numpy takes a tenth of a second, in which the program is at work
+            from life_tools.journal.records import places_in, upgrade_in
+
+            upgrade = upgrade_in(data, count)
+            places = places_in(data, count, {line.command.number for line in lines if line.command})
+            transcript = answered(trial)
+            desk.read(data, upgrade, places.tolist())
+    return transcript
+
+
+def run(options: argparse.Namespace) -> int:
+    stay()
+    today = day_in(options.today) if options.today else datetime.date.today()
+    lines, desk = script_at(options.script), Desk(today)
+    transcript = tried(options, lines, desk)
+    holding = Holding(policies_in(options.also_held))
+    told = look_over(lines, transcript, desk, holding)
+    if options.hold:
+        divide(lines, holding.rows, *options.hold)
+        for row, why in holding.rows.items():
+            told.setdefault(row, []).append(f"it is held back: {why}")
+    for line in lines:
+        if told.get(line.row.number):
+            print(f"line {line.row.line} of {options.script}: {line.row.text}")
+            print("".join(f"  {text}\n" for text in told[line.row.number]), end="")
+    sys.stdout.flush()
+    rows = sum(bool(texts) for texts in told.values())
+    held = f", held back: {len(holding.rows)}" if options.hold else ""
+    remark(f"rows: {len(lines)}, told: {rows}{held}; nothing is posted")
+    return 1 if rows else 0

@@ -1,0 +1,87 @@
+"""The one entry `life-tools NAME …`: which module answers each name."""
+from __future__ import annotations
+
+import argparse
+import gc
+import importlib
+import os
+import sys
+from typing import Sequence
+
+from life_tools.common.formats import Wrong
+from life_tools.common.packages import see
+
+# name -> the module of life_tools.cli that answers it, and what it does, in one line
+ENTRIES: dict[str, tuple[str, str]] = {
+    "check": ("check", "look a script over before it is sent"),
+    "due": ("due", "what is due on a day: premiums, lapses, maturities, reinstatements, settlements"),
+    "import": ("import_book", "a CSV of another system as a script of issues and premiums"),
+    "books": ("books", "value, project, state or checkpoint of many books, with their total"),
+    "why": ("why", "one row of a valuation, worked out as a colleague reads it"),
+    "value": ("value", "a valuation, by one basis or by one for each class of lives"),
+    "report": ("report", "a valuation by plan, status, issue year, age or basis row, added up exactly"),
+    "movement": ("movement", "what moved between two valuations, line by line, adding up exactly"),
+    "statement": ("statement", "the sheets of a statement between two moments, each adding up to what the program prints"),
+    "dry-run": ("dry_run", "run a script on a copy of the journal, and print what it would be answered"),
+    "rest": ("rest", "the rows of a script that a killed run didn't reach"),
+    "explain": ("explain", "explain a refusal of a script or of a basis, or what is taken of a table"),
+    "at": ("at", "what state, value or project print of the book as it stood at a position"),
+    "position-on": ("position_on", "the position of a day"),
+    "verify": ("verify", "whether a journal's file is whole, by its length, a checkpoint, a log and seals"),
+    "headroom": ("headroom", "how many commands a book has left, and until when"),
+    "read": ("read", "list the records of a journal"),
+    "read-checkpoint": ("read_checkpoint", "print the books in a checkpoint, and compare them with a journal's"),
+    "export": ("export", "a journal as CSV, as JSON lines, or as an SQLite file"),
+    "check-transcript": ("check_transcript", "judge what a run printed, and what it left in the journal"),
+    "check-values": ("check_values", "work the rows of a printed valuation out anew, and compare"),
+    "check-projection": ("check_projection", "work the years of a printed projection out anew, and compare"),
+    "generate": ("generate", "a drawn script, numbered from a number on"),
+    "plot": ("plot", "draw printed valuations, a printed book or a printed projection"),
+    "audit": ("audit", "for an auditor: doubtful postings, a sample of the policies, papers and letters on it"),
+    "table": ("table", "a table before a book is valued by it: looked at, converted, rounded, joined"),
+    "seal": ("seal", "a seal of the book and its basis, to keep elsewhere; and whether they still are so"),
+    "browse": ("browse", "a window on a book, in a web browser of this machine"),
+    "version": ("version", "version and revision, and whether program and tools belong together"),
+}
+
+# those that read in bulk
+BY_NUMPY = {"audit", "books", "browse", "check", "due", "export", "headroom", "movement", "position-on", "read",
+            "read-checkpoint", "report", "statement", "why"}
+
+
+def parser_of(names: Sequence[str]) -> argparse.ArgumentParser:
+    """The parser of all entries; only the modules of those named are read, since some need packages of their own."""
+    parser = argparse.ArgumentParser(prog="life-tools", description="The work around `life`. Each name has --help; the status is "
+                                     "0 where all is well, 1 where something was found wrong, 2 where it can't be done.")
+    entries = parser.add_subparsers(dest="entry", metavar="NAME", required=True)
+    for name, (module, does) in ENTRIES.items():
+        entry = entries.add_parser(name, help=does, description=does, formatter_class=argparse.RawDescriptionHelpFormatter)
+        if name in names:
+            if name in BY_NUMPY:
+                see("numpy", "python3-numpy")
+            answers = importlib.import_module(f"life_tools.cli.{module}")
+            entry.description = answers.__doc__
+            answers.arguments(entry)
+            entry.set_defaults(run=answers.run)
+    return parser
+
+
+def main(words: Sequence[str] | None = None) -> int:
+    """Runs an entry: 0 all is well, 1 something was found wrong, 2 it could not be done."""
+    given = list(sys.argv[1:] if words is None else words)
+    # millions of rows make no cycles, and looking for some among them takes as long as making them
+    gc.disable()
+    try:
+        options = parser_of(given[:1]).parse_args(given)
+        status: int = options.run(options)
+        sys.stdout.flush()
+        return status
+    except Wrong as wrong:
+        print(f"life-tools {given[0]}: {wrong}", file=sys.stderr)
+        return wrong.status
+    except BrokenPipeError:
+        # whoever read has left; what is still held back must not complain at the end
+        os.dup2(os.open(os.devnull, os.O_WRONLY), sys.stdout.fileno())
+        return 0
+    except KeyboardInterrupt:
+        return 130

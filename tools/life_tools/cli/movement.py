@@ -1,0 +1,166 @@
+"""What moved between two valuations: the analysis of change, which adds up exactly in lower and in upper bounds.
+
+    movement ON1 P1 ON2 P2 [--basis B1 [B2] | --classes FILE --bases FILE1 [FILE2]] [--mean | --deficiency] [--policies FILE]
+
+From the opening reserve (day ON1, position P1, basis B1) by what was posted, by the time gone by, and by a change of basis
+where B2 is given, to the closing reserve (ON2, P2). Each reserve is the program's, of copies of the journal's front. What
+was posted is measured on the opening day, but for new issues, which are measured on the closing day. A policy counts on one
+line, that of its last posting that isn't a premium: what was posted how often is told by `statement`. Beside it stand the
+premiums and settlements of the accounts. By --deficiency it is of the minimum reserves.
+"""
+from __future__ import annotations
+
+import argparse
+import csv
+import os
+from typing import Iterator, NamedTuple
+
+from life_tools.reports.movement import LINES, Cash, Changes, Moved, analysis, cash_of, changes_of, demand_booked
+from life_tools.valuations.class_bases import Bases, bases_in
+from life_tools.valuations.class_columns import valued_columns
+from life_tools.journal.copied_folder import JOURNAL
+from life_tools.cli.report import add_title, write_text, written_whole
+from life_tools.cli.why import measure_arguments, position_in
+from life_tools.common.formats import Wrong, day_in, demand, money, remark
+from life_tools.journal.at_position import book_at
+from life_tools.journal.records import records_behind
+from life_tools.valuations.printed_columns import state_of
+from life_tools.valuations.printed_valuations import SHOWN
+from life_tools.reports.provenance import provenance
+from life_tools.reports.report_sheets import movement_sheet
+from life_tools.reports.sheet_files import write_workbook
+from life_tools.reports.sheet_pages import page
+from life_tools.reports.sheets import BY_BOUNDS
+
+# so many policies are written at once
+AT_ONCE = 1 << 14
+
+
+def arguments(parser: argparse.ArgumentParser) -> None:
+    parser.add_argument("on1", metavar="ON1", help="the opening day")
+    parser.add_argument("p1", metavar="P1", help="the opening position")
+    parser.add_argument("on2", metavar="ON2", help="the closing day")
+    parser.add_argument("p2", metavar="P2", help="the closing position")
+    parser.add_argument("--basis", metavar="NAME", nargs="+", help="the basis, and the one that it is changed to (basis.csv)")
+    parser.add_argument("--classes", metavar="FILE", help="a CSV of classes: number or range of policies, class")
+    parser.add_argument("--bases", metavar="FILE", nargs="+",
+                        help="a CSV of their bases, and one of those that they are changed to")
+    measure_arguments(parser)
+    parser.add_argument("--policies", metavar="FILE", help="each policy's part as CSV")
+    parser.add_argument("--xlsx", metavar="FILE", help="a workbook as well (python3-openpyxl)")
+    parser.add_argument("--html", metavar="FILE", help="one page as well, which needs no network")
+    add_title(parser)
+    parser.add_argument("--folder", metavar="FOLDER", default=".", help="where journal.life, the bases and tables lie (.)")
+    parser.add_argument("--life", metavar="PROGRAM", help="the program to ask")
+
+
+def bases_of(options: argparse.Namespace) -> list[Bases]:
+    """The bases, and those that they are changed to, where these are told."""
+    demand(len(options.basis or []) <= 2 and len(options.bases or []) <= 2, "there are two bases at most")
+    if options.basis and not options.classes and not options.bases:
+        return [bases_in(name, None, None) for name in options.basis]
+    name = options.basis[0] if options.basis else None
+    return [bases_in(name, options.classes, path) for path in options.bases or [None]]
+
+
+TOLD = ("each column is a sum of the printed rows' bounds, of the lower or of the upper ones; a line is what that sum moved by",
+        "a policy counts on one line, that of its last posting; `statement` counts each posting")
+
+
+class Moment(NamedTuple):
+    """A day as it is told to the program, and a position."""
+
+    on: str
+    position: int
+
+
+class Books:
+    """The valuations and states of both positions, and what was posted between them."""
+
+    def __init__(self, asked: Moment, later: Moment, bases: list[Bases], measure: str, folder: str, life: str | None) -> None:
+        on1, first, on2, last = *asked, *later
+        demand(first <= last, f"the closing position {last} is before the opening one, {first}")
+        basis, changed = bases[0], bases[-1]
+        names = list(dict.fromkeys(name for each in bases for name in each.names))
+        with book_at(folder, first, names, life) as copy:
+            self.opening = valued_columns(copy, on1, basis, measure)
+            self.before = state_of(copy.streams("state")).balances
+        with book_at(folder, last, names, life) as copy:
+            self.later_book = valued_columns(copy, on1, basis, measure)
+            self.later_day = valued_columns(copy, on2, basis, measure)
+            self.closing = valued_columns(copy, on2, changed, measure) if changed != basis else self.later_day
+            self.after = state_of(copy.streams("state")).balances
+            self.records = records_behind(os.path.join(copy.folder, JOURNAL), first, last)
+
+
+def rows_of(changes: Changes) -> Iterator[list[str]]:
+    """Each policy's part as it is written, made of so many at once."""
+    for start in range(0, len(changes), AT_ONCE):
+        some = slice(start, start + AT_ONCE)
+        parts = (changes.opening, changes.posted, changes.time, changes.basis, changes.closing)
+        amounts = (map(money, column) for part in parts for column in part[some].T.tolist())
+        names = (LINES[place] if place else "" for place in changes.line[some].tolist())
+        yield from map(list, zip(map(str, changes.number[some].tolist()), names, *amounts))
+
+
+def write_policies(path: str, changes: Changes) -> None:
+    with open(path, "w", newline="", encoding="utf-8") as file:
+        writer = csv.writer(file, lineterminator="\n")
+        parts = ("opening", "posted", "time", "basis", "closing")
+        writer.writerow(["policy", "line", *(f"{part} {bound}" for part in parts for bound in ("lower", "upper"))])
+        writer.writerows(rows_of(changes))
+
+
+def shown(lines: list[Moved]) -> str:
+    rows = [("", "policies", *(column.name for column in BY_BOUNDS))]
+    rows += [(it.name, str(it.policies), money(it.cents[0]), money(it.cents[1])) for it in lines]
+    widths = [max(len(row[place]) for row in rows) for place in range(4)]
+    return "\n".join("  ".join([row[0].ljust(widths[0]), *(row[k].rjust(widths[k]) for k in (1, 2, 3))]) for row in rows)
+
+
+def write_files(options: argparse.Namespace, lines: list[Moved], cash: Cash, notes: list[str], title: str) -> None:
+    """The page or the workbook, where one is asked for."""
+    if not options.html and not options.xlsx:
+        return
+    told = provenance(options.folder, int(options.p2), options.title, options.life)
+    sheets, whole = [movement_sheet(title, lines, cash, notes)], f"{told['book']}: {title}"
+    if options.xlsx:
+        written_whole(options.xlsx, lambda path: write_workbook(path, whole, told, sheets))
+    if options.html:
+        written_whole(options.html, lambda path: write_text(path, page(whole, told, sheets)))
+
+
+def moved_in(books: Books) -> tuple[Changes, list[Moved], Cash]:
+    """The changes of the policies, the lines, and the cash, which add up to what was printed."""
+    changes = changes_of(books.opening, books.later_book, books.later_day, books.closing, books.records)
+    lines, cash = analysis(changes, books.opening, books.closing), cash_of(books.records)
+    demand_booked(cash, books.before, books.after)
+    return changes, lines, cash
+
+
+def notes_of(books: Books) -> list[str]:
+    notes = [f"{valuation.words} policies of the {name} have a word in place of bounds, and are in no sum"
+             for name, valuation in ((LINES[0], books.opening), (LINES[-1], books.closing)) if valuation.words]
+    return [*notes, *TOLD]
+
+
+def run(options: argparse.Namespace) -> int:
+    day_in(options.on1), day_in(options.on2)
+    first, last = position_in(options.p1), position_in(options.p2)
+    assert first is not None and last is not None
+    books = Books(Moment(options.on1, first), Moment(options.on2, last), bases_of(options), options.measure, options.folder,
+                  options.life)
+    try:
+        changes, lines, cash = moved_in(books)
+    except Wrong as wrong:
+        remark(f"wrong: {wrong}")
+        return 1
+    if options.policies:
+        written_whole(options.policies, lambda path: write_policies(path, changes))
+    measure = "" if options.measure == "terminal" else f", {SHOWN[options.measure][0]}"
+    title = f"from {options.on1} at position {options.p1} to {options.on2} at position {options.p2}{measure}"
+    notes = notes_of(books)
+    write_files(options, lines, cash, notes, title)
+    print("\n".join([title, shown(lines), *notes]))
+    print(f"premiums received {money(cash.premiums)}, settlements paid {money(cash.settlements)}")
+    return 0

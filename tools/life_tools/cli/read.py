@@ -1,0 +1,51 @@
+"""Lists every record of a journal, and adds up the balances of the four accounts; or says why the file is no journal.
+
+A file that the program refuses is answered with the program's own line, `badjournal,..`, and on standard error with the
+reason; the status is then 2. An unfinished creation, as a crash may leave it, is a journal without records. Each record
+is judged by the rules anew, as the program does when it opens the file.
+
+A file of which commands are gone behind a gate that has turned, as `verify` finds it, isn't listed, and gives 1. So does
+one with bytes behind its end that may be what a crash left; it is listed.
+
+--verify judges the records and prints the balances and the count alone.
+"""
+from __future__ import annotations
+
+import argparse
+import sys
+
+from life_tools.journal.columns import Columns, looked_at
+from life_tools.common.formats import Wrong, money, remark
+from life_tools.journal.file import Journal, is_unfinished_creation
+from life_tools.journal.record_texts import lines_of, plain_template, transactions_of
+from life_tools.journal.wholeness import demand_undamaged, tell
+
+
+def arguments(parser: argparse.ArgumentParser) -> None:
+    prints = parser.add_mutually_exclusive_group()
+    prints.add_argument("--ledger", action="store_true", help="print transactions for the programs ledger and hledger instead")
+    prints.add_argument("--verify", action="store_true", help="print the balances and the count alone")
+    parser.add_argument("journal", metavar="JOURNAL", help="the file, as journal.life")
+
+
+def print_balances(book: Columns) -> None:
+    for account, balance in book.balances.items():
+        print(f"balance,{account},{money(balance)}")
+    print(f"count,{book.count}")
+
+
+def run(options: argparse.Namespace) -> int:
+    book, blocks = looked_at(options.journal)
+    if isinstance(book, Journal):
+        print(book.refused, flush=True)
+        raise Wrong(f"{options.journal}: {book.why}")
+    status = tell(demand_undamaged(options.journal, blocks.seen))
+    if is_unfinished_creation(blocks.front):
+        remark(f"{options.journal}: an unfinished creation, which the program makes a journal without records")
+    if options.ledger:
+        sys.stdout.writelines(transactions_of(book))
+        return status
+    if not options.verify:
+        sys.stdout.writelines(lines_of(book.records, plain_template))
+    print_balances(book)
+    return status

@@ -1,0 +1,130 @@
+"""The rows of a script that a killed run didn't reach, as a script for the next run.
+
+What it had accepted stands in the journal, and a lane's rows are answered in their order. So of each lane the rows up to
+the last one that the journal shows were answered, and the rest is to be run. With --printed FILE, which holds what the
+run printed before it ended, the rows that are answered there are so for certain, and their refusals and valuations
+aren't asked for again. BEFORE says where the run began: the number of commands accepted before it (the `count` that
+`life state` printed), or a copy of the journal from before; it isn't needed where an accepted line was printed.
+
+Rows that were printed `refused,full` are told, with status 1; with --full they are in the rest, to be sent to a book that
+has room.
+
+A record doesn't say whose it is. Where equal rows stand in several lanes, the records are dealt out so that each row
+in between was refused at some moment, or asked for a value or a trim: the killed run together with the rest is then one
+run of the whole script. It ends with status 1 where no run of the script leaves this journal: another script, another
+BEFORE, another printed file, or a disk that failed in the run.
+"""
+from __future__ import annotations
+
+import argparse
+import os
+import sys
+
+from life_tools.rules.commands import Command
+from life_tools.common.formats import MOST_COMMANDS, Wrong, demand, number_of, printed_text, remark
+from life_tools.journal.file import journal_at
+from life_tools.scripts.cut_transcripts import Printed, read_prefix
+from life_tools.scripts.remainder import History, NoRun, demand_records, rest_of
+from life_tools.scripts.lines import Line, lanes_of, script_at
+
+
+def arguments(parser: argparse.ArgumentParser) -> None:
+    parser.add_argument("script", metavar="SCRIPT", help="the script of the killed run")
+    parser.add_argument("journal", metavar="JOURNAL", help="journal.life as it is now")
+    parser.add_argument("before", metavar="BEFORE", nargs="?",
+                        help="how many commands were accepted before, or a journal from before")
+    parser.add_argument("--printed", metavar="FILE", help="what the run printed before it ended")
+    parser.add_argument("--full", action="store_true", help="also the rows that are printed as having found the book full")
+
+
+def begun_with(before: str) -> list[Command] | int:
+    """The commands accepted before the run, or how many they were."""
+    if os.path.exists(before):
+        return journal_at(before).commands
+    count = number_of(before, 0, MOST_COMMANDS)
+    if count is None:
+        raise Wrong(f"{before} is no journal, and no number of commands")
+    return count
+
+
+def beginning(before: str | None, printed: Printed) -> list[Command] | int:
+    """Where the run began, as BEFORE says, or what was printed."""
+    if before is not None:
+        begun = begun_with(before)
+        count = begun if isinstance(begun, int) else len(begun)
+        demand(printed.begun in (None, count), f"before the run there were {count}, and by what is printed {printed.begun}")
+        return begun
+    if printed.begun is None:
+        raise Wrong("no accepted line is printed: BEFORE is needed, the number of commands accepted before the run")
+    return printed.begun
+
+
+def history_at(path: str, before: str | None, printed: Printed) -> History:
+    """What the run has made of the journal, which has to go on from what was before it."""
+    begun = beginning(before, printed)
+    count = begun if isinstance(begun, int) else len(begun)
+    history = History(count)
+    commands = journal_at(path, history).commands
+    demand(count <= len(commands), f"{path} has {len(commands)} commands, and before the run there were {count}")
+    demand(isinstance(begun, int) or begun == commands[:count], f"{path} doesn't go on from {before}")
+    return history
+
+
+def tell(lanes: dict[int, list[Line]], rest: dict[int, list[Line]], records: int, printed: Printed) -> None:
+    """What was answered of each lane, which valuations were lost, and what was printed and not posted, on standard error."""
+    remark(f"accepted in the run: {records}")
+    for word, line in printed.unposted:
+        remark(f"row {line.row.number} was answered {word}, and isn't in the rest: {line.row.text}")
+    for lane, lines in sorted(lanes.items()):
+        answered = lines[:len(lines) - len(rest[lane])]
+        remark(f"lane {lane}: {len(answered)} of {len(lines)} rows were answered")
+        for line in answered:
+            if line.kind == "value" and line.row.number not in printed.rows:
+                remark(f"  lost: {line.row.text}, row {line.row.number}: life value {line.day} --at POSITION prints it")
+
+
+def first_of_lanes(lines: list[Line]) -> dict[Command, dict[int, Line]]:
+    """Of each command the first row of each lane that is it."""
+    found: dict[Command, dict[int, Line]] = {}
+    for line in lines:
+        if line.command:
+            found.setdefault(line.command, {}).setdefault(line.lane, line)
+    return found
+
+
+def tell_equal(answered: list[Line], rest: list[Line]) -> None:
+    """Rows of the rest that equal an answered row of another lane."""
+    firsts = first_of_lanes(answered)
+    for line in rest:
+        known = firsts.get(line.command, {}) if line.command else {}
+        like = min((it.row.number for lane, it in known.items() if lane != line.lane), default=None)
+        if like:
+            remark(f"row {line.row.number} equals row {like}, which is taken as the one that was accepted")
+
+
+def tell_full(printed: Printed) -> int:
+    """Tells how many rows found the book full: 1, or 0 where none did."""
+    if printed.full:
+        remark(f"rows that found the book full, and aren't in the rest: {len(printed.full)}; --full has them there")
+    return 1 if printed.full else 0
+
+
+def run(options: argparse.Namespace) -> int:
+    lines = script_at(options.script)
+    printed = read_prefix(printed_text(options.printed), lines) if options.printed else Printed()
+    history = history_at(options.journal, options.before, printed)
+    try:
+        demand_records(printed, history)
+        rest = rest_of(lines, history, printed)
+    except NoRun as none:
+        remark(str(none))
+        return 1
+    left = {line.row.number for lane in rest.values() for line in lane}
+    tell(lanes_of(lines), rest, history.records, printed)
+    certain = left | printed.rows
+    tell_equal([line for line in lines if line.row.number not in certain],
+               [line for line in lines if line.row.number in left])
+    if options.full:
+        left |= {line.row.number for line in printed.full}
+    sys.stdout.writelines(line.row.text + "\n" for line in lines if line.row.number in left)
+    return 0 if options.full else tell_full(printed)

@@ -1,0 +1,57 @@
+"""A seal of the book as it is: its front, its basis and tables, as a few lines to keep elsewhere; and whether they still are so.
+
+    seal [--at P] [--basis NAME]..      prints a seal of the first P postings (all where no --at is told)
+    seal --check FILE                   tells whether the folder's front, basis and tables are those of the seal
+
+The front is the first 17 + 65 P bytes of journal.life, which no later posting changes. What its records say isn't judged:
+`life state` and `read` do that. The status is 1 where a front or a file is another one, or where postings are gone. Of a
+book of which `verify` finds postings gone no seal is made. The lines of a seal are
+
+    seal,1,DAY ON WHICH IT WAS MADE
+    position,P,POSTINGS THAT THE JOURNAL HAD,LATEST DAY OF THE FRONT
+    front,BYTES,SHA-256
+    file,NAME,BYTES,SHA-256             the basis and each table that it names
+    sum,SHA-256 OF THE LINES ABOVE
+"""
+from __future__ import annotations
+
+import argparse
+import os
+import sys
+
+from life_tools.journal.copied_folder import JOURNAL
+from life_tools.cli.why import position_in
+from life_tools.common.formats import demand, remark
+from life_tools.journal.seals import differences, seal_at, seal_of, text_of
+from life_tools.journal.wholeness import demand_undamaged, tell
+
+
+def arguments(parser: argparse.ArgumentParser) -> None:
+    parser.add_argument("--at", metavar="P", help="the position (the newest)")
+    parser.add_argument("--basis", metavar="NAME", action="append", help="a basis file in the folder (basis.csv); each has one")
+    parser.add_argument("--no-basis", action="store_true", help="seal the journal alone")
+    parser.add_argument("--folder", metavar="FOLDER", default=".", help="where journal.life, the basis and the tables lie (.)")
+    parser.add_argument("--check", metavar="FILE", help="a seal that was kept")
+
+
+def check(path: str, folder: str) -> int:
+    seal = seal_at(path)
+    found = differences(seal, folder)
+    for each in found:
+        remark(f"wrong: {each}")
+    if not found:
+        files = "".join(f", {it.name}" for it in seal.files)
+        print(f"as sealed on {seal.made}: the first {seal.position} postings{files}")
+    return 1 if found else 0
+
+
+def run(options: argparse.Namespace) -> int:
+    is_told = options.at is not None or options.basis or options.no_basis
+    demand(not (options.check and is_told), "--check has position and files from the seal")
+    demand(not (options.basis and options.no_basis), "of --basis and --no-basis one stands")
+    if options.check:
+        return check(options.check, options.folder)
+    status = tell(demand_undamaged(os.path.join(options.folder, JOURNAL)))
+    bases = [] if options.no_basis else options.basis or ["basis.csv"]
+    sys.stdout.write(text_of(seal_of(options.folder, position_in(options.at), bases)))
+    return status

@@ -1,0 +1,67 @@
+"""Tells the version and the revision of these tools, and whether the program beside them is the one they belong to.
+
+The status is 1 where it isn't, or where a clone's program isn't as new as its sources.
+"""
+from __future__ import annotations
+
+import argparse
+import hashlib
+import os
+import re
+import subprocess
+import sys
+
+from life_tools.common.formats import Wrong, bytes_of
+from life_tools.common.program import program_beside
+from life_tools.common.revisions import built_with, of_clone
+
+# whether a clone's program is newer than each of its sources, as its launcher decides that
+IS_CURRENT = 'root=$0; . "$root/tools/launcher/shared.sh"; is_current "$1"'
+
+
+def arguments(parser: argparse.ArgumentParser) -> None:
+    pass
+
+
+def version_of(clone: str) -> str:
+    """The newest version of a clone's changelog."""
+    found = re.search(r"^## (\S+)", bytes_of(os.path.join(clone, "CHANGELOG.md")).decode("utf-8", "replace"), re.M)
+    if not found:
+        raise Wrong(f"{clone}/CHANGELOG.md has no version")
+    return found[1]
+
+
+def tell_of_clone(clone: str) -> int:
+    print(f"version: {version_of(clone)}, not installed: the tools of the clone {clone}")
+    print(f"revision: {of_clone() or 'unknown: there is no repository'}")
+    program = os.path.join(clone, "crates", "life_cli", "out", "life_cli")
+    if not os.path.isfile(program):
+        print(f"wrong: there is no proved program {program}: sh life prove")
+        return 1
+    print(f"sum: {hashlib.sha256(bytes_of(program)).hexdigest()}")
+    if subprocess.run(["sh", "-c", IS_CURRENT, clone, program], check=False).returncode:
+        print(f"wrong: {program} is older than its sources: sh life prove")
+        return 1
+    print(f"program: {program} is as new as its sources")
+    return 0
+
+
+def tell_of_installed(here: str, built: dict[str, str]) -> int:
+    for name in ("version", "revision", "kit", "sum"):
+        print(f"{name}: {built[name]}")
+    beside = program_beside(here)
+    if beside is None:
+        raise Wrong(f"there is no program in {here}")
+    program = os.path.realpath(beside)
+    found = hashlib.sha256(bytes_of(program)).hexdigest()
+    if found != built["sum"]:
+        print(f"wrong: {program} has the sum {found}")
+        return 1
+    print(f"program: {program} has this sum")
+    return 0
+
+
+def run(options: argparse.Namespace) -> int:
+    here = os.path.dirname(os.path.realpath(sys.argv[0]))
+    built = built_with()
+    return tell_of_clone(os.path.dirname(here)) if built is None else tell_of_installed(here, built)

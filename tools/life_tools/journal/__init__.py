@@ -1,0 +1,1 @@
+"""The journal and the checkpoint: records, columns, policies at a position, wholeness, seals, private copies."""

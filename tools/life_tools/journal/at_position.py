@@ -1,0 +1,107 @@
+"""The book as it stood after its first postings: what the program prints of a copy of the journal's front.
+
+What is printed of the copy is proved as ever; the journal itself is only read.
+"""
+from __future__ import annotations
+
+import contextlib
+import os
+import subprocess
+from concurrent.futures import ThreadPoolExecutor
+from typing import Iterator, Sequence
+
+from life_tools.journal.copied_folder import JOURNAL, begun, copy_basis, private_copy, reading, run_in, written
+from life_tools.common.formats import Wrong, demand
+from life_tools.journal.file import EMPTY, FIRST_GATE, RECORD_SIZE, gate_of
+from life_tools.common.program import life_command
+from life_tools.journal.blocks import Blocks, demanded
+from life_tools.journal.record_columns import close_gate, send
+from life_tools.journal.wholeness import tell_doubt
+
+# so many threads value, which change no byte of what is printed
+WORKERS = ("--workers", str(min(os.cpu_count() or 1, 4)))
+AT_ONCE = 1 << 18
+
+
+class BookAt:
+    """The copy: its folder, the position, and what the program prints of it."""
+
+    def __init__(self, folder: str, position: int, life: Sequence[str]) -> None:
+        self.folder, self.position, self.life = folder, position, life
+
+    def demand_well(self, status: int, words: Sequence[str], printed: str) -> None:
+        if status:
+            said = printed.splitlines()[:1]
+            raise Wrong(f"life {' '.join(words)} at position {self.position} ended with status {status}"
+                        + (f": {said[0]}" if said else ""))
+
+    def asks(self, *words: str) -> str:
+        """What the program prints on these words, which must end with status 0."""
+        status, printed = run_in(self.folder, self.life, words)
+        self.demand_well(status, words, printed)
+        return printed
+
+    def begins(self, *words: str) -> subprocess.Popen[bytes]:
+        """The program at work on these words, while something else is done."""
+        return begun(self.folder, self.life, words)
+
+    def parts(self, ran: subprocess.Popen[bytes], *words: str) -> Iterator[bytes]:
+        """What it prints, which must end with status 0, in parts."""
+        assert ran.stdout
+        part = ran.stdout.read(AT_ONCE)
+        if len(part) < AT_ONCE:
+            self.demand_well(ran.wait(), words, part.decode("ascii", "replace"))
+        while part:
+            yield part
+            part = ran.stdout.read(AT_ONCE)
+        self.demand_well(ran.wait(), words, "")
+
+    def streams(self, *words: str) -> Iterator[bytes]:
+        """The same from the beginning on."""
+        with self.begins(*words) as ran:
+            yield from self.parts(ran, *words)
+
+    def alone(self, places: Sequence[int]) -> BookAt:
+        """A copy of the commands of these places alone."""
+        folder = os.path.join(self.folder, "alone")
+        os.mkdir(folder)
+        with open(os.path.join(self.folder, JOURNAL), "rb") as file, open(os.path.join(folder, JOURNAL), "wb") as copy:
+            copy.write(EMPTY[:FIRST_GATE])
+            for place in places:
+                file.seek(gate_of(place))
+                copy.write(file.read(RECORD_SIZE))
+            copy.write(bytes(1))
+        return BookAt(folder, len(places), self.life)
+
+
+def copied(path: str, position: int | None, to: str) -> Blocks:
+    """Copies a journal up to a position, or all of it, and looks at it meanwhile, while nobody posts."""
+    with reading(path) as file, ThreadPoolExecutor(1) as beside:
+        size = os.fstat(file.fileno()).st_size if position is None else gate_of(position)
+        sending = beside.submit(send, path, size, to)
+        blocks = Blocks(file).through()
+        try:
+            sending.result()
+        except OSError as error:
+            raise Wrong(f"{to}: {error.strerror}") from error
+    return blocks
+
+
+@contextlib.contextmanager
+def book_at(folder: str, position: int | None, bases: Sequence[str], life: str | None) -> Iterator[BookAt]:
+    """A copy of the book at a position (the newest where none is told), with these basis files and their tables."""
+    path, command = os.path.join(folder, JOURNAL), life_command(life)
+    with private_copy(folder, bases[0]) as desk:
+        copy = os.path.join(desk, JOURNAL)
+        blocks = copied(path, position, copy)
+        tell_doubt(path, blocks.seen)
+        count = demanded(blocks, path)
+        demand(position is None or position <= count, f"{position} is no position of {path}, which has {count} commands")
+        position = count if position is None else position
+        if position:
+            close_gate(copy, gate_of(position))
+        else:
+            written(copy, EMPTY)
+        for basis in bases[1:]:
+            copy_basis(folder, basis, desk)
+        yield BookAt(desk, position, command)

@@ -1,0 +1,82 @@
+"""The books in a checkpoint in bulk: its policies as columns. `checkpoints` has the same policy by policy."""
+from __future__ import annotations
+
+from dataclasses import dataclass, fields
+
+from life_tools.common.arrays import Array, np
+from life_tools.journal.checkpoints import HEADER_SIZE, POLICY_SIZE, Header, header_in, policy_in
+from life_tools.journal.columns import Columns
+from life_tools.rules.commands import LAST_AGE
+from life_tools.journal.day_columns import FIRST, LAST, anniversaries
+from life_tools.common.formats import MOST_CENTS, STATUSES, Wrong
+from life_tools.journal.records import WHOLE, is_issue_right
+from life_tools.journal.policy_columns import CLAIMED, ENDOWMENT, MATURED, TERM, Policies
+
+# a policy as it stands in the file
+POLICY = np.dtype([("number", ">u4"), ("plan", "u1"), ("age", "u1"), ("years", "u1"), ("paid", "u1"), ("status", "u1"),
+                   ("idle", "u1", 3), ("issued", ">i4"), ("last", ">i4"), ("amount", ">u8"), ("premium", ">u8"),
+                   ("outstanding", ">u8"), ("rest", ">u4")])
+assert POLICY.itemsize == POLICY_SIZE
+
+
+@dataclass(frozen=True)
+class CheckpointColumns:
+    """The books after the first commands of a journal: the header, and the policies."""
+
+    header: Header
+    policies: Policies
+
+    def is_of(self, book: Columns) -> bool:
+        """Whether these are the books of a journal, which has so many commands."""
+        before = book.front(self.header.position)
+        same = self.header.upgrade == before.upgrade and self.header.balances == before.balances
+        return same and all(np.array_equal(getattr(self.policies, column.name), getattr(before.policies, column.name))
+                            for column in fields(Policies))
+
+
+def is_sound(raw: Array, of: Policies) -> Array:
+    """Whether each policy is sound, by the fields of the file and by what they make of it."""
+    owed = (of.status == CLAIMED) | (of.status == MATURED)
+    sound: Array = (~raw["idle"].any(axis=1) & (raw["rest"] == 0) & (of.status >= 1) & (of.status <= len(STATUSES))
+                    & is_issue_right(of.plan, of.age, of.years) & (of.number >= 1)
+                    & (of.amount >= 1) & (of.amount <= MOST_CENTS) & (of.premium >= 1) & (of.premium <= MOST_CENTS)
+                    & (of.paid <= of.payments) & (of.issued >= FIRST) & (of.issued <= of.last) & (of.last <= LAST)
+                    & (of.outstanding >= 0) & (of.outstanding <= of.amount) & ((of.outstanding > 0) == owed))
+    return sound
+
+
+def policies_of(raw: Array) -> Policies:
+    """The columns of policies, whatever stands in them."""
+    number, plan, age, years, issued = (raw[name].astype(kind) for name, kind in (
+        ("number", np.uint32), ("plan", np.uint8), ("age", np.uint8), ("years", np.uint8), ("issued", np.int32)))
+    amount, premium, outstanding = (raw[name].astype(np.uint64).view(np.int64) for name in ("amount", "premium", "outstanding"))
+    # of one that isn't sound the cover may be anything
+    years_to_end = np.maximum(LAST_AGE - age.astype(np.int16), 0)
+    cover = np.where((plan == TERM) | (plan == ENDOWMENT), np.minimum(years, LAST_AGE), years_to_end)
+    end = anniversaries(np.clip(issued, FIRST, LAST), cover)
+    return Policies(number, plan, age, years, issued, cover, np.where(plan == WHOLE, years_to_end, years), end, amount, premium,
+                    raw["last"].astype(np.int32), raw["status"].copy(), raw["paid"].astype(np.int16), outstanding)
+
+
+def first_again(number: Array) -> int | None:
+    """The first place of a number that stands before it, too."""
+    order = np.argsort(number, kind="stable")
+    again = order[1:][number[order][1:] == number[order][:-1]]
+    return int(again.min()) if len(again) else None
+
+
+def checkpoint_columns(data: bytes) -> CheckpointColumns:
+    """The books in a file, which has to be a checkpoint."""
+    header = header_in(data)
+    raw = np.frombuffer(data, POLICY, header.policies, HEADER_SIZE) if header.policies else np.empty(0, POLICY)
+    policies = policies_of(raw)
+    unsound, again = np.flatnonzero(~is_sound(raw, policies)), first_again(policies.number)
+    wrong = min([*map(int, unsound[:1]), *([] if again is None else [again])], default=None)
+    if wrong is not None:
+        at = HEADER_SIZE + POLICY_SIZE * wrong
+        try:
+            policy = policy_in(data[at:at + POLICY_SIZE])
+        except Wrong as why:
+            raise Wrong(f"policy {wrong}, at byte {at}: {why}") from why
+        raise Wrong(f"policy {wrong}, at byte {at}: the number {policy.number} stands there twice")
+    return CheckpointColumns(header, policies)

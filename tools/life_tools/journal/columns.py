@@ -1,0 +1,107 @@
+"""A journal in bulk: its commands, its policies and what was booked as columns of numpy, judged by the rules.
+
+`columns_at` is to a file what `journals.journal_at` is, a hundred times as quick, and refuses the same files with the same
+words; an object is made only of what is asked for. Positions count from 1, places in columns from 0.
+"""
+from __future__ import annotations
+
+import io
+from dataclasses import dataclass
+
+from life_tools.rules.commands import command_in
+from life_tools.common.formats import Wrong, demand
+from life_tools.journal.records import CLAIM, MATURE, PREMIUM, REINSTATE, SETTLE, Records, records_of
+from life_tools.journal.file import Journal, bad_record
+from life_tools.common.arrays import Array, Cents, np
+from life_tools.journal.policy_columns import Policies
+from life_tools.journal.blocks import Blocks, blocks_at
+from life_tools.journal.replays import Replay
+from life_tools.rules.policies import ACCOUNTS
+
+
+@dataclass(frozen=True)
+class Columns:
+    """A book: its records; its policies, in order of issue, as they are at its end; and of each record more.
+
+    `place` is that of its policy among the policies, or -1 of an upgrade; `booked` are the cents that it moves between two
+    accounts, by `balances`. The position of the upgrade is 0 where there is none.
+    """
+
+    records: Records
+    policies: Policies
+    place: Array
+    booked: Cents
+    upgrade: int
+
+    @property
+    def count(self) -> int:
+        return len(self.records)
+
+    def front(self, count: int) -> Columns:
+        """The book as it was after its first commands."""
+        demand(0 <= count <= self.count, f"there are {self.count} commands, and not {count}")
+        return self if count == self.count else book_of(Replay(self.records.front(count)))
+
+    def booked_by(self, *kinds: int) -> int:
+        return int(self.booked[np.isin(self.records.kind, kinds)].sum())
+
+    @property
+    def balances(self) -> dict[str, int]:
+        received, paid, incurred = self.booked_by(PREMIUM, REINSTATE), self.booked_by(SETTLE), self.booked_by(CLAIM, MATURE)
+        return dict(zip(ACCOUNTS, (received - paid, -received, incurred, paid - incurred)))
+
+
+def book_of(replay: Replay) -> Columns:
+    assert replay.bad is None
+    return Columns(replay.records, replay.policies, replay.place, replay.booked, replay.upgrade)
+
+
+def why_misspelled(body: bytes) -> str:
+    try:
+        command_in(body)
+    except Wrong as wrong:
+        return str(wrong)
+    raise AssertionError(f"{body.hex()} spells a command")
+
+
+def judged_by(blocks: Blocks) -> Columns | Journal:
+    """What the program makes of a file: a book; or, as `read_journal` has it, a refusal with its reason."""
+    records, misspelled = records_of(blocks)
+    count = blocks.count()
+    if isinstance(count, Journal):
+        return count
+    replay = Replay(records)
+    if replay.bad is not None:
+        return bad_record(replay.bad, f"command {replay.bad + 1} can't follow: {','.join(replay.refusal().words())}")
+    if misspelled is not None:
+        return bad_record(len(records), why_misspelled(misspelled))
+    return book_of(replay)
+
+
+def judged(data: bytes) -> Columns | Journal:
+    """The same of a file's bytes."""
+    return judged_by(Blocks(io.BytesIO(data)))
+
+
+def taken(found: Columns | Journal, path: str, at: int | None = None) -> Columns:
+    """The book that was found in a file, or that of its first commands, of which it must have so many."""
+    if isinstance(found, Journal):
+        raise Wrong(f"{path}: {found.refused}: {found.why}")
+    demand(at is None or at <= found.count, f"{path} has {found.count} commands, and not {at}")
+    return found if at is None else found.front(at)
+
+
+def columns_in(data: bytes, path: str) -> Columns:
+    """The book of a file's bytes, which must be a journal or an unfinished creation of one."""
+    return taken(judged(data), path)
+
+
+def looked_at(path: str) -> tuple[Columns | Journal, Blocks]:
+    """The same of a file, with what was seen of it."""
+    with blocks_at(path) as blocks:
+        return judged_by(blocks), blocks
+
+
+def columns_at(path: str, at: int | None = None) -> Columns:
+    """The same of a journal's file."""
+    return taken(looked_at(path)[0], path, at)

@@ -1,0 +1,75 @@
+"""Days as columns: numbers of days from 1970-01-01, their years, their anniversaries and their texts."""
+from __future__ import annotations
+
+from functools import lru_cache
+
+from life_tools.rules.commands import day_at, number_at
+from life_tools.common.formats import FIRST_DAY, LAST_DAY
+from life_tools.common.arrays import Array, np
+
+__all__ = ["FIRST", "FIRST_YEAR", "LAST", "LAST_YEAR", "NEVER", "anniversaries", "completed_years", "day_at", "number_at",
+           "text_at", "texts_at", "years_at"]
+
+FIRST, LAST = number_at(FIRST_DAY), number_at(LAST_DAY)
+FIRST_YEAR = FIRST_DAY.year
+# no anniversary of a day of the calendar lies behind it
+LAST_YEAR = 2400
+# the place of 29 February in a leap year
+LEAP_DAY = 31 + 28
+# after every day that a policy has
+NEVER = np.int32(2**31 - 1)
+
+
+def calendar() -> tuple[Array, Array, Array, Array]:
+    """Of each year its first day and whether it is a leap year; of each day its year and its place in a leap year."""
+    starts = np.arange(f"{FIRST_YEAR}", f"{LAST_YEAR + 2}", dtype="datetime64[Y]").astype("datetime64[D]").astype(np.int32)
+    leap = np.diff(starts) == 366
+    days = np.arange(starts[0], starts[-1], dtype=np.int32)
+    year = np.repeat(np.arange(len(leap), dtype=np.int16), np.diff(starts))
+    place = (days - starts[year]).astype(np.int16)
+    place += (~leap[year] & (place >= LEAP_DAY))
+    return starts[:-1], leap, year, place
+
+
+STARTS, IS_LEAP, YEAR, PLACE = calendar()
+# of each day twice the place of its year, and one more from 29 February on; by these what is added to a day's place in a leap
+# year for its number
+TURN = 2 * YEAR + (PLACE >= LEAP_DAY)
+BASE = np.column_stack([STARTS, STARTS - ~IS_LEAP]).ravel()
+
+
+def years_at(days: Array) -> Array:
+    """The years of days of the calendar."""
+    years: Array = YEAR[days - STARTS[0]] + FIRST_YEAR
+    return years
+
+
+def anniversaries(days: Array, years: Array | int) -> Array:
+    """So many years later; of a 29 February the 28th in a year that has none."""
+    at = (days - STARTS[0]).astype(np.intp)
+    found: Array = BASE[TURN[at] + 2 * years] + PLACE[at]
+    return found
+
+
+def completed_years(issued: Array, on: Array | int) -> Array:
+    """The whole years from days to later ones."""
+    years = YEAR[on - STARTS[0]] - YEAR[issued - STARTS[0]]
+    whole: Array = years - (anniversaries(issued, years) > on)
+    return whole
+
+
+@lru_cache(maxsize=None)
+def all_texts() -> Array:
+    first = int(STARTS[0])
+    texts: Array = np.datetime_as_string(np.arange(first, first + len(YEAR), dtype="datetime64[D]")).astype(object)
+    return texts
+
+
+def texts_at(days: Array) -> list[str]:
+    """The texts YYYY-MM-DD of days of the calendar."""
+    texts: list[str] = all_texts()[days - STARTS[0]].tolist()
+    return texts
+
+
+def text_at(number: int) -> str:
+    return str(day_at(number))

@@ -1,0 +1,101 @@
+"""The records of a journal as texts, made kind by kind and given in their order, without an object a command."""
+from __future__ import annotations
+
+from typing import Callable, Iterable, Iterator, Sequence, TypeVar
+
+from life_tools.common.arrays import Array, Cents, np
+from life_tools.journal.columns import Columns
+from life_tools.journal.day_columns import texts_at
+from life_tools.common.formats import FIELDS, KINDS, PLANS, STATUSES
+from life_tools.journal.records import Records
+from life_tools.journal.policy_columns import Policies
+from life_tools.common.progress import Progress
+
+# so many records are made at once
+AT_ONCE = 1 << 15
+# the columns that a kind holds, by the names under which they are exported
+HELD = {kind: ("position", "policy", "day", *names) if kind != "upgrade" else ("position",) for kind, names in FIELDS.items()}
+TEXTS = ("day", "plan", "amount", "premium")
+# the accounts between which a kind moves its cents, and the sign of the first
+BOOKED = {"premium": ("cash", 1, "premiums"), "reinstate": ("cash", 1, "premiums"), "settle": ("cash", -1, "payable"),
+          "claim": ("incurred", 1, "payable"), "mature": ("incurred", 1, "payable")}
+T = TypeVar("T")
+
+
+def moneys(cents: Cents) -> list[str]:
+    """Amounts as texts; none of them is below 0."""
+    return [f"{each // 100}.{each % 100:02}" for each in cents.tolist()]
+
+
+def column_of(records: Records, name: str, places: Array) -> Sequence[object]:
+    """A column of some records as texts, or as whole numbers."""
+    if name == "position":
+        whole: list[int] = (places + 1).tolist()
+        return whole
+    if name == "day":
+        return texts_at(records.day[places])
+    if name in ("amount", "premium"):
+        return moneys(getattr(records, name)[places])
+    found: list[int] = getattr(records, "number" if name == "policy" else name)[places].tolist()
+    if name == "plan":
+        return [PLANS[code] for code in found]
+    return found
+
+
+def in_order(records: Records, made: Callable[[str, Array], Iterable[T]], doing: str) -> Iterator[list[T]]:
+    """Something of each record, which is made of the places of all of a kind; a list for each block of records."""
+    progress = Progress(doing, len(records))
+    for start in range(0, len(records), AT_ONCE):
+        kinds = records.kind[start:start + AT_ONCE]
+        found: dict[int, T] = {}
+        for code in np.unique(kinds).tolist():
+            places = np.flatnonzero(kinds == code)
+            found.update(zip(places.tolist(), made(KINDS[code], places + start)))
+        yield [found[place] for place in range(len(kinds))]
+        progress.at(start)
+    progress.end()
+
+
+def lines_of(records: Records, template_of: Callable[[str], str]) -> Iterator[str]:
+    """The lines of the records by a kind's template, in which %s stands for each column that it holds; block by block."""
+    templates = {kind: template_of(kind) for kind in HELD}
+
+    def made(kind: str, places: Array) -> Iterator[str]:
+        template = templates[kind]
+        return (template % values for values in zip(*(column_of(records, name, places) for name in HELD[kind])))
+
+    for block in in_order(records, made, "writing records"):
+        yield "".join(block)
+
+
+def plain_template(kind: str) -> str:
+    """The position, and the fields of a script behind the lane."""
+    return ",".join(["%s", kind, *["%s"] * (len(HELD[kind]) - 1)]) + "\n"
+
+
+def transactions_of(book: Columns) -> Iterator[str]:
+    """What the commands book, as transactions of plain text accounting; block by block."""
+    def made(kind: str, places: Array) -> Iterator[str]:
+        if kind not in BOOKED:
+            return ("" for _ in places)
+        first, sign, second = BOOKED[kind]
+        signs = ("", "-") if sign > 0 else ("-", "")
+        template = f"%s {kind} %s\n    {first}  {signs[0]}%s\n    {second}  {signs[1]}%s\n\n"
+        cents = moneys(book.booked[places])
+        days, numbers = (column_of(book.records, name, places) for name in ("day", "policy"))
+        return (template % (day, number, amount, amount) if amount != "0.00" else ""
+                for day, number, amount in zip(days, numbers, cents))
+
+    for block in in_order(book.records, made, "writing transactions"):
+        yield "".join(block)
+
+
+def policy_lines(policies: Policies) -> Iterator[str]:
+    """The policies as `state` prints them, block by block."""
+    for start in range(0, len(policies), AT_ONCE):
+        of = policies.at(slice(start, start + AT_ONCE))
+        columns = (of.number, of.status, of.plan, of.age, of.years)
+        rows = zip(*(each.tolist() for each in columns), moneys(of.amount), moneys(of.premium), texts_at(of.issued),
+                   of.paid.tolist(), moneys(of.outstanding))
+        yield "".join(f"policy,{number},{STATUSES[status - 1]},{PLANS[plan]},{age},{years},{amount},{premium},{issued},{paid},"
+                      f"{outstanding}\n" for number, status, plan, age, years, amount, premium, issued, paid, outstanding in rows)

@@ -1,0 +1,229 @@
+"""Whether a journal's file is whole: its length beside its count, and who knows of more commands than it has.
+
+A closed gate ends the journal, so one byte that has turned hides all that lies behind it, and the next posting writes over
+it. But a book on which a run has ended duly has 18 bytes and 65 for each command. A crash or a fault leaves at most 65 more,
+which nothing cuts off; a last gate that has turned leaves as many. Who noted a greater count tells the two apart: a
+checkpoint, a seal that was kept, or the log of a day's work.
+"""
+from __future__ import annotations
+
+import mmap
+import os
+import re
+from dataclasses import dataclass, field
+from typing import Iterator, NamedTuple, Sequence, Tuple
+
+from life_tools.journal.checkpoints import HEADER as CHECKPOINT_HEADER
+from life_tools.common.formats import MOST_COMMANDS, Wrong, bytes_of, demand, number_of, remark
+from life_tools.common.locks import holder_of
+from life_tools.journal.file import EMPTY, FIRST_GATE, OPEN, RECORD_SIZE, Journal, gate_of, is_unfinished_creation, records_in
+from life_tools.journal.record_columns import BadJournal
+from life_tools.journal.seals import front_difference, seal_at
+
+JOURNAL, CHECKPOINT, LOG = "journal.life", "checkpoint.life", "log"
+WHOLE, UNDECIDED, DAMAGED = "whole", "undecided", "damaged"
+ACCEPTED = re.compile(rb",accepted,([0-9]{1,7})\n")
+# of what a run printed so much of the end is looked at
+LOOKED_AT = 1 << 16
+# a file that grows meanwhile is looked at so often
+LOOKS = 3
+
+
+# the commands and the bytes of a journal's file
+Seen = Tuple[int, int]
+
+
+class Damaged(Wrong):
+    """Commands of a journal are gone, or can't be read any more."""
+
+    status = 1
+
+
+class Noted(NamedTuple):
+    """Who noted that the journal has had so many commands."""
+
+    by: str
+    commands: int
+
+
+@dataclass(frozen=True)
+class Shape:
+    """A journal's file: how many commands it has, its length, who noted how many, and which seals it isn't of any more."""
+
+    path: str
+    count: int
+    length: int
+    noted: tuple[Noted, ...] = ()
+    unlike: tuple[str, ...] = field(default=())
+
+    @property
+    def excess(self) -> int:
+        """The bytes behind the gate that ends it."""
+        return max(0, self.length - gate_of(self.count) - 1)
+
+    @property
+    def verdict(self) -> str:
+        if self.excess > RECORD_SIZE or self.unlike or any(it.commands > self.count for it in self.noted):
+            return DAMAGED
+        return UNDECIDED if self.excess else WHOLE
+
+    def reasons(self) -> Iterator[str]:
+        """What isn't as it is in a whole book."""
+        if self.excess:
+            yield (f"{self.path}: {self.excess} bytes lie behind byte {gate_of(self.count)}, the gate of record {self.count}, "
+                   + ("which is closed" if self.excess > RECORD_SIZE else "as after a crash, or as a last gate that has turned"))
+        for it in self.noted:
+            if it.commands > self.count:
+                yield f"{self.path} has {self.count} commands, and had {it.commands} by {it.by}"
+        yield from self.unlike
+
+    def told(self) -> str:
+        return "; ".join(self.reasons())
+
+
+# --- the file ---
+
+def look(path: str) -> tuple[int, int] | None:
+    """The count and the length of a journal's file; nothing of one that has to be judged."""
+    with open(path, "rb") as file:
+        length = os.fstat(file.fileno()).st_size
+        if length < len(EMPTY):
+            return None
+        with mmap.mmap(file.fileno(), length, access=mmap.ACCESS_READ) as data:
+            gates = data[FIRST_GATE::RECORD_SIZE]
+            count = len(gates) - len(gates.lstrip(bytes([OPEN])))
+            is_one = data[:FIRST_GATE] == EMPTY[:FIRST_GATE] and count < len(gates) and count <= MOST_COMMANDS
+    return (count, length) if is_one else None
+
+
+def shape_at(path: str, seen: Seen | None = None) -> Shape:
+    """The shape of a journal's file alone; of one that isn't a journal the program's answer is told."""
+    demand(os.path.isfile(path), f"there is no {path}")
+    if seen:
+        return Shape(path, *seen)
+    try:
+        for _ in range(LOOKS):
+            found = look(path)
+            if found:
+                return Shape(path, *found)
+    except OSError as error:
+        raise Wrong(f"{path}: {error.strerror}") from error
+    data = bytes_of(path)
+    count = 0 if is_unfinished_creation(data) else records_in(data)
+    if isinstance(count, Journal):
+        raise BadJournal(path, count.refused, count.why)
+    return Shape(path, count, len(data))
+
+
+# --- who noted a count ---
+
+def checkpoint_count(path: str) -> int | None:
+    """The count in a checkpoint's front; nothing of a file that is none."""
+    try:
+        with open(path, "rb") as file:
+            front = file.read(21)
+    except OSError as error:
+        raise Wrong(f"{path}: {error.strerror}") from error
+    if len(front) < 21 or front[0] != OPEN or front[1:17] != CHECKPOINT_HEADER:
+        return None
+    count = int.from_bytes(front[17:], "big")
+    return count if count <= MOST_COMMANDS else None
+
+
+def number_in(path: str) -> int:
+    """The number that a file holds, or 0."""
+    if not os.path.isfile(path):
+        return 0
+    with open(path, "rb") as file:
+        return number_of(file.read(20).decode("ascii", "replace").strip(), 0, MOST_COMMANDS) or 0
+
+
+def accepted_in(path: str) -> int:
+    """The position of the last accepted line near the end of what a run printed, or 0."""
+    if not os.path.isfile(path):
+        return 0
+    with open(path, "rb") as file:
+        file.seek(max(0, file.seek(0, os.SEEK_END) - LOOKED_AT))
+        found = ACCEPTED.findall(file.read())
+    return int(found[-1]) if found else 0
+
+
+def count_after(folder: str) -> int:
+    """The count that a script of a log left, as far as the log tells."""
+    before, after, transcript = (os.path.join(folder, name) for name in ("before", "after", "transcript"))
+    return number_in(after) or max(number_in(before), accepted_in(transcript))
+
+
+def log_count(log: str) -> int | None:
+    """The greatest count that the log of a day's work has of scripts that count as sent; nothing where it has none."""
+    counts = []
+    try:
+        for name in os.listdir(log):
+            folder = os.path.join(log, name)
+            if os.path.isfile(os.path.join(folder, "sum")):
+                counts.append(count_after(folder))
+    except OSError as error:
+        raise Wrong(f"{error.filename}: {error.strerror}") from error
+    return max(counts, default=None)
+
+
+def noted_by(checkpoint: str | None, log: str | None) -> Iterator[Noted]:
+    for path, count in ((checkpoint, checkpoint_count), (log, log_count)):
+        found = count(path) if path else None
+        if path and found is not None:
+            yield Noted(path, found)
+
+
+def shape_with(path: str, checkpoint: str | None, log: str | None, seals: Sequence[str] = (), seen: Seen | None = None) -> Shape:
+    """The shape of a file with what these have noted of it."""
+    shape, noted, unlike = shape_at(path, seen), list(noted_by(checkpoint, log)), []
+    for each in seals:
+        seal = seal_at(each)
+        noted.append(Noted(each, seal.count))
+        difference = front_difference(seal, path) if seal.position <= shape.count else None
+        if difference:
+            unlike.append(f"{difference}, by {each}")
+    return Shape(path, shape.count, shape.length, tuple(noted), tuple(unlike))
+
+
+def beside(path: str) -> tuple[str | None, str | None]:
+    """The checkpoint and the log that lie beside a journal of that name, where they do; another file has neither."""
+    folder, name = os.path.split(path)
+    checkpoint, log = os.path.join(folder, CHECKPOINT), os.path.join(folder, LOG)
+    is_book = name == JOURNAL
+    return (checkpoint if is_book and os.path.isfile(checkpoint) else None), (log if is_book and os.path.isdir(log) else None)
+
+
+# --- what a tool does with it; one that has read the file tells what it has seen of it ---
+
+def demand_undamaged(path: str, seen: Seen | None = None) -> Shape:
+    """The shape of a book of which nothing shows to be gone."""
+    shape = shape_with(path, *beside(path), seen=seen)
+    if shape.verdict == DAMAGED:
+        raise Damaged(shape.told())
+    return shape
+
+
+def doubt_of(path: str, seen: Seen | None = None) -> str:
+    """What is to be told of a book that may not be whole; what is no journal is left to who reads it."""
+    try:
+        return demand_undamaged(path, seen).told()
+    except BadJournal:
+        return ""
+
+
+def tell_doubt(path: str, seen: Seen | None = None) -> None:
+    """Tells it, of a book of which nothing shows to be gone, or of none."""
+    doubt = doubt_of(path, seen) if os.path.isfile(path) else ""
+    if doubt:
+        remark(doubt)
+
+
+def tell(shape: Shape) -> int:
+    """Tells what isn't as in a whole book: 1, or 0 where nothing is told."""
+    for reason in shape.reasons():
+        remark(reason)
+    if shape.verdict == UNDECIDED:
+        holder = holder_of(shape.path)
+        remark(f"{shape.path}: whether a command is gone is undecided" + (f", while {holder} has it" if holder else ""))
+    return 0 if shape.verdict == WHOLE else 1

@@ -1,0 +1,1 @@
+"""Reports, movements and statements: their figures, and the sheets, files and pages that show them."""

@@ -1,0 +1,41 @@
+"""A report and an analysis of change as sheets, of which a workbook and a page are made."""
+from __future__ import annotations
+
+from typing import Sequence
+
+from life_tools.reports.movement import CLOSING, OPENING, Cash, Moved
+from life_tools.common.formats import money
+from life_tools.valuations.groups import Groups, Sums
+from life_tools.reports.sheets import BY_BOUNDS, COUNT, TEXT, Column, Sheet
+
+# columns of counts; all others but the first are of amounts
+COUNTED = ("policies", "insured", "words")
+# so long a sheet's name may be
+MOST_LETTERS = 31
+
+
+def cells_of(sums: Sums) -> list[int]:
+    return [sums.policies, sums.insured, sums.amount, *sums.bounds, sums.words]
+
+
+def sheet_of(keys: Sequence[str], groups: Groups, total: Sums, columns: Sequence[str]) -> Sheet:
+    """A table of groups, with its total."""
+    heads = [Column(", ".join(keys), TEXT), *(Column(name, COUNT) if name in COUNTED else Column(name) for name in columns)]
+    sheet = Sheet(" ".join(keys)[:MOST_LETTERS], f"By {', '.join(keys)}", heads,
+                  checks=["The groups add up to the printed total."])
+    for name, sums in groups.items():
+        sheet.add(", ".join(name), *cells_of(sums))
+    sheet.add("total", *cells_of(total), is_total=True)
+    return sheet
+
+
+def movement_sheet(title: str, lines: Sequence[Moved], cash: Cash, notes: Sequence[str]) -> Sheet:
+    """The lines of an analysis of change."""
+    heads = [Column("line", TEXT), Column("policies", COUNT), *BY_BOUNDS]
+    sheet = Sheet("movement", title, heads,
+                  notes=[f"premiums received {money(cash.premiums)}, settlements paid {money(cash.settlements)}", *notes],
+                  checks=["The lines add up to the closing reserve, and both reserves are the printed totals.",
+                          "The premiums and settlements are what the accounts moved by."])
+    for it in lines:
+        sheet.add(it.name, it.policies, *it.cents, is_total=it.name in (OPENING, CLOSING))
+    return sheet

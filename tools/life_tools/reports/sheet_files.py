@@ -1,0 +1,175 @@
+"""Sheets as text, as CSV files of a folder, and as a workbook."""
+from __future__ import annotations
+
+import csv
+import os
+import shutil
+from itertools import chain
+from typing import Any, Callable, Iterable, Sequence
+
+from life_tools.common.formats import Wrong, demand
+from life_tools.common.packages import package
+from life_tools.reports.report_files import cell_of
+from life_tools.reports.sheets import CENTS, COUNT, TEXT, Cell, Column, Sheet, cell_text
+
+Facts = dict[str, str]
+# a text that begins so is a formula to a spreadsheet
+FORMULAS = ("=", "+", "-", "@", "\t", "\r")
+# among the facts, before a sheet's name
+NOTE_ON = "note on "
+FORMATS = {COUNT: "#,##0", CENTS: "#,##0.00"}
+
+
+def texts_of(sheet: Sheet) -> list[list[str]]:
+    """The rows as they are written, behind a head."""
+    rows = [[cell_text(cell, column) for cell, column in zip(row.cells, sheet.columns)] for row in sheet.rows]
+    return [[column.name for column in sheet.columns], *rows]
+
+
+def lines_of(sheet: Sheet) -> list[str]:
+    """A sheet in columns as wide as what stands in them, with what is to be said of it."""
+    names, *rest = texts_of(sheet)
+    # what two columns have in common stands in a line of its own
+    heads = [[name.rpartition(": ")[0] for name in names], [name.rpartition(": ")[2] for name in names]]
+    rows = [head for head in heads if any(head)] + rest
+    widths = [max(len(row[place]) for row in rows) for place in range(len(sheet.columns))]
+    lines = [sheet.title]
+    for row in rows:
+        cells = [cell.ljust(width) if column.kind == TEXT else cell.rjust(width)
+                 for cell, width, column in zip(row, widths, sheet.columns)]
+        lines.append("  ".join(cells).rstrip())
+    return [*lines, *sheet.notes]
+
+
+# --- CSV ---
+
+def harmless(text: str) -> str:
+    return f"'{text}" if text.startswith(FORMULAS) else text
+
+
+def csv_rows(sheet: Sheet) -> list[list[str]]:
+    head, *rows = texts_of(sheet)
+    kinds = [column.kind for column in sheet.columns]
+    return [head, *([harmless(cell) if kind == TEXT else cell for cell, kind in zip(row, kinds)] for row in rows)]
+
+
+def write_rows(path: str, rows: Iterable[Sequence[str]]) -> None:
+    with open(path, "x", newline="", encoding="utf-8") as file:
+        csv.writer(file, lineterminator="\n").writerows(rows)
+
+
+def demand_new(*folders: str) -> None:
+    """Demands that new folders can be made under these names."""
+    for folder in folders:
+        demand(not os.path.lexists(folder), f"{folder} is there already")
+        demand(os.path.isdir(os.path.dirname(os.path.abspath(folder))), f"{folder}: No such file or directory")
+    demand(len({os.path.abspath(folder) for folder in folders}) == len(folders), f"{' and '.join(folders)} are one folder")
+
+
+def write_folder(folder: str, write: Callable[[str], None]) -> None:
+    """A new folder, which is there whole or not at all."""
+    demand_new(folder)
+    part = f"{folder.rstrip('/')}.part"
+    try:
+        os.mkdir(part)
+        write(part)
+        os.rename(part, folder)
+    except OSError as error:
+        raise Wrong(f"{error.filename or folder}: {error.strerror}") from error
+    finally:
+        shutil.rmtree(part, ignore_errors=True)
+
+
+def write_csvs(folder: str, facts: Facts, sheets: Sequence[Sheet]) -> None:
+    """A file for each sheet, and one of the facts and of what is to be said of the sheets."""
+    notes = [(f"{NOTE_ON}{sheet.name}", note) for sheet in sheets for note in sheet.notes]
+    told = ([name, harmless(text)] for name, text in (*facts.items(), *notes))
+    write_rows(os.path.join(folder, "facts.csv"), [["fact", "value"], *told])
+    for sheet in sheets:
+        write_rows(os.path.join(folder, f"{sheet.name}.csv"), csv_rows(sheet))
+
+
+def write_policies(folder: str, sheets: Sequence[Sheet]) -> None:
+    """A file for each sheet that tells each policy's part."""
+    for sheet in sheets:
+        if sheet.policy_head:
+            write_rows(os.path.join(folder, f"{sheet.name}.csv"), chain([sheet.policy_head], sheet.policy_rows))
+
+
+# --- a workbook ---
+
+def put(page: Any, row: int, place: int, cell: Cell, column: Column, bold: Any) -> None:
+    text = cell_text(cell, column)
+    made = page.cell(row, place)
+    if column.kind == TEXT or not text:
+        made.value = text or None
+        made.data_type = "s" if text else "n"
+    else:
+        made.value = cell_of(text)
+        made.number_format = FORMATS[column.kind]
+    if bold:
+        made.font = bold
+
+
+def widen(page: Any, sheet: Sheet) -> None:
+    """Columns as wide as what stands in them, with its thousands apart."""
+    utils = package("openpyxl.utils", "python3-openpyxl")
+    for place, column in enumerate(sheet.columns):
+        widths = [len(text) + (len(text) // 3 if column.kind != TEXT else 0)
+                  for text in (cell_text(row.cells[place], column) for row in sheet.rows)]
+        head = max(len(part) for part in column.name.split(": "))
+        page.column_dimensions[utils.get_column_letter(place + 1)].width = max([head, *widths]) + 3
+
+
+def head(page: Any, title: str, styles: Any) -> None:
+    """A title, which is a text whatever it begins with."""
+    made = page.cell(1, 1, title)
+    made.data_type, made.font = "s", styles.Font(bold=True, size=14)
+
+
+def fill(page: Any, sheet: Sheet, styles: Any) -> None:
+    bold = styles.Font(bold=True)
+    head(page, sheet.title, styles)
+    for place, column in enumerate(sheet.columns, 1):
+        named = page.cell(3, place, column.name)
+        named.font = bold
+        side = "left" if column.kind == TEXT else "right"
+        named.alignment = styles.Alignment(horizontal=side, wrap_text=True, vertical="bottom")
+    for at, row in enumerate(sheet.rows, 4):
+        for place, (cell, column) in enumerate(zip(row.cells, sheet.columns), 1):
+            put(page, at, place, cell, column, bold if row.is_total else None)
+            if row.is_total:
+                page.cell(at, place).border = styles.Border(top=styles.Side(style="thin"))
+    for at, text in enumerate((*sheet.notes, *sheet.checks), len(sheet.rows) + 5):
+        page.cell(at, 1, text)
+    page.freeze_panes = "B4"
+    fit(page)
+    widen(page, sheet)
+
+
+def fit(page: Any) -> None:
+    """As wide as a sheet of paper."""
+    page.page_setup.orientation, page.page_setup.fitToWidth, page.page_setup.fitToHeight = "landscape", 1, 0
+    page.sheet_properties.pageSetUpPr = styles_of("worksheet.properties").PageSetupProperties(fitToPage=True)
+
+
+def styles_of(part: str) -> Any:
+    return package(f"openpyxl.{part}", "python3-openpyxl")
+
+
+def write_workbook(path: str, title: str, facts: Facts, sheets: Sequence[Sheet]) -> None:
+    """A page of the facts, and one for each sheet."""
+    openpyxl, styles = package("openpyxl", "python3-openpyxl"), styles_of("styles")
+    book = openpyxl.Workbook()
+    first = book.active
+    first.title = "facts"
+    head(first, title, styles)
+    for at, (name, text) in enumerate(facts.items(), 3):
+        first.cell(at, 1, name).font = styles.Font(bold=True)
+        first.cell(at, 2).value = text
+        first.cell(at, 2).data_type = "s"
+    first.column_dimensions["A"].width, first.column_dimensions["B"].width = 14, 100
+    fit(first)
+    for sheet in sheets:
+        fill(book.create_sheet(sheet.name), sheet, styles)
+    book.save(path)

@@ -1,0 +1,91 @@
+"""Sheets of a statement as plain data: columns of texts, counts and amounts, rows in sections, and sums over several books."""
+from __future__ import annotations
+
+from dataclasses import dataclass, field
+from typing import Any, Iterable, NamedTuple, Sequence, Union
+
+from life_tools.common.formats import demand, money
+
+TEXT, COUNT, CENTS = "text", "count", "cents"
+Cell = Union[str, int, None]
+
+
+class Column(NamedTuple):
+    """A column: its name, and whether texts, counts or amounts in cents stand in it."""
+
+    name: str
+    kind: str = CENTS
+
+
+# of amounts that are added up twice, from the lower and from the upper bounds of printed rows
+BY_BOUNDS = (Column("by lower bounds"), Column("by upper bounds"))
+
+
+class Row(NamedTuple):
+    """A row: its cells, the section of the sheet that it stands in, and whether it is a sum or a balance."""
+
+    cells: tuple[Cell, ...]
+    section: int = 0
+    is_total: bool = False
+
+
+@dataclass
+class Sheet:
+    """A sheet: a short name, a title, its columns and rows, what is to be said of it, and what was compared."""
+
+    name: str
+    title: str
+    columns: list[Column]
+    rows: list[Row] = field(default_factory=list)
+    notes: list[str] = field(default_factory=list)
+    checks: list[str] = field(default_factory=list)
+    # each policy's part, where that was asked for: a head, and rows as they are written
+    policy_head: list[str] = field(default_factory=list)
+    policy_rows: Iterable[list[str]] = ()
+    # what exact sums the rows were rounded from, where several books' are added before they are rounded
+    exact: Any = None
+
+    def add(self, *cells: Cell, section: int = 0, is_total: bool = False) -> None:
+        demand(len(cells) == len(self.columns), f"{self.name}: a row of {len(cells)} cells for {len(self.columns)} columns")
+        self.rows.append(Row(cells, section, is_total))
+
+
+def cell_text(cell: Cell, column: Column) -> str:
+    """A cell as it is written: amounts with a point, and nothing where there is none."""
+    if cell is None:
+        return ""
+    return money(cell) if column.kind == CENTS and isinstance(cell, int) else str(cell)
+
+
+def key_of(row: Row, columns: Sequence[Column]) -> tuple[Cell, ...]:
+    """What a row is of: its texts, with its place in the sheet."""
+    texts = (cell for cell, column in zip(row.cells, columns) if column.kind == TEXT)
+    return row.section, row.is_total, *texts
+
+
+def plus(one: Row, other: Row, columns: Sequence[Column]) -> Row:
+    def sum_of(cell: Cell, further: Cell, column: Column) -> Cell:
+        if column.kind == TEXT or further is None:
+            return cell
+        if cell is None:
+            return further
+        assert isinstance(cell, int) and isinstance(further, int)
+        return cell + further
+    return one._replace(cells=tuple(map(sum_of, one.cells, other.cells, columns)))
+
+
+def added(sheets: Sequence[Sheet]) -> Sheet:
+    """One sheet of several books: rows of the same texts added; where not all have the same, in the order of their texts, a
+    section's sums at its end."""
+    first = sheets[0]
+    demand(all(sheet.columns == first.columns and sheet.name == first.name for sheet in sheets), "sheets of several kinds")
+    found: dict[tuple[Cell, ...], Row] = {}
+    for sheet in sheets:
+        for row in sheet.rows:
+            key = key_of(row, first.columns)
+            found[key] = plus(found[key], row, first.columns) if key in found else row
+    rows = list(found.values())
+    if any(len(sheet.rows) != len(rows) for sheet in sheets):
+        rows.sort(key=lambda row: key_of(row, first.columns))
+    return Sheet(first.name, first.title, first.columns, rows, list(dict.fromkeys(it for sheet in sheets for it in sheet.notes)),
+                 list(dict.fromkeys(it for sheet in sheets for it in sheet.checks)))

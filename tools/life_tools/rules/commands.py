@@ -1,0 +1,136 @@
+"""Commands: as rows of a script and as bodies of records, and which of them are valid."""
+from __future__ import annotations
+
+import datetime
+import struct
+from dataclasses import dataclass
+from functools import lru_cache
+
+from life_tools.common.formats import (FIELDS, FIRST_DAY, KINDS, LAST_DAY, MOST_CENTS, MOST_NUMBER, MOST_REINSTATEMENT_CENTS,
+                                       PLANS, Wrong, money)
+
+BODY_SIZE = 64
+OLDEST_AT_ISSUE = 129
+LAST_AGE = 131
+CODES = {kind: code for code, kind in KINDS.items()}
+PLAN_CODES = {plan: code for code, plan in PLANS.items()}
+EPOCH = datetime.date(1970, 1, 1)
+
+
+@dataclass(frozen=True, slots=True)
+class Command:
+    """A posting: amounts are in cents, and what its kind doesn't hold is empty or 0. An upgrade has its kind alone."""
+
+    kind: str
+    number: int = 0
+    day: datetime.date | None = None
+    plan: str = ""
+    age: int = 0
+    years: int = 0
+    amount: int = 0
+    premium: int = 0
+
+    @property
+    def on(self) -> datetime.date:
+        """Its day, which all but an upgrade have."""
+        assert self.day is not None
+        return self.day
+
+
+UPGRADE = Command("upgrade")
+
+
+def number_at(day: datetime.date) -> int:
+    return (day - EPOCH).days
+
+
+def day_at(number: int) -> datetime.date:
+    """The day so many days after 1970-01-01."""
+    return EPOCH + datetime.timedelta(int(number))
+
+
+def words_of(command: Command) -> list[str]:
+    """The fields of a command behind the lane: its kind, its policy's number, its day, and what the kind holds."""
+    if command.kind == "upgrade":
+        return [command.kind]
+    words = [command.kind, str(command.number), str(command.day)]
+    for name in FIELDS[command.kind]:
+        value = getattr(command, name)
+        words.append(money(value) if name in ("amount", "premium") else str(value))
+    return words
+
+
+def years_fit(plan: str, age: int, years: int) -> bool:
+    return years == 0 if plan == "whole" else 2 <= years <= LAST_AGE - age
+
+
+def why_invalid(command: Command) -> str | None:
+    """The first field of a command that lies outside its limits, if there is one."""
+    if command.kind == "upgrade":
+        return None if command == UPGRADE else "an upgrade has its kind alone"
+    if not 1 <= command.number <= MOST_NUMBER:
+        return f"the policy's number is {command.number}"
+    if not command.day or not FIRST_DAY <= command.day <= LAST_DAY:
+        return f"the day is {command.day}"
+    most = MOST_REINSTATEMENT_CENTS if command.kind == "reinstate" else MOST_CENTS
+    held = FIELDS[command.kind]
+    if "amount" in held and not 1 <= command.amount <= most:
+        return f"the amount is {money(command.amount)}"
+    if "premium" in held and not 1 <= command.premium <= most:
+        return f"the premium is {money(command.premium)}"
+    if command.kind == "issue" and command.age > OLDEST_AT_ISSUE:
+        return f"the age is {command.age}"
+    if command.kind == "issue" and not years_fit(command.plan, command.age, command.years):
+        return f"a {command.plan} at age {command.age} has {command.years} years"
+    return None
+
+
+def demand_valid(command: Command) -> None:
+    """Refuses a command of which a field lies outside its limits."""
+    why = why_invalid(command)
+    if why:
+        raise Wrong(why)
+
+
+def body_of(command: Command) -> bytes:
+    """The record's body of a command."""
+    day = number_at(command.day) if command.day else 0
+    head = bytes([CODES[command.kind], PLAN_CODES.get(command.plan, 0), command.age, command.years])
+    return (head + command.number.to_bytes(4, "big") + day.to_bytes(4, "big", signed=True)
+            + command.amount.to_bytes(8, "big") + command.premium.to_bytes(8, "big") + bytes(36))
+
+
+# kind, plan, age, years, number, day, amount, premium; behind them nothing
+BODY = struct.Struct(">BBBBIiQQ")
+NOTHING = bytes(BODY_SIZE - BODY.size)
+
+
+@lru_cache(2**17)
+def day_in_record(days: int) -> datetime.date:
+    try:
+        return EPOCH + datetime.timedelta(days)
+    except OverflowError:
+        raise Wrong("the day lies outside the calendar") from None
+
+
+def command_in(body: bytes) -> Command:
+    """The valid command that a record's body spells."""
+    code, plan, age, years, number, days, amount, premium = BODY.unpack_from(body)
+    kind = KINDS.get(code)
+    if kind is None:
+        raise Wrong(f"there is no kind {code}")
+    is_issue = kind == "issue"
+    if is_issue and plan not in PLANS:
+        raise Wrong(f"there is no plan {plan}")
+    if kind == "upgrade":
+        if body != body_of(UPGRADE):
+            raise Wrong("an upgrade has bytes where it holds nothing")
+        return UPGRADE
+    command = Command(kind, number, day_in_record(days), PLANS[plan] if is_issue else "", age if is_issue else 0,
+                      years if is_issue else 0, amount, premium)
+    demand_valid(command)
+    held = FIELDS[kind]
+    idle = (not is_issue and plan | age | years) or ("amount" not in held and amount) or ("premium" not in held and premium)
+    if idle or body[BODY.size:] != NOTHING:
+        raise Wrong(f"a {kind} has bytes where it holds nothing")
+    return command

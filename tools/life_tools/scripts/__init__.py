@@ -1,0 +1,1 @@
+"""Scripts: parsing, warnings, dry runs, what a killed run left, imports, transcripts and refusals explained."""

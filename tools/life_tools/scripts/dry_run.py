@@ -1,0 +1,72 @@
+"""A script tried on copies of a folder's journal and basis: the program is at work there while the journal is looked at."""
+from __future__ import annotations
+
+import os
+import shutil
+import subprocess
+from contextlib import ExitStack, contextmanager
+from dataclasses import dataclass
+from typing import Iterator, Sequence
+
+from life_tools.journal.copied_folder import JOURNAL, begun, private_copy, ended, reading
+from life_tools.common.formats import Wrong, remark
+from life_tools.journal.blocks import Blocks, Data, mapped
+
+
+@dataclass(frozen=True)
+class Trial:
+    """The run, the folder's journal, its copy, and what was seen of the journal, where there is one."""
+
+    ran: subprocess.Popen[bytes]
+    path: str
+    copy: str
+    blocks: Blocks | None
+
+    @property
+    def seen(self) -> tuple[int, int] | None:
+        """The count and the length of the journal."""
+        return self.blocks.seen if self.blocks else None
+
+    @contextmanager
+    def records(self) -> Iterator[tuple[Data, int]]:
+        """The copy's bytes, and how many records it had before the script; these stay as they are while the program posts."""
+        count = self.seen[0] if self.seen else 0
+        with mapped(self.copy, count) as data:
+            yield data, count
+
+    def answer(self) -> tuple[int, str]:
+        """The status of the run, and the transcript."""
+        return ended(self.ran)
+
+
+def begun_with(script: str, desk: str, life: Sequence[str], basis: str) -> subprocess.Popen[bytes]:
+    try:
+        rows = open(script, "rb")
+    except OSError as error:
+        raise Wrong(f"{script}: {error.strerror}") from error
+    with rows:
+        return begun(desk, life, ["run", "--basis", basis], rows)
+
+
+@contextmanager
+def trial_of(script: str, folder: str, basis: str, life: Sequence[str]) -> Iterator[Trial]:
+    """A script's run on copies; while they are made and the journal's gates are looked at, no other run has the journal."""
+    path = os.path.join(folder, JOURNAL)
+    with private_copy(folder, basis) as desk, ExitStack() as held:
+        copy = os.path.join(desk, JOURNAL)
+        file = held.enter_context(reading(path)) if os.path.exists(path) else None
+        if file:
+            copy_file(path, copy)
+        else:
+            remark(f"there is no {path}: the script is run on an empty journal")
+        with begun_with(script, desk, life, basis) as ran:
+            blocks = Blocks(file).through() if file else None
+            held.close()
+            yield Trial(ran, path, copy, blocks)
+
+
+def copy_file(path: str, to: str) -> None:
+    try:
+        shutil.copyfile(path, to)
+    except OSError as error:
+        raise Wrong(f"{to}: {error.strerror}") from error

@@ -1,0 +1,125 @@
+"""What may be wrong with a script's postings before they are sent, though each of them is a valid line."""
+from __future__ import annotations
+
+import datetime
+from typing import Callable, Iterable, Iterator
+
+from life_tools.rules.commands import Command, command_in
+from life_tools.rules.deaths import standing
+from life_tools.common.formats import money
+from life_tools.journal.file import gate_of
+from life_tools.journal.blocks import Data
+from life_tools.rules.remedies import remedy_of
+from life_tools.rules.policies import Book, Policy, Refusal, anniversary, due_of, end_of
+from life_tools.scripts.lines import Line
+
+# a posting lies at most so far from what came before it, unless it is warned of
+FAR = datetime.timedelta(400)
+
+
+class Desk:
+    """The policies that a script names, as its rows meet them: what is accepted changes them."""
+
+    def __init__(self, today: datetime.date) -> None:
+        self.book, self.today = Book(), today
+        self.positions: dict[Command, int] = {}
+        self.days: dict[int, datetime.date] = {}
+        self.reinstated: dict[int, datetime.date] = {}
+        # of each policy what was accepted, in order
+        self.taken: dict[int, list[Command]] = {}
+
+    def read(self, data: Data, upgrade: int, places: Iterable[int]) -> None:
+        """Takes the commands of these places of a file's records, which the program has judged, and the upgrade's position."""
+        self.book.upgrade = upgrade
+        for place in places:
+            self.take(command_in(data[gate_of(place) + 1:gate_of(place + 1)]), place + 1)
+
+    def warnings(self, line: Line, command: Command) -> list[str]:
+        """What may be wrong with the next posting of its lane."""
+        policy = self.book.policies.get(command.number)
+        found = [text for look in LOOKS for text in look(self, line, command, policy)]
+        if command.day:
+            self.days[line.lane] = command.day
+        return found
+
+    def take(self, command: Command, position: int) -> None:
+        """Keeps a posting that was accepted."""
+        after = self.book.judge(command)
+        if isinstance(after, Policy):
+            self.book.policies[command.number] = after
+        elif not isinstance(after, Refusal):
+            self.book.upgrade = position
+        self.positions.setdefault(command, position)
+        self.taken.setdefault(command.number, []).append(command)
+        if command.kind == "reinstate":
+            self.reinstated[command.number] = command.on
+
+    def advice(self, line: Line, refused: list[str]) -> list[str]:
+        """What to do about a line that was refused with these words; of a claim by what its policy's journal says, too."""
+        command, what = line.command, remedy_of(line.kind, refused).what
+        if command and command.kind == "claim" and (refused[0] == "beforelast" or refused == ["wrongstatus", "lapsed"]):
+            what = standing(self.taken.get(command.number, []), command)
+        return [f"to do: {what}"]
+
+
+Look = Callable[[Desk, Line, Command, "Policy | None"], Iterator[str]]
+
+
+def is_known(desk: Desk, line: Line, command: Command, policy: Policy | None) -> Iterator[str]:
+    if policy is None and command.kind not in ("issue", "upgrade"):
+        yield f"policy {command.number} is unknown"
+
+
+def is_near(desk: Desk, line: Line, command: Command, policy: Policy | None) -> Iterator[str]:
+    if command.day is None:
+        return
+    if command.day > desk.today:
+        yield f"the day is behind today, which is {desk.today}"
+    if policy is None or command.kind == "issue":
+        return
+    before, what = came_before(command, policy)
+    if abs(command.day - before) > FAR:
+        days = abs((command.day - before).days)
+        yield f"the day is {days} days {'behind' if command.day > before else 'before'} {what} {before}"
+
+
+def came_before(command: Command, policy: Policy) -> tuple[datetime.date, str]:
+    """The day from which a posting's distance is counted. A policy that no premium is awaited of stays without a posting for
+    years, and then matures at its end; a claim on it may come on any day up to there."""
+    assert command.day
+    end = end_of(policy)
+    if command.kind == "mature" and policy.last < end:
+        return end, "the end of the policy's term,"
+    if command.kind == "claim" and due_of(policy) is None and policy.last < command.day < end:
+        return command.day, ""
+    return policy.last, "the policy's newest posting, which is of"
+
+
+def is_in_order(desk: Desk, line: Line, command: Command, policy: Policy | None) -> Iterator[str]:
+    before = desk.days.get(line.lane)
+    if command.day and before and command.day < before:
+        yield f"the day is before that of the lane's posting above, which is {before}"
+
+
+def is_new(desk: Desk, line: Line, command: Command, policy: Policy | None) -> Iterator[str]:
+    position = desk.positions.get(command)
+    if position:
+        yield f"an accepted posting equals it, of position {position}"
+
+
+def is_right_amount(desk: Desk, line: Line, command: Command, policy: Policy | None) -> Iterator[str]:
+    if policy is None:
+        return
+    if command.kind == "premium" and command.amount != policy.premium:
+        yield f"the policy's premium is {money(policy.premium)}"
+    if command.kind == "settle" and command.amount > policy.outstanding:
+        yield f"{money(policy.outstanding)} is outstanding"
+
+
+def is_long_in_force(desk: Desk, line: Line, command: Command, policy: Policy | None) -> Iterator[str]:
+    day = desk.reinstated.get(command.number) if command.kind == "claim" else None
+    if day and command.on <= anniversary(day, 1):
+        yield f"the policy was reinstated on {day}: is it known that the insured lived then?"
+
+
+LOOKS: tuple[Look, ...] = (is_known, is_near, is_in_order, is_new, is_right_amount, is_long_in_force)

@@ -1,0 +1,119 @@
+"""What `life value` and `life state` printed of one position, read whole: rows, policies, totals, balances."""
+from __future__ import annotations
+
+import datetime
+from dataclasses import dataclass, replace
+from typing import NamedTuple
+
+from life_tools.common.formats import MOST_NUMBER, Wrong, day_in, demand, measure_of, money, number_of, printed_cents
+from life_tools.rules.policies import Policy
+
+
+class ValuedRow(NamedTuple):
+    """A row: the policy's number, status and year; its bounds in cents (two, or four by `deficiency`), or a word; and by
+    `deficiency` what its premium is."""
+
+    number: int
+    status: str
+    year: int
+    bounds: tuple[int, ...]
+    word: str
+    premium: str = ""
+
+
+class PrintedValuation(NamedTuple):
+    """A valuation: its day, position, measure, rows in order of issue, the printed sums, and the rows with a word."""
+
+    on: datetime.date
+    position: int
+    measure: str
+    rows: list[ValuedRow]
+    total: tuple[int, ...]
+    words: int
+
+
+def cents(text: str) -> int:
+    """An amount that the program printed; `printed_cents` finds what is wrong with one that isn't."""
+    if text[-3:-2] == "." and text[:-3].isdigit() and text[-2:].isdigit():
+        return int(text[:-3] + text[-2:])
+    return printed_cents(text)
+
+
+def row_of(line: str, bounds: int) -> ValuedRow:
+    fields = line.split(",")
+    demand(fields[0] == "row" and len(fields) in (5, 4 + bounds, 5 + bounds), f"{line} is no row of a valuation")
+    number, year = number_of(fields[1], 1, MOST_NUMBER), number_of(fields[3], 0, 131)
+    if number is None or year is None:
+        raise Wrong(f"{line} is no row of a valuation")
+    if len(fields) == 5:
+        return ValuedRow(number, fields[2], year, (0,) * bounds, fields[4])
+    premium = fields[4 + bounds] if len(fields) == 5 + bounds else ""
+    return ValuedRow(number, fields[2], year, tuple(cents(field) for field in fields[4:4 + bounds]), "", premium)
+
+
+def valuation_in(text: str) -> PrintedValuation:
+    """The one valuation that a run of `value` printed, of which the rows add up to the total."""
+    lines = text.splitlines()
+    head = lines[0].split(",") if lines else []
+    measure = measure_of(head)
+    demand(measure is not None and len(lines) >= 2, "that is no valuation that life value prints")
+    assert measure is not None
+    bounds = 4 if measure == "deficiency" else 2
+    rows = [row_of(line, bounds) for line in lines[1:-1]]
+    last = lines[-1].split(",")
+    demand(last[0] == "total" and len(last) == bounds + 2, f"{lines[-1]} is no total of a valuation")
+    total = tuple(cents(field) for field in last[1:-1])
+    position, count, words = (number_of(text, 0, MOST_NUMBER) for text in (head[3], head[4], last[-1]))
+    demand(count == len(rows), f"{lines[0]}: there are {len(rows)} rows")
+    sums = tuple(sum(row.bounds[place] for row in rows) for place in range(bounds))
+    demand(sums == total, f"the rows add up to {' and '.join(money(each) for each in sums)}, and the total is {lines[-1]}")
+    demand(words == sum(row.word != "" for row in rows), f"{lines[-1]}: another number of rows has a word")
+    if position is None or words is None:
+        raise Wrong(f"{lines[0]} begins no valuation")
+    return PrintedValuation(day_in(head[2]), position, measure, rows, total, words)
+
+
+@dataclass(frozen=True)
+class PrintedState:
+    """The policies in order of issue, the balances of the accounts in cents, and the number of postings."""
+
+    policies: list[Policy]
+    balances: dict[str, int]
+    count: int
+
+
+def policy_of(line: str) -> Policy:
+    """The policy of a line of `state`, which doesn't tell the day of the last posting: the day of issue stands for it."""
+    fields = line.split(",")
+    demand(len(fields) == 11 and fields[0] == "policy", f"{line} is no policy of a state")
+    _, number, status, plan, age, years, amount, premium, issued, paid, outstanding = fields
+    day = day_in(issued)
+    return Policy(int(number), plan, int(age), int(years), cents(amount), cents(premium), day, day, status, int(paid),
+                  cents(outstanding))
+
+
+def state_in(text: str) -> PrintedState:
+    """The book that a run of `state` printed."""
+    policies: list[Policy] = []
+    balances: dict[str, int] = {}
+    count = -1
+    for line in text.splitlines():
+        if line.startswith("policy,"):
+            policies.append(policy_of(line))
+        elif line.startswith("balance,"):
+            _, account, amount = line.split(",")
+            balances[account] = printed_cents(amount)
+        else:
+            demand(line.startswith("count,"), f"{line} is no line of a state")
+            count = int(line[6:])
+    demand(count >= 0, "the state has no count")
+    return PrintedState(policies, balances, count)
+
+
+def account_in(text: str) -> Policy:
+    """The policy that a run of `state ID` printed, with the day of its last posting."""
+    lines = text.splitlines()
+    entries = [line.split(",") for line in lines if line.startswith("entry,")]
+    policies = [line for line in lines if line.startswith("policy,")]
+    demand(len(policies) == 1 and entries, "that is no account of a policy that state prints")
+    return replace(policy_of(policies[0]), last=day_in(entries[-1][3]))
