@@ -1,0 +1,52 @@
+"""A year-end as an administrator, an actuary and an auditor go through it, by the commands that the pages show.
+
+The book is drawn and has twenty years; then it is divided into eight. Each sheet is compared with sums that SQLite makes
+over `export`. YEAR_END_POLICIES says of how many policies the book is: 2,000, or 20,000 for a whole year-end.
+"""
+from __future__ import annotations
+
+import datetime
+import os
+import shutil
+import sys
+from pathlib import Path
+
+import pytest
+
+from .office import Office
+from .walks import Walk
+
+ROOT = Path(__file__).resolve().parent.parent.parent
+sys.path[:0] = [str(ROOT / "tools"), str(ROOT / ".ci" / "tools")]
+
+from life_tools.journal.file import file_of  # noqa: E402 # the folder of the tools is put on the path above
+from lived_book import Times, lived  # noqa: E402 # likewise
+
+TIMES = Times(datetime.date(2004, 1, 1), datetime.date(2010, 6, 1), datetime.date(2024, 3, 31), 96)
+FILES = {"basis.csv": "1900-01-01,g.xml,400\n2012-01-01,g.xml,300\n", "other.csv": "2004-07-01,g.xml,250\n"}
+SEED, BOOKS = 59, 8
+POLICIES = int(os.environ.get("YEAR_END_POLICIES", "2000"))
+
+
+def lay_book(folder: Path) -> int:
+    """The book in a folder of its own, with its bases; the greatest number of a policy."""
+    folder.mkdir()
+    commands = lived(SEED, POLICIES, TIMES)
+    (folder / "journal.life").write_bytes(file_of(commands))
+    for name, text in FILES.items():
+        (folder / name).write_text(text, encoding="ascii")
+    shutil.copy(ROOT / "examples" / "g.xml", folder)
+    return int(max(command.number for command in commands))
+
+
+@pytest.mark.slow
+def test_a_year_end(tmp_path: Path, program: Path) -> None:
+    last = lay_book(tmp_path / "main")
+    office = Office(str(tmp_path), str(ROOT / "tools" / "life-tools"), str(program))
+    walk = Walk(office, FILES, last)
+    walk.administrator()
+    walk.actuary()
+    walk.classes()
+    walk.auditor()
+    walk.many(BOOKS)
+    assert office.compared > 0
