@@ -6,8 +6,8 @@
 
 begin "wrong words build nothing"
 echo usage >wanted
-for words in "" --help stat "prove it" try "try stat" "try try run" "test all" "install a b" "help me" --wait \
-    "install --help" "pack all" "doc all" "--wait 5" "--wait x run" "--wait 5 stat" "--wait 5 try run" "--wait -1 run" "--wait 1234567 run"; do
+for words in "" stat "prove it" try "try stat" "try try run" "test all" "install a b" "help me" --wait \
+    "install --hel" "pack all" "doc all" "--wait 5" "--wait x run" "--wait 5 stat" "--wait 5 try run" "--wait -1 run" "--wait 1234567 run"; do
     # shellcheck disable=SC2086
     launch $words </dev/null
     judge "$status" 2 wanted
@@ -21,7 +21,7 @@ for word in run state checkpoint value project generate --wait try prove test in
     grep -q "sh life $word" out || complain "$word isn't told"
 done
 # the installed program tells the same of its words
-cat "$root/tools/launcher/folder.sh" "$root/tools/launcher/words.sh" "$root/tools/installed/life.sh" >life-installed
+(cd "$root" && xargs cat <tools/installed/parts) >life-installed
 cp "$program" life-program
 sh life-installed help >told || complain "the installed help ended with $?"
 sed -n 's/^  sh life \([a-z]\)/  life \1/p' out | sed '/^  life \(try\|prove\|test\|install\|pack\|doc\|tools\)/d; s/  */ /g' >wanted
@@ -58,7 +58,7 @@ notes_are "out/preview can't be made"
 rm "$copy/out"
 
 begin "the proved program"
-mkdir -p "$copy/crates/life_cli/out" && cp "$program" "$built"
+put_program
 launch run <"$first.csv"
 judge "$status" 0 "$first.transcript"
 [ "$(cat notes)" = "life: there is no journal.life in $(pwd -P), so a new book is begun" ] || complain "the launcher says: $(cat notes)"
@@ -66,20 +66,22 @@ judge "$status" 0 "$first.transcript"
 launch prove </dev/null
 [ "$status" = 0 ] || complain "a proved program is proved again"
 
-go_on "what a program is older than"
-sleep 0.1
-touch "$copy"/crates/measure*/src/*.rt "$copy"/crates/life_app/must-fail/*.edit "$copy/docs/ARCHITECTURE.md" 2>/dev/null
+go_on "what a program isn't of"
+printf x | tee -a "$copy"/crates/measure*/src/*.rt "$copy"/crates/life_app/must-fail/*.edit "$copy/docs/ARCHITECTURE.md" >/dev/null
 answers current "what isn't in it"
 for changed in policy_machine/src policy_machine/specs posting_journal/proofs; do
     file=$(find "$copy/crates/$changed" -type f | sort | head -n 1)
-    touch "$file"
+    cp -p "$file" kept && printf x >>"$file" && touch -r kept "$file"
     answers old "$changed"
-    touch "$built"
-    answers current "$changed older"
+    cp -p kept "$file" && touch "$file"
+    answers current "$changed as it was"
 done
-rm "$file"
+mv "$file" kept
 answers old "a file less"
-touch "$built"
+mv kept "$file"
+cp -p "$built" kept && printf x >>"$built" && touch -r kept "$built"
+answers old "another program"
+cp -p kept "$built"
 
 begin "a source that is changed while the program runs"
 mkfifo script
@@ -87,12 +89,11 @@ sh "$launcher" run <script >transcript 2>notes &
 running=$!
 exec 6>script
 sleep 0.5
-touch "$copy/crates/policy_types/src/lib.rt"
+printf x >>"$copy/crates/policy_types/src/lib.rt"
 cat "$first.csv" >&6
 exec 6>&-
 wait "$running" || complain "the run ends otherwise: $(cat notes)"
 cmp -s transcript "$first.transcript" || complain "it prints $(cat transcript)"
 answers old "the source"
-touch "$built"
 
 end "only a current proof is run, and wrong words do nothing"

@@ -20,7 +20,7 @@ commit() {
 # the program as if it had just been proved in a clone
 put_program() {
     mkdir -p "$1/crates/life_cli/out" && cp "$program" "$1/crates/life_cli/out/life_cli" &&
-        touch "$1/crates/life_cli/out/life_cli" || exit 2
+        (root=$1 && . "$1/tools/launcher/shared.sh" && note_proof "$1/crates/life_cli/out/life_cli" "$(sources_sum)") || exit 2
 }
 
 # `sh life pack` in a clone; what it says itself is in `notes`

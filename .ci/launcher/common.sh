@@ -93,7 +93,11 @@ answers() {
     fi
 }
 
-# a program that is as new as its sources, where the launcher looks for a proved one
+# a program where the launcher looks for a proved one, noted as that of the sources as they are now
 put_program() {
-    mkdir -p "$copy/crates/life_cli/out" && cp "$program" "$built" || exit 2
+    mkdir -p "$copy/crates/life_cli/out" && cp "$program" "$built" && note_program || exit 2
+}
+
+note_program() {
+    (root=$copy && . "$copy/tools/launcher/shared.sh" && note_proof "$built" "$(sources_sum)")
 }

@@ -1,24 +1,28 @@
 
-# The program beside this file with these words, in a folder that has a book, or where one is begun.
-here=$(readlink -f -- "$0") || exit 70
-program=$(dirname "$here")/life-program
-[ -x "$program" ] || {
-    echo "life: there is no program $program, so nothing was run" >&2
-    exit 69
-}
-if [ "$*" = help ]; then
-    tell_words life life-wait
-    cat <<'WORDS'
+# The program beside this file with these arguments, in a folder that has a book, or where one is begun.
+[ -x "$program" ] || give_up "there is no program $program, so nothing was run: install life anew" 69
+if asks_help "$@"; then
+    case $asked in
+        '' | help | --help | -h)
+            tell_words
+            cat <<'WORDS'
 beside it:
-  life-tools NAME WORDS           one of the tools beside the program: life-tools --help
+  life-tools NAME ARGUMENTS       one of the tools beside the program: life-tools --help
   man life                        the same in more words
-  life help                       this
 
-status 66: the folder has no book, so nothing was run. 69: the program isn't there.
+Status 66: the folder has no book. 67: the book is damaged. 69: the program isn't there. In each of these cases nothing
+was run.
 WORDS
+            ;;
+        *) tell_word "$asked" || { echo usage; give_up "there is no command $asked: life help names them" 2; } ;;
+    esac
     exit 0
 fi
-demand_journal "$@"
-# a write past a limit on the size of files then fails like any other, and doesn't end the program
-trap '' XFSZ
-exec "$program" "$@"
+if [ "${1-}" = --wait ]; then
+    is_seconds "${2-}" && [ $# -gt 2 ] ||
+        { echo usage; give_up "it is life-wait SECONDS COMMAND, with up to six digits: life help wait" 2; }
+    shift
+    wait_for_books "$@"
+    shift
+fi
+run_program "$@"

@@ -1,19 +1,45 @@
-# What `sh life help` prints.
+# What `sh life help` prints, of all commands or of one.
 # What it takes of the launcher:
-: "${launcher:?}"
-. "$launcher/words.sh"
-tell_words "sh life" "sh life --wait"
-cat <<'WORDS'
+: "${launcher:?}" "${program:?}"
+
+tell_all() {
+    tell_words
+    cat <<'WORDS'
 anywhere, and nothing of it touches a book:
-  sh life try WORDS               a preview: the program unproved and slow, on copies of the folder's files
+  sh life try COMMAND             a preview: the program unproved and slow, on copies of the folder's files
   sh life prove                   proves and builds the program
   sh life test [--all]            all tests, unproved, in minutes; with --all also every check of the repository
   sh life install [DIR]           the proved program for daily use, without this clone (~/.local/bin)
   sh life pack                    a package for Debian and a tar file of the proved program, in out/release
   sh life doc                     linked pages of each public clause and the definitions under it, in out/doc
-  sh life tools NAME WORDS        one of the tools beside the program: sh life tools --help
-  sh life help                    this
+  sh life tools NAME ARGUMENTS    one of the tools beside the program: sh life tools --help
+  sh life help [COMMAND]          this, or one command with an example
 
-status 66: the folder has no book. 69: no proved program is as new as its sources. Of both nothing was run. 70: the launcher
-failed. 130: it was stopped.
+Status 66: the folder has no book. 67: the book is damaged. 69: no proved program is of these sources. In each of these
+cases nothing was run. 70: the launcher failed. 130: it was stopped.
 WORDS
+}
+
+# one of the launcher's own commands
+tell_own() {
+    case $1 in
+        try) does="Runs the program unproved, on copies of the folder's files and with a journal of its own." with=" state" ;;
+        prove) does="Proves the program's crates and builds it; what is proved is kept." with= ;;
+        test) does="Runs all tests unproved; with --all also every check of the repository." with=" [--all]" ;;
+        install) does="Installs the proved program, with its tools and manual, in DIR (~/.local/bin)." with=" [DIR]" ;;
+        pack) does="Packs the proved program for Debian and as a tar file, in out/release." with= ;;
+        doc) does="Writes linked pages of each public clause to out/doc." with= ;;
+        tools) does="Runs one of the tools beside the program; --help names them." with=" verify" ;;
+        *) return 1 ;;
+    esac
+    printf 'sh life %s\n\n%s\n\nExample: sh life %s\n' "$1$with" "$does" "$1${with%%[ ]\[*}"
+}
+
+tell_help() {
+    case $1 in
+        '' | help | --help | -h) tell_all ;;
+        *) tell_word "$1" || tell_own "$1" || usage ;;
+    esac
+    is_current "$program" || say "no proved program is of these sources: sh life prove makes one, and sh life try runs a preview"
+    exit 0
+}

@@ -2,17 +2,43 @@
 # What it takes of the launcher:
 : "${root:?}" "${launcher:?}" "${program:?}"
 
+# A folder, with those above it; which of them weren't there is kept, the innermost first.
+make_folder() {
+    above=$1
+    while [ ! -e "$above" ] && [ ! -L "$above" ]; do
+        new_folders=$new_folders$above'
+'
+        above=$(dirname "$above")
+    done
+    made=$(mkdir -p -- "$1" 2>&1) || give_up "nothing was installed: ${made#mkdir: }"
+}
+
+# Removes what is staged, and the folders that were made and have nothing in them.
+clean_up() {
+    rm -rf "$staged" "$staged_share"
+    printf %s "$new_folders" | sort -r | while IFS= read -r folder; do rmdir -- "$folder" 2>/dev/null; done
+}
+
+# Removes what an installation that was killed left in these folders, which are locked: its own files alone.
+remove_left() {
+    for left in "$dir"/.life.?????? "$share"/.life.??????; do
+        for each in life life-program life-wait life-tools life.1; do rm -f -- "$left/$each"; done
+        rmdir -- "$left" 2>/dev/null
+    done
+}
+
 # where the files go, and what they are there
 name_places() {
     dir=${1:-${HOME:+$HOME/.local/bin}}
     [ -n "$dir" ] || give_up "HOME isn't set, so name a folder: sh life install DIR"
-    made=$(mkdir -p -- "$dir" 2>&1) || give_up "nothing was installed: ${made#mkdir: }"
+    make_folder "$dir"
     dir=$(cd -- "$dir" && pwd -P) || exit 70
     [ "$dir" != "$root" ] || give_up "nothing was installed: $dir is this clone, whose launcher is named life"
     share=$(dirname "$dir")/share
     manuals=$share/man/man1
     completions=$share/bash-completion/completions
-    made=$(mkdir -p -- "$manuals" "$completions" 2>&1) || give_up "nothing was installed: ${made#mkdir: }"
+    make_folder "$manuals"
+    make_folder "$completions"
     for place in "$dir/life" "$dir/life-program" "$dir/life-wait" "$dir/life-tools" "$manuals/life.1" "$completions/life"; do
         [ ! -d "$place" ] || give_up "nothing was installed: $place is a folder"
     done
@@ -21,10 +47,9 @@ name_places() {
 # each file in a folder beside its place, whole and on the disk, so that a rename is all that is left
 make_files() {
     cp "$program" "$staged/life-program" &&
-        { echo '#!/bin/sh' && cat "$launcher/folder.sh" "$launcher/words.sh" "$root/tools/installed/life.sh"; } >"$staged/life" &&
-        { echo '#!/bin/sh' && cat "$launcher/folder.sh" "$launcher/waiting.sh" "$root/tools/installed/life-wait.sh"; } \
-            >"$staged/life-wait" &&
-        python3 "$root/tools/packing/tools_file.py" "$root/tools/life_tools" "$staged/life-tools" "$(revision)" "$(kit)" "$sum" &&
+        { echo '#!/bin/sh' && (cd "$root" && xargs cat <tools/installed/parts); } >"$staged/life" &&
+        cp "$root/tools/installed/life-wait.sh" "$staged/life-wait" &&
+        python3 "$root/tools/packing/tools_file.py" "$root/tools/life_tools" "$staged/life-tools" "$(revision)" "$(noted kit)" "$sum" &&
         cp "$root/tools/installed/life.1" "$staged_share/life.1" &&
         python3 "$root/tools/packing/tools_file.py" --completion "$root/tools/installed/life.bash" "$staged_share/life" &&
         chmod 755 "$staged/life" "$staged/life-program" "$staged/life-wait" "$staged/life-tools" &&
@@ -48,12 +73,16 @@ install_life() {
     [ $# -le 1 ] || usage "it is sh life install, or sh life install DIR"
     case ${1-} in -*) usage "it is sh life install, or sh life install DIR, and a DIR that begins with - is ./${1}" ;; esac
     is_current "$program" ||
-        give_up "nothing was installed, since no proved program is as new as its sources: sh life prove" 69
+        give_up "nothing was installed, since no proved program is of these sources: sh life prove" 69
     command -v python3 >/dev/null || give_up "nothing was installed: the tools need python3"
-    staged='' staged_share=''
-    trap 'rm -rf "$staged" "$staged_share"' EXIT
+    staged='' staged_share='' new_folders=''
+    trap clean_up EXIT
     ends_by_signal : "nothing was installed"
     name_places "$@"
+    exec 8<"$dir" 7<"$share"
+    take_turn 8 "another launcher installs to $dir"
+    take_turn 7 "another launcher installs to $share"
+    remove_left
     sum=$(sum_of "$program")
     staged=$(mktemp -d "$dir/.life.XXXXXX" 2>/dev/null) &&
         staged_share=$(mktemp -d "$share/.life.XXXXXX" 2>/dev/null) ||
@@ -63,9 +92,9 @@ install_life() {
     trap '' INT TERM HUP
     why=$(put_in_place 2>&1) || give_up "installed in part, so install anew: $why"
     echo "revision: $(revision)"
-    echo "kit: $(kit)"
+    echo "kit: $(noted kit)"
     echo "sum: $sum"
-    echo "installed: $dir/life, life-program, life-tools, life-wait; $manuals/life.1; $completions/life, life-tools, life-wait"
-    case :$PATH: in *:"$dir":*) ;; *) echo "life: $dir isn't on the path" >&2 ;; esac
+    printf '%s\n' "installed: $dir/life, life-program, life-tools, life-wait; $manuals/life.1; $completions/life, life-tools, life-wait"
+    case :$PATH: in *:"$dir":*) ;; *) say "$dir isn't on the path" ;; esac
     exit 0
 }

@@ -9,21 +9,20 @@ uncommitted() {
 
 pack_release() {
     is_current "$program" ||
-        give_up "nothing was packed, since no proved program is as new as its sources: sh life prove" 69
+        give_up "nothing was packed, since no proved program is of these sources: sh life prove" 69
     for each in python3 git dpkg-deb; do
         command -v "$each" >/dev/null || give_up "nothing was packed: it needs $each"
     done
-    need_kit
     seconds=$(git -C "$root" log -1 --format=%ct 2>/dev/null) || give_up "nothing was packed: this is no clone"
     maintainer=$(git -C "$root" log -1 --format='%an <%ae>')
     changed=$(uncommitted)
-    [ -z "$changed" ] || give_up "nothing was packed, since these aren't committed: $(echo "$changed" | tr -s '\n ' ' ')"
+    [ -z "$changed" ] || give_up "nothing was packed, since these aren't committed: $(printf '%s\n' "$changed" | tr -s '\n ' ' ')"
     releases=$root/out/release
     ends_by_signal 'rm -rf "$staged"' "nothing was packed"
     staged=
     mkdir -p "$releases" 2>/dev/null && staged=$(mktemp -d "$releases/.life.XXXXXX" 2>/dev/null) ||
         give_up "nothing was packed: $releases can't be written"
-    python3 "$root/tools/packing/pack.py" "$program" "$staged" "$(revision)" "$(kit)" "$seconds" \
+    python3 "$root/tools/packing/pack.py" "$program" "$staged" "$(revision)" "$(noted kit)" "$seconds" \
         "$maintainer" 2>"$staged/why" &
     wait "$!" || { why=$(tail -n 1 "$staged/why"); rm -rf "$staged"; give_up "nothing was packed: $why"; }
     rm "$staged/why"

@@ -22,7 +22,7 @@ show_progress() {
 
 # a command of the kit in the program's crate; what is proved by then is kept, so the next one goes on from there
 in_program() {
-    ends_by_signal 'rm -f "$log" "$begun"' "what is proved is kept, and sh life prove goes on from there"
+    ends_by_signal 'rm -f "$log"' "what is proved is kept, and sh life prove goes on from there"
     in_a_session "$root/crates/life_cli" "$@"
 }
 
@@ -31,8 +31,9 @@ prove() {
     exec 9<"$root/crates.txt"
     ends_by_signal : "nothing was begun"
     take_turn 9 "another launcher is proving"
-    is_current "$program" && { echo "life: the program is proved and built" >&2; exit 0; }
-    log=$(mktemp) && begun=$(mktemp) || exit 70
+    is_current "$program" && { say "the program is proved and built"; exit 0; }
+    log=$(mktemp) || exit 70
+    sources=$(sources_sum)
     at_once=$(jobs_at_once 3000)
     started=$(date +%s)
     all=$(crates_below | wc -l)
@@ -42,26 +43,22 @@ prove() {
     if ! { wait "$worker" && build_proved; }; then
         trap - INT TERM HUP
         tell_no_more
-        rm -f "$begun"
         grep -v ': ok$' "$log" | tail -n 20 >&2
         give_up "the program is not proved and built; what the kit says stands in $log"
     fi
-    rm -f "$log" "$begun"
+    rm -f "$log"
     tell "the program is proved and built, after $(time_since "$started")"
     tell_no_more
     exit 0
 }
 
-# The build of what is proved, and a run without words, which touches nothing. The program gets the time at which its
-# build began, so that a source that was changed meanwhile is newer; it also does where the kit, which compares what it
-# reads by checksums, finds nothing changed.
+# The build of what is proved, and a run without arguments, which touches nothing. The program is noted as proved with the
+# sum that its sources had before the proof began: of sources that were changed meanwhile nothing is noted.
 build_proved() {
     tell "building the program, after $(time_since "$started")"
-    touch "$begun"
     : >"$log"
     in_program rt run
     wait "$worker"
     trap - INT TERM HUP
-    grep -q '^rt: running out/life_cli' "$log" && touch -r "$begun" "$program"
-    is_current "$program"
+    grep -q '^rt: running out/life_cli' "$log" && note_proof "$program" "$sources"
 }

@@ -1,30 +1,16 @@
 # What the launcher's parts share: what is said on standard error, whether a program is current, and the kit's commands.
 # What it takes of the launcher; and for its parts, what in_a_session began, and where that writes:
 : "${root:?}"
+. "$root/tools/launcher/messages.sh"
 worker='' log=''
-
-# a line on standard error, and the status that is given, or 70
-give_up() {
-    echo "life: $1" >&2
-    exit "${2:-70}"
-}
 
 # Says so where another launcher has a lock, and waits for it.
 take_turn() {
     flock -n "$1" && return
-    echo "life: $2; this one waits for it" >&2
+    say "$2; this one waits for it"
     # a signal is heard at once by a shell that waits for what runs in the background
     flock "$1" &
     wait "$!"
-}
-
-# a line on standard error, which the next one replaces on a terminal
-tell() {
-    if [ -t 2 ]; then printf '\r\033[K%s' "life: $1" >&2; else echo "life: $1" >&2; fi
-}
-
-tell_no_more() {
-    [ ! -t 2 ] || echo >&2
 }
 
 time_since() {
@@ -44,8 +30,38 @@ crates_below() {
         END { visit("life_cli") }' "$root/crates.txt"
 }
 
-# whether a built program is newer than each source, contract and proof of its crates, and than the folders they lie in
+# The sum of what is proved of the program: the SHA-256 of the list that sha256sum prints of crates.txt and of each source,
+# contract and proof of its crates.
+sources_sum() {
+    # shellcheck disable=SC2046 # a crate's name has no blank
+    (cd "$root" && { echo crates.txt && find $(crates_below | sed 's,^,crates/,') \( -name out -o -name must-fail \) -prune \
+        -o \( -name '*.rt' -o -name '*.antt' \) -type f -print; } | LC_ALL=C sort | tr '\n' '\0' |
+        xargs -0 sha256sum | sum_of /dev/stdin)
+}
+
+# What was noted when the program was proved and built: `program`, `sources` (their sums), `kit` (with its logic) or
+# `revision`.
+noted() {
+    sed -n "s/^$1: //p" "$root/out/proved" 2>/dev/null
+}
+
+# Notes that a program is the proved one of these sources, whose sum was taken before they were proved.
+note_proof() {
+    [ "$(sources_sum)" = "$2" ] && mkdir -p "$root/out" &&
+        printf 'program: %s\nsources: %s\nkit: %s\nrevision: %s\n' "$(sum_of "$1")" "$2" "$(kit)" "$(revision)" \
+            >"$root/out/proved.new" &&
+        mv -f "$root/out/proved.new" "$root/out/proved"
+}
+
+# whether a program is the one that was proved, and its sources are those from which it was
 is_current() {
+    [ -x "$1" ] && [ -n "$(noted program)" ] && [ "$(sum_of "$1")" = "$(noted program)" ] &&
+        [ "$(sources_sum)" = "$(noted sources)" ]
+}
+
+# Whether a preview, which writes no book, is newer than each source, contract and proof of its crates, and than the
+# folders they lie in.
+is_newest() {
     built=$1
     [ -x "$built" ] && [ ! "$root/crates.txt" -nt "$built" ] || return 1
     set --
@@ -97,7 +113,7 @@ end_worker() {
 ends_by_signal() {
     trap 'trap "" INT TERM HUP; end_worker; '"$1"'
         tell_no_more
-        echo "life: stopped; '"$2"'" >&2
+        say "stopped; '"$2"'"
         exit 130' INT TERM HUP
 }
 

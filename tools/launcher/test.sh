@@ -40,7 +40,7 @@ run_tests() {
     at_once=$(jobs_at_once 1500)
     { echo preview; test_crates; } >"$results/jobs"
     example_checks >"$results/checks"
-    echo "life: $(test_crates | wc -l) crates of tests, $(wc -l <"$results/checks") checks, $at_once side by side" >&2
+    say "$(test_crates | wc -l) crates of tests, $(wc -l <"$results/checks") checks, $at_once side by side"
     do_jobs "$results/jobs" "$at_once" preview
     do_jobs "$results/checks" "$at_once" preview
     if [ "${1-}" = --all ]; then
@@ -48,11 +48,11 @@ run_tests() {
         # they measure, and kill at moments: each alone
         judged=preview
         ! is_current "$program" || judged=proved
-        echo "life: $(wc -l <"$results/others") checks more, of the $judged program" >&2
+        say "$(wc -l <"$results/others") checks more, of the $judged program"
         do_jobs "$results/others" 1 "$judged"
     fi
     trap - INT TERM HUP
-    echo "life: the tests took $(time_since "$started")" >&2
+    say "the tests took $(time_since "$started")"
     awk '{ passed += $1; failed += $2 }
         END { printf "%d passed, %d failed, nothing proved\n", passed, failed; exit failed > 0 || passed == 0 }' \
         "$results/counts"

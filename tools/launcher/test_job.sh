@@ -63,7 +63,7 @@ run_check() {
 }
 
 case $job in
-    preview) is_current "$preview" || build_preview ;;
+    preview) is_newest "$preview" || build_preview ;;
     */*) run_check ;;
     *) try_crate ;;
 esac

@@ -8,7 +8,7 @@ is_seconds() {
 holder_of() {
     inode=$(stat -c %i "$1" 2>/dev/null) || return
     pid=$(awk -v inode=":$inode\$" '/ FLOCK / && $2 != "->" && $6 ~ inode { print $5; exit }' /proc/locks 2>/dev/null)
-    [ -z "$pid" ] || echo "process $pid, $(cat "/proc/$pid/comm" 2>/dev/null)"
+    [ -z "$pid" ] || printf '%s\n' "process $pid, $(cat "/proc/$pid/comm" 2>/dev/null)"
 }
 
 # Whether somebody has the file: a lock that others may share is tried for it, and given up at once.
@@ -33,7 +33,7 @@ why_wait() {
     for file in $(needed_files "$1"); do
         holder=$(holder_of "$file")
         if [ "$queue" = 1 ]; then [ -n "$holder" ]; else is_held "$file"; fi || continue
-        echo "$file is held by $holder"
+        printf '%s\n' "$file is held by $holder"
         return
     done
     [ "$queue" != 1 ] || echo "another one that waited for this folder has its turn"
@@ -46,13 +46,13 @@ wait_for_books() {
     seconds=$1
     until=$(($(date +%s) + seconds))
     shift
-    trap 'echo "life: stopped waiting, and nothing was run" >&2; exit 130' INT TERM HUP
+    trap 'say "stopped waiting, and nothing was run"; exit 130' INT TERM HUP
     exec 9<. || exit 70
     said=
     while why=$(why_wait "$@") && [ -n "$why" ]; do
-        [ "$why" = "$said" ] || echo "life: waiting: $why" >&2
+        [ "$why" = "$said" ] || say "waiting: $why"
         said=$why
-        [ "$(date +%s)" -lt "$until" ] || { echo "life: waited for $seconds s, and still $why" >&2; break; }
+        [ "$(date +%s)" -lt "$until" ] || { say "waited for $seconds s, and still $why"; break; }
         sleep 0.2
     done
     trap - INT TERM HUP

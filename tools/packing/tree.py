@@ -33,11 +33,8 @@ command -v python3 >/dev/null || {
 here=$(dirname "$(readlink -f -- "$0")")
 exec python3 "$here/../share/life/life-tools.py" "$@"
 """
-# what begins the program, and the parts of the launcher that it is made of, as tools/launcher/install.sh does
-COMMANDS = {
-    "life": ("launcher/folder.sh", "launcher/words.sh", "installed/life.sh"),
-    "life-wait": ("launcher/folder.sh", "launcher/waiting.sh", "installed/life-wait.sh"),
-}
+# what begins the program: the parts of the launcher that it shares with the clone's, as tools/launcher/install.sh does
+PARTS = "tools/installed/parts"
 
 
 @dataclass
@@ -100,9 +97,9 @@ def lay_programs(release: Release, top: str) -> None:
     """The program with those that begin it in one folder, as `life install` lays them, and its commands as links there."""
     with open(release.program, "rb") as file:
         write(f"{top}/libexec/life/life-program", file.read(), 0o755)
-    for name, parts in COMMANDS.items():
-        text = "".join(text_of(release, "tools", *part.split("/")) for part in parts)
-        write(f"{top}/libexec/life/{name}", "#!/bin/sh\n" + text, 0o755)
+    shared = "".join(text_of(release, part) for part in text_of(release, PARTS).split())
+    for name, text in (("life", "#!/bin/sh\n" + shared), ("life-wait", text_of(release, "tools/installed/life-wait.sh"))):
+        write(f"{top}/libexec/life/{name}", text, 0o755)
         link(f"{top}/bin/{name}", f"../libexec/life/{name}")
     write(f"{top}/bin/life-tools", TOOLS, 0o755)
 

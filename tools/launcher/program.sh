@@ -1,48 +1,7 @@
-# The proved program in the folder that the launcher is called from; on a terminal it is watched, and its status is
-# explained.
-# What it takes of the launcher:
-: "${launcher:?}" "${program:?}"
-. "$launcher/folder.sh"
-. "$launcher/waiting.sh"
-
-# what a status means here, beside what the program printed of these words
-hint() {
-    ended=$1
-    shift
-    case $ended in
-        2)
-            echo "life: the words are told in docs/FORMATS.md, and by sh life help" >&2
-            case "$1 ${2-}" in
-                value\ *-*-* | project\ *-*-*) echo "life: a day is YYYY-MM-DD of the calendar, from 1900-01-01 to 2199-12-31" >&2 ;;
-            esac
-            ;;
-        8) echo "life: $(why_fault "$@")" >&2 ;;
-        130) echo "life: stopped; what was accepted stands, and docs/CLERK.md tells how to go on after a kill" >&2 ;;
-    esac
-}
-
-# of the journal; of the checkpoint, where the words open that too; and else of the disk
-why_fault() {
-    why=$(why_not journal.life)
-    case "$*" in state | checkpoint) [ -n "$why" ] || why=$(why_not checkpoint.life) ;; esac
-    echo "${why:-the disk failed (is it full? df .), or another run had journal.life, with what was accepted before}"
-}
-
-# why a file can't be had, where that shows
-why_not() {
-    if [ -d "$1" ]; then
-        echo "$1 is a folder"
-    elif [ -e "$1" ]; then
-        holder=$(holder_of "$1")
-        if [ -n "$holder" ]; then
-            echo "$1 is held by $holder: wait until it has ended, or begin with sh life --wait SECONDS"
-        elif [ ! -w "$1" ]; then
-            echo "$1 can't be written by $(id -un)"
-        fi
-    else
-        echo "$1 isn't there: it can't be made in this folder, or was taken away while the run had it"
-    fi
-}
+# The program in the folder that it is called from; on a terminal it is watched, and its status is explained. The clone's
+# launcher and the installed `life` share this part.
+# What it takes of the caller:
+: "${program:?}"
 
 # how many postings the journal's length has room for
 postings_now() {
@@ -91,9 +50,36 @@ run_and_watch() {
     status=${status:-130}
 }
 
+# Status 2 and nothing run where --accept-damage is said otherwise.
+accepts_number() {
+    case $1 in
+        '' | *[!0-9]* | ????????*)
+            echo usage
+            say "it is $called run --accept-damage COUNT, with the count that was reported"
+            exit 2
+            ;;
+    esac
+    accepted=$1
+}
+
 # On a terminal the launcher stays, for a hint; else the program takes its place, and is what a signal meets.
 run_program() {
+    first=${1-} accepted='' left=$#
+    while posts "$first" && [ "$left" -gt 0 ]; do
+        left=$((left - 1))
+        case $1 in
+            --accept-damage=*) accepts_number "${1#*=}" ;;
+            --accept-damage)
+                accepts_number "${2-}"
+                left=$((left - 1))
+                shift
+                ;;
+            *) set -- "$@" "$1" ;;
+        esac
+        shift
+    done
     demand_journal "$@"
+    demand_whole "$accepted" "$@"
     # a write past a limit on the size of files then fails like any other, and doesn't end the program
     trap '' XFSZ
     [ -t 2 ] || exec "$program" "$@"

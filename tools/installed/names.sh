@@ -1,0 +1,5 @@
+# Where the program lies, and how it, its waiting and its tools are called.
+here=$(readlink -f -- "$0") || exit 70
+program=$(dirname "$here")/life-program
+called=life waits=life-wait tools=life-tools
+
