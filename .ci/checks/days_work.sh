@@ -7,8 +7,8 @@
 # programs as an installation lays them, and the tools beside them
 bin=$work/bin
 mkdir "$bin" && cp "$program" "$bin/life-program" || exit 2
-{ echo '#!/bin/sh' && cat "$tools/launcher/folder.sh" "$tools/installed/life.sh"; } >"$bin/life"
-{ echo '#!/bin/sh' && cat "$tools/launcher/folder.sh" "$tools/launcher/waiting.sh" "$tools/installed/life-wait.sh"; } >"$bin/life-wait"
+{ echo '#!/bin/sh' && (cd "$root" && xargs cat <tools/installed/parts); } >"$bin/life"
+cp "$tools/installed/life-wait.sh" "$bin/life-wait"
 printf '#!/bin/sh\nexec python3 "%s" "$@"\n' "$tools/life-tools" >"$bin/life-tools"
 chmod +x "$bin"/*
 LIFE_BIN=$bin LIFE_WAIT=1 LIFE_PROGRAM=$program

@@ -17,14 +17,14 @@ done
 
 begin "help"
 launch help </dev/null
-for word in run state checkpoint value project generate --wait try prove test install pack doc tools help; do
+for word in run state checkpoint value project generate load --wait try prove test install pack doc tools help; do
     grep -q "sh life $word" out || complain "$word isn't told"
 done
 # the installed program tells the same of its words
 (cd "$root" && xargs cat <tools/installed/parts) >life-installed
 cp "$program" life-program
 sh life-installed help >told || complain "the installed help ended with $?"
-sed -n 's/^  sh life \([a-z]\)/  life \1/p' out | sed '/^  life \(try\|prove\|test\|install\|pack\|doc\|tools\)/d; s/  */ /g' >wanted
+sed -n 's/^  sh life \([a-z]\)/  life \1/p' out | sed '/^  life \(try\|prove\|test\|install\|pack\|doc\|tools\|help \[\)/d; s/  */ /g' >wanted
 sed 's/  */ /g' told | grep '^ life ' | cmp -s - wanted || complain "the installed help tells $(cat told)"
 
 begin "nothing is proved"
@@ -88,7 +88,7 @@ mkfifo script
 sh "$launcher" run <script >transcript 2>notes &
 running=$!
 exec 6>script
-sleep 0.5
+await 'grep -q "a new book is begun" notes'
 printf x >>"$copy/crates/policy_types/src/lib.rt"
 cat "$first.csv" >&6
 exec 6>&-

@@ -64,7 +64,7 @@ no_room() {
     mkdir small
     if mount -t tmpfs -o size=500k none small 2>/dev/null; then
         launch install "$PWD/small/bin" </dev/null
-        ls -A small/bin >found
+        ls -A small/bin >found 2>/dev/null
         umount small
     else
         mkdir small/bin
@@ -94,6 +94,6 @@ chmod +x slow/sync
 PATH=$PWD/slow:$PATH
 is_stopped '[ -e "$work/noted" ]' "stopped; nothing was installed" install "$work/stopped/bin"
 PATH=${PATH#*:}
-[ -z "$(ls -A "$work/stopped/bin")" ] || complain "it leaves $(ls -A "$work/stopped/bin")"
+[ ! -e "$work/stopped" ] || complain "it leaves $(find "$work/stopped")"
 
 end "an installation is whole or isn't made"

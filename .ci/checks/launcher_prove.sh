@@ -85,7 +85,7 @@ for judged in "yes $copy/out/preview/life_preview" "proved alone"; do
     launch test --all </dev/null
     [ "$(tail -n 1 out)" = "$passed passed, 3 failed, nothing proved" ] || complain "with all: $(tail -n 1 out)"
     grep -qF "names: no $judged" out || complain "a check that fails isn't shown, or it judges otherwise: $(cat out)"
-    touch "$built"
+    note_program
 done
 unset STAND_IN
 PATH=${PATH#*:}

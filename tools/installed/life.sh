@@ -7,11 +7,11 @@ if asks_help "$@"; then
             tell_words
             cat <<'WORDS'
 beside it:
-  life-tools NAME ARGUMENTS       one of the tools beside the program: life-tools --help
-  man life                        the same in more words
+  life-tools NAME ARGUMENTS      one of the tools: life-tools --help
+  man life                       the same in more words
 
-Status 66: the folder has no book. 67: the book is damaged. 69: the program isn't there. In each of these cases nothing
-was run.
+Status 66: the folder has no book. 67: the book is damaged. 69: the program
+isn't there. In each of these cases nothing was run.
 WORDS
             ;;
         *) tell_word "$asked" || { echo usage; give_up "there is no command $asked: life help names them" 2; } ;;

@@ -1,5 +1,7 @@
 # What the program doesn't ask of the folder's book: whether there is one, and whether its file is whole. The clone's
 # launcher and the installed `life` share this part.
+# What it takes of the caller:
+: "${called:?}"
 
 # whether the arguments post, and whether they open a book at all
 posts() {
@@ -48,6 +50,7 @@ print(*[count, length] if front == header or length <= 18 else [])' 2>/dev/null 
 measure_slowly() {
     length=$(stat -Lc %s journal.life 2>/dev/null) || return 1
     header=$(od -An -v -tu1 -w17 -N17 journal.life)
+    # shellcheck disable=SC2086,SC2116 # the blanks between the numbers
     if [ "$(echo $header)" = "1 76 73 70 69 74 82 78 76 0 1 0 64 0 0 0 0" ]; then
         echo "$(od -An -v -tu1 -w65 -j17 journal.life | awk '$1 != 1 { exit } { n++ } END { print n + 0 }') $length"
     elif [ "$length" -le 18 ]; then
@@ -62,11 +65,14 @@ checkpoint_count() {
         print (($18 * 256 + $19) * 256 + $20) * 256 + $21 }'
 }
 
-# how many commands the journal had when the newest entries of the log ended, as far as they say
+# how many commands the journal had after the newest run that the log knows of
 log_count() {
-    ls log 2>/dev/null | tail -n 8 | while IFS= read -r entry; do
-        sed -n 's/^ *"after": *\([0-9]\{1,7\}\),\{0,1\}$/\1/p' "log/$entry/entry.json"
-    done 2>/dev/null | tail -n 1
+    for folder in log log/runs; do
+        # shellcheck disable=SC2012 # their names are numbers and days
+        ls "$folder" 2>/dev/null | tail -n 8 | while IFS= read -r each; do
+            sed -n 's/^ *"after": *\([0-9]\{1,7\}\),\{0,1\}$/\1/p' "$folder/$each"/*.json
+        done 2>/dev/null
+    done | sort -n | tail -n 1
 }
 
 # why the book is damaged, where that shows, by the count and the length that were measured
@@ -99,7 +105,7 @@ demand_whole() {
         say "journal.life is damaged, and is posted to behind its first $count commands: $why"
     else
         say "journal.life is damaged, so nothing was run: it has $count commands, and $why." \
-            "Restore the last whole copy; $1 --accept-damage $count posts all the same, and overwrites what is left"
+            "Restore the last whole copy; $called $1 --accept-damage $count posts all the same, and overwrites what is left"
         exit 67
     fi
 }

@@ -6,17 +6,18 @@ tell_all() {
     tell_words
     cat <<'WORDS'
 anywhere, and nothing of it touches a book:
-  sh life try COMMAND             a preview: the program unproved and slow, on copies of the folder's files
-  sh life prove                   proves and builds the program
-  sh life test [--all]            all tests, unproved, in minutes; with --all also every check of the repository
-  sh life install [DIR]           the proved program for daily use, without this clone (~/.local/bin)
-  sh life pack                    a package for Debian and a tar file of the proved program, in out/release
-  sh life doc                     linked pages of each public clause and the definitions under it, in out/doc
-  sh life tools NAME ARGUMENTS    one of the tools beside the program: sh life tools --help
-  sh life help [COMMAND]          this, or one command with an example
+  sh life try COMMAND            a preview: unproved and slow, on copies
+  sh life prove                  proves and builds the program
+  sh life test [--all]           tests, proving nothing; --all: all checks too
+  sh life install [DIR]          the proved program for daily use (~/.local/bin)
+  sh life pack                   a Debian package and a tar file, in out/release
+  sh life doc                    pages of each public clause, in out/doc
+  sh life tools NAME ARGUMENTS   one of the tools: sh life tools --help
+  sh life help [COMMAND]         this, or one command with an example
 
-Status 66: the folder has no book. 67: the book is damaged. 69: no proved program is of these sources. In each of these
-cases nothing was run. 70: the launcher failed. 130: it was stopped.
+Status 66: the folder has no book. 67: the book is damaged. 69: no proved
+program is of these sources. In each of these cases nothing was run. 70: the
+launcher failed. 130: it was stopped.
 WORDS
 }
 

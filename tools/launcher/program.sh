@@ -1,7 +1,7 @@
 # The program in the folder that it is called from; on a terminal it is watched, and its status is explained. The clone's
 # launcher and the installed `life` share this part.
 # What it takes of the caller:
-: "${program:?}"
+: "${program:?}" "${called:?}"
 
 # how many postings the journal's length has room for
 postings_now() {

@@ -14,14 +14,14 @@ asks_help() {
 
 tell_words() {
     echo "in the folder of a book, the proved program alone:"
-    printf '  %-32s%s\n' "$called run < SCRIPT" "posts the lines of up to eight lanes" \
-        "$called state [ID]" "all policies and the balances, or one policy's postings" \
+    printf '  %-31s%s\n' "$called run < SCRIPT" "posts the lines of up to eight lanes" \
+        "$called state [ID]" "policies and balances, or one policy's postings" \
         "$called checkpoint" "keeps the books, for a faster state" \
         "$called value ON [--at P]" "what each policy is worth on a day" \
-        "$called project ON YEARS" "what premiums and claims are expected, by year"
-    printf '  %s\n' "$called generate SEED COUNT LANES"
-    printf '  %-32s%s\n' "" "a drawn script, which load SEED COUNT LANES WORKERS runs" \
-        "$waits SECONDS COMMAND" "the same, once nobody else has the book, or after that time" \
+        "$called project ON YEARS" "expected premiums and benefits, by year"
+    printf '  %s\n' "$called generate SEED COUNT LANES" "$called load SEED COUNT LANES WORKERS"
+    printf '  %-31s%s\n' "" "a drawn script is printed, or run and valued" \
+        "$waits SECONDS COMMAND" "the same, once no other process has the book" \
         "$called help COMMAND" "one of these, with an example"
     echo
 }
