@@ -1,9 +1,10 @@
 #!/bin/sh
 # Installs what the checks use beside the kit and python3, by apt-get, where this is Debian and may install. A package
 # that can't be had is told in a line; the checks that need it then say that they are skipped.
-packages="chromium chromium-driver debootstrap flake8 fonts-dejavu-extra gcc hledger ledger libc6-dev libreoffice-calc
-lintian mypy poppler-utils python3-distributed python3-flask python3-markdown python3-numpy python3-openpyxl
-python3-pandas python3-selenium shellcheck sqlite3 strace"
+packages="chromium chromium-driver codespell debootstrap flake8 fonts-dejavu-extra gcc graphviz hledger hyperfine ledger
+libc6-dev libreoffice-calc lintian mkdocs mkdocs-material mypy poppler-utils python3-distributed python3-flask
+python3-hypothesis python3-markdown python3-matplotlib python3-numpy python3-openpyxl python3-pandas python3-pytest
+python3-pytest-timeout python3-pytest-xdist python3-selenium rsync shellcheck sqlite3 strace"
 
 missing() {
     for package in $packages; do

@@ -49,7 +49,7 @@ refuses 2 'x is no position' audit flags --after x
 refuses 2 '0 to 36500 days' audit flags --late -1
 
 begin "flags of a drawn book, beside SQLite"
-python3 "$root/.ci/tools/lived_book.py" 3 3000
+python3 "$root/tests/support/lived_books.py" 3 3000
 refuses 1 'late-maturity: ' audit flags --late 5
 mv out flags
 says export sqlite journal.life book.db

@@ -64,7 +64,7 @@ ROWS
 fi
 
 go_on "drawn books"
-python3 "$root/.ci/tools/lived_book.py" 3 200
+python3 "$root/tests/support/lived_books.py" 3 200
 "$life" state </dev/null | sort >wanted
 tool export sqlite journal.life drawn.db || complain "status $?: $(cat remarks)"
 python3 "$root/.ci/tools/exported.py" sqlite drawn.db | grep -e ^policy, -e ^balance, -e ^count, | sort | cmp -s wanted - ||

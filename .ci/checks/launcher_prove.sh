@@ -66,14 +66,15 @@ is_stopped '[ -s "$work/noted" ]' "stopped; the tests weren't run to their end" 
 
 begin "tests"
 export STAND_IN=tests
-rm -rf "$copy"/.ci/checks
-mkdir "$copy/.ci/checks"
+rm -rf "$copy"/.ci/checks "$copy"/tests
+mkdir "$copy/.ci/checks" "$copy/tests"
+printf 'def test_the_wind() -> None:\n    pass\n' >"$copy/tests/test_wind.py"
 printf 'cd "%s" && : >"%s" && sleep 60 & wait\n' "$copy" "$work/noted" >"$copy/.ci/checks/program_run.sh"
 is_stopped '[ -e "$work/noted" ]' "stopped; the tests weren't run to their end" test
 printf 'echo "program_run: skipped: there is no wind"\n[ -x "$LIFE_PROGRAM" ]\n' >"$copy/.ci/checks/program_run.sh"
 printf 'echo "names: no ${LIFE_PREVIEW-proved} ${LIFE_PROGRAM-alone}"\nexit 1\n' >"$copy/.ci/checks/names.sh"
-# crates with two tests that pass, one with one of two, one without any; and a check that is skipped
-passed=$(($(grep -c '^[a-z]*_tests:' "$copy/crates.txt") * 2 - 3))
+# crates with two tests that pass, one with one of two, one without any; a check that is skipped; and a test of the suite
+passed=$(($(grep -c '^[a-z]*_tests:' "$copy/crates.txt") * 2 - 2))
 launch test </dev/null
 [ "$status" = 1 ] || complain "status $status"
 [ "$(tail -n 1 out)" = "$passed passed, 2 failed, nothing proved" ] || complain "its last line is: $(tail -n 1 out)"

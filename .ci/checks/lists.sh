@@ -34,7 +34,7 @@ alike() {
 
 begin_with_examples "a divided book"
 mkdir main && mv basis.csv q.xml g.xml main
-(cd main && python3 "$root/.ci/tools/lived_book.py" 3 60)
+(cd main && python3 "$root/tests/support/lived_books.py" 3 60)
 tool books split main/journal.life numbers=1-1000 numbers=1001- low high || complain "$(cat remarks)"
 mv out books.csv
 tool books books.csv position-on 2015-12-31 && mv out p1.csv || complain "$(cat remarks)"

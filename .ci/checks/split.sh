@@ -34,7 +34,7 @@ python3 "$root/.ci/tools/split_kills.py" "$root" >out 2>&1 || complain "$(tail -
 
 begin_with_examples "killed while the program runs"
 mkdir main && mv basis.csv q.xml g.xml main
-(cd main && python3 "$root/.ci/tools/lived_book.py" 7 60)
+(cd main && python3 "$root/tests/support/lived_books.py" 7 60)
 cp main/journal.life old.life
 halves="numbers=1-1000 numbers=1001- low high"
 mkdir room

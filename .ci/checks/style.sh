@@ -1,5 +1,5 @@
 #!/bin/sh
-# The scripts as they are written: types by `mypy --strict` and style by flake8, of the tools, of bench/ and of .ci/; no
+# The scripts as they are written: types by `mypy --strict` and style by flake8, of the tools, of the tests, of bench/ and of .ci/; no
 # Python within a shell script; and the launcher's parts by shellcheck.
 cd "$(dirname "$0")/../.." || exit 2
 root=$PWD
@@ -20,13 +20,14 @@ has() {
 typed() {
     folder=$1
     shift
-    (cd "$folder" && MYPYPATH=$root/tools:$root/.ci:$root/.ci/tools:$root/bench:$root/.ci/stress:$root/.ci/faults:$root/.ci/documents \
+    (cd "$folder" && MYPYPATH=$root/tools:$root:$root/.ci:$root/.ci/tools:$root/bench:$root/.ci/stress:$root/.ci/faults:$root/.ci/documents \
         mypy --strict --cache-dir "$work/mypy" "$@") >"$work/out" 2>&1 ||
         { echo "style: $folder: $(cat "$work/out")" >&2; failed=1; }
 }
 
 if has mypy; then
     typed tools life_tools life-tools packing
+    typed . --explicit-package-bases tests
     for folder in bench .ci .ci/*/; do
         # the folder's files, without its path
         set -- $(cd "$folder" && ls ./*.py 2>/dev/null)
@@ -34,7 +35,7 @@ if has mypy; then
     done
 fi
 if has flake8; then
-    flake8 --max-line-length 130 tools/life_tools tools/life-tools tools/packing bench .ci >&2 || failed=1
+    flake8 --max-line-length 130 tools/life_tools tools/life-tools tools/packing tests bench .ci >&2 || failed=1
 fi
 if has shellcheck; then
     # SC1090, SC1091: a part that is read by a path of its own; SC2015, SC2016, SC2094: as it is meant; SC3013: `-nt`, which

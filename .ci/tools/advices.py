@@ -15,13 +15,13 @@ from dataclasses import replace
 from pathlib import Path
 
 ROOT = Path(sys.argv[1])
-sys.path[:0] = [str(ROOT / "tools"), str(ROOT / ".ci" / "tools")]
+sys.path[:0] = [str(ROOT / "tools"), str(ROOT)]
 
 from life_tools.rules.commands import Command, words_of  # noqa: E402
 from life_tools.rules.deaths import standing  # noqa: E402
 from life_tools.common.formats import KINDS, STATUSES  # noqa: E402
 from life_tools.rules.remedies import BENEFITS, REMEDIES, remedy_of  # noqa: E402
-from lived_book import drawn_issue, life_of  # noqa: E402
+from tests.support.lived_books import drawn_issue, life_of  # noqa: E402
 
 DAY = datetime.timedelta(1)
 

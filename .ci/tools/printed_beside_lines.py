@@ -11,7 +11,7 @@ from pathlib import Path
 from typing import Callable, TypeVar
 
 HERE = Path(__file__).resolve().parent
-sys.path[:0] = [str(HERE.parents[1] / "tools"), str(HERE)]
+sys.path[:0] = [str(HERE.parents[1] / "tools"), str(HERE.parents[1])]
 
 from life_tools.valuations import printed_columns  # noqa: E402
 from life_tools.journal.checkpoints import checkpoint_of  # noqa: E402
@@ -20,7 +20,7 @@ from life_tools.common.formats import PLANS, STATUSES, Wrong, money  # noqa: E40
 from life_tools.valuations.printed_books import state_in, valuation_in  # noqa: E402
 from life_tools.valuations.printed_columns import state_of, valuation_of  # noqa: E402
 from life_tools.rules.policies import Book, balances_of  # noqa: E402
-from lived_book import lived  # noqa: E402
+from tests.support.lived_books import lived  # noqa: E402
 
 WORDS = ("nobasis", "belowtable", "pasttable", "ratehigh")
 T = TypeVar("T")

@@ -8,19 +8,16 @@ from __future__ import annotations
 import datetime
 import os
 import shutil
-import sys
 from pathlib import Path
 
 import pytest
 
+from life_tools.journal.file import file_of
+from tests.support.lived_books import Times, lived
+from tests.support.program import ROOT, Program
+
 from .office import Office
 from .walks import Walk
-
-ROOT = Path(__file__).resolve().parent.parent.parent
-sys.path[:0] = [str(ROOT / "tools"), str(ROOT / ".ci" / "tools")]
-
-from life_tools.journal.file import file_of  # noqa: E402 # the folder of the tools is put on the path above
-from lived_book import Times, lived  # noqa: E402 # likewise
 
 TIMES = Times(datetime.date(2004, 1, 1), datetime.date(2010, 6, 1), datetime.date(2024, 3, 31), 96)
 FILES = {"basis.csv": "1900-01-01,g.xml,400\n2012-01-01,g.xml,300\n", "other.csv": "2004-07-01,g.xml,250\n"}
@@ -40,9 +37,9 @@ def lay_book(folder: Path) -> int:
 
 
 @pytest.mark.slow
-def test_a_year_end(tmp_path: Path, program: Path) -> None:
+def test_a_year_end(tmp_path: Path, program: Program) -> None:
     last = lay_book(tmp_path / "main")
-    office = Office(str(tmp_path), str(ROOT / "tools" / "life-tools"), str(program))
+    office = Office(str(tmp_path), str(ROOT / "tools" / "life-tools"), str(program.path))
     walk = Walk(office, FILES, last)
     walk.administrator()
     walk.actuary()

@@ -8,7 +8,8 @@ tell_all() {
 anywhere, and nothing of it touches a book:
   sh life try COMMAND            a preview: unproved and slow, on copies
   sh life prove                  proves and builds the program
-  sh life test [--all]           tests, proving nothing; --all: all checks too
+  sh life test [--all | TEST]    tests, proving nothing; --all: all checks too;
+                                 or some of the suite, as pytest takes them
   sh life install [DIR]          the proved program for daily use (~/.local/bin)
   sh life pack                   a Debian package and a tar file, in out/release
   sh life doc                    pages of each public clause, in out/doc
@@ -26,7 +27,7 @@ tell_own() {
     case $1 in
         try) does="Runs the program unproved, on copies of the folder's files and with a journal of its own." with=" state" ;;
         prove) does="Proves the program's crates and builds it; what is proved is kept." with= ;;
-        test) does="Runs all tests unproved; with --all also every check of the repository." with=" [--all]" ;;
+        test) does="Runs all tests unproved; with --all also every check of the repository; or one TEST, as pytest takes it." with=" [--all | TEST]" ;;
         install) does="Installs the proved program, with its tools and manual, in DIR (~/.local/bin)." with=" [DIR]" ;;
         pack) does="Packs the proved program for Debian and as a tar file, in out/release." with= ;;
         doc) does="Writes linked pages of each public clause to out/doc." with= ;;

@@ -1,6 +1,7 @@
-# All tests without any proof: each crate of tests as the kit tries it, and checks of this repository over a preview.
+# All tests without any proof: each crate of tests as the kit tries it, and checks and the suite of this repository over a
+# preview. With a test's path or an option, that part of the suite alone, as pytest takes them.
 # What it takes of the launcher:
-: "${root:?}" "${launcher:?}" "${program:?}"
+: "${root:?}" "${launcher:?}" "${program:?}" "${preview:?}"
 
 # the crates of tests, the largest first
 test_crates() {
@@ -29,8 +30,48 @@ do_jobs() {
     wait "$!"
 }
 
+# pytest over a program, in a session of its own; its status is in `tested`
+run_pytest() {
+    judged=$1
+    shift
+    python=/usr/bin/python3
+    [ -x "$python" ] || python=python3
+    "$python" -c "import pytest" 2>/dev/null || give_up "the suite needs pytest: sh .ci/setup.sh"
+    LIFE_PROGRAM=$judged setsid "$python" -m pytest -c "$root/pyproject.toml" --rootdir "$root" "$@" </dev/null &
+    wait "$!"
+    tested=$?
+}
+
+# a part of the suite, from the clone's folder, over the proved program where it is current and else over a preview
+run_part() {
+    judged=$program
+    if ! is_current "$program"; then
+        . "$launcher/preview.sh"
+        is_current "$preview" || build_preview
+        judged=$preview
+    fi
+    ends_by_signal : "the tests weren't run to their end"
+    run_pytest "$judged" "$@"
+    exit "$tested"
+}
+
+# the whole suite: what it counts goes to the folder of results
+run_suite() {
+    # 5: it found no test
+    run_pytest "$judged" -q -n "$at_once" "$@" --junitxml="$results/suite.xml" "$root/tests"
+    [ "$tested" = 5 ] || sed -n 's/.*<testsuite [^>]*errors="\([0-9]*\)" failures="\([0-9]*\)" skipped="\([0-9]*\)" tests="\([0-9]*\)".*/\1 \2 \3 \4/p' \
+        "$results/suite.xml" 2>/dev/null | awk '{ print $4 - $1 - $2 - $3, $1 + $2; n++ } END { if (!n) print 0, 1 }' >>"$results/counts"
+}
+
 run_tests() {
-    case $*,$# in ,0 | --all,1) ;; *) usage "it is sh life test, or sh life test --all" ;; esac
+    case $*,$# in
+        ,0 | --all,1) ;;
+        --all* | -h,* | --help,*) usage "it is sh life test, sh life test --all, or sh life test with what pytest takes" ;;
+        *)
+            case $1 in -*) ;; *) [ -e "${1%%::*}" ] || usage "there is no test ${1%%::*}" ;; esac
+            run_part "$@"
+            ;;
+    esac
     need_kit
     results=$(mktemp -d) || exit 70
     ends_by_signal 'rm -rf "$results"' "the tests weren't run to their end"
@@ -43,13 +84,16 @@ run_tests() {
     say "$(test_crates | wc -l) crates of tests, $(wc -l <"$results/checks") checks, $at_once side by side"
     do_jobs "$results/jobs" "$at_once" preview
     do_jobs "$results/checks" "$at_once" preview
+    judged=$preview
+    [ "${1-}" = --all ] || run_suite
     if [ "${1-}" = --all ]; then
         other_checks >"$results/others"
         # they measure, and kill at moments: each alone
-        judged=preview
-        ! is_current "$program" || judged=proved
-        say "$(wc -l <"$results/others") checks more, of the $judged program"
-        do_jobs "$results/others" 1 "$judged"
+        which=preview
+        ! is_current "$program" || which=proved judged=$program
+        say "$(wc -l <"$results/others") checks more, of the $which program"
+        do_jobs "$results/others" 1 "$which"
+        run_suite --slow
     fi
     trap - INT TERM HUP
     say "the tests took $(time_since "$started")"

@@ -1,6 +1,6 @@
 """Draws a book whose policies have lived: premiums paid in time or not, and every other kind of command.
 
-usage: python3 lived_book.py SEED POLICIES, which writes journal.life into the current folder
+usage: python3 lived_books.py SEED POLICIES, which writes journal.life into the current folder
 """
 from __future__ import annotations
 

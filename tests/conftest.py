@@ -1,0 +1,115 @@
+"""The program under test, folders of books, and what a test needs of the machine."""
+from __future__ import annotations
+
+import os
+from pathlib import Path
+
+import pytest
+from hypothesis import settings
+
+from tests.support.folders import Folder
+from tests.support.missing import in_ci, lacks, need
+from tests.support.program import ROOT, Program, program_under_test
+
+# drawn cases: on CI the same at each run; a slow machine isn't a failure
+settings.register_profile("suite", deadline=None, database=None, derandomize=in_ci(), print_blob=True)
+settings.load_profile("suite")
+
+BROWSER = ("chromedriver", "chromium", "python:selenium")
+# file systems that keep nothing on a disk
+IN_MEMORY = ("tmpfs", "ramfs")
+
+
+def pytest_addoption(parser: pytest.Parser) -> None:
+    parser.addoption("--slow", action="store_true", help="run the tests that take more than a minute, too")
+
+
+def pytest_report_header() -> str:
+    found = program_under_test()
+    if found is None:
+        return "program under test: none"
+    return f"program under test: {found.path} ({'proved' if found.is_proved else 'not the proved one'})"
+
+
+def pytest_collection_modifyitems(config: pytest.Config, items: list[pytest.Item]) -> None:
+    """Planted changes are tried only where they are asked for."""
+    if "mutants" in config.option.markexpr:
+        return
+    asked = [item for item in items if not item.get_closest_marker("mutants")]
+    if len(asked) < len(items):
+        config.hook.pytest_deselected(items=[item for item in items if item.get_closest_marker("mutants")])
+        items[:] = asked
+
+
+def file_system(path: Path) -> str:
+    """The kind of file system that a path lies on."""
+    with open("/proc/mounts", encoding="utf-8") as file:
+        mounts = [line.split()[1:3] for line in file]
+    holds = [(len(place), kind) for place, kind in mounts if path == Path(place) or Path(place) in path.parents]
+    return max(holds)[1]
+
+
+def demand_program(is_proved: bool) -> Program:
+    found = program_under_test()
+    if found is None:
+        pytest.fail("there is no program: sh life prove makes the proved one, sh life try state a preview", pytrace=False)
+    if is_proved and not found.is_proved:
+        lacks(f"{found.path} isn't the proved program")
+    return found
+
+
+def pytest_runtest_setup(item: pytest.Item) -> None:
+    marked = {mark.name: mark for mark in item.iter_markers()}
+    if "slow" in marked and not in_ci() and not item.config.getoption("--slow"):
+        pytest.skip("it takes more than a minute: --slow runs it")
+    if "root" in marked and os.geteuid() != 0:
+        lacks("it has to be run by root")
+    if "needs_proof" in marked:
+        demand_program(is_proved=True)
+    for mark in item.iter_markers("needs"):
+        for thing in mark.args:
+            need(thing)
+    for thing in BROWSER if "browser" in marked else ():
+        need(thing)
+
+
+@pytest.fixture(scope="session")
+def root() -> Path:
+    """The clone."""
+    return ROOT
+
+
+@pytest.fixture(scope="session")
+def program() -> Program:
+    return demand_program(is_proved=False)
+
+
+@pytest.fixture
+def folder(tmp_path: Path, program: Program, request: pytest.FixtureRequest) -> Folder:
+    """An empty folder for a book."""
+    if request.node.get_closest_marker("real_disk") and file_system(tmp_path) in IN_MEMORY:
+        lacks(f"{tmp_path} lies in memory: name a folder on a disk by --basetemp")
+    return Folder(tmp_path, program)
+
+
+@pytest.fixture
+def table_q(folder: Folder) -> Folder:
+    """A folder without a journal, whose basis is table Q without interest."""
+    folder.take("q.xml")
+    folder.write("basis.csv", "1900-01-01,q.xml,0\n")
+    return folder
+
+
+@pytest.fixture
+def examples_basis(folder: Folder) -> Folder:
+    """A folder without a journal, with the basis and the tables of the examples."""
+    folder.take("basis.csv", "q.xml", "g.xml")
+    return folder
+
+
+@pytest.fixture
+def small_office(examples_basis: Folder) -> Folder:
+    """The small office of the examples, of 27 commands, and what its run printed as `transcript`."""
+    examples_basis.take("small-office.csv")
+    examples_basis.write("transcript", examples_basis.post(examples_basis.read("small-office.csv")))
+    return examples_basis

@@ -1,0 +1,60 @@
+"""Changes planted on purpose, each of which a named test must notice: the measure of the suite.
+
+The tables beside this file have an entry a change: `file`, `old` (text that stands in it once), `new`, and `test`, what
+pytest is given. Entries with `ci = true` are tried by `pytest -m mutants_ci`, all of them by `pytest -m mutants`.
+"""
+from __future__ import annotations
+
+import os
+import shlex
+import shutil
+import subprocess
+import sys
+import tomllib
+from pathlib import Path
+from typing import Any, Iterator
+
+import pytest
+
+from tests.support.program import ROOT, Program
+
+TABLES = sorted(Path(__file__).parent.glob("*.toml"))
+# what a change is tried in: all but the proved program's sources
+COPIED = ("tests", "tools", "examples", "docs", ".ci", "bench", "life", "pyproject.toml", ".flake8", "crates.txt", "README.md",
+          "CHANGELOG.md", "CONTRIBUTING.md", "SECURITY.md")
+FAILED = 1
+
+
+def entries() -> Iterator[Any]:
+    for table in TABLES:
+        for number, entry in enumerate(tomllib.loads(table.read_text(encoding="utf-8"))["mutant"], 1):
+            marks = [pytest.mark.mutants, *([pytest.mark.mutants_ci] if entry.get("ci") else [])]
+            yield pytest.param(entry, id=f"{table.stem}-{number}", marks=marks)
+
+
+def changed_copy(entry: dict[str, str], to: Path) -> None:
+    for name in filter(lambda name: (ROOT / name).exists(), COPIED):
+        if (ROOT / name).is_dir():
+            shutil.copytree(ROOT / name, to / name, symlinks=True, ignore=shutil.ignore_patterns("__pycache__", "out"))
+        else:
+            shutil.copy(ROOT / name, to / name)
+    file = to / entry["file"]
+    file.write_text(file.read_text(encoding="utf-8").replace(entry["old"], entry["new"]), encoding="utf-8")
+
+
+@pytest.mark.parametrize("table", TABLES, ids=[table.stem for table in TABLES])
+def test_each_change_can_be_made(table: Path) -> None:
+    """The text to be changed stands in its file once, and the test is there."""
+    for entry in tomllib.loads(table.read_text(encoding="utf-8"))["mutant"]:
+        assert (ROOT / entry["file"]).read_text(encoding="utf-8").count(entry["old"]) == 1, entry
+        assert entry["old"] != entry["new"] and (ROOT / shlex.split(entry["test"])[0].partition("::")[0]).exists(), entry
+
+
+@pytest.mark.parametrize("entry", entries())
+@pytest.mark.timeout(900)
+def test_a_change_is_noticed(entry: dict[str, str], tmp_path: Path, program: Program) -> None:
+    changed_copy(entry, tmp_path)
+    words = [sys.executable, "-m", "pytest", "-q", "-x", *shlex.split(entry["test"])]
+    env = {**os.environ, "LIFE_PROGRAM": str(program.path), "PYTHONDONTWRITEBYTECODE": "1"}
+    ran = subprocess.run(words, cwd=tmp_path, env=env, capture_output=True, text=True, check=False)
+    assert ran.returncode == FAILED, f"{entry['test']} ends with {ran.returncode} over the change: {ran.stdout[-2000:]}"

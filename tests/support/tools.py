@@ -1,0 +1,85 @@
+"""`life-tools` as a user runs it, in a process that is forked off one that has read its modules: a tenth of a new start."""
+from __future__ import annotations
+
+import importlib
+import os
+import signal
+import sys
+import tempfile
+import traceback
+from contextlib import suppress
+from dataclasses import dataclass
+from pathlib import Path
+from typing import IO, Mapping, NoReturn, Sequence
+
+from life_tools.cli.entry import ENTRIES, main
+from life_tools.common.formats import Wrong
+from tests.support.program import ROOT
+
+# a tool that hasn't ended by then is stopped by a signal
+SECONDS = 120
+# the status of one that ended with an exception
+FELL = 70
+
+
+@dataclass(frozen=True)
+class Ended:
+    """How a command ended: its status, less than 0 where by a signal, and its standard output and error."""
+
+    status: int
+    out: str
+    err: str
+
+
+def read_modules(name: str) -> None:
+    """Imports the module of a name, unless a package that it needs is missing: the tool itself then says so."""
+    if name in ENTRIES:
+        with suppress(Wrong):
+            importlib.import_module(f"life_tools.cli.{ENTRIES[name][0]}")
+
+
+def take_descriptors(given: IO[bytes], out: IO[bytes], err: IO[bytes]) -> None:
+    """Standard input, output and error are these files from here on, also for what the tool starts."""
+    for file, standard in ((given, 0), (out, 1), (err, 2)):
+        os.dup2(file.fileno(), standard)
+    sys.stdin = open(0, encoding="utf-8", closefd=False)
+    sys.stdout, sys.stderr = (open(standard, "w", encoding="utf-8", closefd=False) for standard in (1, 2))
+
+
+def in_child(words: Sequence[str], folder: Path, env: Mapping[str, str], files: Sequence[IO[bytes]]) -> NoReturn:
+    status = FELL
+    try:
+        signal.signal(signal.SIGALRM, signal.SIG_DFL)
+        signal.alarm(SECONDS)
+        take_descriptors(*files)
+        os.chdir(folder)
+        os.environ.update(env)
+        sys.argv = [str(ROOT / "tools" / "life-tools"), *words]
+        status = main(words)
+    except SystemExit as end:
+        status = end.code if isinstance(end.code, int) else 1
+    except BaseException:  # whatever it is, the parent has to hear of it
+        traceback.print_exc()
+    finally:
+        with suppress(OSError):
+            sys.stdout.flush()
+            sys.stderr.flush()
+        os._exit(status)
+
+
+def text_of(file: IO[bytes]) -> str:
+    file.seek(0)
+    return file.read().decode("utf-8", "replace")
+
+
+def run_tool(words: Sequence[str], folder: Path, env: Mapping[str, str], given: bytes = b"") -> Ended:
+    """A name of life-tools with its arguments, in a folder."""
+    read_modules(words[0] if words else "")
+    with tempfile.TemporaryFile() as stdin, tempfile.TemporaryFile() as out, tempfile.TemporaryFile() as err:
+        stdin.write(given)
+        stdin.seek(0)
+        child = os.fork()
+        if child == 0:
+            in_child(words, folder, env, (stdin, out, err))
+        _, status = os.waitpid(child, 0)
+        return Ended(os.waitstatus_to_exitcode(status), text_of(out), text_of(err))
