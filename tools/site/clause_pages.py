@@ -1,6 +1,6 @@
 """Pages in HTML of each public clause and the definitions under it, with their comments and the files' places.
 
-usage: python3 .ci/clause_pages.py FOLDER      as `sh life doc` does, with out/doc
+usage: python3 tools/site/clause_pages.py FOLDER      `sh life doc` makes them in out/site/clauses
 
 A crate has a page: its public functions with their clauses, its worked cases, and its definitions by file, those under
 the clauses of the program (`life_app`, `life_cli`) and those under other clauses alone. Each word that a text cites leads
@@ -15,6 +15,8 @@ import re
 import shutil
 import sys
 from collections.abc import Iterable, Iterator
+
+sys.path.insert(0, str(pathlib.Path(__file__).resolve().parents[2] / ".ci"))
 
 import counts
 import definitions as known
@@ -129,7 +131,8 @@ class Pages:
 
     def index(self) -> Iterator[str]:
         yield ("<h1>Clauses and definitions</h1>\n<p>Each public clause of each crate, and the definitions under it, as they "
-               "stand in the files. docs/PROOF.md says what they promise together, and in which order they are read well. "
+               "stand in the files. <a href=\"../proof/index.html\">What is promised</a> says what they promise together, and the "
+               "<a href=\"../proof/review.html\">reviewer's guide</a> in which order to read them. "
                '<a href="names.html">All names</a>, by letter.</p>')
         yield "<h2>How much is to be read</h2>"
         yield from table(counts.table_of(self.public))
@@ -220,16 +223,21 @@ def write_page(path: pathlib.Path, title: str, parts: Iterable[str]) -> None:
     path.write_text(f'<!DOCTYPE html>\n<html lang="en">\n<head>\n<meta charset="utf-8">\n<title>{title}: life</title>\n'
                     f'<meta name="viewport" content="width=device-width, '
                     f'initial-scale=1">\n<style>{STYLE}</style>\n</head>\n<body>\n'
-                    '<nav aria-label="Pages"><a href="index.html">clauses and definitions</a><a '
+                    '<nav aria-label="Pages"><a href="../index.html">life</a><a href="index.html">clauses and definitions</a><a '
                     'href="names.html">names</a></nav>\n'
                     f"<main>\n{body}\n</main>\n</body>\n</html>\n", encoding="utf-8")
 
 
-def main() -> int:
-    folder = pathlib.Path(sys.argv[1])
+def write_clauses(folder: pathlib.Path) -> int:
+    """All pages into a folder that is made anew; returns the number of crates."""
     shutil.rmtree(folder, ignore_errors=True)
     folder.mkdir(parents=True)
-    crates = Pages(all_public()).write(folder)
+    return Pages(all_public()).write(folder)
+
+
+def main() -> int:
+    folder = pathlib.Path(sys.argv[1])
+    crates = write_clauses(folder)
     print(f"{crates} crates, from {folder / 'index.html'} on")
     return 0
 

@@ -1,0 +1,13 @@
+# The documentation as a site in out/site: the pages of docs/ by MkDocs, and the pages of all public clauses beside them.
+# What it takes of the launcher:
+: "${root:?}"
+
+build_site() {
+    # Debian's Python has MkDocs; another one on the path may not
+    for python in /usr/bin/python3 python3; do
+        ! "$python" -c "import mkdocs" 2>/dev/null || break
+    done
+    "$python" -c "import mkdocs" 2>/dev/null ||
+        give_up "the site needs MkDocs: apt-get install mkdocs mkdocs-material python3-pymdownx libjs-katex graphviz"
+    exec "$python" "$root/tools/site/build.py" "$root/out/site"
+}
