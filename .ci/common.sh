@@ -71,7 +71,7 @@ printf 'watcher,1,0,0\nwatcher,2,0,0\n' >"$none_watched"
 # a journal without records
 empty=$work/empty
 printf '\001LIFEJRNL\000\001\000\100\000\000\000\000\000' >"$empty"
-# a policy that is valued a year after its issue; by hand from table Q (docs/VALUATION.md)
+# a policy that is valued a year after its issue; by hand from table Q (docs/explanation/reserves.md)
 policy=1,issue,7001,2020-01-01,endowment,0,3,1000.00,400.00
 valued=$work/valued
 printf '0,value,2021-01-01,1,1\nrow,7001,inforce,1,127.22,127.23\ntotal,127.22,127.23,0\n' >"$valued"

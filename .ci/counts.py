@@ -1,4 +1,4 @@
-"""How much is to be read for the main statements: the table in docs/PROOF.md.
+"""How much is to be read for the main statements: the table in docs/proof/review.md.
 
 usage: python3 .ci/counts.py            prints the table as it is now
        python3 .ci/counts.py --check    fails where the page has another one
@@ -57,13 +57,13 @@ def main() -> int:
     text = PAGE.read_text(encoding="utf-8")
     found = re.search(re.escape(HEAD) + r"(?:\|.*\n)*", text)
     if found and found[0] == table:
-        print("counts: the table of docs/PROOF.md is what the definitions make")
+        print("counts: the table of docs/proof/review.md is what the definitions make")
         return 0
     if found and sys.argv[1] == "--write":
         PAGE.write_text(text.replace(found[0], table), encoding="utf-8")
         return 0
     why = "isn't what the definitions make now: python3 .ci/counts.py --write" if found else "isn't there"
-    print(f"counts: the table of docs/PROOF.md {why}", file=sys.stderr)
+    print(f"counts: the table of docs/proof/review.md {why}", file=sys.stderr)
     return 1
 
 

@@ -1,4 +1,4 @@
-"""The layers: each crate of crates.txt stands only on crates above its own heading; docs/ARCHITECTURE.md lists the same
+"""The layers: each crate of crates.txt stands only on crates above its own heading; docs/development/architecture.md lists the same
 crates under the same headings, in the same order. And each file of a crate that the page names is there, with the
 functions that a table has beside it; and its table of the gate names each check.
 
@@ -16,8 +16,8 @@ from collections.abc import Iterator
 from typing import Any
 
 TOP = pathlib.Path(__file__).resolve().parent.parent
-PAGE = "docs/ARCHITECTURE.md"
-FIGURES = "docs/FIGURES.md"
+PAGE = "docs/development/architecture.md"
+FIGURES = "docs/development/figures.md"
 
 
 def crates_by_heading(text: str) -> list[tuple[str, list[tuple[str, list[str]]]]]:

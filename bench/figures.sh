@@ -1,5 +1,5 @@
 #!/bin/sh
-# Takes the table of docs/FIGURES.md and prints its rows: what, the figure, beside what, and the words that take it again.
+# Takes the table of docs/development/figures.md and prints its rows: what, the figure, beside what, and the words that take it again.
 # A name takes its rows alone; without names all are taken, in some ten minutes. Each figure is a median of rounds in
 # which what is compared runs in turn. What is timed has real-time priority where the machine lets it, and whoever watches
 # it stands above it; begun as `chrt -f 40 sh bench/figures.sh` it stands above other work at such a priority, too.

@@ -12,7 +12,7 @@
 # it; `sum`, the checksum of what was handed in; `before` and `after`, the counts of postings; `transcript`, `remarks`,
 # `status`, and `done` where nothing of it is left to do. A script whose checksum is there isn't sent again. One of which
 # nothing was posted counts as not sent, and stays where it is. While a folder lacks `done`, as after a kill or where the book
-# was full, nothing more is sent: docs/OPERATIONS.md tells how to go on.
+# was full, nothing more is sent: docs/howto/recovery.md tells how to go on.
 #
 # It ends with 0 where all was sent, 1 where something is left for a person to do, 2 where it can't begin.
 PATH=${LIFE_BIN:-$HOME/.local/bin}:$PATH
@@ -132,7 +132,7 @@ send() {
     # where all rows of a script were held back, they have its checksum
     earlier=$(grep -lxF "$sum" log/*/sum 2>/dev/null | grep -vxF "${script%/held.csv}/sum" | head -n 1)
     [ -z "$earlier" ] || { say "$script isn't sent, since it was sent before: ${earlier%/sum}"; return 1; }
-    is_whole || { say "$script isn't sent, since the book can't be taken as whole: docs/OPERATIONS.md tells how to go on"; return 1; }
+    is_whole || { say "$script isn't sent, since the book can't be taken as whole: docs/howto/recovery.md tells how to go on"; return 1; }
     look_over || { say "$script isn't sent, since it can't be looked over"; return 1; }
     before=$(count)
     [ -n "$before" ] || { say "$script isn't sent, since the book can't be read: life state tells why"; return 1; }

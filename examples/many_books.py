@@ -3,7 +3,7 @@
 usage: python3 many_books.py FOLDER BOOKS POLICIES
 
 In FOLDER it makes books.csv, the list of the books, and a folder for each with its journal, a basis and a table. The
-policies are those that `life generate` draws, each with its first premium; a journal is written as docs/FORMATS.md has
+policies are those that `life generate` draws, each with its first premium; a journal is written as docs/reference/journal.md has
 it, so that nobody waits for the syncs of so many postings, and the program judges it like any other.
 """
 from __future__ import annotations

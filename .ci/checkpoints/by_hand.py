@@ -1,4 +1,4 @@
-"""Whether checkpoint.life has the bytes of four commands on a policy, as docs/FORMATS.md spells them by hand: by_hand.py."""
+"""Whether checkpoint.life has the bytes of four commands on a policy, as docs/reference/journal.md spells them by hand: by_hand.py."""
 from __future__ import annotations
 
 import pathlib

@@ -1,5 +1,5 @@
 #!/bin/sh
-# What is read and not proved (docs/PROOF.md) is held by checks: in a build without proofs each of these bodies, once it is
+# What is read and not proved (docs/proof/trusted.md) is held by checks: in a build without proofs each of these bodies, once it is
 # changed, is refused by a check that is named there, with the complaint that is meant; and unchanged it passes. One build
 # serves them all: .ci/adapters/changed.py tells how.
 # By the clock: kills and waits.
@@ -87,5 +87,5 @@ passes faults/as_soon.py --clerk 8
 sort changes >all
 name=all
 sort tried | cmp -s - all || complain "tried aren't these: $(sort tried | comm -3 - all | tr -d '\t' | paste -sd ' ')"
-grep -q "makes $(wc -l <tried) wrong changes" "$root/docs/PROOF.md" || complain "docs/PROOF.md tells another number"
+grep -q "makes $(wc -l <tried) wrong changes" "$root/docs/proof/trusted.md" || complain "docs/proof/trusted.md tells another number"
 end "each of $(wc -l <tried) changed adapters is refused: of the files, the folder, the bell and the status"

@@ -1,6 +1,6 @@
 #!/bin/sh
 # What the program must print, byte by byte, and end with, by files of tests/cases. Their texts come from outside the
-# program: by hand, from docs/FORMATS.md, docs/CLERK.md and docs/VALUATION.md, or in fractions.
+# program: by hand, from docs/reference/script.md, docs/howto/clerk.md and docs/explanation/reserves.md, or in fractions.
 #
 # tests/cases/words.txt has a case a line: a status, the one line that is printed, and the words, which stand between
 # spaces; '' is the empty word. They are asked in a folder without a basis, with a script that asks for a value, and

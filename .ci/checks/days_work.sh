@@ -164,7 +164,7 @@ cp journal.life turned.life
 day 1 inbox/*.csv <<'LINES'
 day: journal.life: 260 bytes lie behind byte 212, the gate of record 3, which is closed
 day: journal.life has 3 commands, and had 7 by log
-day: inbox/h.csv isn't sent, since the book can't be taken as whole: docs/OPERATIONS.md tells how to go on
+day: inbox/h.csv isn't sent, since the book can't be taken as whole: docs/howto/recovery.md tells how to go on
 day: what is behind inbox/h.csv isn't sent
 LINES
 leaves turned.life
@@ -194,7 +194,7 @@ printf '1,premium,4,2026-03-01,1.00\n' >inbox/j.csv
 hold journal.life
 day 1 inbox/*.csv <<LINES
 day: life-tools verify: journal.life is held by process $holder: what is behind its end shows once it has ended
-day: inbox/j.csv isn't sent, since the book can't be taken as whole: docs/OPERATIONS.md tells how to go on
+day: inbox/j.csv isn't sent, since the book can't be taken as whole: docs/howto/recovery.md tells how to go on
 day: what is behind inbox/j.csv isn't sent
 LINES
 LIFE_WAIT=60

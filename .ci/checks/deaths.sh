@@ -1,6 +1,5 @@
 #!/bin/sh
-# What is told of a refused line, by its kind: no death outside the cover is paid by following it. CLERK's table is the tools',
-# and deaths of drawn policies, told late, are judged as the program would have judged them on their day.
+# What is told of a refused line, by its kind: no death outside the cover is paid by following it. And deaths of drawn policies, told late, are judged as the program would have judged them on their day.
 . "$(dirname "$0")/../common.sh"
 . "$root/.ci/said.sh"
 

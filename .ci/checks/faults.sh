@@ -1,7 +1,7 @@
 #!/bin/sh
 # The program where its machine fails: each call of a small run fails once, calls of drawn scripts fail, the journal is
 # taken away, each request for memory is refused once, memory comes to an end, signals stop runs, and the reader of the
-# output goes away. Each time the answers, the status and the file are judged by docs/FORMATS.md.
+# output goes away. Each time the answers, the status and the file are judged by docs/reference/statuses.md.
 # By the clock: kills and waits.
 . "$(dirname "$0")/../common.sh"
 needs_proved

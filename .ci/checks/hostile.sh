@@ -201,4 +201,4 @@ if [ -n "${kept:-}" ]; then
     exit 1
 fi
 [ "$quick" = "$work" ] || rm -rf "$quick"
-end "limits hold, and no file or word is answered otherwise than docs/FORMATS.md says"
+end "limits hold, and no file or word is answered otherwise than docs/reference/limits.md says"

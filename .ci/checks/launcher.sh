@@ -67,7 +67,7 @@ launch prove </dev/null
 [ "$status" = 0 ] || complain "a proved program is proved again"
 
 go_on "what a program isn't of"
-printf x | tee -a "$copy"/crates/measure*/src/*.rt "$copy"/crates/life_app/must-fail/*.edit "$copy/docs/ARCHITECTURE.md" >/dev/null
+printf x | tee -a "$copy"/crates/measure*/src/*.rt "$copy"/crates/life_app/must-fail/*.edit "$copy/docs/development/architecture.md" >/dev/null
 answers current "what isn't in it"
 for changed in policy_machine/src policy_machine/specs posting_journal/proofs; do
     file=$(find "$copy/crates/$changed" -type f | sort | head -n 1)

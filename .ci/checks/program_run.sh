@@ -8,7 +8,7 @@ first=$examples/first-issues
 second=$examples/second-day
 front=$work/front
 one_day=$work/one-day
-# the front of a journal with policy 7001, by hand from docs/FORMATS.md
+# the front of a journal with policy 7001, by hand from docs/reference/journal.md
 {
     head -c 17 "$empty"
     printf '\001\001\003\000\003\000\000\033\131\000\000\107\126'
@@ -108,4 +108,4 @@ judge $? 8 wanted
 "$life" run <nine.csv >out
 judge $? 0 again
 
-end "scripts are run, and journals kept, as docs/FORMATS.md says"
+end "scripts are run, and journals kept, as docs/reference/journal.md says"

@@ -27,7 +27,7 @@ go_on "value on a full device"
 "$life" value 2021-01-01 </dev/null >/dev/full
 judge $? 7 "$nothing"
 
-# a day of policy 7001, with the words behind it, its row and its total: both by hand (docs/VALUATION.md)
+# a day of policy 7001, with the words behind it, its row and its total: both by hand (docs/explanation/reserves.md)
 values_7001() {
     printf '0,value,%s,1,1,%s\nrow,7001,inforce,%s\ntotal,%s\n' "$1" "${2#--}" "$3" "$4" >wanted
     # shellcheck disable=SC2086
@@ -57,7 +57,7 @@ for premium in 17.14 17.15 17.16; do echo "1,issue,${premium#*.},2020-01-01,endo
 [ "$(sed -n 's/^row,\(..\),.*,/\1 /p' block | tr '\n' ' ')" = "14 short 15 close 16 enough " ] || complain "$(cat block)"
 python3 "$tools/life-tools" check-values journal.life basis.csv block >out || complain "$(cat out)"
 
-# a policy by the rates of its issue age, its cap by those of the next one: by hand (docs/VALUATION.md), from each layout,
+# a policy by the rates of its issue age, its cap by those of the next one: by hand (docs/explanation/reserves.md), from each layout,
 # and with a blank row behind the durations of each issue age
 begin "select tables by hand"
 echo "$policy" | "$life" run >out
@@ -271,4 +271,4 @@ for day in 2021-03-01 2022-03-01 2023-03-01 2031-12-31 2046-03-01; do
 done
 awk '{ print NR % 4 == 1 || NR % 4 == 2 ? "short" : "enough" }' script | cmp -s - tests || complain "another test: $(paste -sd ' ' tests)"
 
-end "valuations and their refusals are as docs/FORMATS.md says"
+end "valuations and their refusals are as docs/reference/script.md says"

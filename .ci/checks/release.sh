@@ -4,7 +4,7 @@
 # Debian without the kit installs the package, posts, values and looks, takes the next version over it, and removes it.
 . "$(dirname "$0")/../common.sh"
 for each in git dpkg-deb lintian rt chromedriver; do needs_in_ci "$each"; done
-/usr/bin/python3 -c "import markdown" 2>"$nothing" || lacks "python3-markdown isn't installed"
+/usr/bin/python3 -c "import mkdocs, pymdownx" 2>"$nothing" || lacks "mkdocs and mkdocs-material aren't installed"
 tree=$(sh "$root/.ci/release/fresh_tree.sh") || lacks "$tree"
 : >"$nothing"
 
@@ -59,9 +59,9 @@ sleep 0.1
 touch "$copy/crates/policy_types/src/lib.rt"
 refuses_to_pack 69 "no proved program"
 put_program "$copy"
-echo more >>"$copy/docs/CLERK.md"
-refuses_to_pack 70 "docs/CLERK.md"
-git -C "$copy" checkout -q docs/CLERK.md
+echo more >>"$copy/docs/howto/clerk.md"
+refuses_to_pack 70 "docs/howto/clerk.md"
+git -C "$copy" checkout -q docs/howto/clerk.md
 sed -i 's/^## 1/## one/' "$copy/CHANGELOG.md" && commit "$copy" 2026-11-29T12:00:01Z "a heading without a number"
 refuses_to_pack 70 "CHANGELOG.md"
 git -C "$copy" reset -q --hard HEAD^
@@ -109,8 +109,12 @@ grep -qx "version: $version" out && grep -q "life-program has this sum$" out || 
 echo more >>"$top/libexec/life/life-program"
 PATH=$PWD/bin:$PATH life-tools version >out 2>&1
 [ $? = 1 ] && grep -q "^wrong: " out || complain "a changed program isn't found: $(cat out)"
-python3 "$root/.ci/documents/follow_links.py" "$top/share/doc/life/html" 150 >out || complain "links: $(cat out)"
-timeout 100 /usr/bin/python3 "$root/.ci/documents/widths.py" "$top/share/doc/life/html" >out || complain "widths: $(cat out)"
+(cd "$root" && python3 -c "
+import pathlib, sys
+from tests.pages.links import wrong_links
+links, wrong = wrong_links(pathlib.Path(sys.argv[1]))
+sys.exit('\n'.join(wrong[:20]) if wrong else None if links > 8000 else f'only {links} links')" "$top/share/doc/life/html") >out 2>&1 ||
+    complain "links: $(cat out)"
 
 begin "a fresh Debian"
 fresh=$PWD/fresh

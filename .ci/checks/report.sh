@@ -1,5 +1,5 @@
 #!/bin/sh
-# Reports, movements and single rows worked out: over the small office by amounts worked out by hand (docs/VALUATION.md),
+# Reports, movements and single rows worked out: over the small office by amounts worked out by hand (docs/explanation/reserves.md),
 # over a drawn book by sums of another program, movements of a hundred drawn pairs, and on wrong input.
 . "$(dirname "$0")/../common.sh"
 export LIFE_PROGRAM="$program"

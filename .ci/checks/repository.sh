@@ -1,5 +1,5 @@
 #!/bin/sh
-# What a reader relies on: the handles' line, the layers in crates.txt and docs/ARCHITECTURE.md, no public
+# What a reader relies on: the handles' line, the layers in crates.txt and docs/development/architecture.md, no public
 # function that the program doesn't run and has no reason, and tests in crates of tests alone.
 cd "$(dirname "$0")/../.." || exit 2
 failed=0

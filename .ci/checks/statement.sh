@@ -39,7 +39,7 @@ skips() {
 }
 
 # By hand, from table Q (0.1, 0.2, 0.25, 0.5, 1): without interest an endowment of age 0 for 3 years has beta 343/707.4 =
-# 0.484874, the net premium 0.214504 of its first year, and the reserve 0.127226 at year 1 (docs/VALUATION.md). At 5 percent
+# 0.484874, the net premium 0.214504 of its first year, and the reserve 0.127226 at year 1 (docs/explanation/reserves.md). At 5 percent
 # its first net premium is 0.202174, and a paid-up term of 3 years is worth 0.413994 at the issue and 0.371882 at year 1.
 # 7001 is paid ahead for 2022; 7002 is made paid up; 7003 lapses; 7004 dies in its second year; 7005 is on its last
 # day of grace, 7006 past it.

@@ -1,7 +1,7 @@
 #!/bin/sh
 # A byte that has turned isn't told as a shorter book: gates at the front, in the middle and at the end, with and without a
 # checkpoint, a log and a seal, by `verify`, `read`, `seal`, `position-on` and `books`. What a crash leaves is told apart where
-# somebody noted a greater count. The lengths and counts are those of docs/FORMATS.md, by hand.
+# somebody noted a greater count. The lengths and counts are those of docs/reference/journal.md, by hand.
 . "$(dirname "$0")/../common.sh"
 
 LIFE_PROGRAM=$program

@@ -1,4 +1,4 @@
-"""Judges a run that met a fault, a limit or a signal, by docs/FORMATS.md: its status, what it printed, the file it left.
+"""Judges a run that met a fault, a limit or a signal, by docs/reference/statuses.md: its status, what it printed, the file it left.
 
 Nothing that was accepted may be lost, just the lines whose calls failed may be answered `fault`, and those behind a sync
 that failed; and the status has to be the one that is due. Beyond what was accepted the file may hold one command more, of

@@ -1,5 +1,5 @@
 """Right files in which one byte is changed: set to 0, 1, 2, 127 or 255, or with one bit turned. Each is a case, and the
-program has to answer it as docs/FORMATS.md says.
+program has to answer it as docs/reference/ says.
 
 usage: python3 changed_bytes.py PROGRAM FOLDER SECONDS PART PARTS [SEED]
 

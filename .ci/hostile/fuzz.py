@@ -1,5 +1,5 @@
 """Drawn scripts, words, journals, checkpoints, basis files and tables, most of them spoilt: the program has to answer each as
-docs/FORMATS.md says, without a signal, a word on standard error, or a hang.
+docs/reference/ says, without a signal, a word on standard error, or a hang.
 
 usage: python3 fuzz.py PROGRAM FOLDER SECONDS SEED [CASE]
 

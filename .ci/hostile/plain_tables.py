@@ -1,4 +1,4 @@
-"""A plain reading of the mortality table file, piece by piece as docs/FORMATS.md has them.
+"""A plain reading of the mortality table file, piece by piece as docs/reference/tables.md has them.
 
 It takes all files of the profile, some of which are no XML. The checks behind the document are those of
 tools/life_tools/tables/basis.py.

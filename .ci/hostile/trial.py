@@ -1,4 +1,4 @@
-"""The program on one case after the other, in a folder of its own, and what it must answer by docs/FORMATS.md.
+"""The program on one case after the other, in a folder of its own, and what it must answer by docs/reference/.
 
 The judges use the readers in tools/, and for tables and words the plain readings beside this file. Each raises `Wrong`
 where the program does anything else: another line, another status, a signal, a word on standard error, a file that was

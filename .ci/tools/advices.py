@@ -1,4 +1,4 @@
-"""The advice on refused lines: CLERK's table is that of the tools, no claim is told to reinstate, and deaths that are told late
+"""The advice on refused lines: no claim is told to reinstate, and deaths that are told late
 are judged as the program would have judged them on their day.
 
 usage: python3 advices.py ROOT PROGRAM SEED POLICIES
@@ -7,7 +7,6 @@ from __future__ import annotations
 
 import datetime
 import random
-import re
 import subprocess
 import sys
 import tempfile
@@ -26,28 +25,7 @@ from tests.support.lived_books import drawn_issue, life_of  # noqa: E402
 DAY = datetime.timedelta(1)
 
 
-def plain(text: str) -> str:
-    """A cell without its links and without what is set in bold."""
-    return re.sub(r"\[([^]]*)\]\([^)]*\)", r"\1", text).replace("**", "").strip()
-
-
-def shown_table() -> list[tuple[str, tuple[str, ...], str, str]]:
-    """The rows of CLERK's table, one for each reason: reason, kinds, meaning, advice."""
-    page = (ROOT / "docs" / "CLERK.md").read_text(encoding="utf-8")
-    table = page[page.index("| reason | what it means | what to do |"):].split("\n\n")[0].split("\n")[2:]
-    found = []
-    for row in table:
-        first, means, what = row.strip("|").split(" | ")
-        reasons, _, kinds = first.partition(" of ")
-        for reason in re.findall("`([^`]*)`", reasons):
-            word = reason if reason.startswith("wrongstatus") else reason.split(",")[0]
-            found.append((word, tuple(re.findall("`([^`]*)`", kinds)), plain(means), plain(what)))
-    return found
-
-
 def look_at_table() -> None:
-    told = [tuple(remedy) for remedy in REMEDIES]
-    assert shown_table() == told, [each for each in zip(shown_table(), told) if each[0] != each[1]]
     reasons = [["wrongstatus", status] for status in STATUSES] + [[remedy.reason] for remedy in REMEDIES
                                                                   if "," not in remedy.reason]
     told_of = [(kind, reason, remedy_of(kind, reason).what) for kind in (*KINDS.values(), "value") for reason in reasons]

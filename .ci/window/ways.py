@@ -241,7 +241,7 @@ def reads_reserve(browser: Any, base: Any) -> None:
     demand(list(browser.facts().values())[:2] == ["127.22", "127.23"], f"the reserve of 7001 is {browser.facts()}")
     browser.says("Row of the basis from 2020-01-01: table q.xml, interest of 0 %.", "Printed: 127.22,127.23: the same.",
                  "Its limit, whole life at age 1 on 4 premiums")
-    # by hand (docs/VALUATION.md): (1 + 0.3704 - 0.1)/2.62, and 1 less 1.8 times that
+    # by hand (docs/explanation/reserves.md): (1 + 0.3704 - 0.1)/2.62, and 1 less 1.8 times that
     formulas = [re.sub(r"\s", "", each.get_attribute("textContent"))
                 for each in browser.driver.find_elements(By.TAG_NAME, "math")]
     for wanted in ("=0.555555556", "=0.37037037", "=0.484874187", "=0.127226463", "127.22≤127.226463104≤127.23"):

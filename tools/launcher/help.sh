@@ -12,7 +12,8 @@ anywhere, and nothing of it touches a book:
                                  or some of the suite, as pytest takes them
   sh life install [DIR]          the proved program for daily use (~/.local/bin)
   sh life pack                   a Debian package and a tar file, in out/release
-  sh life doc                    pages of each public clause, in out/doc
+  sh life sandbox DIR            a folder to learn in, with the preview
+  sh life doc                    the documentation as a site, in out/site
   sh life tools NAME ARGUMENTS   one of the tools: sh life tools --help
   sh life help [COMMAND]         this, or one command with an example
 
@@ -30,7 +31,8 @@ tell_own() {
         test) does="Runs all tests unproved; with --all also every check of the repository; or one TEST, as pytest takes it." with=" [--all | TEST]" ;;
         install) does="Installs the proved program, with its tools and manual, in DIR (~/.local/bin)." with=" [DIR]" ;;
         pack) does="Packs the proved program for Debian and as a tar file, in out/release." with= ;;
-        doc) does="Writes linked pages of each public clause to out/doc." with= ;;
+        doc) does="Builds the documentation, with a page of each crate's public clauses, in out/site." with= ;;
+        sandbox) does="Makes the folder DIR, in which every command works with the preview on the folder's own files." with=" DIR" ;;
         tools) does="Runs one of the tools beside the program; --help names them." with=" verify" ;;
         *) return 1 ;;
     esac

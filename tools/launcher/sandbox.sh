@@ -3,7 +3,6 @@
 # What it takes of the launcher:
 : "${root:?}" "${launcher:?}" "${preview:?}"
 . "$launcher/preview.sh"
-. "$launcher/folder.sh"
 
 # a command of the sandbox's bin/, which hands its arguments on to this launcher
 put_command() {
@@ -15,23 +14,19 @@ make_sandbox() {
     [ $# -eq 1 ] || usage "it is sh life sandbox DIR: a folder that is to be made"
     case $1 in -*) usage "it is sh life sandbox DIR, and a DIR that begins with - is ./$1" ;; esac
     [ ! -e "$1" ] || give_up "no sandbox was made, since $1 exists: name a folder that isn't there yet"
-    is_current "$preview" || build_preview
+    is_newest "$preview" || build_preview
     mkdir -p -- "$1/bin" && made=$(cd -- "$1" && pwd -P) && cp -- "$root"/examples/*.csv "$root"/examples/*.xml "$made" &&
         put_command "$made/bin/life" "" && put_command "$made/bin/life-tools" "tools " &&
         put_command "$made/bin/life-wait" "--wait " && echo "PATH=$made/bin:\$PATH" >"$made/activate" &&
         echo "In this folder life runs the unproved preview. A real book does not belong here." >"$made/life.sandbox" ||
         give_up "no sandbox was made: $1 can't be written"
     echo "sandbox: $1"
-    echo "life: to work in it: cd $1 && . ./activate" >&2
+    say "to work in it: cd $1 && . ./activate"
     exit 0
 }
 
-# the preview in place of the proved program, on this folder's own journal
-run_in_sandbox() {
-    is_a_word "$@" || usage
-    is_current "$preview" || build_preview
-    echo "life: a sandbox: the unproved preview, on this folder's own files" >&2
-    demand_journal "$@"
-    trap '' XFSZ
-    exec "$preview" "$@"
+# From here on the preview stands in for the proved program.
+take_preview() {
+    is_newest "$preview" || build_preview
+    program=$preview
 }

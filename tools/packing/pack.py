@@ -16,7 +16,6 @@ sys.path.insert(0, os.path.dirname(HERE))
 from life_tools.common.formats import Wrong, remark  # noqa: E402
 from packing.changelog import newest_of  # noqa: E402
 from packing.debian import make_both  # noqa: E402
-from packing.html_pages import converter  # noqa: E402
 from packing.sources import sum_of, sum_of_sources  # noqa: E402
 from packing.tree import NAME, Release, proved_of, write  # noqa: E402
 
@@ -46,8 +45,6 @@ def make(release: Release, folder: str) -> None:
 
 def main(words: list[str]) -> int:
     program, folder, revision, kit, seconds, maintainer = words
-    # a package that is missing is told before anything is made
-    converter()
     release = Release(ROOT, program, sum_of(program), sum_of_sources(ROOT), newest_of(ROOT), revision, kit, int(seconds),
                       maintainer)
     make(release, folder)

@@ -7,8 +7,8 @@ import shutil
 import subprocess
 from dataclasses import dataclass
 
+from life_tools.common.formats import demand
 from packing.changelog import changelog_of, debians
-from packing.html_pages import write_pages
 from packing.manual import manual_of_tools
 from packing.tools_file import built_of, completion_of, contents_of
 
@@ -77,6 +77,15 @@ def text_of(release: Release, *names: str) -> str:
         return file.read()
 
 
+def write_site(release: Release, folder: str) -> None:
+    """The documentation, by Debian's MkDocs; its dates are those of the revision."""
+    built = subprocess.run(["/usr/bin/python3", os.path.join(release.root, "tools", "site", "build.py"), folder], cwd=release.root,
+                           env={**os.environ, "SOURCE_DATE_EPOCH": str(release.seconds)}, stdout=subprocess.PIPE,
+                           stderr=subprocess.STDOUT, check=False)
+    lines = built.stdout.decode("utf-8", "replace").strip().splitlines()
+    demand(built.returncode == 0, f"the documentation can't be built: {lines[-1] if lines else 'by /usr/bin/python3'}")
+
+
 def proved_of(release: Release) -> str:
     """What was proved, in the package: what one who has the kit needs for the same bytes."""
     return f"""life {release.version}: what was proved
@@ -125,8 +134,7 @@ def lay_manuals(release: Release, top: str) -> None:
 
 def lay_documents(release: Release, top: str) -> None:
     folder = f"{top}/share/doc/{NAME}"
-    os.makedirs(f"{folder}/html")
-    write_pages(release.root, f"{folder}/html", release.version)
+    write_site(release, f"{folder}/html")
     examples = subprocess.run(["git", "ls-files", "-z", "examples"], cwd=release.root, stdout=subprocess.PIPE, check=True).stdout
     for name in filter(None, examples.decode().split("\0")):
         with open(os.path.join(release.root, name), "rb") as file:

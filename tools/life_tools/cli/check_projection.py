@@ -1,7 +1,7 @@
 """Works out anew, exactly, every year of a projection that `life project` printed, and compares.
 
 The basis file's tables are read from its folder. Each pair of bounds has to enclose what is expected, and to be as narrow
-as docs/FORMATS.md says. Written from docs/FORMATS.md and docs/VALUATION.md alone, so that the program can be checked
+as docs/reference/script.md says. Written from docs/reference/script.md and docs/explanation/reserves.md alone, so that the program can be checked
 without it. It ends with status 1 and says where a line isn't as it must be.
 """
 from __future__ import annotations

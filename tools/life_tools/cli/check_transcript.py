@@ -1,7 +1,7 @@
 """Checks what `life run` printed for the script of up to eight clerks, and what it left in the journal.
 
 BEFORE and AFTER are journal.life before and after the run, where BEFORE may be absent; BASIS is the basis file, whose
-tables are read from its folder. Written from docs/FORMATS.md and docs/PROOF.md alone, so that the program can be
+tables are read from its folder. Written from docs/reference/script.md and docs/reference/rules.md alone, so that the program can be
 checked without it. The lines in their order have to be one history: each clerk's rows are answered once and in order;
 a posting is accepted at the next position, or refused for the first reason that the rules have; a valuation shows the
 book at its position, with bounds around the exact values; a trim's floor is the position of a pin that may be live, or

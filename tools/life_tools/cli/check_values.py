@@ -1,7 +1,7 @@
 """Works out anew, in exact fractions, every row of a valuation that `life value` printed, and compares.
 
 The first line names the measure: mean, deficiency, or none where the reserves are terminal. The basis file's tables are
-read from its folder. Written from docs/FORMATS.md and from the public standards alone, so that the program can be
+read from its folder. Written from docs/reference/ and from the public standards alone, so that the program can be
 checked without it. It ends with status 1 and says where a row or the total isn't as it must be.
 
 With --sample the file has the first line and any of the rows, in any order: these are checked, and the total isn't. What

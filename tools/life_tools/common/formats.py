@@ -1,6 +1,6 @@
 """What the files and lines of `life` are made of: days, amounts, whole numbers, rows of fields, and their limits.
 
-Written from docs/FORMATS.md alone, as all of tools/ is, so that the program can be checked without it.
+Written from docs/reference/ alone, as all of tools/ is, so that the program can be checked without it.
 """
 from __future__ import annotations
 

@@ -1,4 +1,4 @@
-"""The file `checkpoint.life`: which bytes are a checkpoint, and the books in them (docs/FORMATS.md)."""
+"""The file `checkpoint.life`: which bytes are a checkpoint, and the books in them (docs/reference/journal.md)."""
 from __future__ import annotations
 
 import datetime

@@ -1,4 +1,4 @@
-"""The file `journal.life`: what the program makes of any bytes, and the commands in them (docs/FORMATS.md)."""
+"""The file `journal.life`: what the program makes of any bytes, and the commands in them (docs/reference/journal.md)."""
 from __future__ import annotations
 
 from dataclasses import dataclass, field

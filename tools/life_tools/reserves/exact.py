@@ -1,7 +1,7 @@
 """The exact reserve of a policy on a day, in fractions, from the public standards alone.
 
 The Commissioners Reserve Valuation Method and the minimum reserves of NAIC Model 820, and the sums of Dickson, Hardy
-and Waters (docs/VALUATION.md).
+and Waters (docs/explanation/reserves.md).
 """
 from __future__ import annotations
 

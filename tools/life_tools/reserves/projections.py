@@ -1,4 +1,4 @@
-"""What policies are expected to pay and to be paid by year, exactly, from the standards alone (docs/VALUATION.md).
+"""What policies are expected to pay and to be paid by year, exactly, from the standards alone (docs/explanation/reserves.md).
 
 Rates are whole numbers of 10^-9, so what is expected of a year is a whole number over a power of 10^9: no sum here has
 to look for a common denominator.

@@ -1,6 +1,6 @@
 """The rules of policies, in one place: what a command makes of a policy, or why it is refused; the book; the accounts.
 
-Written from docs/PROOF.md ("The rules") and docs/FORMATS.md alone. A change of a rule is made here, and in
+Written from docs/reference/rules.md ("The rules") and docs/reference/script.md alone. A change of a rule is made here, and in
 `policy_columns.py`, which has the checks over columns.
 """
 from __future__ import annotations

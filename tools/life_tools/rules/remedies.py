@@ -1,4 +1,4 @@
-"""What a refusal means and what to do about it, by the kind of the refused line; docs/CLERK.md shows the same table.
+"""What a refusal means and what to do about it, by the kind of the refused line; docs/reference/refusals.md shows the same table.
 
 A death or a maturity that the rules refuse for want of cover is never a reason to reinstate: a policy is put in force again
 only while the insured is alive.

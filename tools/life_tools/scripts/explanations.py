@@ -139,7 +139,7 @@ def explain_basis(answer: str, folder: str) -> None:
     elif word in WANTED:
         explain_table_place(path, place, word)
     else:
-        raise Wrong(f"{word} is no word of a bad basis (docs/VALUATION.md)")
+        raise Wrong(f"{word} is no word of a bad basis (docs/howto/tables.md)")
 
 
 # --- a table ---

@@ -1,4 +1,4 @@
-"""A script's lines, or its first fault: the row, the field, what was found and what is wanted (docs/FORMATS.md)."""
+"""A script's lines, or its first fault: the row, the field, what was found and what is wanted (docs/reference/script.md)."""
 from __future__ import annotations
 
 import datetime

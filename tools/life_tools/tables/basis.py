@@ -1,4 +1,4 @@
-"""The basis file and its mortality tables, read by an XML parser, or the first fault of one (docs/FORMATS.md).
+"""The basis file and its mortality tables, read by an XML parser, or the first fault of one (docs/reference/tables.md).
 
 The profile that the program reads is somewhat wider than XML (two attributes of one name, say). What the parser refuses is
 told by `NotXml`: of such a file this module can't say what the program makes of it, and `verdicts` asks the program itself.

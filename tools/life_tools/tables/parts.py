@@ -1,4 +1,4 @@
-"""What is taken of a table's file, what the file calls it, and what of it is passed over, in lines (docs/VALUATION.md)."""
+"""What is taken of a table's file, what the file calls it, and what of it is passed over, in lines (docs/howto/tables.md)."""
 from __future__ import annotations
 
 from fractions import Fraction

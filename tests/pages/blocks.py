@@ -1,13 +1,10 @@
-"""Runs the documented commands of each page, and compares what they print with what the page shows.
+"""A page's documented commands: they are run in a shell of their own, and what they print is compared with the page.
 
-usage: python3 run_blocks.py PROGRAM ROOT FOLDER PAGE..
-
-A page is one session of a shell, begun at the top of a copy of the repository that has the program as if it had just
-been proved, and as its preview too; its home is an empty folder. Once the page has left the copy, that is taken away.
-Its blocks ```console are run in order: a line `$ COMMAND` is a command, and the lines below it, up to the
-next one or to the end of the block, are what it prints, standard output and standard error together. A line `...`
-stands for any lines, and `...` in a line for any text of it. Lines that begin with `life: ` are the launcher's, and
-aren't compared. Other blocks aren't run, nor are commands that prove, which are named here.
+A page is one session, begun at the top of a copy of the repository that has the program as if it had just been proved, and
+as its preview too; its home is an empty folder. Once the page has left the copy, that is taken away. Its blocks ```console
+are run in order: a line `$ COMMAND` is a command, and the lines below it, up to the next one or to the end of the block, are
+what it prints, standard output and standard error together. A line `...` stands for any lines, and `...` in a line for any
+text of it. Lines that begin with `life: ` are the launcher's, and are not compared. Other blocks are not run.
 """
 from __future__ import annotations
 
@@ -16,13 +13,11 @@ import re
 import select
 import shutil
 import subprocess
-import sys
 import time
 from typing import Any
 
-PROVES = ("rt ", "sh life prove", "sh ../life prove", "sh .ci/run", "git clone")
 SECONDS = 300
-ENDED = "documents-command-ended"
+ENDED = "page-command-ended"
 
 
 class Command:
@@ -44,9 +39,9 @@ def commands_in(page: str, text: str) -> list[Command]:
         elif fence == "console" and found:
             found[-1].wanted.append(line)
         elif fence == "console":
-            sys.exit(f"documents: {page}:{number}: a block begins with output")
+            raise ValueError(f"{page}:{number}: a block begins with output")
     if fence is not None:
-        sys.exit(f"documents: {page}: the last block isn't ended")
+        raise ValueError(f"{page}: the last block is not ended")
     return found
 
 
@@ -120,6 +115,8 @@ def copy_repository(root: str, program: str, top: str) -> None:
     for folder, name in (("crates/life_cli/out", "life_cli"), ("out/preview", "life_preview")):
         os.makedirs(os.path.join(top, folder), exist_ok=True)
         shutil.copy(program, os.path.join(top, folder, name))
+    noting = 'root=$PWD && launcher=$root/tools/launcher && . tools/launcher/shared.sh && note_proof "$1" "$(sources_sum)"'
+    subprocess.run(["sh", "-c", noting, "sh", "crates/life_cli/out/life_cli"], cwd=top, check=True, stderr=subprocess.DEVNULL)
 
 
 def run_page(page: str, root: str, program: str, folder: str) -> tuple[int, list[Any]]:
@@ -134,8 +131,6 @@ def run_page(page: str, root: str, program: str, folder: str) -> tuple[int, list
     session = Session(top, top + ".home")
     wrong: list[str] = []
     for command in commands:
-        if command.text.startswith(PROVES):
-            continue
         printed = session.run(command.text)
         if printed is None:
             session.shell.kill()
@@ -146,22 +141,3 @@ def run_page(page: str, root: str, program: str, folder: str) -> tuple[int, list
         session.take_copy_away()
     session.end()
     return len(commands), wrong
-
-
-def main() -> None:
-    program, root, folder, *pages = sys.argv[1:]
-    count = 0
-    wrong: list[str] = []
-    for page in pages:
-        commands, found = run_page(page, root, os.path.abspath(program), folder)
-        count += commands
-        wrong += found
-    for each in wrong:
-        print(f"documents: {each}", file=sys.stderr)
-    if wrong:
-        sys.exit(1)
-    print(f"documents: {count} commands print what is shown")
-
-
-if __name__ == "__main__":
-    main()

@@ -1,13 +1,9 @@
-"""Follows each link of pages in HTML: to a file that is there, and to a place in it; and nothing is fetched elsewhere.
-
-usage: python3 follow_links.py FOLDER [LEAST]      LEAST: how many links there have to be at least
-"""
+"""The links of pages in HTML: each leads to a file and a place that are there, and nothing is fetched elsewhere."""
 from __future__ import annotations
 
 import html.parser
 import os
 import pathlib
-import sys
 import urllib.parse
 
 # what a page would fetch by itself
@@ -65,20 +61,8 @@ def wrong_in(file: pathlib.Path, pages: dict[pathlib.Path, Page]) -> list[str]:
     return [f"{file.name}: {each}" for each in told]
 
 
-def main() -> int:
-    folder = pathlib.Path(sys.argv[1]).resolve()
-    least = int(sys.argv[2]) if len(sys.argv) > 2 else 1
-    pages = {file: Page(file) for file in sorted(folder.rglob("*.html"))}
-    wrong = [each for file in pages for each in wrong_in(file, pages)]
-    links = sum(len(page.links) + len(page.fetched) for page in pages.values())
-    if links < least:
-        wrong.append(f"{links} links in {len(pages)} pages, and at least {least} are wanted")
-    for each in wrong[:40]:
-        print(f"links: {each}", file=sys.stderr)
-    if not wrong:
-        print(f"links: {links} links of {len(pages)} pages lead somewhere")
-    return 1 if wrong else 0
-
-
-if __name__ == "__main__":
-    sys.exit(main())
+def wrong_links(folder: pathlib.Path) -> tuple[int, list[str]]:
+    """How many links the pages of a folder have, and those that lead nowhere or are fetched elsewhere."""
+    pages = {file: Page(file) for file in sorted(folder.resolve().rglob("*.html"))}
+    return (sum(len(page.links) + len(page.fetched) for page in pages.values()),
+            [each for file in pages for each in wrong_in(file, pages)])

@@ -1,0 +1,118 @@
+"""The documentation: every command shown prints what is shown, every link leads somewhere, the language keeps to its rules."""
+from __future__ import annotations
+
+import os
+import pathlib
+import re
+import shutil
+import subprocess
+import sys
+
+import pytest
+
+from tests.pages.blocks import commands_in, run_page
+from tests.pages.links import wrong_links
+
+TOP = pathlib.Path(__file__).resolve().parents[2]
+PAGES = sorted(str(page.relative_to(TOP)) for page in [*TOP.glob("*.md"), *(TOP / "docs").rglob("*.md"), TOP / "tools/README.md"])
+# what people read beside the pages: help texts and messages
+MESSAGES = sorted(str(file.relative_to(TOP)) for pattern in ("tools/launcher/*.sh", "tools/life_tools/**/*.py", "tools/installed/*")
+                  for file in TOP.glob(pattern))
+
+
+def program() -> str:
+    """The program that the commands run: LIFE_PROGRAM, the preview, or the proved one."""
+    for place in (os.environ.get("LIFE_PROGRAM"), TOP / "out/preview/life_preview", TOP / "crates/life_cli/out/life_cli"):
+        if place and os.access(place, os.X_OK):
+            return os.path.abspath(place)
+    pytest.skip("there is no program: sh life try state builds a preview")
+
+
+def with_commands() -> list[str]:
+    return [page for page in PAGES if commands_in(page, (TOP / page).read_text(encoding="utf-8"))]
+
+
+@pytest.mark.timeout(600)
+@pytest.mark.parametrize("page", with_commands())
+def test_commands_print_what_the_page_shows(page: str, tmp_path: pathlib.Path) -> None:
+    count, wrong = run_page(page, str(TOP), program(), str(tmp_path))
+    assert count and not wrong, "\n".join(wrong)
+
+
+@pytest.mark.timeout(300)
+def test_the_site_builds_and_every_link_leads_somewhere(tmp_path: pathlib.Path) -> None:
+    """Of the whole site, the pages of clauses included; it is built from a copy, so nothing of the clone is written."""
+    copy = tmp_path / "clone"
+    files = subprocess.run(["git", "ls-files", "-z", "docs", "tools", "crates", "crates.txt", "examples", ".ci", "mkdocs.yml", "*.md",
+                            "life"], cwd=TOP, stdout=subprocess.PIPE, check=True).stdout.decode().split("\0")
+    for name in filter(None, files):
+        (copy / name).parent.mkdir(parents=True, exist_ok=True)
+        shutil.copy2(TOP / name, copy / name)
+    built = subprocess.run(["/usr/bin/python3", "tools/site/build.py", str(tmp_path / "site")], cwd=copy, stdout=subprocess.PIPE,
+                           stderr=subprocess.STDOUT, check=False)
+    assert built.returncode == 0, built.stdout.decode()
+    links, wrong = wrong_links(tmp_path / "site")
+    assert links > 8000, f"only {links} links were found"
+    assert not wrong, "\n".join(wrong[:40])
+
+
+def test_the_diagrams_are_those_of_their_sources(tmp_path: pathlib.Path) -> None:
+    if shutil.which("dot") is None:
+        pytest.skip("Graphviz is missing: apt-get install graphviz")
+    subprocess.run([sys.executable, str(TOP / "docs/diagrams/draw.py"), str(tmp_path)], check=True)
+    made = sorted(file.name for file in tmp_path.glob("*.svg"))
+    assert made == sorted(file.name for file in (TOP / "docs/diagrams").glob("*.svg"))
+    stale = [name for name in made if (tmp_path / name).read_bytes() != (TOP / "docs/diagrams" / name).read_bytes()]
+    assert not stale, f"sh life doc draws them anew: {stale}"
+
+
+def test_every_picture_says_what_it_shows() -> None:
+    bare = [f"{page}: {found}" for page in PAGES for found in re.findall(r"!\[([^\]]{0,20})\]\(", (TOP / page).read_text("utf-8"))]
+    assert not bare, bare
+
+
+def test_generated_blocks_agree() -> None:
+    checked = subprocess.run(["/usr/bin/python3", "tools/site/generated.py", "--check"], cwd=TOP, stderr=subprocess.PIPE,
+                             check=False)
+    assert checked.returncode == 0, checked.stderr.decode()
+
+
+def test_spelling() -> None:
+    if shutil.which("codespell") is None:
+        pytest.skip("codespell is missing: apt-get install codespell")
+    checked = subprocess.run(["codespell", "--ignore-words", "tests/pages/words.txt", *PAGES, *MESSAGES], cwd=TOP,
+                             stdout=subprocess.PIPE, check=False)
+    assert checked.returncode == 0, checked.stdout.decode()
+
+
+# a word that a page does not use, since a plainer one is at hand; and where it is right after all
+REPLACED = {
+    r"\b(?:a|the|its|no|this) front\b|\bfront of (?:a|the|its)\b": "prefix",
+    r"\bdry pins?\b|\bpins? (?:is|are|was) dry\b": "out of memory",
+    r"\bturned (?:byte|gate)s?\b|\bgates? that turned\b": "damaged byte",
+    r"\b(?:is|are|was|were) told\b|\btells?\b(?! whether| them apart)": "is reported, prints, states, shows",
+    r"\bauditors' (?:lines?|reports?)\b": "watchers'",
+    r"\bbeside a gate\b": "while CI was running",
+    r"\bthe merge gate\b|\bthe whole gate\b": "CI, the checks",
+    r"\bbehind (?:it|them|this|that)\b|\bin front of\b": "after, before",
+    r"\bas told\b|\btold (?:above|below|with it)\b": "as stated",
+}
+
+
+def prose_of(page: str) -> list[tuple[int, str]]:
+    """A page's lines outside of blocks of code, with their numbers, and without what stands in backticks."""
+    fenced, lines = False, []
+    for number, line in enumerate((TOP / page).read_text(encoding="utf-8").splitlines(), 1):
+        fenced ^= line.startswith("```")
+        if not fenced and not line.startswith("    "):
+            lines.append((number, re.sub("`[^`]*`", "", line)))
+    return lines
+
+
+@pytest.mark.parametrize("page", PAGES)
+def test_replaced_words_do_not_come_back(page: str) -> None:
+    if page == "docs/development/decisions-archive.md":
+        pytest.skip("past decisions are kept as they were taken")
+    found = [f"{page}:{number}: write {instead!r} in place of {word[0]!r}" for number, line in prose_of(page)
+             for pattern, instead in REPLACED.items() for word in [re.search(pattern, line)] if word]
+    assert not found, "\n".join(found)
