@@ -20,8 +20,8 @@ from life_tools.journal.file import file_of, read_journal
 from runs import JOURNAL, ROOT, Desk, read_bytes
 from life_tools.tables.basis import read_basis
 
-sys.path.insert(0, os.path.join(ROOT, ".ci", "stress"))
-from scripts import draws, make_book, make_script  # noqa: E402
+sys.path.insert(0, ROOT)
+from tests.support.drawn_scripts import draws, make_book, make_script  # noqa: E402
 from life_tools.common.formats import Wrong, demand  # noqa: E402
 from life_tools.reserves.exact import Known  # noqa: E402
 

@@ -15,7 +15,7 @@ import sys
 from changed_bytes import BASIS, SELECT, TABLE, book_of_forty, book_of_values, script_of_forty
 from life_tools.common.formats import Wrong
 from life_tools.rules.policies import Book
-from scripts import MIDDLE, make_script
+from tests.support.drawn_scripts import MIDDLE, make_script
 from trial import (ROOT, Trial, judge_basis, judge_checkpoint, judge_journal, judge_posting, judge_script, judge_table,
                    judge_words,
                    try_for)

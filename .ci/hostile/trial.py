@@ -16,7 +16,7 @@ from collections.abc import Callable, Iterable
 from typing import Any
 
 ROOT = os.path.abspath(os.path.join(os.path.dirname(os.path.abspath(__file__)), "..", ".."))
-sys.path[:0] = [os.path.join(ROOT, "tools"), os.path.join(ROOT, ".ci", "stress")]
+sys.path[:0] = [os.path.join(ROOT, "tools"), ROOT]
 
 from life_tools.reserves.projection_check import check_years  # noqa: E402
 from life_tools.scripts.transcript_check import asks_for_values, check  # noqa: E402
@@ -29,7 +29,7 @@ from plain_words import meaning_of  # noqa: E402
 from life_tools.reserves.projections import printed_projection  # noqa: E402
 from life_tools.rules.policies import Book, Policy, Refusal, balances_of, booking_of  # noqa: E402
 from life_tools.scripts.lines import Fault, lines_in, read_script  # noqa: E402
-from scripts import folder_for  # noqa: E402
+from tests.support.drawn_scripts import folder_for  # noqa: E402
 from life_tools.tables.basis import BasisRow, NotXml, SelectTable, Table, read_basis, read_table  # noqa: E402
 from life_tools.rules.commands import Command  # noqa: E402
 from life_tools.reserves.exact import Known  # noqa: E402

@@ -17,13 +17,15 @@ import subprocess
 import sys
 from typing import Any
 
-from scripts import draws, folder_for, make_book, make_script, value_words, valued_on
-from life_tools.scripts.transcript_check import check
-from life_tools.reserves.valuation_check import check_block
-from life_tools.common.formats import MEASURES, Wrong, printed_rows
-from life_tools.journal.file import file_of, read_journal
-from life_tools.tables.basis import BasisRow, read_basis
-from life_tools.reserves.exact import Known
+sys.path.insert(0, os.path.join(os.path.dirname(os.path.abspath(__file__)), "..", ".."))
+
+from tests.support.drawn_scripts import draws, folder_for, make_book, make_script, value_words, valued_on  # noqa: E402
+from life_tools.scripts.transcript_check import check  # noqa: E402
+from life_tools.reserves.valuation_check import check_block  # noqa: E402
+from life_tools.common.formats import MEASURES, Wrong, printed_rows  # noqa: E402
+from life_tools.journal.file import file_of, read_journal  # noqa: E402
+from life_tools.tables.basis import BasisRow, read_basis  # noqa: E402
+from life_tools.reserves.exact import Known  # noqa: E402
 
 # all but `full`
 REASONS = 16

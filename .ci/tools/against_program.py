@@ -12,12 +12,12 @@ import sys
 from typing import Any
 
 ROOT = sys.argv[2]
-sys.path[:0] = [os.path.join(ROOT, "tools"), os.path.join(ROOT, ".ci", "stress")]
+sys.path[:0] = [os.path.join(ROOT, "tools"), ROOT]
 
 from life_tools.common.formats import Wrong, money  # noqa: E402
 from life_tools.journal.file import file_of, read_journal  # noqa: E402
 from life_tools.rules.policies import Book, balances_of  # noqa: E402
-from scripts import make_book, make_script  # noqa: E402
+from tests.support.drawn_scripts import make_book, make_script  # noqa: E402
 from life_tools.scripts.lines import Fault, read_script  # noqa: E402
 from life_tools.tables.basis import NotXml, read_basis  # noqa: E402
 

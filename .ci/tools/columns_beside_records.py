@@ -14,7 +14,7 @@ from pathlib import Path
 from typing import Callable
 
 HERE = Path(__file__).resolve().parent
-sys.path[:0] = [str(HERE.parents[1] / "tools"), str(HERE.parent / "stress"), str(HERE.parents[1])]
+sys.path[:0] = [str(HERE.parents[1] / "tools"), str(HERE.parents[1])]
 
 from life_tools.journal import replays  # noqa: E402
 from life_tools.common.arrays import np  # noqa: E402
@@ -27,7 +27,7 @@ from life_tools.journal.file import RECORD_SIZE, Journal, file_of, gate_of, read
 from life_tools.journal.record_texts import lines_of, plain_template, transactions_of  # noqa: E402
 from life_tools.rules.policies import ACCOUNTS, Book, bookings  # noqa: E402
 from tests.support.lived_books import lived  # noqa: E402
-from scripts import make_book, make_script  # noqa: E402
+from tests.support.drawn_scripts import make_book, make_script  # noqa: E402
 
 # a command, and what it books
 Booked = tuple[Command, dict[str, int]]

@@ -15,12 +15,12 @@ from collections.abc import Iterable
 from pathlib import Path
 
 ROOT, PROGRAM = sys.argv[1:3]
-sys.path[:0] = [os.path.join(ROOT, "tools"), os.path.join(ROOT, ".ci", "stress")]
+sys.path[:0] = [os.path.join(ROOT, "tools"), ROOT]
 
 from life_tools.rules.commands import words_of  # noqa: E402
 from life_tools.common.formats import KINDS  # noqa: E402
 from life_tools.journal.file import file_of, journal_at  # noqa: E402
-from scripts import folder_for, make_book, make_script  # noqa: E402
+from tests.support.drawn_scripts import folder_for, make_book, make_script  # noqa: E402
 
 TOOLS = os.path.join(ROOT, "tools", "life-tools")
 DIVISIONS = [["numbers=1-20", "numbers=21-40", "others"], ["years=1999-2004", "years=2005-"], ["class=even", "class=odd"]]

@@ -11,10 +11,10 @@ import shutil
 import sys
 
 ROOT = sys.argv[1]
-sys.path[:0] = [os.path.join(ROOT, "tools"), os.path.join(ROOT, ".ci", "stress")]
+sys.path[:0] = [os.path.join(ROOT, "tools"), ROOT]
 
 from life_tools.journal.file import file_of  # noqa: E402
-from scripts import BASIS, MIDDLE, make_book, make_script  # noqa: E402
+from tests.support.drawn_scripts import BASIS, MIDDLE, make_book, make_script  # noqa: E402
 
 
 def main() -> None:

@@ -10,7 +10,7 @@ import random
 import sys
 
 ROOT = sys.argv[1]
-sys.path[:0] = [os.path.join(ROOT, "tools"), os.path.join(ROOT, ".ci", "stress")]
+sys.path[:0] = [os.path.join(ROOT, "tools"), ROOT]
 
 from life_tools.rules.commands import Command, words_of  # noqa: E402
 from life_tools.common.formats import Wrong  # noqa: E402
@@ -18,7 +18,7 @@ from life_tools.scripts.cut_transcripts import read_prefix  # noqa: E402
 from life_tools.scripts.remainder import History, NoRun, demand_records, rest_of  # noqa: E402
 from life_tools.rules.policies import Book, Policy, Refusal, Upgraded  # noqa: E402
 from life_tools.scripts.lines import Line, lanes_of, lines_in  # noqa: E402
-from scripts import make_script  # noqa: E402
+from tests.support.drawn_scripts import make_script  # noqa: E402
 
 RUNS, EQUAL_RUNS, CUTS = 8, 40, 6
 
