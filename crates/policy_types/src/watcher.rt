@@ -42,12 +42,13 @@ pub trait Watcher: Drop {
     /// Its own number of a list.
     ghost number: { Self → List ACommand → ℕ };
 
-    /// Makes room for one command. For want of memory all stays.
+    /// Makes room for one command. It fails only where there was none, and then all stays.
     fn ready(&mut self) -> Result<(), NotReady>
         ensures noted { noted self.new ≡ noted self.old }
         ensures last { last self.new ≡ last self.old }
         ensures ok { OnOk result (1 ≤ spare self.new) }
         ensures err { OnErr result (spare self.new ≡ spare self.old) }
+        ensures full { OnErr result (spare self.old ≡ 0) }
         ensures stops { (h : List ACommand) → stops self.new h ≡ stops self.old h }
         ensures number { (h : List ACommand) → number self.new h ≡ number self.old h };
 

@@ -33,6 +33,18 @@ module _ {X : Type 0} (R : X → X → Type 0) where
   Halfway-later P (suc i) (x ∷ xs) [] d all h some = absurd h
   Halfway-later P (suc i) (x ∷ xs) (y ∷ ys) d all h some = Halfway-later P i xs ys d all.1 h.1 (omega arith)
 
+  -- what holds of one that comes later held of one from the beginning on, where nothing so far made it so
+  pub Halfway-one : (P : X → Type 0) (HasOne : List X → Type 0) → ((x : X) (xs : List X) → P x → HasOne (x ∷ xs))
+      → ((x : X) (xs : List X) → HasOne xs → HasOne (x ∷ xs)) → (i : ℕ) (xs ys : List X) (d : X) → Halfway i xs ys
+      → i < length ys → P (get_or ys i d) → HasOne xs
+  Halfway-one P HasOne here there zero xs [] d h some p = absurd (omega arith)
+  Halfway-one P HasOne here there zero xs (y ∷ ys) d h some p = subst HasOne h (here y ys p)
+  Halfway-one P HasOne here there (suc i) [] ys d h some p = absurd
+      (let none = subst (λ zs. suc i < length zs) h some in omega arith)
+  Halfway-one P HasOne here there (suc i) (x ∷ xs) [] d h some p = absurd h
+  Halfway-one P HasOne here there (suc i) (x ∷ xs) (y ∷ ys) d h some p =
+      there x xs (Halfway-one P HasOne here there i xs ys d h.1 (omega arith) p)
+
   none_left : (ys : List X) → length ys ≤ 0 → AllZip R ys ys
   none_left [] none = tt
   none_left (y ∷ ys) none = absurd (omega arith)

@@ -1,5 +1,5 @@
 -- What has become of the auditors that were handed in, each at its place
-use Rattle.std.specs.Prelude.{◌≡◌, ℕ, ◌+◌, ◌≤◌, true, false, List, length}
+use Rattle.std.specs.Prelude.{◌≡◌, ◌⊎◌, ℕ, ◌+◌, ◌≤◌, true, false, List, [], ◌∷◌, length}
 use Rattle.watcher_set.specs.Names.{AllByRecursion, AllZip, Command, Report, Ghosts}
 use Rattle.watcher_set.specs.Noted.{Auditor, is_done, report_of}
 use Rattle.watcher_set.specs.declared.place.Place.{Place}
@@ -37,6 +37,16 @@ module _ {B : Type 0} (g : Ghosts B) where
   abbrev pub HasSpareRoom : Place B → Type 0
   HasSpareRoom (Listening watcher) = 1 ≤ g.spare watcher
   HasSpareRoom (Reported report) = Unit {0}
+
+  -- it goes on, and has room for no command
+  abbrev pub IsFull : Place B → Type 0
+  IsFull (Listening watcher) = g.spare watcher ≡ 0
+  IsFull (Reported report) = ⊥
+
+  -- one of them is full
+  abbrev pub HasFull : List (Place B) → Type 0
+  HasFull [] = ⊥
+  HasFull (place ∷ places) = IsFull place ⊎ HasFull places
 
   abbrev pub HaveRoom : List (Place B) → Type 0
   HaveRoom places = AllByRecursion HasSpareRoom places

@@ -16,6 +16,8 @@ impl Watching for NoWatchers {
 
     ghost has_room = { λ _. Unit {0} };
 
+    ghost is_full = { λ _. ⊥ };
+
     fn ready(&mut self) -> Result<(), Lack> {
         Ok(())
     }

@@ -1,6 +1,6 @@
-ghost use Rattle.std.specs.Prelude.{◌≡◌, ◌<◌, ◌≤◌, List, [], ◌∷◌, ◌++◌, length, OnOk};
+ghost use Rattle.std.specs.Prelude.{◌≡◌, ◌<◌, ◌≤◌, List, [], ◌∷◌, ◌++◌, length, OnOk, OnErr};
 ghost use Rattle.watcher_set.specs.Names.{ACommand, IsValid};
-ghost use Rattle.watcher_set.specs.Told.{HasSpareRoom};
+ghost use Rattle.watcher_set.specs.Told.{HasSpareRoom, IsFull};
 ghost use Rattle.watcher_set.specs.inside.Calls.{MayBeTold, Stays, Hears, report_at};
 
 use crate::evidence::Lack;
@@ -19,10 +19,11 @@ impl<B> Default for Place<B> {
     }
 }
 
-/// Readies the auditor, if it goes on.
+/// Readies the auditor, if it goes on. This fails only where the auditor has no room.
 pub(crate) fn ready_place<B: Watcher>(place: &mut Place<B>) -> Result<(), Lack>
     ensures stays { Stays B.Watcher place.old place.new }
     ensures ok { OnOk result (HasSpareRoom B.Watcher place.new) }
+    ensures full { OnErr result (IsFull B.Watcher place.old) }
 {
     match place {
         Place::Listening(watcher) => match watcher.ready() {

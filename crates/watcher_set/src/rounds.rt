@@ -1,19 +1,20 @@
-ghost use Rattle.std.specs.Prelude.{◌≡◌, ℕ, ◌+◌, ◌≤◌, ◌<◌, List, [], ◌∷◌, ◌++◌, length, OnOk};
+ghost use Rattle.std.specs.Prelude.{◌≡◌, ℕ, ◌+◌, ◌≤◌, ◌<◌, List, [], ◌∷◌, ◌++◌, length, OnOk, OnErr};
 ghost use Rattle.watcher_set.specs.Names.{ACommand, most_commands, IsValid};
 ghost use Rattle.watcher_set.specs.Limits.{most_watchers};
 ghost use Rattle.watcher_set.specs.Noted.{Auditor, reports_of};
-ghost use Rattle.watcher_set.specs.Told.{AreTold, HaveRoom};
+ghost use Rattle.watcher_set.specs.Told.{AreTold, HasFull, HaveRoom};
 
 use crate::evidence::Lack;
 use crate::place::{Place, note_place, ready_place, report_of};
 use crate::reports::Reports;
 use policy_types::{Command, Watcher};
 
-/// Readies each auditor that goes on.
+/// Readies each auditor that goes on. This fails only where one of them has no room.
 pub(crate) fn ready_all<B: Watcher>(places: &mut [Place<B>]) -> Result<(), Lack>
     ensures told { (before : ℕ) (commands : List ACommand) (auditors : List Auditor)
         → AreTold B.Watcher before commands auditors places.old → AreTold B.Watcher before commands auditors places.new }
     ensures ok { OnOk result (HaveRoom B.Watcher places.new) }
+    ensures full { OnErr result (HasFull B.Watcher places.old) }
 {
     for place in places.iter_mut() {
         ready_place(place)?;

@@ -4,10 +4,11 @@ use policy_types::{Attention, Command, NotReady, Report, Watcher};
 use std::alloc::Global;
 use std::snapshot::Snapshot;
 
-/// Counts the commands, has no memory at one of the calls that ready it, and is never done.
+/// Counts the commands, and is never done. It takes memory for one command at a time, and finds none at one of the calls
+/// that need some.
 #[derive(Drop)]
 pub struct TightWatcher {
-    /// The calls of `ready` up to the one without memory. It is 0 where that one is past, or where there is none.
+    /// The calls that need memory up to the one that finds none. It is 0 where that one is past, or where there is none.
     calls_left: u32,
     noted: Vec<Command>,
     last: Snapshot<u32>,
@@ -17,7 +18,8 @@ pub struct TightWatcher {
 impl TightWatcher {
     ghost use Rattle.watcher_set.specs.Watchers.{tight_commands, calls_left_of};
 
-    /// It has noted nothing, and has no memory at the call of `ready` of this number, counted from 1. There is no call 0.
+    /// It has noted nothing. Of the calls of `ready` that need memory the one of this number, counted from 1, finds none.
+    /// There is no call 0.
     pub fn new(alloc: Global, refuse_at: u32) -> TightWatcher
         ensures noted { tight_commands result ≡ [] }
         ensures calls { calls_left_of result ≡ refuse_at }
@@ -47,16 +49,22 @@ impl Watcher for TightWatcher {
         ensures ok { OnOk result (1 ≤ vec_capacity self.new.noted - vec_len self.new.noted) }
         ensures err { OnErr result (vec_capacity self.new.noted - vec_len self.new.noted
             ≡ vec_capacity self.old.noted - vec_len self.old.noted) }
-        // The call without memory.
-        ensures refused { self.old.calls_left ≡ 1 → IsErr result }
-        ensures counted { self.new.calls_left ≡ self.old.calls_left - 1 }
+        ensures full { OnErr result (vec_capacity self.old.noted - vec_len self.old.noted ≡ 0) }
+        // The call that finds no memory.
+        ensures refused { vec_capacity self.old.noted - vec_len self.old.noted ≡ 0
+            → self.old.calls_left ≡ 1 → IsErr result }
+        ensures counted { vec_capacity self.old.noted - vec_len self.old.noted ≡ 0
+            → self.new.calls_left ≡ self.old.calls_left - 1 }
     {
+        if self.noted.len() < self.noted.capacity() {
+            return Ok(());
+        }
         let calls_left = self.calls_left;
         self.calls_left = calls_left.saturating_sub(1);
         if calls_left == 1 {
             return Err(NotReady);
         }
-        match self.noted.reserve(1) {
+        match self.noted.reserve_exact(1) {
             Ok(()) => Ok(()),
             Err(_) => Err(NotReady),
         }

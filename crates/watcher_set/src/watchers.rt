@@ -1,7 +1,7 @@
 ghost use Rattle.std.specs.Prelude.{◌≡◌, ℕ, ◌≤◌, List, [], ◌∷◌, ◌++◌, length, map};
 ghost use Rattle.std.specs.List.{AllByRecursion};
 ghost use Rattle.watcher_set.specs.Limits.{most_watchers};
-ghost use Rattle.watcher_set.specs.Told.{auditor_of, AreTold, HaveRoom};
+ghost use Rattle.watcher_set.specs.Told.{auditor_of, AreTold, HasFull, HaveRoom};
 
 use crate::evidence::Lack;
 use crate::place::Place;
@@ -43,6 +43,8 @@ impl<B: Watcher> Watching for Watchers<B> {
         (map (auditor_of B.Watcher) it.handed.value.items) it.places.items };
 
     ghost has_room = { λ it. HaveRoom B.Watcher it.places.items };
+
+    ghost is_full = { λ it. HasFull B.Watcher it.places.items };
 
     fn ready(&mut self) -> Result<(), Lack> {
         ready_all(self.places.as_mut_slice())

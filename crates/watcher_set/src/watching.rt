@@ -1,4 +1,4 @@
-ghost use Rattle.std.specs.Prelude.{◌≡◌, ℕ, ◌+◌, ◌<◌, List, [], ◌∷◌, ◌++◌, length, OnOk};
+ghost use Rattle.std.specs.Prelude.{◌≡◌, ℕ, ◌+◌, ◌<◌, List, [], ◌∷◌, ◌++◌, length, OnOk, OnErr};
 ghost use Rattle.watcher_set.specs.Names.{ACommand, most_commands, IsValid};
 ghost use Rattle.watcher_set.specs.Noted.{Auditor, reports_of};
 
@@ -18,11 +18,15 @@ pub trait Watching: Drop {
     /// Each auditor that is left has room for one command.
     ghost has_room: { Self → Type 0 };
 
-    /// Makes room for one command. For want of memory nobody was told of anything.
+    /// One auditor that is left has room for no command.
+    ghost is_full: { Self → Type 0 };
+
+    /// Makes room for one command. It fails only where an auditor has none, and then nobody was told of anything.
     fn ready(&mut self) -> Result<(), Lack>
         ensures handed { handed self.new ≡ handed self.old }
         ensures told { (before : ℕ) (commands : List ACommand) → told self.old before commands → told self.new before commands }
-        ensures ok { OnOk result (has_room self.new) };
+        ensures ok { OnOk result (has_room self.new) }
+        ensures full { OnErr result (is_full self.old) };
 
     /// Tells each auditor that is left of the command at this position among all that were accepted, counted from 1: right
     /// behind the last of which the set was told. It takes no memory.

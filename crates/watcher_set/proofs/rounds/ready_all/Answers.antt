@@ -1,7 +1,14 @@
+use Rattle.std.proofs.Common.{inl, inr}
+use Rattle.std.specs.Prelude.{Result, Ok, Err, OnErr}
 use Rattle.watcher_set.proofs.Names.{suc, subst, sym, add-one, slice_set, arith, HasSpareRoom, Stays}
-use Rattle.watcher_set.proofs.Halfway.{Halfway, Halfway-step, Halfway-weaker, AllZip-from_end, AllZip-from_halfway, AllByRecursion-from_zip}
+use Rattle.watcher_set.proofs.Halfway.{Halfway, Halfway-step, Halfway-weaker, AllZip-from_end, AllZip-from_halfway, AllByRecursion-from_zip, Halfway-one}
 use Rattle.watcher_set.proofs.Telling.{AreTold-still, Readied, stays_same}
+use Rattle.watcher_set.specs.Told.{IsFull, HasFull}
 use Rattle.watcher_set.proofs.rounds.ready_all.Goals as goal
+
+told-if_err : {T E P : Type 0} → P → (result : Result T E) → OnErr result P
+told-if_err told (Ok value) = tt
+told-if_err told (Err fault) = told
 
 pub returns-in_err-ready_place-clause-told : goal.returns-in_err-ready_place-clause-told
 returns-in_err-ready_place-clause-told g c before commands auditors told =
@@ -35,3 +42,12 @@ returns-clause-ok g c =
     c.args.places.now c.loop-place.places
     (AllZip-from_end (Readied ghosts) c.loop-place.place-index _ _ c.loop-place.invariant
     (omega (arith, c.loop-place-test.false, c.loop-place.auto.places)))
+
+pub returns-in_err-ready_place-clause-full : goal.returns-in_err-ready_place-clause-full
+returns-in_err-ready_place-clause-full g c =
+    let ghosts = g.B.Watcher in
+    let full : HasFull ghosts c.args.places.now =
+    Halfway-one (Readied ghosts) (IsFull ghosts) (HasFull ghosts) (λ x xs full. inl full) (λ x xs one. inr one)
+    c.loop-place.place-index _ _ _ c.loop-place.invariant
+    (omega (arith, c.loop-place-test.true, c.loop-place.auto.places)) c.in_err-ready_place.ensures.full in
+    told-if_err full _
