@@ -2,4 +2,5 @@
 here=$(readlink -f -- "$0") || exit 70
 program=$(dirname "$here")/life-program
 called=life waits=life-wait tools=life-tools
+run_tools() { "$(dirname "$here")/life-tools" "$@"; }
 

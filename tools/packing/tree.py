@@ -111,6 +111,7 @@ def lay_programs(release: Release, top: str) -> None:
         write(f"{top}/libexec/life/{name}", text, 0o755)
         link(f"{top}/bin/{name}", f"../libexec/life/{name}")
     write(f"{top}/bin/life-tools", TOOLS, 0o755)
+    link(f"{top}/libexec/life/life-tools", "../../bin/life-tools")
 
 
 def lay_tools(release: Release, top: str) -> None:

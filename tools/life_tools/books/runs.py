@@ -17,8 +17,9 @@ from life_tools.valuations.class_bases import Bases, one_basis
 from life_tools.journal.copied_folder import copy_basis
 from life_tools.common.formats import Wrong, bytes_of, demand
 from life_tools.common.program import program_beside
-from life_tools.journal.record_columns import BadJournal, beginnings_at, copy_prefix, prefix_count, prefix_sum, places_in
+from life_tools.journal.record_columns import beginnings_at, copy_prefix, prefix_count, prefix_sum, places_in
 from life_tools.audit.samples import Sample
+from life_tools.journal.file import BadJournal
 from life_tools.valuations.rows import VALUATION, valuation_rows
 from life_tools.journal.wholeness import doubt_of
 

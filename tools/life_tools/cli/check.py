@@ -74,14 +74,14 @@ def tried(options: argparse.Namespace, lines: list[Line], desk: Desk) -> str:
     """The transcript of the dry run; the desk gets what the policies of the lines have in the journal."""
     with trial_of(options.script, options.folder, options.basis, life_command(options.life)) as trial:
         tell_doubt(trial.path, trial.seen)
-        with trial.records() as (data, count):
-            # numpy takes a tenth of a second, in which the program is at work
-            from life_tools.journal.records import places_in, upgrade_in
+        data, count = trial.records()
+        # numpy takes a tenth of a second, in which the program is at work
+        from life_tools.journal.records import places_in, upgrade_in
 
-            upgrade = upgrade_in(data, count)
-            places = places_in(data, count, {line.command.number for line in lines if line.command})
-            transcript = answered(trial)
-            desk.read(data, upgrade, places.tolist())
+        upgrade = upgrade_in(data, count)
+        places = places_in(data, count, {line.command.number for line in lines if line.command})
+        transcript = answered(trial)
+        desk.read(data, upgrade, places.tolist())
     return transcript
 
 

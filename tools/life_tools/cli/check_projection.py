@@ -10,7 +10,7 @@ import argparse
 from functools import partial
 
 from life_tools.common.formats import printed_text
-from life_tools.journal.file import book_at
+from life_tools.journal.opening import book_at
 from life_tools.cli.judging import judged
 from life_tools.reserves.projection_check import check_years
 from life_tools.reserves.projections import Printed, printed_projection

@@ -17,7 +17,7 @@ import argparse
 import os
 
 from life_tools.common.formats import printed_text
-from life_tools.journal.file import journal_at
+from life_tools.journal.opening import journal_at
 from life_tools.cli.judging import judged
 from life_tools.rules.policies import Book
 from life_tools.scripts.lines import script_at

@@ -13,7 +13,7 @@ import argparse
 from functools import partial
 
 from life_tools.common.formats import Wrong, measure_of, printed_rows, printed_text
-from life_tools.journal.file import book_at
+from life_tools.journal.opening import book_at
 from life_tools.cli.judging import judged
 from life_tools.rules.policies import Policy
 from life_tools.audit.samples import is_sample

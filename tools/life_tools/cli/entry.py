@@ -46,7 +46,7 @@ ENTRIES: dict[str, tuple[str, str]] = {
 
 # those that read in bulk
 BY_NUMPY = {"audit", "books", "browse", "check", "due", "export", "headroom", "movement", "position-on", "read",
-            "read-checkpoint", "report", "statement", "why"}
+            "read-checkpoint", "report", "rest", "statement", "why"}
 
 
 def parser_of(names: Sequence[str]) -> argparse.ArgumentParser:

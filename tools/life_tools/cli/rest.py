@@ -22,9 +22,11 @@ import sys
 
 from life_tools.rules.commands import Command
 from life_tools.common.formats import MOST_COMMANDS, Wrong, demand, number_of, printed_text, remark
-from life_tools.journal.file import journal_at
+from life_tools.journal.columns import columns_at
+from life_tools.journal.file import gate_of
+from life_tools.journal.record_columns import prefix_sum
 from life_tools.scripts.cut_transcripts import Printed, read_prefix
-from life_tools.scripts.remainder import History, NoRun, demand_records, rest_of
+from life_tools.scripts.remainder import NoRun, demand_records, history_in, rest_of
 from life_tools.scripts.lines import Line, lanes_of, script_at
 
 
@@ -37,37 +39,28 @@ def arguments(parser: argparse.ArgumentParser) -> None:
     parser.add_argument("--full", action="store_true", help="also the rows that are printed as having found the book full")
 
 
-def begun_with(before: str) -> list[Command] | int:
-    """The commands accepted before the run, or how many they were."""
-    if os.path.exists(before):
-        return journal_at(before).commands
-    count = number_of(before, 0, MOST_COMMANDS)
-    if count is None:
-        raise Wrong(f"{before} is no journal, and no number of commands")
+def count_before(before: str, journal: str) -> int:
+    """How many commands were accepted before the run; a journal from before has to be the beginning of the one now."""
+    if not os.path.exists(before):
+        count = number_of(before, 0, MOST_COMMANDS)
+        if count is None:
+            raise Wrong(f"{before} is no journal, and no number of commands")
+        return count
+    count = columns_at(before).count
+    is_beginning = os.path.getsize(journal) >= gate_of(count) and prefix_sum(before, count) == prefix_sum(journal, count)
+    demand(is_beginning, f"{journal} doesn't go on from {before}")
     return count
 
 
-def beginning(before: str | None, printed: Printed) -> list[Command] | int:
-    """Where the run began, as BEFORE says, or what was printed."""
+def beginning(before: str | None, printed: Printed, journal: str) -> int:
+    """How many commands were accepted before the run, as BEFORE says, or what was printed."""
     if before is not None:
-        begun = begun_with(before)
-        count = begun if isinstance(begun, int) else len(begun)
+        count = count_before(before, journal)
         demand(printed.begun in (None, count), f"before the run there were {count}, and by what is printed {printed.begun}")
-        return begun
+        return count
     if printed.begun is None:
         raise Wrong("no accepted line is printed: BEFORE is needed, the number of commands accepted before the run")
     return printed.begun
-
-
-def history_at(path: str, before: str | None, printed: Printed) -> History:
-    """What the run has made of the journal, which has to go on from what was before it."""
-    begun = beginning(before, printed)
-    count = begun if isinstance(begun, int) else len(begun)
-    history = History(count)
-    commands = journal_at(path, history).commands
-    demand(count <= len(commands), f"{path} has {len(commands)} commands, and before the run there were {count}")
-    demand(isinstance(begun, int) or begun == commands[:count], f"{path} doesn't go on from {before}")
-    return history
 
 
 def tell(lanes: dict[int, list[Line]], rest: dict[int, list[Line]], records: int, printed: Printed) -> None:
@@ -112,7 +105,7 @@ def tell_full(printed: Printed) -> int:
 def run(options: argparse.Namespace) -> int:
     lines = script_at(options.script)
     printed = read_prefix(printed_text(options.printed), lines) if options.printed else Printed()
-    history = history_at(options.journal, options.before, printed)
+    history = history_in(columns_at(options.journal), beginning(options.before, printed, options.journal), lines)
     try:
         demand_records(printed, history)
         rest = rest_of(lines, history, printed)

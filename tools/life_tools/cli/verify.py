@@ -4,8 +4,9 @@ Of journal.life a checkpoint.life and a log/ of day.sh in its folder are asked, 
 each seal that was kept, by which an amount that was changed is found too. What the records say isn't judged: `life state`
 does that.
 
-The last line is `whole`, with status 0; or with 1 `damaged`, where commands are gone or can't be read; or `undecided`,
-where a crash or a fault left at most 65 bytes behind the end, as would a last gate that has turned.
+The last line is `whole`, with status 0; or with 1 `damaged`, where commands are gone or can't be read; `undecided`, where
+a crash or a fault left at most 65 bytes behind the end, as would a damaged last commit byte; or `empty`, of a file of no
+bytes.
 """
 from __future__ import annotations
 
@@ -13,6 +14,7 @@ import argparse
 
 from life_tools.common.formats import demand
 from life_tools.common.locks import holder_of
+from life_tools.journal.seals import shape_by
 from life_tools.journal.wholeness import beside, shape_with, tell
 
 
@@ -27,7 +29,7 @@ def run(options: argparse.Namespace) -> int:
     holder = holder_of(options.journal)
     demand(not holder, f"{options.journal} is held by {holder}: what is behind its end shows once it has ended")
     checkpoint, log = beside(options.journal)
-    shape = shape_with(options.journal, options.checkpoint or checkpoint, options.log or log, options.seal)
+    shape = shape_by(shape_with(options.journal, options.checkpoint or checkpoint, options.log or log), options.seal)
     print(f"count,{shape.count}\nlength,{shape.length}")
     for noted in shape.noted:
         print(f"noted,{noted.by},{noted.commands}")

@@ -5,7 +5,10 @@ Written from docs/reference/ alone, as all of tools/ is, so that the program can
 from __future__ import annotations
 
 import datetime
+import io
+import os
 import re
+import stat
 import sys
 from dataclasses import dataclass
 from functools import lru_cache
@@ -66,9 +69,22 @@ def remark(message: str) -> None:
     print(message, file=sys.stderr)
 
 
+def opened(path: str) -> io.BufferedReader:
+    """A file for reading. A pipe or a device is refused at once: a tool would wait for the one, and never end with the other."""
+    try:
+        handle = os.open(path, os.O_RDONLY | os.O_NONBLOCK | os.O_CLOEXEC)
+    except OSError as error:
+        raise Wrong(f"{path}: {error.strerror}") from error
+    kind = os.fstat(handle).st_mode
+    if not stat.S_ISREG(kind):
+        os.close(handle)
+        raise Wrong(f"{path}: {'Is a directory' if stat.S_ISDIR(kind) else 'it is a pipe or a device: save it as a file first'}")
+    return os.fdopen(handle, "rb")
+
+
 def bytes_of(path: str) -> bytes:
     try:
-        with open(path, "rb") as file:
+        with opened(path) as file:
             return file.read()
     except OSError as error:
         raise Wrong(f"{path}: {error.strerror}") from error

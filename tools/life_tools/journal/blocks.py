@@ -2,18 +2,16 @@
 from __future__ import annotations
 
 import io
-import mmap
 import os
 from contextlib import contextmanager
-from typing import Iterator, Union
+from typing import Iterator
 
-from life_tools.common.formats import MOST_COMMANDS, Wrong
-from life_tools.journal.file import (EMPTY, FIRST_GATE, RECORD_SIZE, Journal, counted, is_unfinished_creation, open_gates,
-                                     wrong_front)
+from life_tools.common.formats import MOST_COMMANDS, Wrong, opened
+from life_tools.journal.file import (EMPTY, FIRST_GATE, RECORD_SIZE, BadJournal, Journal, counted, gate_of,
+                                     is_unfinished_creation, open_gates, wrong_front)
 
 # so many records that they lie in a processor's cache while they are looked at
 AT_ONCE = 1 << 13
-Data = Union[bytes, mmap.mmap]
 
 
 class Blocks:
@@ -69,25 +67,23 @@ def demanded(blocks: Blocks, path: str) -> int:
     """The count of a file that was gone through, which must be a journal; what its records spell isn't judged here."""
     count = blocks.count()
     if isinstance(count, Journal):
-        raise Wrong(f"{path}: {count.refused}: {count.why}")
+        raise BadJournal(path, count.refused, count.why)
     return count
 
 
 @contextmanager
 def blocks_at(path: str) -> Iterator[Blocks]:
-    """Those of a file."""
+    """Those of a file, which is read: a page of it that were mapped couldn't be dropped after a sync that failed."""
     try:
-        with open(path, "rb") as file:
-            yield Blocks(file) if file.seekable() else Blocks(io.BytesIO(file.read()))
+        with opened(path) as file:
+            yield Blocks(file)
     except OSError as error:
         raise Wrong(f"{path}: {error.strerror}") from error
 
 
-@contextmanager
-def mapped(path: str, count: int) -> Iterator[Data]:
-    """The bytes of a copy that nobody shortens; of one without records none."""
+def prefix_at(path: str, count: int) -> bytes:
+    """The bytes of a copy's first records, that nobody shortens; of one without records none."""
     if not count:
-        yield b""
-        return
-    with open(path, "rb") as file, mmap.mmap(file.fileno(), 0, access=mmap.ACCESS_READ) as data:
-        yield data
+        return b""
+    with opened(path) as file:
+        return file.read(gate_of(count))

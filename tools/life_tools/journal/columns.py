@@ -11,10 +11,11 @@ from dataclasses import dataclass
 from life_tools.rules.commands import command_in
 from life_tools.common.formats import Wrong, demand
 from life_tools.journal.records import CLAIM, MATURE, PREMIUM, REINSTATE, SETTLE, Records, records_of
-from life_tools.journal.file import Journal, bad_record
+from life_tools.journal.file import BadJournal, Journal, bad_record
 from life_tools.common.arrays import Array, Cents, np
 from life_tools.journal.policy_columns import Policies
 from life_tools.journal.blocks import Blocks, blocks_at
+from life_tools.journal.wholeness import demand_undamaged
 from life_tools.journal.replays import Replay
 from life_tools.rules.policies import ACCOUNTS
 
@@ -86,7 +87,7 @@ def judged(data: bytes) -> Columns | Journal:
 def taken(found: Columns | Journal, path: str, at: int | None = None) -> Columns:
     """The book that was found in a file, or that of its first commands, of which it must have so many."""
     if isinstance(found, Journal):
-        raise Wrong(f"{path}: {found.refused}: {found.why}")
+        raise BadJournal(path, found.refused, found.why)
     demand(at is None or at <= found.count, f"{path} has {found.count} commands, and not {at}")
     return found if at is None else found.front(at)
 
@@ -97,9 +98,12 @@ def columns_in(data: bytes, path: str) -> Columns:
 
 
 def looked_at(path: str) -> tuple[Columns | Journal, Blocks]:
-    """The same of a file, with what was seen of it."""
+    """The same of a file of which nothing shows to be gone, with what was seen of it."""
     with blocks_at(path) as blocks:
-        return judged_by(blocks), blocks
+        found = judged_by(blocks)
+    if blocks.seen:
+        demand_undamaged(path, blocks.seen)
+    return found, blocks
 
 
 def columns_at(path: str, at: int | None = None) -> Columns:

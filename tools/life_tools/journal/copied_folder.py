@@ -10,7 +10,7 @@ from contextlib import contextmanager
 from typing import IO, Iterator, Sequence
 
 from life_tools.common.temporary import temporary_folder
-from life_tools.common.formats import Wrong, bytes_of, rows_in
+from life_tools.common.formats import Wrong, bytes_of, opened, rows_in
 from life_tools.tables.basis import NAME
 
 JOURNAL = "journal.life"
@@ -21,11 +21,7 @@ PREFIX = "life-desk-"
 @contextmanager
 def reading(path: str) -> Iterator[io.BufferedReader]:
     """A journal's file, which no run has meanwhile."""
-    try:
-        file = open(path, "rb")
-    except OSError as error:
-        raise Wrong(f"{path}: {error.strerror}") from error
-    with file:
+    with opened(path) as file:
         try:
             fcntl.flock(file, fcntl.LOCK_SH | fcntl.LOCK_NB)
         except BlockingIOError as error:

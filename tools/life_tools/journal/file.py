@@ -5,7 +5,7 @@ from dataclasses import dataclass, field
 from typing import Iterable
 
 from life_tools.rules.commands import BODY_SIZE, Command, body_of, command_in
-from life_tools.common.formats import MOST_COMMANDS, Wrong, bytes_of, number_of
+from life_tools.common.formats import MOST_COMMANDS, Wrong
 from life_tools.common.progress import Progress
 from life_tools.rules.policies import Book
 
@@ -28,6 +28,14 @@ class Journal:
     @property
     def commands(self) -> list[Command]:
         return self.book.commands
+
+
+class BadJournal(Wrong):
+    """A file is no journal; the line is the program's answer."""
+
+    def __init__(self, path: str, line: str, why: str) -> None:
+        super().__init__(f"{path}: {line}: {why}")
+        self.line = line
 
 
 def is_unfinished_creation(data: bytes) -> bool:
@@ -93,7 +101,7 @@ def count_of(data: bytes, path: str) -> int:
     """How many records stand in a file's bytes, which must be a journal; what they spell isn't judged here."""
     count = 0 if is_unfinished_creation(data) else records_in(data)
     if isinstance(count, Journal):
-        raise Wrong(f"{path}: {count.refused}: {count.why}")
+        raise BadJournal(path, count.refused, count.why)
     return count
 
 
@@ -109,23 +117,6 @@ def replayed(data: bytes, count: int, book: Book) -> Journal:
             progress.at(record)
     progress.end()
     return Journal(book)
-
-
-def journal_at(path: str, into: Book | None = None) -> Journal:
-    """The journal of a file, which must be one or an unfinished creation of one."""
-    journal = read_journal(bytes_of(path), into)
-    if journal.refused:
-        raise Wrong(f"{path}: {journal.refused}: {journal.why}")
-    return journal
-
-
-def book_at(path: str, position: str) -> Book:
-    """The book at a position of a file's journal, of which it has to be one."""
-    commands = journal_at(path).commands
-    count = number_of(position, 0, len(commands))
-    if count is None:
-        raise Wrong(f"{position} is no position of {path}, which has {len(commands)} commands")
-    return Book(commands[:count])
 
 
 def file_of(commands: Iterable[Command]) -> bytes:

@@ -2,7 +2,7 @@
 from __future__ import annotations
 
 import hashlib
-import mmap
+import io
 import os
 import shutil
 import sys
@@ -11,20 +11,14 @@ from dataclasses import dataclass
 from itertools import compress
 
 from life_tools.rules.commands import CODES, number_at
-from life_tools.common.formats import FIRST_DAY, MOST_COMMANDS, Wrong, bytes_of, demand
-from life_tools.journal.file import EMPTY, FIRST_GATE, OPEN, RECORD_SIZE, Journal, gate_of, is_unfinished_creation, records_in
+from life_tools.common.formats import FIRST_DAY, Wrong, bytes_of, demand, opened
+from life_tools.journal.blocks import Blocks, blocks_at, demanded
+from life_tools.journal.file import EMPTY, FIRST_GATE, RECORD_SIZE, Journal, gate_of, is_unfinished_creation
+from life_tools.journal.wholeness import demand_undamaged
 
 KIND, NUMBER, DAY = 1, 5, 9
 # records that are looked at at once, so few that a thread beside needn't wait for long
 AT_ONCE = 1 << 14
-
-
-class BadJournal(Wrong):
-    """A file is no journal; the line is the program's answer."""
-
-    def __init__(self, path: str, line: str, why: str) -> None:
-        super().__init__(f"{path}: {line}: {why}")
-        self.line = line
 
 
 @dataclass
@@ -71,11 +65,11 @@ class Columns:
 
 
 def columns_at(path: str, at: int | None = None) -> Columns:
-    """Those of a journal's file, or of its first commands."""
+    """Those of a journal's file of which nothing shows to be gone, or of its first commands."""
     data = bytes_of(path)
-    count = 0 if is_unfinished_creation(data) else records_in(data)
-    if isinstance(count, Journal):
-        raise BadJournal(path, count.refused, count.why)
+    blocks = Blocks(io.BytesIO(data)).through()
+    count = demanded(blocks, path)
+    demand_undamaged(path, blocks.seen)
     if at is not None and at > count:
         raise Wrong(f"{path} has {count} commands, and not {at}")
     return Columns(data, count if at is None else at)
@@ -83,21 +77,18 @@ def columns_at(path: str, at: int | None = None) -> Columns:
 
 def prefix_count(path: str) -> int | None:
     """How many records stand before the first closed gate of a journal; nothing of a file that the program has to judge."""
-    with open(path, "rb") as file:
-        if os.fstat(file.fileno()).st_size < len(EMPTY):
-            return None
-        with mmap.mmap(file.fileno(), 0, access=mmap.ACCESS_READ) as data:
-            gates = data[FIRST_GATE::RECORD_SIZE]
-            count = len(gates) - len(gates.lstrip(bytes([OPEN])))
-            is_one = data[:FIRST_GATE] == EMPTY[:FIRST_GATE] and count < len(gates) and count <= MOST_COMMANDS
-            return count if is_one else None
+    with blocks_at(path) as blocks:
+        count = blocks.through().count()
+    return None if isinstance(count, Journal) or is_unfinished_creation(blocks.front) else count
 
 
 def prefix_sum(path: str, count: int) -> str:
     """The SHA-256 of the file of the first records alone, its last gate closed."""
-    with open(path, "rb") as file, mmap.mmap(file.fileno(), 0, access=mmap.ACCESS_READ) as data, memoryview(data) as seen:
-        with seen[:gate_of(count)] as front:
-            found = hashlib.sha256(front)
+    found, left = hashlib.sha256(), gate_of(count)
+    with opened(path) as file:
+        while left and (part := file.read(min(left, AT_ONCE * RECORD_SIZE))):
+            found.update(part)
+            left -= len(part)
     found.update(bytes(1))
     return found.hexdigest()
 
@@ -118,7 +109,7 @@ def copy_prefix(path: str, at: int | None, to: str) -> None:
 def send(path: str, size: int, to: str) -> int:
     """Copies a file's first bytes, as far as it has them: how many these are."""
     place = 0
-    with open(path, "rb") as file, open(to, "wb") as copy:
+    with opened(path) as file, open(to, "wb") as copy:
         while place < size and (sent := os.sendfile(copy.fileno(), file.fileno(), place, size - place)):
             place += sent
     return place
@@ -140,15 +131,15 @@ def places_in(path: str) -> int:
 def beginnings_at(path: str, count: int) -> frozenset[int]:
     """The first two bytes of all numbers in the first records of a journal, in a small part of the time of the numbers."""
     found: set[int] = set()
-    if count:
-        with open(path, "rb") as file, mmap.mmap(file.fileno(), 0, access=mmap.ACCESS_READ) as data:
-            for start in range(0, count, AT_ONCE):
-                begin, end = gate_of(start) + NUMBER, gate_of(min(start + AT_ONCE, count))
-                first, second = data[begin:end:RECORD_SIZE], data[begin + 1:end:RECORD_SIZE]
-                highs = distinct(first)
-                for high in highs:
-                    below = second if len(highs) == 1 else bytes(compress(second, first.translate(alone(high))))
-                    found.update(high << 8 | low for low in distinct(below))
+    with opened(path) as file:
+        file.seek(FIRST_GATE)
+        for start in range(0, count, AT_ONCE):
+            data = file.read(RECORD_SIZE * min(AT_ONCE, count - start))
+            first, second = data[NUMBER::RECORD_SIZE], data[NUMBER + 1::RECORD_SIZE]
+            highs = distinct(first)
+            for high in highs:
+                below = second if len(highs) == 1 else bytes(compress(second, first.translate(alone(high))))
+                found.update(high << 8 | low for low in distinct(below))
     return frozenset(found)
 
 

@@ -10,10 +10,10 @@ from typing import Iterable, Iterator
 
 from life_tools.rules.commands import BODY_SIZE, LAST_AGE, OLDEST_AT_ISSUE, PLAN_CODES, Command
 from life_tools.journal.day_columns import FIRST, LAST, day_at
-from life_tools.common.formats import FIELDS, KINDS, MOST_CENTS, MOST_REINSTATEMENT_CENTS, PLANS, demand
+from life_tools.common.formats import FIELDS, KINDS, MOST_CENTS, MOST_REINSTATEMENT_CENTS, PLANS, demand, opened
 from life_tools.journal.file import FIRST_GATE, RECORD_SIZE, gate_of
 from life_tools.common.arrays import Array, Cents, np
-from life_tools.journal.blocks import AT_ONCE, Blocks, Data, mapped
+from life_tools.journal.blocks import AT_ONCE, Blocks, prefix_at
 
 # a record as it stands in the file; the bytes behind its premium are 0 of every kind, and an amount of 2^63 or more is below 0
 # here, so outside its limits as well
@@ -155,14 +155,14 @@ def records_of(blocks: Blocks) -> tuple[Records, bytes | None]:
     return records_in(blocks, blocks.room)
 
 
-def raw_records(data: Data, count: int) -> Array:
+def raw_records(data: bytes, count: int) -> Array:
     """A file's first records as they stand in it."""
     return np.frombuffer(data, RECORD, count, FIRST_GATE) if count else np.empty(0, RECORD)
 
 
 def records_behind(path: str, first: int, last: int) -> Records:
     """The columns of a copy's records behind one position, up to another; none but these are read."""
-    with open(path, "rb") as file:
+    with opened(path) as file:
         file.seek(gate_of(first))
         ends = range(first + AT_ONCE, last + AT_ONCE, AT_ONCE)
         parts = (memoryview(file.read(RECORD_SIZE * (min(end, last) - (end - AT_ONCE)))) for end in ends)
@@ -173,7 +173,7 @@ def records_behind(path: str, first: int, last: int) -> Records:
 
 # --- some policies alone, of a file whose records aren't judged ---
 
-def places_in(data: Data, count: int, numbers: Iterable[int]) -> Array:
+def places_in(data: bytes, count: int, numbers: Iterable[int]) -> Array:
     """The places of the commands of these policies among a file's first records, whatever else these say."""
     raw, wanted = raw_records(data, count), np.array(sorted(set(numbers)), np.uint32)
     found = [start + np.flatnonzero(np.isin(raw["number"][start:start + AT_ONCE].astype(np.uint32), wanted))
@@ -183,11 +183,17 @@ def places_in(data: Data, count: int, numbers: Iterable[int]) -> Array:
 
 def places_at(path: str, count: int, numbers: Iterable[int]) -> list[int]:
     """The same of a file that has so many records, or more."""
-    with mapped(path, count) as data:
-        places: list[int] = places_in(data, count, numbers).tolist()
-        return places
+    places: list[int] = places_in(prefix_at(path, count), count, numbers).tolist()
+    return places
 
 
-def upgrade_in(data: Data, count: int) -> int:
+def days_at(path: str, count: int) -> tuple[Array, int]:
+    """The days of a copy's first records, as numbers, and the upgrade's position, or 0; what else they say isn't judged."""
+    raw = np.fromfile(path, RECORD, count, offset=FIRST_GATE) if count else np.empty(0, RECORD)
+    upgrades = np.flatnonzero(raw["kind"] == UPGRADE)
+    return raw["day"].astype(np.int32), int(upgrades[0]) + 1 if len(upgrades) else 0
+
+
+def upgrade_in(data: bytes, count: int) -> int:
     """The position of the first upgrade among a file's first records, or 0."""
     return data[FIRST_GATE + 1:FIRST_GATE + RECORD_SIZE * count:RECORD_SIZE].find(UPGRADE) + 1

@@ -21,8 +21,9 @@ from typing import NamedTuple, Sequence
 from life_tools.rules.commands import EPOCH
 from life_tools.journal.copied_folder import JOURNAL
 from life_tools.common.formats import LAST_DAY, MOST_COMMANDS, Wrong, bytes_of, day_in, demand, number_of, read_whole
-from life_tools.journal.file import FIRST_GATE, RECORD_SIZE, gate_of
-from life_tools.journal.record_columns import BadJournal, columns_at
+from life_tools.journal.file import FIRST_GATE, RECORD_SIZE, BadJournal, gate_of
+from life_tools.journal.record_columns import columns_at
+from life_tools.journal.wholeness import Noted, Shape, shape_at
 from life_tools.tables.basis import NAME, basis_rows, file_in
 
 VERSION = "1"
@@ -160,10 +161,22 @@ def front_difference(seal: Seal, path: str) -> str | None:
     return None
 
 
+def shape_by(shape: Shape, seals: Sequence[str]) -> Shape:
+    """The shape of a journal's file with what these seals have noted of it."""
+    noted, unlike = list(shape.noted), list(shape.unlike)
+    for each in seals:
+        seal = seal_at(each)
+        noted.append(Noted(each, seal.count))
+        difference = front_difference(seal, shape.path) if seal.position <= shape.count else None
+        if difference:
+            unlike.append(f"{difference}, by {each}")
+    return Shape(shape.path, shape.count, shape.length, tuple(noted), tuple(unlike))
+
+
 def count_difference(seal: Seal, path: str) -> str | None:
     """Whether commands behind the front are gone: a journal only grows."""
     try:
-        count = columns_at(path).count
+        count = shape_at(path).count
     except BadJournal as bad:
         return str(bad)
     if count >= seal.count:

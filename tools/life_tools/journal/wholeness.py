@@ -7,27 +7,22 @@ checkpoint, a seal that was kept, or the log of a day's work.
 """
 from __future__ import annotations
 
-import mmap
 import os
 import re
 from dataclasses import dataclass, field
-from typing import Iterator, NamedTuple, Sequence, Tuple
+from typing import Iterator, NamedTuple, Tuple
 
 from life_tools.journal.checkpoints import HEADER as CHECKPOINT_HEADER
-from life_tools.common.formats import MOST_COMMANDS, Wrong, bytes_of, demand, number_of, remark
+from life_tools.common.formats import MOST_COMMANDS, Wrong, demand, number_of, opened, remark
 from life_tools.common.locks import holder_of
-from life_tools.journal.file import EMPTY, FIRST_GATE, OPEN, RECORD_SIZE, Journal, gate_of, is_unfinished_creation, records_in
-from life_tools.journal.record_columns import BadJournal
-from life_tools.journal.seals import front_difference, seal_at
+from life_tools.journal.blocks import blocks_at, demanded
+from life_tools.journal.file import OPEN, RECORD_SIZE, BadJournal, gate_of
 
 JOURNAL, CHECKPOINT, LOG = "journal.life", "checkpoint.life", "log"
-WHOLE, UNDECIDED, DAMAGED = "whole", "undecided", "damaged"
+WHOLE, UNDECIDED, DAMAGED, EMPTY = "whole", "undecided", "damaged", "empty"
 ACCEPTED = re.compile(rb",accepted,([0-9]{1,7})\n")
 # of what a run printed so much of the end is looked at
 LOOKED_AT = 1 << 16
-# a file that grows meanwhile is looked at so often
-LOOKS = 3
-
 
 # the commands and the bytes of a journal's file
 Seen = Tuple[int, int]
@@ -65,10 +60,14 @@ class Shape:
     def verdict(self) -> str:
         if self.excess > RECORD_SIZE or self.unlike or any(it.commands > self.count for it in self.noted):
             return DAMAGED
+        if not self.length:
+            return EMPTY
         return UNDECIDED if self.excess else WHOLE
 
     def reasons(self) -> Iterator[str]:
         """What isn't as it is in a whole book."""
+        if not self.length:
+            yield f"{self.path} is empty, and the program would begin a new book in it"
         if self.excess:
             yield (f"{self.path}: {self.excess} bytes lie behind byte {gate_of(self.count)}, the gate of record {self.count}, "
                    + ("which is closed" if self.excess > RECORD_SIZE else "as after a crash, or as a last gate that has turned"))
@@ -83,36 +82,13 @@ class Shape:
 
 # --- the file ---
 
-def look(path: str) -> tuple[int, int] | None:
-    """The count and the length of a journal's file; nothing of one that has to be judged."""
-    with open(path, "rb") as file:
-        length = os.fstat(file.fileno()).st_size
-        if length < len(EMPTY):
-            return None
-        with mmap.mmap(file.fileno(), length, access=mmap.ACCESS_READ) as data:
-            gates = data[FIRST_GATE::RECORD_SIZE]
-            count = len(gates) - len(gates.lstrip(bytes([OPEN])))
-            is_one = data[:FIRST_GATE] == EMPTY[:FIRST_GATE] and count < len(gates) and count <= MOST_COMMANDS
-    return (count, length) if is_one else None
-
-
 def shape_at(path: str, seen: Seen | None = None) -> Shape:
     """The shape of a journal's file alone; of one that isn't a journal the program's answer is told."""
-    demand(os.path.isfile(path), f"there is no {path}")
     if seen:
         return Shape(path, *seen)
-    try:
-        for _ in range(LOOKS):
-            found = look(path)
-            if found:
-                return Shape(path, *found)
-    except OSError as error:
-        raise Wrong(f"{path}: {error.strerror}") from error
-    data = bytes_of(path)
-    count = 0 if is_unfinished_creation(data) else records_in(data)
-    if isinstance(count, Journal):
-        raise BadJournal(path, count.refused, count.why)
-    return Shape(path, count, len(data))
+    demand(os.path.lexists(path), f"there is no {path}")
+    with blocks_at(path) as blocks:
+        return Shape(path, demanded(blocks.through(), path), blocks.length)
 
 
 # --- who noted a count ---
@@ -120,7 +96,7 @@ def shape_at(path: str, seen: Seen | None = None) -> Shape:
 def checkpoint_count(path: str) -> int | None:
     """The count in a checkpoint's front; nothing of a file that is none."""
     try:
-        with open(path, "rb") as file:
+        with opened(path) as file:
             front = file.read(21)
     except OSError as error:
         raise Wrong(f"{path}: {error.strerror}") from error
@@ -174,16 +150,10 @@ def noted_by(checkpoint: str | None, log: str | None) -> Iterator[Noted]:
             yield Noted(path, found)
 
 
-def shape_with(path: str, checkpoint: str | None, log: str | None, seals: Sequence[str] = (), seen: Seen | None = None) -> Shape:
+def shape_with(path: str, checkpoint: str | None, log: str | None, seen: Seen | None = None) -> Shape:
     """The shape of a file with what these have noted of it."""
-    shape, noted, unlike = shape_at(path, seen), list(noted_by(checkpoint, log)), []
-    for each in seals:
-        seal = seal_at(each)
-        noted.append(Noted(each, seal.count))
-        difference = front_difference(seal, path) if seal.position <= shape.count else None
-        if difference:
-            unlike.append(f"{difference}, by {each}")
-    return Shape(path, shape.count, shape.length, tuple(noted), tuple(unlike))
+    shape = shape_at(path, seen)
+    return Shape(path, shape.count, shape.length, tuple(noted_by(checkpoint, log)))
 
 
 def beside(path: str) -> tuple[str | None, str | None]:

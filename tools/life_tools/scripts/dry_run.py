@@ -9,8 +9,8 @@ from dataclasses import dataclass
 from typing import Iterator, Sequence
 
 from life_tools.journal.copied_folder import JOURNAL, begun, private_copy, ended, reading
-from life_tools.common.formats import Wrong, remark
-from life_tools.journal.blocks import Blocks, Data, mapped
+from life_tools.common.formats import Wrong, opened, remark
+from life_tools.journal.blocks import Blocks, prefix_at
 
 
 @dataclass(frozen=True)
@@ -27,12 +27,10 @@ class Trial:
         """The count and the length of the journal."""
         return self.blocks.seen if self.blocks else None
 
-    @contextmanager
-    def records(self) -> Iterator[tuple[Data, int]]:
+    def records(self) -> tuple[bytes, int]:
         """The copy's bytes, and how many records it had before the script; these stay as they are while the program posts."""
         count = self.seen[0] if self.seen else 0
-        with mapped(self.copy, count) as data:
-            yield data, count
+        return prefix_at(self.copy, count), count
 
     def answer(self) -> tuple[int, str]:
         """The status of the run, and the transcript."""
@@ -40,11 +38,7 @@ class Trial:
 
 
 def begun_with(script: str, desk: str, life: Sequence[str], basis: str) -> subprocess.Popen[bytes]:
-    try:
-        rows = open(script, "rb")
-    except OSError as error:
-        raise Wrong(f"{script}: {error.strerror}") from error
-    with rows:
+    with opened(script) as rows:
         return begun(desk, life, ["run", "--basis", basis], rows)
 
 
@@ -54,7 +48,7 @@ def trial_of(script: str, folder: str, basis: str, life: Sequence[str]) -> Itera
     path = os.path.join(folder, JOURNAL)
     with private_copy(folder, basis) as desk, ExitStack() as held:
         copy = os.path.join(desk, JOURNAL)
-        file = held.enter_context(reading(path)) if os.path.exists(path) else None
+        file = held.enter_context(reading(path)) if os.path.lexists(path) else None
         if file:
             copy_file(path, copy)
         else:

@@ -16,7 +16,9 @@ from itertools import chain
 from typing import Dict, Iterable, Iterator, Tuple
 
 from life_tools.rules.commands import Command, words_of
+from life_tools.common.arrays import np
 from life_tools.common.formats import Wrong, demand
+from life_tools.journal.columns import Columns
 from life_tools.scripts.cut_transcripts import Printed
 from life_tools.common.progress import Progress
 from life_tools.rules.policies import Book, Policy, Refusal, Upgraded, decide
@@ -86,6 +88,20 @@ class History(Book):
             if isinstance(decide(states[place], command), Refusal):
                 return max(moments[place], moment)
         return None
+
+
+def history_in(columns: Columns, begun: int, lines: Iterable[Line]) -> History:
+    """The history of the policies of a script and of a run, which began behind so many commands of a journal."""
+    demand(begun <= columns.count, f"the journal has {columns.count} commands, and before the run there were {begun}")
+    records, script = columns.records, {line.command.number for line in lines if line.command}
+    numbers = np.union1d(np.array(sorted(script), np.uint32), records.number[begun:])
+    # an upgrade, which has the number 0, bears on each of them
+    is_of_them = (np.isin(records.number, numbers) | (records.number == 0))[:begun]
+    before = np.flatnonzero(is_of_them)
+    history = History(len(before), records.commands(before))
+    for command in records.commands(np.arange(begun, columns.count)):
+        history.post(command)
+    return history
 
 
 class Passage:

@@ -8,7 +8,6 @@ from life_tools.rules.commands import Command, command_in
 from life_tools.rules.deaths import standing
 from life_tools.common.formats import money
 from life_tools.journal.file import gate_of
-from life_tools.journal.blocks import Data
 from life_tools.rules.remedies import remedy_of
 from life_tools.rules.policies import Book, Policy, Refusal, anniversary, due_of, end_of
 from life_tools.scripts.lines import Line
@@ -28,7 +27,7 @@ class Desk:
         # of each policy what was accepted, in order
         self.taken: dict[int, list[Command]] = {}
 
-    def read(self, data: Data, upgrade: int, places: Iterable[int]) -> None:
+    def read(self, data: bytes, upgrade: int, places: Iterable[int]) -> None:
         """Takes the commands of these places of a file's records, which the program has judged, and the upgrade's position."""
         self.book.upgrade = upgrade
         for place in places:

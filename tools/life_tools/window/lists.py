@@ -5,11 +5,9 @@ import sqlite3
 from dataclasses import dataclass
 from typing import Any, NamedTuple
 
-from life_tools.common.arrays import Array, np
+from life_tools.common.arrays import np
 from life_tools.common.formats import MOST_COMMANDS, PLANS, STATUSES
 from life_tools.valuations.groups import added
-from life_tools.journal.records import RECORD, UPGRADE
-from life_tools.journal.file import FIRST_GATE
 from life_tools.journal.policy_columns import Policies
 from life_tools.window.asked import Asked
 
@@ -133,12 +131,3 @@ def newest_day(database: sqlite3.Connection, position: int) -> str | None:
     row = database.execute("select day from command where position <= ? and day is not null order by position desc limit 1",
                            (position,)).fetchone()
     return row[0] if row else None
-
-
-def days_of(journal: str, count: int) -> tuple[Array, int]:
-    """The days of the first records of a journal's file, as numbers, and the upgrade's position, or 0."""
-    if not count:
-        return np.zeros(0, np.int32), 0
-    records = np.memmap(journal, RECORD, "r", FIRST_GATE, count)
-    upgrades = np.flatnonzero(records["kind"] == UPGRADE)
-    return records["day"].astype(np.int32), int(upgrades[0]) + 1 if len(upgrades) else 0

@@ -15,7 +15,8 @@ from life_tools.reports.sheets import BY_BOUNDS
 from life_tools.window import pictures
 from life_tools.window.asked import Asked, BadRequest
 from life_tools.window.downloads import csv_parts, workbook
-from life_tools.window.lists import days_of, newest_day
+from life_tools.journal.records import days_at
+from life_tools.window.lists import newest_day
 from life_tools.window.book_copy import BookCopy
 from life_tools.window.parts import Answer, Cell, File, Head, Page, Table, cells, heads, link
 from life_tools.window.policies import STATUSES as STATUS_WORDS
@@ -41,7 +42,7 @@ def month(book: BookCopy, asked: Asked, at: int) -> Answer:
         newest = newest_day(database, at)
         on = asked.day("on", year_end_before(newest))
         before = asked.day("before", datetime.date(max(on.year - 1, 1900), 12, 31))
-    days, upgrade = days_of(book.journal, at)
+    days, upgrade = days_at(book.journal, at)
     positions, opening = (on_day(days, number_at(day), upgrade) for day in (on, before))
     values = {"on": on, "before": before, "positions": positions, "opening": opening, "newest_day": newest,
               "measures": [(each, MEASURE_WORDS[each]) for each in MEASURES]}
