@@ -173,7 +173,7 @@ rm journal.life
 ends 2 "there is no journal.life" verify
 # an unfinished creation is an empty book
 : >journal.life
-ends 0 "" verify
+ends 1 "is empty" verify
 cp "$empty" journal.life
 ends 0 "" verify
 cp "$empty" checkpoint.life && "$life" state </dev/null >out

@@ -76,7 +76,7 @@ def opened(path: str) -> io.BufferedReader:
     except OSError as error:
         raise Wrong(f"{path}: {error.strerror}") from error
     kind = os.fstat(handle).st_mode
-    if not stat.S_ISREG(kind):
+    if not stat.S_ISREG(kind) and not os.path.samestat(os.fstat(handle), os.stat(os.devnull)):
         os.close(handle)
         raise Wrong(f"{path}: {'Is a directory' if stat.S_ISDIR(kind) else 'it is a pipe or a device: save it as a file first'}")
     return os.fdopen(handle, "rb")

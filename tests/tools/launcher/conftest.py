@@ -1,0 +1,87 @@
+"""A clone whose program counts as proved, and the programs as `life install` lays them."""
+from __future__ import annotations
+
+import os
+import pty
+import shutil
+import subprocess
+from dataclasses import dataclass
+from pathlib import Path
+from typing import Sequence
+
+import pytest
+
+from tests.support.program import ROOT, Program
+from tests.support.tools import Ended
+
+NOTE = 'root=$0 && . "$root/tools/launcher/shared.sh" && note_proof "$root/crates/life_cli/out/life_cli" "$(sources_sum)"'
+
+
+def ran(words: Sequence[str | Path], folder: Path, given: str = "", env: dict[str, str] | None = None) -> Ended:
+    """How a command ended in a folder, with this standard input."""
+    done = subprocess.run([str(word) for word in words], cwd=folder, input=given.encode(), capture_output=True, check=False,
+                          env={**os.environ, **(env or {})})
+    return Ended(done.returncode, done.stdout.decode("utf-8", "replace"), done.stderr.decode("utf-8", "replace"))
+
+
+def on_terminal(words: Sequence[str | Path], folder: Path, given: str = os.devnull) -> tuple[int, str]:
+    """The status of a command whose standard output and error are a terminal, and what stands on it."""
+    child, terminal = pty.fork()
+    if child == 0:
+        os.chdir(folder)
+        os.dup2(os.open(given, os.O_RDONLY), 0)
+        os.execvp(str(words[0]), [str(word) for word in words])
+    said = b""
+    while True:
+        try:
+            more = os.read(terminal, 1000)
+        except OSError:
+            break
+        said += more
+        if not more:
+            break
+    return os.waitstatus_to_exitcode(os.waitpid(child, 0)[1]), said.decode("utf-8", "replace")
+
+
+def note_proof(clone: Path) -> None:
+    """Notes that the clone's program is proved, of its sources as they are."""
+    subprocess.run(["sh", "-c", NOTE, clone], check=True)
+
+
+@pytest.fixture(scope="session")
+def proved_clone(program: Program, tmp_path_factory: pytest.TempPathFactory) -> Path:
+    """A copy of the repository whose program counts as proved."""
+    clone = tmp_path_factory.mktemp("clone")
+    named = subprocess.run(["git", "ls-files", "-z", "life", "tools", "crates", "crates.txt", "CHANGELOG.md"], cwd=ROOT,
+                           stdout=subprocess.PIPE, check=True).stdout
+    subprocess.run(["xargs", "-0", "cp", "--parents", "-p", "-t", clone], cwd=ROOT, input=named, check=True)
+    out = clone / "crates" / "life_cli" / "out"
+    out.mkdir()
+    shutil.copy(program.path, out / "life_cli")
+    note_proof(clone)
+    return clone
+
+
+@pytest.fixture(scope="session")
+def installed(proved_clone: Path, tmp_path_factory: pytest.TempPathFactory) -> Path:
+    """The folder in which `life`, `life-wait` and `life-tools` are installed."""
+    folder = tmp_path_factory.mktemp("home") / "bin"
+    done = ran(["sh", proved_clone / "life", "install", folder], proved_clone)
+    assert done.status == 0, done
+    return folder
+
+
+@dataclass(frozen=True)
+class Called:
+    """A way in which a user calls the program: what begins the command, and how a message names it."""
+
+    words: tuple[str | Path, ...]
+    named: str
+
+
+@pytest.fixture(params=["clone", "installed"])
+def life(request: pytest.FixtureRequest, proved_clone: Path, installed: Path) -> Called:
+    """The clone's launcher, and the installed program."""
+    if request.param == "clone":
+        return Called(("sh", proved_clone / "life"), "sh life")
+    return Called((installed / "life",), "life")

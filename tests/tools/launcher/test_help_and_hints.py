@@ -1,0 +1,86 @@
+"""`life` explains itself alike where it is installed and in a clone: help of every command, and hints on a terminal."""
+from __future__ import annotations
+
+import fcntl
+import os
+import re
+import shutil
+from pathlib import Path
+
+import pytest
+
+from tests.support.folders import Folder
+from tests.tools.launcher.conftest import Called, on_terminal, ran
+
+COMMANDS = ("run", "state", "checkpoint", "value", "project", "generate", "load", "--wait")
+OWN = ("try", "prove", "test", "install", "pack", "doc", "tools")
+
+
+@pytest.mark.parametrize("command", COMMANDS)
+def test_each_command_has_help_with_an_example(life: Called, command: str, tmp_path: Path) -> None:
+    told = [ran([*life.words, *words], tmp_path)
+            for words in ((command, "--help"), (command, "-h"), ("help", command), ("--help", command))]
+    assert all(done == told[0] for done in told), told
+    assert told[0].status == 0 and told[0].err == ""
+    assert re.search(r"^Example: (sh )?life\S* ", told[0].out, re.M), told[0].out
+    assert max(map(len, told[0].out.splitlines())) <= 80
+    assert not os.listdir(tmp_path)
+
+
+def test_help_names_each_command(life: Called, tmp_path: Path) -> None:
+    told = [ran([*life.words, word], tmp_path) for word in ("help", "--help", "-h")]
+    assert all(done == told[0] for done in told) and told[0].status == 0
+    assert all(command.strip("-") in told[0].out for command in COMMANDS)
+    assert max(map(len, told[0].out.splitlines())) <= 80
+
+
+@pytest.mark.parametrize("command", OWN)
+def test_the_launchers_own_commands_have_help(proved_clone: Path, command: str, tmp_path: Path) -> None:
+    done = ran(["sh", proved_clone / "life", "help", command], tmp_path)
+    assert done.status == 0 and f"Example: sh life {command}" in done.out, done
+
+
+def test_life_wait_has_help(installed: Path, tmp_path: Path) -> None:
+    assert ran([installed / "life-wait", "--help"], tmp_path) == ran([installed / "life", "help", "wait"], tmp_path)
+
+
+def test_help_of_what_is_no_command(life: Called, tmp_path: Path) -> None:
+    done = ran([*life.words, "help", "stat"], tmp_path)
+    assert (done.status, done.out) == (2, "usage\n") and "help names them" in done.err
+
+
+def test_who_has_the_journal(small_office: Folder, life: Called) -> None:
+    with open(small_office.journal, "rb") as file:
+        fcntl.flock(file, fcntl.LOCK_EX)
+        status, said = on_terminal([*life.words, "state"], small_office.path)
+    assert status == 8 and f"journal.life is held by process {os.getpid()}, " in said, said
+
+
+@pytest.mark.parametrize("words, hint", [
+    (["value", "31.12.2020"], "a day is YYYY-MM-DD"),
+    (["project", "31/12/2020", "3"], "a day is YYYY-MM-DD"),
+    (["value", "2020-02-30"], "a day is YYYY-MM-DD"),
+    (["run", "small-office.csv"], "the script goes to standard input: {life} run < small-office.csv"),
+    (["state", "0"], "help names the commands"),
+])
+def test_what_usage_means(small_office: Folder, life: Called, words: list[str], hint: str) -> None:
+    status, said = on_terminal([*life.words, *words], small_office.path)
+    assert status == 2 and "usage" in said and hint.format(life=life.named) in said, said
+
+
+def test_a_message_isnt_cut_or_obeyed(installed: Path, tmp_path: Path) -> None:
+    r"""`echo` ends a message at `\c`; a terminal obeys an escape in a folder's name."""
+    folder = tmp_path / "acme\\co\x1b[2J"
+    folder.mkdir()
+    done = ran([installed / "life", "state"], folder)
+    assert done.status == 66
+    assert done.err.endswith(r"acme\co?[2J, so nothing was run" + "\n"), done.err
+
+
+def test_without_a_proved_program(proved_clone: Path, tmp_path: Path) -> None:
+    clone = tmp_path / "clone"
+    shutil.copytree(proved_clone, clone, symlinks=True)
+    os.remove(clone / "crates" / "life_cli" / "out" / "life_cli")
+    for words in ([], ["help"], ["-h"], ["stat"], ["state"], ["--wait", "5", "run"]):
+        done = ran(["sh", clone / "life", *words], tmp_path)
+        assert "no proved program is of these sources" in done.err and "sh life prove" in done.err, (words, done)
