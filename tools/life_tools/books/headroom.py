@@ -5,6 +5,7 @@ Days are numbers from 1970-01-01.
 from __future__ import annotations
 
 import datetime
+import json
 import os
 import re
 from typing import Iterable, Iterator, NamedTuple
@@ -115,14 +116,13 @@ def used_in_year(days: Array, today: int, recorded: Iterable[Recorded]) -> int:
 
 
 def recorded_in_log(log: str) -> Iterator[Recorded]:
-    """The counts before each script in the log of day.sh, whose folders begin with the day."""
-    for name in os.listdir(log) if os.path.isdir(log) else ():
-        found = DAY_IN_NAME.match(name)
-        path = os.path.join(log, name, "before")
-        if found and os.path.isfile(path):
-            count = number_of(bytes_of(path)[:20].decode("ascii", "replace").strip(), 0, MOST_COMMANDS)
-            if count is not None:
-                yield Recorded(day_in_name(name), count)
+    """The counts before each run that `life-tools day` noted, on the day of the run."""
+    runs = os.path.join(log, "runs")
+    for name in os.listdir(runs) if os.path.isdir(runs) else ():
+        path = os.path.join(runs, name, "run.json")
+        if name.isdecimal() and os.path.isfile(path):
+            record = json.loads(bytes_of(path))
+            yield Recorded(number_at(datetime.date.fromisoformat(record["begun"][:10])), record["before"])
 
 
 def day_in_name(path: str) -> int:

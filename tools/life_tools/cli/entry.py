@@ -13,6 +13,8 @@ from life_tools.common.packages import see
 
 # name -> the module of life_tools.cli that answers it, and what it does, in one line
 ENTRIES: dict[str, tuple[str, str]] = {
+    "day": ("day", "post the files of the inbox, and keep what came of each row"),
+    "log": ("log", "who posted what, when, from which file, and who released it"),
     "check": ("check", "look a script over before it is sent"),
     "due": ("due", "what is due on a day: premiums, lapses, maturities, reinstatements, settlements"),
     "import": ("import_book", "a CSV of another system as a script of issues and premiums"),
@@ -45,7 +47,7 @@ ENTRIES: dict[str, tuple[str, str]] = {
 }
 
 # those that read in bulk
-BY_NUMPY = {"audit", "books", "browse", "check", "due", "export", "headroom", "movement", "position-on", "read",
+BY_NUMPY = {"audit", "books", "browse", "check", "day", "due", "export", "headroom", "log", "movement", "position-on", "read",
             "read-checkpoint", "report", "rest", "statement", "why"}
 
 

@@ -1,7 +1,7 @@
 """How many commands a book has left, and until when: a row as CSV under a header; `books headroom LIST` tells it of many.
 
   commands, left         what it has, and what it still takes of 4,000,000
-  in_last_year           the commands of the 365 days up to today, by their own days, or by the counts that day.sh and earlier
+  in_last_year           the commands of the 365 days up to today, by their own days, or by the counts that `day` and earlier
                          month-ends noted, whichever are more
   full                   the day on which it is full at that pace
   premiums, at_end       what its policies need to their ends: premiums to come, and maturities with their settlements

@@ -1,6 +1,6 @@
 """Whether a journal's file is whole, in a second: its length beside its count, and who noted a greater count.
 
-Of journal.life a checkpoint.life and a log/ of day.sh in its folder are asked, of another file those that are told; and
+Of journal.life a checkpoint.life and a log/ of `life-tools day` in its folder are asked, of another file those that are told; and
 each seal that was kept, by which an amount that was changed is found too. What the records say isn't judged: `life state`
 does that.
 

@@ -7,13 +7,14 @@ checkpoint, a seal that was kept, or the log of a day's work.
 """
 from __future__ import annotations
 
+import json
 import os
 import re
 from dataclasses import dataclass, field
 from typing import Iterator, NamedTuple, Tuple
 
 from life_tools.journal.checkpoints import HEADER as CHECKPOINT_HEADER
-from life_tools.common.formats import MOST_COMMANDS, Wrong, demand, number_of, opened, remark
+from life_tools.common.formats import MOST_COMMANDS, Wrong, bytes_of, demand, opened, remark
 from life_tools.common.locks import holder_of
 from life_tools.journal.blocks import blocks_at, demanded
 from life_tools.journal.file import OPEN, RECORD_SIZE, BadJournal, gate_of
@@ -106,14 +107,6 @@ def checkpoint_count(path: str) -> int | None:
     return count if count <= MOST_COMMANDS else None
 
 
-def number_in(path: str) -> int:
-    """The number that a file holds, or 0."""
-    if not os.path.isfile(path):
-        return 0
-    with open(path, "rb") as file:
-        return number_of(file.read(20).decode("ascii", "replace").strip(), 0, MOST_COMMANDS) or 0
-
-
 def accepted_in(path: str) -> int:
     """The position of the last accepted line near the end of what a run printed, or 0."""
     if not os.path.isfile(path):
@@ -124,23 +117,23 @@ def accepted_in(path: str) -> int:
     return int(found[-1]) if found else 0
 
 
-def count_after(folder: str) -> int:
-    """The count that a script of a log left, as far as the log tells."""
-    before, after, transcript = (os.path.join(folder, name) for name in ("before", "after", "transcript"))
-    return number_in(after) or max(number_in(before), accepted_in(transcript))
-
-
 def log_count(log: str) -> int | None:
-    """The greatest count that the log of a day's work has of scripts that count as sent; nothing where it has none."""
-    counts = []
+    """How many commands the journal had after the newest run that `life-tools day` noted; nothing where it noted none."""
+    runs = os.path.join(log, "runs")
     try:
-        for name in os.listdir(log):
-            folder = os.path.join(log, name)
-            if os.path.isfile(os.path.join(folder, "sum")):
-                counts.append(count_after(folder))
+        numbers = [name for name in os.listdir(runs) if name.isdecimal()] if os.path.isdir(runs) else []
+        if not numbers:
+            return None
+        folder = os.path.join(runs, max(numbers, key=int))
+        record = json.loads(bytes_of(os.path.join(folder, "run.json")))
+        # a run that was interrupted is known by what it printed
+        after: int = record["after"] if record["after"] is not None else \
+            max(record["before"], accepted_in(os.path.join(folder, "transcript")))
+        return after
     except OSError as error:
         raise Wrong(f"{error.filename}: {error.strerror}") from error
-    return max(counts, default=None)
+    except (ValueError, KeyError, TypeError) as error:
+        raise Wrong(f"{folder}/run.json is not the record of a run: {error}") from error
 
 
 def noted_by(checkpoint: str | None, log: str | None) -> Iterator[Noted]:

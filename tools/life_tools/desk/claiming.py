@@ -1,0 +1,255 @@
+"""A file is claimed before it is read: it is renamed from the inbox into its entry's folder, and only that file is read.
+
+Where the folder of the entry lies on another file system, the file is first renamed where it lies, to a hidden name that no
+other `day` takes; then it is copied, made safe, compared, and removed. `entry.json` names the file before it is renamed, so a
+claim that was interrupted is finished by the next `day`, or undone where the file still lies in the inbox.
+"""
+from __future__ import annotations
+
+import errno
+import fcntl
+import getpass
+import hashlib
+import os
+import pwd
+import shutil
+import socket
+import stat
+import sys
+import time
+from typing import Iterable
+
+from life_tools.common.formats import MOST_SCRIPT_BYTES, Wrong, bytes_of, rows_in
+from life_tools.desk.entries import CLAIMING, DONE, ENTRY, HANDED_IN, NAMED, OPEN, Entry, Log
+from life_tools.desk.records import Record, at_moment, now, sync_folder, write_safely
+from life_tools.scripts.lines import read_script, Fault
+from life_tools.tables.basis import is_basis_row
+
+# a file that was changed so lately may still be written
+YOUNG_SECONDS = 2
+AT_ONCE = 1 << 20
+BOOKS_OWN = ("journal.life", "checkpoint.life", "desk.toml")
+
+
+class Left(Exception):
+    """A file that is not claimed, and why; it stays where it is."""
+
+
+# --- who calls, and whose the file is ---
+
+def user_name(uid: int) -> str:
+    try:
+        return pwd.getpwuid(uid).pw_name
+    except KeyError:
+        return str(uid)
+
+
+def login() -> str:
+    """The login of the session, and where there is none, as under cron, the user."""
+    try:
+        return os.getlogin()
+    except OSError:
+        return getpass.getuser()
+
+
+def terminal() -> str | None:
+    for stream in (sys.stdin, sys.stderr, sys.stdout):
+        try:
+            return os.ttyname(stream.fileno())
+        except (OSError, ValueError, AttributeError):
+            continue
+    return None
+
+
+def caller() -> Record:
+    return {"login": login(), "user": user_name(os.geteuid()), "host": socket.gethostname(), "terminal": terminal(),
+            "process": os.getpid()}
+
+
+# --- which files are left where they are ---
+
+def is_being_written(path: str) -> bool:
+    """Whether a process has the file open for writing, as far as the system says: it gives a lease for reading only for a
+    file that none has so. Whoever asked is to ignore SIGIO."""
+    handle = os.open(path, os.O_RDONLY | os.O_NOFOLLOW | os.O_NONBLOCK)
+    try:
+        fcntl.fcntl(handle, fcntl.F_SETLEASE, fcntl.F_RDLCK)
+        fcntl.fcntl(handle, fcntl.F_SETLEASE, fcntl.F_UNLCK)
+        return False
+    except OSError as error:
+        return error.errno == errno.EAGAIN
+    finally:
+        os.close(handle)
+
+
+def demand_script(path: str, folder: str) -> None:
+    """Leaves what is no script: the book's own files, a basis, and all that is in `log/`."""
+    real, book = os.path.realpath(path), os.path.realpath(folder)
+    is_own = os.path.dirname(real) == book and os.path.basename(real) in BOOKS_OWN
+    if is_own or os.path.commonpath([real, os.path.join(book, "log")]) == os.path.join(book, "log"):
+        raise Left("it belongs to the book")
+    with open(path, "rb") as file:
+        rows = rows_in(file.read(1 << 16))
+    if rows and is_basis_row(rows[0]):
+        raise Left("its first row is that of a basis, not of a script")
+
+
+def demand_ready(path: str, folder: str) -> os.stat_result:
+    """The state of a file that may be claimed."""
+    try:
+        found = os.lstat(path)
+    except FileNotFoundError:
+        raise Left("it is not there") from None
+    if not stat.S_ISREG(found.st_mode):
+        raise Left("it is not a regular file")
+    if abs(time.time() - found.st_mtime) < YOUNG_SECONDS:
+        raise Left(f"it was changed less than {YOUNG_SECONDS} seconds ago and may still be written; the next run takes it")
+    if found.st_size == 0:
+        raise Left("it is empty")
+    demand_script(path, folder)
+    if is_being_written(path):
+        raise Left("a process still has it open for writing; the next run takes it")
+    return found
+
+
+# --- a claim ---
+
+def new_record(path: str, found: os.stat_result) -> Record:
+    at = now()
+    file = {"name": path, "path": os.path.abspath(path), "owner": user_name(found.st_uid),
+            "modified": at_moment(found.st_mtime), "bytes": found.st_size, "sha256": None}
+    return {"state": CLAIMING, "file": file, "caller": caller(), "times": {"claimed": at, "checked": None, "ended": None},
+            "refused_whole": None, "rows": 0, "accepted": [], "refused": [], "answered": [], "held": [], "runs": [],
+            "lost": [], "from": None}
+
+
+def claimed(path: str, folder: str, log: Log) -> Entry:
+    """The entry of a file, which is no more in the inbox; `Left` where it stays there."""
+    try:
+        found = demand_ready(path, folder)
+        entry = Entry(log.new_folder(now()[:10], os.path.splitext(os.path.basename(path))[0]), new_record(path, found))
+        entry.save()
+    except OSError as error:
+        raise Left(f"{error.strerror}: {error.filename or path}") from error
+    try:
+        take(entry)
+    except OSError as error:
+        finish_claims([entry])
+        raise Left(f"{error.strerror}: {error.filename or path}") from error
+    return entry
+
+
+def hidden_path(entry: Entry) -> str:
+    folder, name = os.path.split(entry.record["file"]["path"])
+    return os.path.join(folder, f".{name}.claimed-{entry.name}")
+
+
+def take(entry: Entry) -> None:
+    """Renames the file into the folder of the entry, or copies it there from another file system; and opens the entry."""
+    source, to = entry.record["file"]["path"], entry.path(HANDED_IN)
+    try:
+        os.rename(source, to)
+    except OSError as error:
+        if error.errno != errno.EXDEV:
+            raise
+        os.rename(source, hidden_path(entry))
+        move_from_hidden(entry)
+    sync_folder(entry.folder)
+    sync_folder(os.path.dirname(source))
+    open_entry(entry)
+
+
+def move_from_hidden(entry: Entry) -> None:
+    """Copies the file under its hidden name, makes the copy safe, compares both, and removes the hidden one."""
+    source, to = hidden_path(entry), entry.path(HANDED_IN)
+    part = entry.path(f".{HANDED_IN}.part")
+    shutil.copyfile(source, part)
+    with open(part, "rb") as file:
+        os.fsync(file.fileno())
+    if sum_of(part) != sum_of(source):
+        raise Wrong(f"{source} was changed while it was copied: {entry.shown} is taken up by the next run")
+    os.rename(part, to)
+    sync_folder(entry.folder)
+    os.remove(source)
+
+
+def sum_of(path: str) -> str:
+    found = hashlib.sha256()
+    with open(path, "rb") as file:
+        while part := file.read(AT_ONCE):
+            found.update(part)
+    return found.hexdigest()
+
+
+def open_entry(entry: Entry) -> None:
+    """Reads the claimed file for the first time: its checksum, and its rows, or the fault for which it is refused whole.
+    A file that a process still writes stays unread until the next run."""
+    path = entry.path(HANDED_IN)
+    if is_being_written(path):
+        raise Left(f"a process still writes it; it lies in {entry.shown}, and the next run reads it")
+    data = b"" if os.path.getsize(path) > MOST_SCRIPT_BYTES else bytes_of(path)
+    record = entry.record
+    record["file"].update(bytes=os.path.getsize(path), sha256=hashlib.sha256(data).hexdigest() if data else sum_of(path))
+    read = read_script(data) if data else Fault(None, 0, f"at most {MOST_SCRIPT_BYTES} bytes")
+    if isinstance(read, Fault):
+        record["refused_whole"] = read.answer
+        record["why"] = f"{read.wanted} is wanted, and found is {read.found!r}"
+    else:
+        record["rows"] = len(read)
+    record["state"] = OPEN
+    entry.save()
+
+
+# --- claims that were interrupted ---
+
+def clear_unbegun(log: Log) -> None:
+    """Takes away folders without an `entry.json`, for which nothing was claimed yet."""
+    for name in log.names():
+        folder = os.path.join(log.path, name)
+        if not NAMED.fullmatch(name) or os.path.exists(os.path.join(folder, DONE)) or os.path.exists(os.path.join(folder, ENTRY)):
+            continue
+        if not os.path.exists(os.path.join(folder, HANDED_IN)):
+            shutil.rmtree(folder)
+            sync_folder(log.path)
+
+
+def finish_claims(entries: Iterable[Entry]) -> list[Entry]:
+    """Finishes claims that were interrupted; of a file that still lies in the inbox, or was taken away from there by
+    somebody else, the entry goes away again."""
+    kept = []
+    for entry in entries:
+        if entry.record["state"] != CLAIMING:
+            kept.append(entry)
+            continue
+        if not os.path.exists(entry.path(HANDED_IN)) and os.path.exists(hidden_path(entry)):
+            move_from_hidden(entry)
+        if os.path.exists(entry.path(HANDED_IN)):
+            open_entry(entry)
+            kept.append(entry)
+        else:
+            shutil.rmtree(entry.folder)
+            sync_folder(os.path.dirname(entry.folder))
+    return kept
+
+
+def is_added_to(entry: Entry) -> bool:
+    """Whether the claimed file was written to after it was read, where the system could not say that it was still open."""
+    file = entry.record["file"]
+    return os.path.getsize(entry.path(HANDED_IN)) != file.get("taken_up", file["bytes"])
+
+
+def requeued(entry: Entry, log: Log) -> Entry:
+    """A new entry of what was added to a claimed file after it was read."""
+    data = bytes_of(entry.path(HANDED_IN))
+    size = entry.record["file"].get("taken_up", entry.record["file"]["bytes"])
+    if len(data) <= size or not data.startswith(entry.handed_in()):
+        raise Wrong(f"{entry.path(HANDED_IN)} was changed after it was claimed and read: compare it with {entry.shown}/entry.json")
+    file = entry.record["file"]
+    record = {**new_record(file["name"], os.stat(entry.path(HANDED_IN))), "added_to": entry.name}
+    made = Entry(log.new_folder(now()[:10], f"added-to-{entry.number}"), record)
+    record["file"]["path"] = made.path("added")
+    made.save()
+    write_safely(made.path(HANDED_IN), data[size:])
+    entry.record["file"]["taken_up"] = len(data)
+    open_entry(made)
+    return made

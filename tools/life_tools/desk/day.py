@@ -1,0 +1,317 @@
+"""The work of a `day`: what was interrupted is finished, files are claimed, looked over and posted, and what came of each of
+their rows is kept and reported."""
+from __future__ import annotations
+
+import datetime
+import os
+from dataclasses import dataclass
+from typing import Iterable, Sequence
+
+from life_tools.common.formats import MOST_COMMANDS, Wrong, demand, remark
+from life_tools.desk.claiming import Left, claimed, clear_unbegun, finish_claims, is_added_to, requeued
+from life_tools.desk.entries import BEGUN, ENDED, FULL_ROWS, OPEN, REMARKS, TRANSCRIPT, Entry, Log, Run
+from life_tools.desk.holding import Holder, waiting_in
+from life_tools.desk.plausibility import NetPremiums
+from life_tools.desk.reckoning import Reckoned, commands_between, reckoned
+from life_tools.desk.records import now, write_safely
+from life_tools.desk.releases import mark_released
+from life_tools.desk.reporting import HEAD, held_text, refused_text, row_of, shown
+from life_tools.desk.running import (REFUSED_STATUSES, Program, chosen, count_of, new_run, refused_rows, rows_of,
+                                      run_when_free, script_of)
+from life_tools.desk.settings import Settings
+from life_tools.desk.stopping import Stopping
+from life_tools.desk.waiting import Patience, wait_for_journal
+from life_tools.journal.copied_folder import JOURNAL
+from life_tools.journal.wholeness import DAMAGED, beside, log_count, shape_with
+
+# so many rows of a file are shown; the others stand in its folder
+MOST_SHOWN = 20
+YEAR = 365
+
+
+@dataclass(frozen=True)
+class Asked:
+    """What `day` was asked for."""
+
+    folder: str
+    files: Sequence[str]
+    is_new: bool
+    today: datetime.date
+    settings: Settings
+
+
+class Day:
+    """The work on one book, under the lock of its log."""
+
+    def __init__(self, asked: Asked, program: Program, patience: Patience, stop: Stopping) -> None:
+        self.asked, self.program, self.patience, self.stop = asked, program, patience, stop
+        self.journal = os.path.join(asked.folder, JOURNAL)
+        self.log = Log(asked.folder)
+        self.nets = NetPremiums(asked.folder, program.basis)
+        self.entries: dict[str, Entry] = {}
+        # what was held before, and what this `day` worked on, by the entries' names
+        self.worked: set[str] = set()
+        self.status = 0
+
+    def say(self, text: str) -> None:
+        """A line on standard error about something that a person has to know."""
+        remark(f"day: {text}")
+        self.status = 1
+
+    # --- the whole ---
+
+    def work(self) -> int:
+        self.demand_book()
+        if not self.is_whole():
+            return 1
+        self.finish_runs()
+        self.finish_entries()
+        for path in self.asked.files:
+            self.claim(path)
+        self.post()
+        self.report()
+        return self.status
+
+    def demand_book(self) -> None:
+        """A journal is begun only where that was asked for, and never in the place of one that was there."""
+        noted, folder = log_count(self.log.path) or 0, os.path.abspath(self.asked.folder)
+        if os.path.lexists(self.journal):
+            demand(os.path.isfile(self.journal), f"{self.journal} is not a file: nothing was done")
+            demand(not self.asked.is_new, f"there is a journal.life in {folder}, and --new begins one: leave --new out")
+            return
+        demand(not noted, f"the log in {folder} is that of a book of {noted} postings, whose journal.life is not there: put it "
+               "back, or restore it from a backup")
+        demand(self.asked.is_new or self.log.newest_run(), f"there is no journal.life in {folder}: `life-tools day --new` "
+               "begins a book")
+
+    def is_whole(self) -> bool:
+        """Whether the book may be written to: nothing of it shows to be gone."""
+        if not os.path.exists(self.journal):
+            return True
+        wait_for_journal(self.journal, self.patience)
+        shape = shape_with(self.journal, *beside(self.journal))
+        is_explained = self.open_run() is not None
+        if shape.verdict == DAMAGED or not is_explained:
+            for reason in shape.reasons():
+                self.say(reason)
+        if shape.verdict == DAMAGED:
+            self.say(f"{self.journal} is damaged, so nothing is posted: keep it aside, and restore a backup; after that "
+                     "`life-tools day --restored` posts anew what the backup lacks")
+        return shape.verdict != DAMAGED
+
+    # --- what was interrupted ---
+
+    def open_run(self) -> Run | None:
+        run = self.log.newest_run()
+        return run if run and run.record["state"] == BEGUN else None
+
+    def finish_runs(self) -> None:
+        run = self.open_run()
+        if run is None:
+            return
+        files = ", ".join(self.entry(lane["entry"]).file for lane in run.record["lanes"])
+        found = self.settle(run, None)
+        rows = sum(len(lane["rows"]) for lane in run.record["lanes"])
+        said = f"run {run.number} of {files}, begun {run.record['begun']}, was interrupted"
+        places = f" as positions {min(found.accepted.values())} to {max(found.accepted.values())}" if found.accepted else ""
+        self.say(f"{said}: {len(found.accepted)} of its {rows} rows were posted{places}, {len(found.refused)} were refused")
+        self.say(f"the other {len(found.left)} rows are posted now" if found.left else "nothing of it is left to post")
+
+    def finish_entries(self) -> None:
+        """Takes up the entries that are not done: claims, releases and rows that were interrupted."""
+        clear_unbegun(self.log)
+        for entry in self.log.undone():
+            try:
+                kept = finish_claims([self.entries.get(entry.name, entry)])
+            except Left as left:
+                self.say(f"{entry.file}: {left}")
+                continue
+            for each in kept:
+                self.entries[each.name] = each
+                mark_released(each, self.entry)
+                each.write_marks()
+
+    def entry(self, name: str) -> Entry:
+        if name not in self.entries:
+            self.entries[name] = self.log.entry(name)
+        return self.entries[name]
+
+    # --- claiming ---
+
+    def claim(self, path: str) -> None:
+        try:
+            entry = claimed(path, self.asked.folder, self.log)
+        except Left as left:
+            self.say(f"{shown(path)} is left where it is: {left}")
+            return
+        self.entries[entry.name] = entry
+
+    # --- posting ---
+
+    def pending(self) -> list[Entry]:
+        entries = sorted(self.entries.values(), key=lambda entry: entry.number)
+        return [entry for entry in entries if entry.record["state"] == OPEN]
+
+    def post(self) -> None:
+        """Posts what is to be posted, run after run, until nothing is left or a run ends badly."""
+        for entry in self.pending():
+            if not entry.left:
+                self.worked.add(entry.name)
+                entry.close(now())
+        while pending := self.pending():
+            batch = chosen(pending)
+            self.worked.update(entry.name for entry in batch)
+            self.hold(batch)
+            batch = [entry for entry in batch if entry.left]
+            if batch and not self.run(batch):
+                left = len(self.pending())
+                self.say(f"nothing more is posted; {left} files wait in log/, and the next `day` goes on with them")
+                return
+
+    def hold(self, batch: Iterable[Entry]) -> None:
+        """Holds rows for a person, and closes the entries of which nothing is left to post."""
+        waiting = waiting_in(sorted(self.entries.values(), key=lambda entry: entry.number))
+        holder = Holder(self.asked.today, self.asked.settings, self.nets, waiting)
+        holder.read(self.journal, count_of(self.journal), batch)
+        for entry in batch:
+            holder.hold(entry)
+            entry.record["times"]["checked"] = now()
+            entry.close(now())
+        if self.nets.missing and any(line.kind == "issue" for entry in batch for line in entry.left):
+            self.say(f"premiums of issues are not compared with net premiums: {self.nets.missing}")
+
+    def run(self, batch: list[Entry]) -> bool:
+        """Posts the rows of up to eight entries; whether all of them were answered."""
+        if not self.is_whole():
+            return False
+        with self.stop.posting():
+            run = new_run(self.log, batch, count_of(self.journal), self.program.file)
+            self.tell_lanes(run, batch)
+            status = run_when_free(self.program, run, self.journal, self.patience, self.stop)
+            if status in REFUSED_STATUSES:
+                self.refuse(run)
+            found = self.settle(run, status)
+        is_ended = not found.left or status in REFUSED_STATUSES
+        if not is_ended or status not in (0, *REFUSED_STATUSES):
+            self.tell_end(run, status, found)
+        return is_ended and not self.stop.caught
+
+    def tell_lanes(self, run: Run, batch: Sequence[Entry]) -> None:
+        lanes = [f"lane {lane} is {entry.file}" for lane, entry in enumerate(batch, 1)]
+        if any(line.lane != lane for lane, entry in enumerate(batch, 1) for line in entry.left):
+            remark(f"day: run {run.number}: {'; '.join(lanes)}: the lane field of each row is rewritten so")
+
+    def refuse(self, run: Run) -> None:
+        """Notes the rows for which the program refused the whole script; the others are posted by the next run."""
+        rows, answer = rows_of(run), run.transcript().strip()
+        for row in refused_rows(script_of(run), answer):
+            name, mine = rows[row]
+            self.entry(name).record["refused"].append([mine, answer])
+        for lane in run.record["lanes"]:
+            self.entry(lane["entry"]).save()
+
+    def settle(self, run: Run, status: int | None) -> Reckoned:
+        """Finds out what became of each row of a run, and notes it in its entries; what is noted already stays."""
+        before, count = run.record["before"], count_of(self.journal)
+        records = commands_between(self.journal, before, count)
+        found = reckoned(script_of(run), run.transcript(), records, before)
+        rows, at = rows_of(run), now()
+        for lane in run.record["lanes"]:
+            entry = self.entry(lane["entry"])
+            self.worked.add(entry.name)
+            if all(each["run"] != run.number for each in entry.record["runs"]):
+                self.note(entry, lane["lane"], run, found, {row: mine for row, (name, mine) in rows.items() if name == entry.name},
+                          {"after": count, "status": status, "ended": at})
+        run.record.update(state=ENDED, after=count, status=status, ended=at, foreign=found.foreign, stopped=self.stop.caught)
+        run.save()
+        if found.foreign:
+            self.say(f"{found.foreign} postings behind position {before} are not of run {run.number}: another run posted them")
+        return found
+
+    def note(self, entry: Entry, lane: int, run: Run, found: Reckoned, rows: dict[int, int], end: dict[str, object]) -> None:
+        """Notes in an entry what became of its rows, in one write."""
+        record = entry.record
+        for name, answers in (("accepted", found.accepted), ("refused", found.refused), ("answered", found.answered)):
+            record[name] += [[mine, answers[row]] for row, mine in rows.items() if row in answers]
+        runs = [*record["runs"], {"run": run.number, "lane": lane, "begun": run.record["begun"], "before": run.record["before"],
+                                  "sha256": run.record["sha256"], **end}]
+        text = "".join(lane_text(self.log.run(each["run"]).transcript(), each["lane"]) for each in runs)
+        write_safely(entry.path(TRANSCRIPT), text.encode("ascii", "replace"))
+        full = [line.row.text for line in entry.lines if [line.row.number, f"full,{MOST_COMMANDS}"] in record["refused"]] \
+            if any(words.startswith("full,") for words in found.refused.values()) else []
+        if full:
+            write_safely(entry.path(FULL_ROWS), "".join(f"{text}\n" for text in full).encode("utf-8", "surrogateescape"))
+        record["runs"] = runs
+        if is_added_to(entry):
+            added = requeued(entry, self.log)
+            self.entries[added.name] = added
+            self.say(f"{entry.file} was written to after it was claimed: what was added is {added.shown}")
+        entry.close(str(end["ended"]))
+
+    def tell_end(self, run: Run, status: int, found: Reckoned) -> None:
+        how = f"was ended by signal {-status}" if status < 0 else f"ended with status {status}"
+        printed = run.transcript().splitlines()
+        with open(run.path(REMARKS), encoding="utf-8", errors="replace") as file:
+            said = [*(printed[:1] if not found.accepted else []), *file.read().splitlines()]
+        self.say(f"run {run.number} {how}; {len(found.accepted)} rows were posted, {len(found.left)} are left"
+                 + "".join(f"; it printed: {shown(line)}" for line in said[:3]))
+
+    # --- what is reported ---
+
+    def report(self) -> None:
+        entries = sorted(self.entries.values(), key=lambda entry: entry.number)
+        worked = [entry for entry in entries if entry.name in self.worked]
+        if worked:
+            print("\n".join([HEAD, *(row_of(entry) for entry in worked)]), flush=True)
+        for entry in worked:
+            self.tell_entry(entry)
+        for entry in entries:
+            if entry not in worked and entry.held:
+                self.say(f"{entry.shown}: {len(entry.held)} rows of {entry.file} wait for a person since {entry.name[7:17]}: "
+                         f"`life-tools day --release {entry.number}` posts them, --discard puts them away")
+        self.tell_room()
+
+    def tell_entry(self, entry: Entry) -> None:
+        if entry.record["refused_whole"]:
+            self.say(f"{entry.file} is refused whole, {entry.record['refused_whole']}, so nothing of it is posted: "
+                     f"{entry.record['why']}. Correct a copy of {entry.shown}/handed-in.csv, and hand it in")
+            return
+        lines = {line.row.number: line for line in entry.lines}
+        refused = [refused_text(entry, lines[row], words) for row, words in entry.record["refused"]]
+        held = [held_text(entry, each) for each in entry.held]
+        for texts, what in ((refused, "refused"), (held, "held")):
+            for text in texts[:MOST_SHOWN]:
+                self.say(text)
+            if len(texts) > MOST_SHOWN:
+                self.say(f"{entry.file}: {len(texts) - MOST_SHOWN} more rows are {what}: {entry.shown}")
+        if held:
+            self.say(f"look at the held rows; `life-tools day --release {entry.number}` posts them, --discard puts them away")
+
+    def tell_room(self) -> None:
+        """How many commands are left, where the book may be full within a year."""
+        count = count_of(self.journal)
+        if (MOST_COMMANDS - count) > 4 * count:
+            return
+        from life_tools.books.headroom import recorded_in_log, room_of
+        from life_tools.journal.columns import columns_at
+        from life_tools.rules.commands import number_at
+
+        today = number_at(self.asked.today)
+        try:
+            room = room_of(columns_at(self.journal), recorded_in_log(self.log.path), today)
+        except Wrong as wrong:
+            self.say(str(wrong))
+            return
+        for warning in room.warnings(today, 0, YEAR):
+            self.say(f"{self.journal}: {warning}")
+
+
+def lane_text(transcript: str, lane: int) -> str:
+    """The lines of a transcript that answer one lane, with the rows of its valuations."""
+    found, is_mine = [], False
+    for line in transcript.splitlines():
+        if not line.startswith(("row,", "total,")):
+            is_mine = line.startswith(f"{lane},")
+        if is_mine:
+            found.append(f"{line}\n")
+    return "".join(found)

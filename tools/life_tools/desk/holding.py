@@ -1,0 +1,120 @@
+"""Which rows of an entry are held for a person, by the book that they meet.
+
+A posting is recognised by what it says: line ends, a byte order mark and quotes make no difference. Held is
+
+- a row that equals a posting of the journal or a row above it, with the position or the line; a premium that equals one is
+  left to the rules, which refuse it until the next is due;
+- an issue that is not plausible, and one whose number is in use;
+- a row of a day that hasn't come, or far from what came before it;
+- and each later row of a number of which a row is held.
+
+Valuations and trims are never held.
+"""
+from __future__ import annotations
+
+import datetime
+import os
+from typing import Iterable
+
+from life_tools.desk.entries import HELD, Entry
+from life_tools.desk.plausibility import NetPremiums, Why, doubtful_issue
+from life_tools.desk.records import Record
+from life_tools.desk.settings import DAY, EQUAL, NUMBER, POLICY, Settings
+from life_tools.journal.blocks import mapped
+from life_tools.rules.commands import Command
+from life_tools.rules.policies import Refusal
+from life_tools.scripts.lines import Line
+from life_tools.scripts.warnings import FAR, Desk, came_before
+
+
+class Holder:
+    """Looks at entries in the order in which they are posted."""
+
+    def __init__(self, today: datetime.date, settings: Settings, nets: NetPremiums, waiting: dict[int, str]) -> None:
+        self.settings, self.nets = settings, nets
+        self.desk = Desk(today)
+        # of each policy of which a row is held, the entry that holds it
+        self.waiting = waiting
+        # the rows above, which have no position yet
+        self.above: dict[Command, str] = {}
+
+    def read(self, journal: str, count: int, entries: Iterable[Entry]) -> None:
+        """Takes what the policies of these entries have in the journal."""
+        numbers = {line.command.number for entry in entries for line in entry.left if line.command}
+        if not count or not numbers or not os.path.exists(journal):
+            return
+        # numpy takes a tenth of a second, which a desk without a book spares
+        from life_tools.journal.records import places_in, upgrade_in
+
+        with mapped(journal, count) as data:
+            self.desk.read(data, upgrade_in(data, count), places_in(data, count, numbers).tolist())
+
+    def hold(self, entry: Entry) -> list[Record]:
+        """Holds rows of an entry that are still to be posted; says which. What a person released is not looked at again."""
+        found = []
+        for line in entry.left:
+            command = line.command
+            if command is None:
+                continue
+            why = None if entry.is_release else self.why(command)
+            if why:
+                self.waiting.setdefault(command.number, entry.shown)
+                found.append(held_row(line, command, why))
+            else:
+                self.pass_on(command, f"line {line.row.line} of {entry.file}")
+        entry.record["held"] += found
+        return found
+
+    def why(self, command: Command) -> Why | None:
+        """Why a row is held, if it is."""
+        if command.kind == "upgrade":
+            return None
+        if command.number in self.waiting:
+            return POLICY, f"a row of policy {command.number} is held in {self.waiting[command.number]}"
+        return self.equal(command) or self.doubtful(command)
+
+    def equal(self, command: Command) -> Why | None:
+        if command.kind == "premium":
+            return None
+        position = self.desk.positions.get(command)
+        if position:
+            return EQUAL, f"it equals the posting of position {position}"
+        return (EQUAL, f"it equals {self.above[command]}") if command in self.above else None
+
+    def doubtful(self, command: Command) -> Why | None:
+        desk = self.desk
+        policy = desk.book.policies.get(command.number)
+        if command.kind == "issue":
+            if policy:
+                return NUMBER, f"number {command.number} is in use"
+            return doubtful_issue(command, desk.today, self.nets, self.settings)
+        if command.on > desk.today:
+            return DAY, f"its day is after today, {desk.today}"
+        if policy is None:
+            return None
+        before, what = came_before(command, policy)
+        if abs(command.on - before) > FAR:
+            return DAY, f"its day is {abs((command.on - before).days)} days from {what or 'the day'} {before}"
+        return None
+
+    def pass_on(self, command: Command, where: str) -> None:
+        """Keeps a row that is posted, and the policy as the rules leave it."""
+        self.above.setdefault(command, where)
+        if command.kind == "upgrade":
+            self.desk.book.upgrade = self.desk.book.upgrade or 1
+        elif not isinstance(self.desk.book.judge(command), Refusal):
+            self.desk.take(command, 0)
+
+
+def held_row(line: Line, command: Command, why: Why) -> Record:
+    return {"row": line.row.number, "line": line.row.line, "policy": command.number, "text": line.row.text,
+            "reason": why[0], "why": why[1], "state": HELD}
+
+
+def waiting_in(entries: Iterable[Entry]) -> dict[int, str]:
+    """Of each policy of which a row is held, the first entry that holds one."""
+    waiting: dict[int, str] = {}
+    for entry in entries:
+        for each in entry.held:
+            waiting.setdefault(each["policy"], entry.shown)
+    return waiting

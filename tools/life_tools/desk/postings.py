@@ -1,0 +1,121 @@
+"""Who posted what, when, from which file, and who released it: the accepted rows of all entries, beside the journal."""
+from __future__ import annotations
+
+import os
+from dataclasses import dataclass
+from typing import Iterable, Iterator
+
+from life_tools.desk.entries import Entry, Log
+from life_tools.desk.records import Record
+from life_tools.desk.reporting import quoted
+from life_tools.journal.blocks import mapped
+from life_tools.journal.file import gate_of
+from life_tools.rules.commands import Command, body_of, command_in, words_of
+from life_tools.scripts.lines import Line
+
+HEAD = "position,kind,policy,day,file,line,owner,posted_by,host,posted_at,released_by,why,entry"
+
+
+@dataclass(frozen=True)
+class Posting:
+    """An accepted row: its position, its entry, its line there, and the run that posted it."""
+
+    position: int
+    entry: Entry
+    line: Line
+    run: Record
+
+    @property
+    def command(self) -> Command:
+        return self.line.posted
+
+    @property
+    def line_handed_in(self) -> int:
+        """The line of the file that was handed in; a released row stands elsewhere in its own entry."""
+        origin = self.entry.record["from"]
+        return int(origin["lines"][self.line.row.number - 1]) if origin else self.line.row.line
+
+    @property
+    def people(self) -> set[str]:
+        record, origin = self.entry.record, self.entry.record["from"] or {}
+        names = {record["file"]["owner"], record["caller"]["login"], origin.get("by"), origin.get("login")}
+        return {name for name in names if name}
+
+    def row(self) -> str:
+        record, origin = self.entry.record, self.entry.record["from"] or {}
+        command = self.command
+        fields = [str(self.position), command.kind, str(command.number or ""), str(command.day or ""), record["file"]["name"],
+                  str(self.line_handed_in), record["file"]["owner"], record["caller"]["login"], record["caller"]["host"],
+                  self.run["begun"], origin.get("by") or "", origin.get("because") or "", self.entry.shown]
+        return ",".join(map(quoted, fields))
+
+
+@dataclass(frozen=True)
+class Wanted:
+    """Which postings are asked for; None where it doesn't matter."""
+
+    position: int | None = None
+    policy: int | None = None
+    by: str | None = None
+    day: str | None = None
+
+    def may_have(self, entry: Entry) -> bool:
+        """Whether an entry may have such a posting, by its runs."""
+        runs = entry.record["runs"]
+        if self.position is not None and not any(run["before"] < self.position <= run["after"] for run in runs):
+            return False
+        return self.day is None or any(run["begun"].startswith(self.day) for run in runs)
+
+    def is_met(self, posting: Posting) -> bool:
+        return (self.position in (None, posting.position) and self.policy in (None, posting.command.number)
+                and (self.by is None or self.by in posting.people)
+                and (self.day is None or posting.run["begun"].startswith(self.day)))
+
+
+def postings_of(entry: Entry) -> Iterator[Posting]:
+    """The accepted rows of an entry, each with its run."""
+    lines = {line.row.number: line for line in entry.lines} if entry.record["accepted"] else {}
+    for row, position in entry.record["accepted"]:
+        run = next(each for each in entry.record["runs"] if each["before"] < position <= each["after"])
+        yield Posting(position, entry, lines[row], run)
+
+
+def found_in(log: Log, wanted: Wanted) -> list[Posting]:
+    """The postings that are asked for, in the order of their positions."""
+    found = [posting for entry in log.entries() if wanted.may_have(entry)
+             for posting in postings_of(entry) if wanted.is_met(posting)]
+    return sorted(found, key=lambda posting: posting.position)
+
+
+# --- beside the journal ---
+
+def differences(journal: str, count: int, postings: Iterable[Posting]) -> Iterator[str]:
+    """What the journal has otherwise than the log says."""
+    with mapped(journal, count) as data:
+        for posting in postings:
+            place = posting.position - 1
+            if posting.position > count:
+                yield (f"position {posting.position}, {','.join(words_of(posting.command))}, is accepted by {posting.entry.shown}, "
+                       f"and the journal has {count} postings")
+            elif data[gate_of(place) + 1:gate_of(place + 1)] != body_of(posting.command):
+                yield (f"position {posting.position} is {','.join(words_of(posting.command))} by {posting.entry.shown}, and the "
+                       "journal has another posting there")
+
+
+def positions_wanted(journal: str, count: int, wanted: Wanted) -> Iterator[int]:
+    """The positions of the journal that the log should name: of the position or policy that is asked for, or all of them."""
+    if wanted.by is not None or wanted.day is not None or not os.path.exists(journal):
+        return
+    if wanted.position is not None:
+        yield from [wanted.position] if wanted.position <= count else []
+    elif wanted.policy is not None:
+        from life_tools.journal.records import places_at
+
+        yield from (place + 1 for place in places_at(journal, count, [wanted.policy]))
+    else:
+        yield from range(1, count + 1)
+
+
+def command_at(journal: str, count: int, position: int) -> Command:
+    with mapped(journal, count) as data:
+        return command_in(data[gate_of(position - 1) + 1:gate_of(position)])

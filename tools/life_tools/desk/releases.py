@@ -1,0 +1,95 @@
+"""Rows that a person has looked at: released, they form an entry of their own; discarded, they are never posted."""
+from __future__ import annotations
+
+import os
+from typing import Callable, Iterable
+
+from life_tools.common.formats import Wrong, demand
+from life_tools.desk.claiming import caller, login, open_entry
+from life_tools.desk.entries import CLAIMING, DISCARDED, HANDED_IN, HELD, RELEASED, Entry, Log
+from life_tools.desk.records import Record, now, write_safely
+from life_tools.desk.settings import Settings
+
+
+def chosen_rows(entry: Entry, lines: Iterable[int]) -> list[Record]:
+    """The held rows of an entry: all of them, or those of these lines of its file."""
+    wanted = set(lines)
+    held = entry.held
+    unknown = wanted - {each["line"] for each in held}
+    demand(not unknown, f"line {', '.join(map(str, sorted(unknown)))} of {entry.file} is not held in {entry.shown}")
+    demand(held, f"no row of {entry.shown} is held")
+    return [each for each in held if not wanted or each["line"] in wanted]
+
+
+def demand_allowed(rows: Iterable[Record], name: str, settings: Settings) -> None:
+    for each in rows:
+        demand(settings.may_release(name, each["reason"]), f"{name} may not release line {each['line']} ({each['reason']}) by "
+               "desk.toml: nothing was done")
+
+
+def demand_oldest(entry: Entry, rows: list[Record], log: Log) -> None:
+    """Rows of a policy are released in the order in which they were handed in."""
+    policies = {each["policy"] for each in rows}
+    for other in log.undone():
+        earlier = [each for each in other.held if each["policy"] in policies] if other.number < entry.number else []
+        if earlier:
+            raise Wrong(f"an earlier row of policy {earlier[0]['policy']} is held in {other.shown}: release or discard that "
+                        "first; nothing was done")
+    first = {each["policy"]: each["row"] for each in reversed(entry.held) if each not in rows}
+    for each in rows:
+        if first.get(each["policy"], each["row"]) < each["row"]:
+            raise Wrong(f"an earlier row of policy {each['policy']} is held in {entry.shown}, too: release or discard that "
+                        "first; nothing was done")
+
+
+def judged(name: str, because: str | None) -> Record:
+    return {"by": name, "login": login(), "because": because, "at": now()}
+
+
+def released(log: Log, words: str, name: str, because: str | None, lines: Iterable[int], settings: Settings) -> Entry:
+    """The new entry of rows that a person releases; the entry from which they come says so."""
+    entry = log.named(words)
+    rows = chosen_rows(entry, lines)
+    demand_allowed(rows, name, settings)
+    demand_oldest(entry, rows, log)
+    folder = log.new_folder(now()[:10], f"release-of-{entry.number}")
+    record = {**entry.record, "state": CLAIMING, "caller": caller(),
+              "times": {"claimed": now(), "checked": None, "ended": None}, "accepted": [], "refused": [], "answered": [],
+              "held": [], "runs": [], "lost": [], "rows": len(rows),
+              "from": {"entry": entry.name, "rows": [each["row"] for each in rows],
+                       "lines": [each["line"] for each in rows], **judged(name, because)}}
+    # nothing lies in the inbox under this name, so an interrupted release is undone
+    record["file"] = {**entry.record["file"], "path": os.path.join(folder, "released")}
+    made = Entry(folder, record)
+    made.save()
+    text = "".join(f"{each['text']}\n" for each in rows)
+    write_safely(made.path(HANDED_IN), text.encode("utf-8", "surrogateescape"))
+    open_entry(made)
+    mark_released(made, log.entry)
+    return made
+
+
+def mark_released(entry: Entry, entry_named: Callable[[str], Entry]) -> None:
+    """Marks the rows of which a release was made, in the entry from which they come; once."""
+    origin = entry.record["from"]
+    if origin is None or entry.record["state"] == CLAIMING:
+        return
+    source = entry_named(origin["entry"])
+    rows = [each for each in source.record["held"] if each["row"] in origin["rows"] and each["state"] == HELD]
+    for each in rows:
+        each.update(state=RELEASED, entry=entry.name, **{key: origin[key] for key in ("by", "login", "because", "at")})
+    if rows:
+        source.save()
+        source.write_marks()
+
+
+def discarded(log: Log, words: str, name: str, because: str | None, lines: Iterable[int], settings: Settings) -> list[Record]:
+    """Rows that a person puts away; they are never posted, and later rows of their policies are no more held for them."""
+    entry = log.named(words)
+    rows = chosen_rows(entry, lines)
+    demand_allowed(rows, name, settings)
+    for each in rows:
+        each.update(state=DISCARDED, **judged(name, because))
+    entry.save()
+    entry.write_marks()
+    return rows

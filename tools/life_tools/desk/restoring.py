@@ -1,0 +1,58 @@
+"""After a journal was restored from a backup: the rows that it lacks and the log has are to be posted anew."""
+from __future__ import annotations
+
+import os
+import re
+
+from life_tools.common.formats import demand, remark
+from life_tools.desk.entries import BEGUN, DONE, OPEN, TRANSCRIPT, Entry, Log, Run
+from life_tools.desk.postings import Wanted, differences, found_in
+from life_tools.desk.records import now, write_safely
+from life_tools.journal.wholeness import shape_at
+
+
+ACCEPTED = re.compile(",accepted,([0-9]{1,7})$", re.MULTILINE)
+
+
+def reopened(entry: Entry, count: int) -> int:
+    """Makes the accepted rows behind a count rows that are still to be posted; how many they are."""
+    record = entry.record
+    lost = [each for each in record["accepted"] if each[1] > count]
+    if lost:
+        record["accepted"] = [each for each in record["accepted"] if each[1] <= count]
+        record["lost"] += [[row, position, now()] for row, position in lost]
+        record["runs"] = [{**run, "after": min(run["after"], count)} for run in record["runs"] if run["before"] < count]
+        record["state"] = OPEN
+        if os.path.exists(entry.path(DONE)):
+            os.remove(entry.path(DONE))
+        entry.save()
+        entry.write_marks()
+    return len(lost)
+
+
+def cut(run: Run, count: int) -> None:
+    """Of a run that was interrupted the answers behind a count are void: its transcript ends before the first of them."""
+    kept = []
+    for line in run.transcript().splitlines(keepends=True):
+        found = ACCEPTED.search(line)
+        if found and int(found[1]) > count:
+            break
+        kept.append(line)
+    write_safely(run.path(TRANSCRIPT), "".join(kept).encode("ascii", "replace"))
+
+
+def restored(log: Log, journal: str) -> None:
+    """Opens each entry anew of which the journal lacks postings; nothing is done where the journal isn't a prefix of what the
+    log has."""
+    demand(os.path.isfile(journal), f"there is no {journal}: put the backup in place first")
+    count = shape_at(journal).count
+    wrong = next(differences(journal, count, (each for each in found_in(log, Wanted()) if each.position <= count)), None)
+    demand(not wrong, f"{journal} is not an earlier state of this book: {wrong}; nothing was done")
+    rows = sum(reopened(entry, count) for entry in log.entries())
+    run = log.newest_run()
+    if run and run.record["state"] == BEGUN:
+        cut(run, count)
+    elif run and run.record["after"] > count:
+        run.record["after"] = count
+        run.save()
+    remark(f"day: the journal was restored to {count} postings; {rows} rows that were posted since are posted anew")

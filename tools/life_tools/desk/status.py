@@ -1,0 +1,44 @@
+"""What `day --status` reports: what is unfinished, what is held, and who is at work; nothing is changed."""
+from __future__ import annotations
+
+import os
+
+from life_tools.common.formats import demand, remark
+from life_tools.common.locks import holder_of
+from life_tools.desk.entries import BEGUN, CLAIMING, LOCK, OPEN, Entry, Log
+from life_tools.desk.reporting import HEAD, held_text, row_of
+
+
+def lines_of(entry: Entry) -> list[str]:
+    """What is said of an entry that is not done."""
+    state = entry.record["state"]
+    if state == CLAIMING:
+        return [f"{entry.shown}: the claim of {entry.file} was interrupted; the next `day` finishes it"]
+    said = [held_text(entry, each) for each in entry.held]
+    if said:
+        said.append(f"`life-tools day --release {entry.number}` posts the held rows of {entry.file}, --discard puts them away")
+    if state == OPEN:
+        said.append(f"{entry.shown}: {len(entry.left)} rows of {entry.file} are still to be posted; the next `day` goes on")
+    return said
+
+
+def report(log: Log, journal: str) -> int:
+    """Reports it: 1, or 0 where nothing is unfinished or held."""
+    demand(os.path.isdir(log.path), f"there is no {log.path}: `life-tools day` makes it")
+    said = []
+    for path, what in ((os.path.join(log.path, LOCK), "a `day` is at work"), (journal, "journal.life is in use")):
+        holder = holder_of(path)
+        if holder:
+            said.append(f"{what}: {holder}")
+    run = log.newest_run()
+    if run and run.record["state"] == BEGUN:
+        said.append(f"run {run.number}, begun {run.record['begun']} on a book of {run.record['before']} postings, has not ended "
+                    "or was interrupted; the next `day` finds out what was posted, and goes on")
+    entries = log.undone()
+    said += [line for entry in entries for line in lines_of(entry)]
+    rows = [row_of(entry) for entry in entries if entry.record["state"] != CLAIMING]
+    if rows:
+        print("\n".join([HEAD, *rows]), flush=True)
+    for line in said:
+        remark(f"day: {line}")
+    return 1 if said or entries else 0

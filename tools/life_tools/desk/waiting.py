@@ -1,0 +1,73 @@
+"""Waiting: for another `day` of the folder, and for a run that has the journal. Each wait says what it waits for."""
+from __future__ import annotations
+
+import fcntl
+import os
+import time
+from typing import Callable
+
+from life_tools.common.formats import Wrong, remark
+from life_tools.common.locks import holder_of
+
+LOOK_EVERY = 0.2
+
+
+class Patience:
+    """So many seconds in all, whatever is waited for."""
+
+    def __init__(self, seconds: float) -> None:
+        self.seconds, self.until = seconds, time.monotonic() + seconds
+        self.told: str | None = None
+
+    @property
+    def is_over(self) -> bool:
+        return time.monotonic() >= self.until
+
+    def wait(self, why: Callable[[], str | None]) -> str | None:
+        """Waits until nothing is in the way; returns what still is at the end of the time."""
+        while found := why():
+            if self.is_over:
+                return found
+            if found != self.told:
+                remark(f"day: waiting: {found}")
+                self.told = found
+            time.sleep(LOOK_EVERY)
+        return None
+
+
+def is_alive(holder: str) -> bool:
+    return os.path.exists(os.path.join("/proc", holder.rpartition(" ")[2]))
+
+
+def lock_log(path: str, patience: Patience) -> int:
+    """The lock of `log/`, which the program of a run keeps too: as long as that goes on, no other `day` takes up its rows."""
+    handle = os.open(path, os.O_RDWR | os.O_CREAT | os.O_CLOEXEC, 0o666)
+
+    def why() -> str | None:
+        try:
+            fcntl.flock(handle, fcntl.LOCK_EX | fcntl.LOCK_NB)
+            return None
+        except BlockingIOError:
+            holder = holder_of(path)
+            if holder and is_alive(holder):
+                return f"another `day`, {holder}, works on this book"
+            return "the run of a `day` that was killed still goes on in this book"
+
+    found = patience.wait(why)
+    if found:
+        os.close(handle)
+        raise Wrong(f"{found}, and still did after {patience.seconds:g} seconds; nothing was done: try again later, or wait "
+                    "longer by --wait SECONDS")
+    return handle
+
+
+def wait_for_journal(journal: str, patience: Patience) -> None:
+    """Waits until no run has the journal, as far as the system says; `Wrong` at the end of the time."""
+    def why() -> str | None:
+        holder = holder_of(journal)
+        return f"{journal} is in use by {holder}" if holder else None
+
+    found = patience.wait(why)
+    if found:
+        raise Wrong(f"{found}, and still was after {patience.seconds:g} seconds; nothing was posted: try again later, or wait "
+                    "longer by --wait SECONDS")
