@@ -26,7 +26,7 @@ import datetime
 import glob
 import os
 
-from life_tools.common.formats import MOST_COMMANDS, Wrong, day_in, demand, number_of, remark
+from life_tools.common.formats import Wrong, day_in, demand, number_of, remark
 from life_tools.common.packages import stay
 from life_tools.desk.claiming import login
 from life_tools.desk.day import Asked, Day
@@ -52,8 +52,8 @@ def arguments(parser: argparse.ArgumentParser) -> None:
     what.add_argument("--status", action="store_true", help="only report what is unfinished or held")
     what.add_argument("--release", metavar="ENTRY", help="post the held rows of an entry, named by its number or folder")
     what.add_argument("--discard", metavar="ENTRY", help="put the held rows of an entry away; they are never posted")
-    what.add_argument("--restored", action="store_true", help="after the journal was restored from a backup: post anew what it "
-                      "lacks and the log has")
+    what.add_argument("--restored", action="store_true", help="after a backup was put in place: post anew what it lacks and the "
+                      "log has")
     parser.add_argument("--by", metavar="NAME", help="who releases or discards (the login)")
     parser.add_argument("--why", metavar="TEXT", help="why; it is kept with the rows")
     parser.add_argument("--line", metavar="N", action="append", default=[], help="release or discard only the row of this line "
@@ -77,7 +77,8 @@ def files_in(options: argparse.Namespace) -> list[str]:
 
 def demand_right(options: argparse.Namespace) -> None:
     is_judged = options.release or options.discard
-    demand(is_judged or not (options.by or options.why or options.line), "--by, --why and --line belong to --release or --discard")
+    is_free = not (options.by or options.why or options.line)
+    demand(is_judged or is_free, "--by, --why and --line belong to --release or --discard")
 
 
 def lines_in(options: argparse.Namespace) -> list[int]:

@@ -234,20 +234,24 @@ def finish_claims(entries: Iterable[Entry]) -> list[Entry]:
 
 def is_added_to(entry: Entry) -> bool:
     """Whether the claimed file was written to after it was read, where the system could not say that it was still open."""
+    return os.path.getsize(entry.path(HANDED_IN)) != seen_bytes(entry)
+
+
+def seen_bytes(entry: Entry) -> int:
+    """How many bytes of the claimed file were taken up, here or in other entries."""
     file = entry.record["file"]
-    return os.path.getsize(entry.path(HANDED_IN)) != file.get("taken_up", file["bytes"])
+    return int(file.get("taken_up", file["bytes"]))
 
 
 def requeued(entry: Entry, log: Log) -> Entry:
     """A new entry of what was added to a claimed file after it was read."""
-    data = bytes_of(entry.path(HANDED_IN))
-    size = entry.record["file"].get("taken_up", entry.record["file"]["bytes"])
+    path = entry.path(HANDED_IN)
+    data, size = bytes_of(path), seen_bytes(entry)
     if len(data) <= size or not data.startswith(entry.handed_in()):
-        raise Wrong(f"{entry.path(HANDED_IN)} was changed after it was claimed and read: compare it with {entry.shown}/entry.json")
-    file = entry.record["file"]
-    record = {**new_record(file["name"], os.stat(entry.path(HANDED_IN))), "added_to": entry.name}
+        raise Wrong(f"{path} was changed after it was claimed and read: compare it with the SHA-256 in {entry.shown}/entry.json")
+    record = {**new_record(entry.file, os.stat(path)), "added_to": entry.name}
     made = Entry(log.new_folder(now()[:10], f"added-to-{entry.number}"), record)
-    record["file"]["path"] = made.path("added")
+    made.record["file"]["path"] = made.path("added")
     made.save()
     write_safely(made.path(HANDED_IN), data[size:])
     entry.record["file"]["taken_up"] = len(data)

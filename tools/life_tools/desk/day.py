@@ -13,11 +13,11 @@ from life_tools.desk.entries import BEGUN, ENDED, FULL_ROWS, OPEN, REMARKS, TRAN
 from life_tools.desk.holding import Holder, waiting_in
 from life_tools.desk.plausibility import NetPremiums
 from life_tools.desk.reckoning import Reckoned, commands_between, reckoned
-from life_tools.desk.records import now, write_safely
+from life_tools.desk.records import Record, now, write_safely
 from life_tools.desk.releases import mark_released
 from life_tools.desk.reporting import HEAD, held_text, refused_text, row_of, shown
-from life_tools.desk.running import (REFUSED_STATUSES, Program, chosen, count_of, new_run, refused_rows, rows_of,
-                                      run_when_free, script_of)
+from life_tools.desk.running import (REFUSED_STATUSES, Program, chosen, count_of, new_run, refused_rows, rows_of, run_when_free,
+                                     script_of)
 from life_tools.desk.settings import Settings
 from life_tools.desk.stopping import Stopping
 from life_tools.desk.waiting import Patience, wait_for_journal
@@ -220,27 +220,27 @@ class Day:
             entry = self.entry(lane["entry"])
             self.worked.add(entry.name)
             if all(each["run"] != run.number for each in entry.record["runs"]):
-                self.note(entry, lane["lane"], run, found, {row: mine for row, (name, mine) in rows.items() if name == entry.name},
-                          {"after": count, "status": status, "ended": at})
+                mine = {row: own for row, (name, own) in rows.items() if name == entry.name}
+                self.note(entry, lane["lane"], run, found, mine, {"after": count, "status": status, "ended": at})
         run.record.update(state=ENDED, after=count, status=status, ended=at, foreign=found.foreign, stopped=self.stop.caught)
         run.save()
         if found.foreign:
             self.say(f"{found.foreign} postings behind position {before} are not of run {run.number}: another run posted them")
         return found
 
-    def note(self, entry: Entry, lane: int, run: Run, found: Reckoned, rows: dict[int, int], end: dict[str, object]) -> None:
+    def note(self, entry: Entry, lane: int, run: Run, found: Reckoned, rows: dict[int, int], end: Record) -> None:
         """Notes in an entry what became of its rows, in one write."""
         record = entry.record
         for name, answers in (("accepted", found.accepted), ("refused", found.refused), ("answered", found.answered)):
             record[name] += [[mine, answers[row]] for row, mine in rows.items() if row in answers]
-        runs = [*record["runs"], {"run": run.number, "lane": lane, "begun": run.record["begun"], "before": run.record["before"],
-                                  "sha256": run.record["sha256"], **end}]
+        this = {"run": run.number, "lane": lane, **{name: run.record[name] for name in ("begun", "before", "sha256")}, **end}
+        runs: list[Record] = [*record["runs"], this]
         text = "".join(lane_text(self.log.run(each["run"]).transcript(), each["lane"]) for each in runs)
         write_safely(entry.path(TRANSCRIPT), text.encode("ascii", "replace"))
-        full = [line.row.text for line in entry.lines if [line.row.number, f"full,{MOST_COMMANDS}"] in record["refused"]] \
-            if any(words.startswith("full,") for words in found.refused.values()) else []
+        full = {mine for row, mine in rows.items() if found.refused.get(row, "").startswith("full,")}
         if full:
-            write_safely(entry.path(FULL_ROWS), "".join(f"{text}\n" for text in full).encode("utf-8", "surrogateescape"))
+            texts = "".join(f"{line.row.text}\n" for line in entry.lines if line.row.number in full)
+            write_safely(entry.path(FULL_ROWS), texts.encode("utf-8", "surrogateescape"))
         record["runs"] = runs
         if is_added_to(entry):
             added = requeued(entry, self.log)

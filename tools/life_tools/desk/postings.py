@@ -89,17 +89,19 @@ def found_in(log: Log, wanted: Wanted) -> list[Posting]:
 
 # --- beside the journal ---
 
+def said(posting: Posting) -> str:
+    return f"position {posting.position} is {','.join(words_of(posting.command))} by {posting.entry.shown}"
+
+
 def differences(journal: str, count: int, postings: Iterable[Posting]) -> Iterator[str]:
     """What the journal has otherwise than the log says."""
     with mapped(journal, count) as data:
         for posting in postings:
             place = posting.position - 1
             if posting.position > count:
-                yield (f"position {posting.position}, {','.join(words_of(posting.command))}, is accepted by {posting.entry.shown}, "
-                       f"and the journal has {count} postings")
+                yield f"{said(posting)}, and the journal has {count} postings"
             elif data[gate_of(place) + 1:gate_of(place + 1)] != body_of(posting.command):
-                yield (f"position {posting.position} is {','.join(words_of(posting.command))} by {posting.entry.shown}, and the "
-                       "journal has another posting there")
+                yield f"{said(posting)}, and the journal has another posting there"
 
 
 def positions_wanted(journal: str, count: int, wanted: Wanted) -> Iterator[int]:

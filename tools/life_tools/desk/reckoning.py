@@ -135,7 +135,8 @@ class Reckoning:
 def reckoned(lines: list[Line], transcript: str, records: dict[int, Command], before: int) -> Reckoned:
     """What became of each row of a script that was run on a journal of so many commands before; `records` are those behind."""
     reckoning = Reckoning(lines, records)
-    for answer in whole_answers(transcript):
+    # a run that began nothing prints one line of words alone, such as `diskfault`
+    for answer in whole_answers(transcript) if transcript[:1].isdigit() else ():
         reckoning.follow(answer[0])
     reckoning.deal(max(reckoning.found.accepted.values(), default=before))
     return reckoning.end()

@@ -5,6 +5,7 @@ import datetime
 import os
 from dataclasses import dataclass
 
+from life_tools.desk.entries import ENDED, Log, Run
 from life_tools.journal.copied_folder import JOURNAL
 from life_tools.journal.file import EMPTY, FIRST_GATE
 from life_tools.journal.record_columns import prefix_count, prefix_sum
@@ -17,21 +18,12 @@ MOST_LOOKED_AT = 2000
 
 @dataclass(frozen=True)
 class LoggedRun:
-    """A folder of log/: its name, the status of the run, the postings before it, and whether all of it is done."""
+    """A run that `life-tools day` noted: its number, the status, the postings before it, and whether it has ended."""
 
     name: str
     status: str
     before: str
     is_done: bool
-
-
-def first_line(path: str) -> str:
-    """The beginning of a small file, or nothing."""
-    try:
-        with open(path, encoding="utf-8", errors="replace") as file:
-            return file.readline(200).strip()
-    except OSError:
-        return ""
 
 
 def folders_in(path: str) -> list[str]:
@@ -43,16 +35,16 @@ def folders_in(path: str) -> list[str]:
 
 
 def logged_runs(folder: str) -> tuple[list[LoggedRun], int]:
-    """The last runs, by the names that begin with their time; and how many folders lack `done`."""
-    log = os.path.join(folder, "log")
-    names = [name for name in folders_in(log) if not name.startswith(".")]
-    open_ones = sum(not os.path.exists(os.path.join(log, name, "done")) for name in names)
-    return [logged_run(name, os.path.join(log, name)) for name in names[:MOST_RUNS]], open_ones
+    """The last runs; and of how many files something is left to do, by a person or by the next `day`."""
+    log = Log(folder)
+    runs = [log.run(number) for number in reversed(log.run_numbers()[-MOST_RUNS:])]
+    return [logged_run(run) for run in runs], len(log.undone())
 
 
-def logged_run(name: str, folder: str) -> LoggedRun:
-    status, before = (first_line(os.path.join(folder, each)) for each in ("status", "before"))
-    return LoggedRun(name, status or "none", before, os.path.exists(os.path.join(folder, "done")))
+def logged_run(run: Run) -> LoggedRun:
+    status = run.record["status"]
+    return LoggedRun(f"{run.number}, {run.record['begun'][:16]}", "none" if status is None else str(status),
+                     str(run.record["before"]), run.record["state"] == ENDED)
 
 
 @dataclass(frozen=True)

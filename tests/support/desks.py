@@ -1,0 +1,63 @@
+"""A clerk's desk in a test: files are handed in, and `life-tools day` is called on them."""
+from __future__ import annotations
+
+import csv
+import io
+import json
+import os
+import time
+from dataclasses import dataclass
+from pathlib import Path
+from typing import Any
+
+from tests.support.folders import Folder
+from tests.support.tools import Ended
+
+# the day by which rows are looked at
+TODAY = "2024-06-03"
+# a file is handed in so long before
+OLD = 10
+
+
+@dataclass
+class Desk:
+    """A folder of a book with an inbox."""
+
+    folder: Folder
+
+    def hand_in(self, name: str, rows: str | bytes, seconds_ago: float = OLD) -> Path:
+        """A file in the inbox, which was written some seconds ago."""
+        file = self.folder.write(f"inbox/{name}", rows)
+        then = time.time() - seconds_ago
+        os.utime(file, (then, then))
+        return file
+
+    def day(self, *words: str, status: int = 0) -> Ended:
+        ended = self.folder.tools("day", "--today", TODAY, *words)
+        assert ended.status == status and "Traceback" not in ended.err, ended
+        return ended
+
+    def log(self, *words: str, status: int = 0) -> list[dict[str, str]]:
+        """The rows of `log`."""
+        return list(csv.DictReader(io.StringIO(self.folder.printed("log", *words, status=status))))
+
+    @property
+    def inbox(self) -> list[str]:
+        return sorted(os.listdir(self.folder.path / "inbox"))
+
+    def entry(self, number: int) -> dict[str, Any]:
+        """The `entry.json` of an entry."""
+        found: dict[str, Any] = json.loads((self.entry_folder(number) / "entry.json").read_text())
+        return found
+
+    def entry_folder(self, number: int) -> Path:
+        folder, = (self.folder.path / "log").glob(f"{number:06}-*")
+        return folder
+
+    def count(self) -> int:
+        return int(self.folder.life("state").out.splitlines()[-1].partition(",")[2])
+
+    def records(self) -> list[str]:
+        """What was posted, in order: the fields behind the lane."""
+        rows = csv.reader(io.StringIO(self.folder.printed("read", "journal.life")))
+        return [",".join(row[1:]) for row in rows if row and row[0].isdecimal()]

@@ -1,0 +1,235 @@
+"""A trial of `life-tools day`: files are handed in, and each `day` over them is killed at some moment or step.
+
+A `day` is a process that is forked off the test, in a group of its own, with the program that it starts. It is killed after a
+drawn time, or before a drawn call of the system (a file opened, renamed, made safe or removed, a folder made, the program
+started), together with the program or without it; or the program is killed alone, or `day` is sent TERM. Beside it a second
+`day` may be at work, and files arrive.
+"""
+from __future__ import annotations
+
+import contextlib
+import hashlib
+import json
+import os
+import random
+import signal
+import sys
+import time
+from collections import Counter
+from dataclasses import dataclass, field
+from pathlib import Path
+from typing import Any, Callable
+
+from life_tools.cli.entry import main
+from tests.support.desks import TODAY, Desk
+from tests.support.program import ROOT
+
+# the calls before which a `day` may be killed
+CALLS = ("open", "os.rename", "os.mkdir", "os.remove", "os.rmdir", "subprocess.Popen", "os.listdir", "os.scandir", "fcntl.flock",
+         "trial.fsync")
+# a `day` over one file has some so many of these, and takes some so many seconds
+MOST_CALLS, MOST_SECONDS = 160, 0.8
+# no `day` takes longer
+PATIENCE = 60
+WAYS = ("time", "time", "call", "call", "call", "tool", "program", "term", "none")
+
+
+def kill_before(calls: int, kill: Callable[[], None]) -> None:
+    """From here on this process calls `kill` before so many calls of the system."""
+    left = [calls]
+
+    def hook(event: str, _: object) -> None:
+        if event in CALLS:
+            left[0] -= 1
+            if left[0] == 0:
+                kill()
+
+    fsync = os.fsync
+
+    def heard_fsync(handle: int) -> None:
+        sys.audit("trial.fsync")
+        fsync(handle)
+
+    sys.addaudithook(hook)
+    os.fsync = heard_fsync  # type: ignore[assignment]
+
+
+def start_day(desk: Desk, name: str, way: str, calls: int) -> int:
+    """A `day` in a process group of its own; what it says goes to a file."""
+    child = os.fork()
+    if child:
+        with contextlib.suppress(OSError):
+            os.setpgid(child, child)
+        return child
+    status = 70
+    try:
+        os.setpgid(0, 0)
+        said = os.open(desk.folder.path / name, os.O_WRONLY | os.O_CREAT | os.O_TRUNC, 0o644)
+        os.dup2(said, 1)
+        os.dup2(said, 2)
+        sys.stdout, sys.stderr = (open(number, "w", encoding="utf-8", closefd=False) for number in (1, 2))
+        os.chdir(desk.folder.path)
+        os.environ["LIFE_PROGRAM"] = str(desk.folder.program.path)
+        sys.argv = [str(ROOT / "tools" / "life-tools"), "day"]
+        if way == "call":
+            kill_before(calls, lambda: os.killpg(0, signal.SIGKILL))
+        elif way == "tool":
+            kill_before(calls, lambda: os.kill(os.getpid(), signal.SIGKILL))
+        status = main(["day", "--today", TODAY])
+        sys.stdout.flush()
+        sys.stderr.flush()
+    finally:
+        os._exit(status)
+
+
+def program_of(group: int) -> int | None:
+    """The program that a `day` has started, while it runs."""
+    for pid in os.listdir("/proc"):
+        with contextlib.suppress(OSError, ValueError):
+            fields = Path("/proc", pid, "stat").read_text().rpartition(")")[2].split()
+            if pid.isdecimal() and int(fields[2]) == group and int(pid) != group:
+                return int(pid)
+    return None
+
+
+@dataclass
+class Trial:
+    """A desk, what was handed in, and how many `day`s were killed."""
+
+    desk: Desk
+    draw: random.Random
+    kills: int = 0
+    ways: Counter[str] = field(default_factory=Counter)
+    # what was handed in, by the checksum, and how often
+    handed_in: Counter[str] = field(default_factory=Counter)
+    files: list[bytes] = field(default_factory=list)
+    number: int = 0
+    settled: dict[int, int] = field(default_factory=dict)
+
+    # --- what is handed in ---
+
+    def new_rows(self) -> list[str]:
+        """Rows that the rules accept, in this order, and some that equal others or are refused."""
+        draw, rows = self.draw, []
+        for _ in range(draw.randint(1, 12)):
+            self.number += 1
+            rows.append(f"1,issue,{self.number},2024-05-01,whole,40,0,1000.00,40.00")
+            if draw.random() < 0.5:
+                rows.append(f"1,premium,{self.number},2024-05-01,40.00")
+            if draw.random() < 0.5:
+                rows.append(f"1,claim,{self.number},2024-05-10")
+                self.settled[self.number] = 0
+        for number in draw.sample(sorted(self.settled), min(len(self.settled), draw.randint(0, 6))):
+            self.settled[number] += 1
+            rows.append(f"1,settle,{number},2024-05-20,{self.settled[number]}.00")
+        if draw.random() < 0.4:
+            rows.append(draw.choice(rows))
+        if draw.random() < 0.3:
+            rows.append(f"1,lapse,{self.number},2024-05-20")
+        return rows
+
+    def new_file(self) -> bytes:
+        draw = self.draw
+        if self.files and draw.random() < 0.25:
+            again = draw.choice(self.files).replace(b"\r\n", b"\n")
+            return draw.choice([again, again.replace(b"\n", b"\r\n"), b"\xef\xbb\xbf" + again])
+        data = "".join(f"{row}\n" for row in self.new_rows()).encode()
+        return data + b"1,lapse,1,2024-02-30\n" if draw.random() < 0.05 else data
+
+    def hand_in(self) -> None:
+        """A file appears in the inbox at once, as a careful clerk puts it there; some are younger than two seconds."""
+        data, name = self.new_file(), f"f{sum(self.handed_in.values()):05}.csv"
+        part = self.desk.folder.write(f"inbox/.{name}", data)
+        then = time.time() - self.draw.choice([0, 10, 10, 10, 10])
+        os.utime(part, (then, then))
+        self.handed_in[hashlib.sha256(data).hexdigest()] += 1
+        self.files.append(data)
+        os.rename(part, self.desk.folder.path / "inbox" / name)
+
+    # --- a `day` that is killed ---
+
+    def kill_one(self) -> None:
+        """Hands files in, starts a `day` or two, and kills each in some way."""
+        for _ in range(self.draw.choice([0, 1, 1, 2, 3])):
+            self.hand_in()
+        begun = []
+        for nth in range(self.draw.choice([1, 1, 1, 2])):
+            way = self.draw.choice(WAYS)
+            begun.append((start_day(self.desk, f"said-{nth}", way, self.draw.randint(1, MOST_CALLS)), way))
+            self.ways[way] += 1
+        if self.draw.random() < 0.3:
+            time.sleep(self.draw.uniform(0, 0.3))
+            self.hand_in()
+        for child, way in begun:
+            self.end(child, way)
+
+    def end(self, child: int, way: str) -> None:
+        """Kills a `day` as was drawn, or waits until it has ended, and counts it where it was killed."""
+        end = time.monotonic() + self.draw.uniform(0, MOST_SECONDS)
+        while way in ("time", "term", "program") and time.monotonic() < end:
+            time.sleep(0.002)
+        with contextlib.suppress(ProcessLookupError):
+            if way == "time":
+                os.killpg(child, signal.SIGKILL)
+            elif way == "term":
+                os.kill(child, signal.SIGTERM)
+            elif way == "program":
+                program = program_of(child)
+                if program:
+                    os.kill(program, signal.SIGKILL)
+        self.kills += self.waited(child) == -signal.SIGKILL or way in ("term", "program")
+
+    def waited(self, child: int) -> int:
+        until = time.monotonic() + PATIENCE
+        while time.monotonic() < until:
+            found, status = os.waitpid(child, os.WNOHANG)
+            if found:
+                return os.waitstatus_to_exitcode(status)
+            time.sleep(0.002)
+        os.killpg(child, signal.SIGKILL)
+        os.waitpid(child, 0)
+        raise AssertionError(f"a `day` took more than {PATIENCE} s")
+
+    # --- what has to hold ---
+
+    def judge(self) -> None:
+        """After a `day` that nobody kills each row is posted once, held or refused; no file is gone; `log` names each row."""
+        self.desk.folder.path.joinpath("inbox").mkdir(exist_ok=True)
+        for name in self.desk.inbox:
+            os.utime(self.desk.folder.path / "inbox" / name, (time.time() - 10,) * 2)
+        ended = self.desk.folder.tools("day", "--today", TODAY)
+        assert ended.status in (0, 1) and "Traceback" not in ended.err, ended
+        entries = [json.loads(path.read_text()) for path in self.desk.folder.path.glob("log/*/entry.json")]
+        self.judge_files(entries)
+        for entry in entries:
+            judge_rows(entry)
+        self.judge_postings(entries)
+
+    def judge_files(self, entries: list[dict[str, Any]]) -> None:
+        """Each file that was handed in lies in one entry, and nothing else does."""
+        found = Counter(hashlib.sha256(path.read_bytes()).hexdigest()
+                        for path in self.desk.folder.path.glob("log/*/handed-in.csv"))
+        assert found == self.handed_in, (found - self.handed_in, self.handed_in - found)
+        assert self.desk.inbox == [] and len(entries) == sum(self.handed_in.values())
+        assert not [path for path in self.desk.folder.path.glob("log/*") if not (path / "entry.json").exists()
+                    and path.name not in ("runs", ".lock")]
+
+    def judge_postings(self, entries: list[dict[str, Any]]) -> None:
+        """The journal is what the entries say, no posting is doubled, and no issue that was handed in is missing."""
+        records = self.desk.records()
+        logged = self.desk.log()
+        assert [int(row["position"]) for row in logged] == list(range(1, len(records) + 1))
+        assert max(Counter(records).values()) == 1, Counter(records).most_common(3)
+        positions = Counter(position for entry in entries for _, position in entry["accepted"])
+        assert positions == Counter(range(1, len(records) + 1))
+        issues = {row.partition(",")[2] for data in self.files if b"02-30" not in data
+                  for row in data.decode("utf-8-sig").splitlines() if ",issue," in row}
+        assert issues == {record for record in records if record.startswith("issue,")}
+
+
+def judge_rows(entry: dict[str, Any]) -> None:
+    """Each row of an entry is in one list, once; of a file that is refused whole none is."""
+    rows = [row for name in ("accepted", "refused", "answered") for row, *_ in entry[name]]
+    rows += [held["row"] for held in entry["held"]]
+    assert sorted(rows) == list(range(1, entry["rows"] + 1)), entry
+    assert entry["state"] == "done" and entry["lost"] == []
