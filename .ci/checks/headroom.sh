@@ -45,18 +45,21 @@ gives 0 "$row" 0 --today 2024-06-01 --least 3999991
 # two hundred years later nothing was used in a year: 6 is 30 then, and each policy is overdue
 gives 0 9,3999991,0,never,10,6,never 0 --today 2199-06-01
 # what was noted of the count a year ago counts where it is more: the newest that is a year old
-mkdir -p log/2023-05-01T180000-a log/2024-05-31T180000-b log/strange && echo 2 >log/2023-05-01T180000-a/before && echo 7 >log/2024-05-31T180000-b/before
+noted() {
+    mkdir -p "log/runs/$1" && echo "{\"begun\": \"$2T18:00:00+00:00\", \"before\": $3, \"after\": 9}" >"log/runs/$1/run.json"
+}
+mkdir -p log/runs/strange && noted 000001 2023-05-01 2 && noted 000002 2024-05-31 7
 gives 0 9,3999991,7,"after 2199-12-31",10,6,never 0 --today 2024-06-01
 echo main,1 >month-end-2023-06-02.csv
 gives 0 9,3999991,8,"after 2199-12-31",10,6,never 0 --today 2024-06-01 --recorded month-end-2023-06-02.csv --name main
 gives 0 9,3999991,7,"after 2199-12-31",10,6,never 0 --today 2024-06-01 --recorded month-end-2023-06-02.csv --name other
 # one within the year where there is none before
-rm -r log/2023-05-01T180000-a
+rm -r log/runs/000001
 gives 0 9,3999991,3,"after 2199-12-31",10,6,never 0 --today 2024-06-01
-echo 0 >log/2024-05-31T180000-b/before
+noted 000002 2024-05-31 0
 gives 0 9,3999991,9,"after 2199-12-31",10,6,never 0 --today 2024-06-01
 # a count that the book hasn't is of another one
-echo 10 >log/2024-05-31T180000-b/before
+noted 000002 2024-05-31 10
 gives 0 "$row" 0 --today 2024-06-01
 cp month-end-2023-06-02.csv month-end.csv
 refused <<'ROWS'

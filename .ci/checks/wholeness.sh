@@ -127,21 +127,23 @@ ends 1 "had 40 by kept.life" verify copy.life --checkpoint kept.life
 rm checkpoint.life
 
 go_on "a gate at the end, and a log"
-monday=log/2024-06-03T180000-monday tuesday=log/2024-06-04T180000-tuesday
-mkdir -p $monday && echo 0 >$monday/before && echo 40 >$monday/after && echo x >$monday/sum
+mkdir -p log/runs/000001 log/runs/000009 log/runs/.new
+echo '{"before": 0, "after": 7}' >log/runs/000001/run.json
+echo '{"before": 0, "after": 40}' >log/runs/000009/run.json
 both_tell "journal.life has 39 commands, and had 40 by .*log"
-# a script that counts as not sent tells nothing
-mv $monday/sum $monday/sum-not-sent
+# the newest run is asked, by its number
+mkdir log/runs/000010 && echo '{"before": 0, "after": 39}' >log/runs/000010/run.json
 ends 1 "is undecided" verify
-mv $monday/sum-not-sent $monday/sum
-# of a run that was cut what it printed tells
-rm $monday/after && cp transcript $monday/transcript
+# of a run that was interrupted what it printed tells
+echo '{"before": 0, "after": null}' >log/runs/000010/run.json && cp transcript log/runs/000010/transcript
 both_tell "had 40 by .*log"
-grep -v ',accepted,40$' transcript >$monday/transcript
+grep -v ',accepted,40$' transcript >log/runs/000010/transcript
 ends 1 "is undecided" verify
-# a later script's count before it
-mkdir $tuesday && echo 40 >$tuesday/before && echo y >$tuesday/sum
+# and the count before it
+echo '{"before": 40, "after": null}' >log/runs/000010/run.json
 ends 1 "had 40 by .*log" verify
+echo nonsense >log/runs/000010/run.json
+ends 2 "log/runs/000010/run.json is not the record of a run" verify
 rm -r log
 
 go_on "a gate at the end, and a seal; an amount that was changed"

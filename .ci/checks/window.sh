@@ -41,7 +41,7 @@ close_window() {
 }
 
 begin "ways"
-mkdir -p book/log/2024-01-02T100000-tuesday book/backups && cp "$examples"/*.xml book && cd book || exit 2
+mkdir -p book/log/runs/000001 book/backups && cp "$examples"/*.xml book && cd book || exit 2
 printf '1900-01-01,g.xml,400\n2020-01-01,q.xml,0\n2020-02-01,g.xml,400\n' >basis.csv
 {
     "$life" generate 1 400 1
@@ -51,7 +51,7 @@ printf '1900-01-01,g.xml,400\n2020-01-01,q.xml,0\n2020-02-01,g.xml,400\n' >basis
     echo 1,issue,70021,2024-04-04,term,40,20,1000.00,50.00
     printf '1,%s\n' premium,70021,2024-04-04,50.00 claim,70021,2024-04-04 settle,70021,2024-04-04,1000.00
 } | "$life" run >../transcript || complain "the book couldn't be made"
-cp journal.life backups/no.backup && echo 0 >log/2024-01-02T100000-tuesday/status
+cp journal.life backups/no.backup && echo '{"format": 1, "state": "begun", "begun": "2024-01-02T10:00:00+00:00", "before": 3, "after": null, "status": null}' >log/runs/000001/run.json
 cd ..
 open_window --folder book
 TMPDIR=$work/browser timeout 900 python3 "$root/.ci/window/ways.py" "$(cat address)" "$PWD/book" "$life" "$shots" >said 2>times || complain "$(cat said; tail -n 5 times)"

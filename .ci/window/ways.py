@@ -292,7 +292,7 @@ def operator(browser: Any, book: Any, base: Any) -> None:
     browser.open(base + "/1/stands")
     browser.look("stands")
     demand(browser.facts()["postings"] == f"{book.count():,}", "the count of postings")
-    browser.says("ssh -L ", "2024-01-02T100000-tuesday", "1 run begun and not done.")
+    browser.says("ssh -L ", "1, 2024-01-02T10:00", "no: look at it")
     backups = browser.rows("Backups found near the book")
     demand([(row[0].rpartition("/")[2], *row[2:]) for row in backups] == [("no.backup", apart(str(book.begun)), "yes")],
            f"backups: {backups}")

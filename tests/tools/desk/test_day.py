@@ -50,7 +50,7 @@ def test_no_book_is_begun_by_mistake(desk: Desk) -> None:
 def test_no_book_is_begun_in_the_place_of_one(begun: Desk) -> None:
     begun.folder.refused("day", "--new", says="there is a journal.life in .*leave --new out")
     os.rename(begun.folder.journal, begun.folder.path / "aside")
-    for words in ([], ["--new"]):
+    for words in ((), ("--new",)):
         begun.folder.refused("day", *words, says="that of a book of 3 postings, whose journal.life is not there")
 
 
@@ -77,7 +77,7 @@ def test_a_file_that_is_still_open_for_writing_is_left(begun: Desk) -> None:
         ended = begun.day(status=1)
         assert "a process still has it open for writing" in ended.err and file.exists() and begun.count() == 3
         writer.write("1,settle,7001,2024-06-02,1.00\n")
-    os.utime(file, (time.time() - 10,) * 2)
+    os.utime(file, (1e9, 1e9))
     assert begun.day().out.endswith("-slow,2,0,0,0\n")
 
 

@@ -62,7 +62,7 @@ def run(options: argparse.Namespace) -> int:
     said = list(differences(journal, count, found))
     others = unnamed(journal, count, wanted, {posting.position for posting in found})
     for position in others[:MOST_LISTED]:
-        said.append(f"position {position}, {','.join(words_of(command_at(journal, count, position)))}, is in no entry of the "
+        said.append(f"position {position}, {','.join(words_of(command_at(journal, position)))}, is in no entry of the "
                     "log: it was not posted by `life-tools day`")
     if len(others) > MOST_LISTED:
         said.append(f"{len(others) - MOST_LISTED} more positions are in no entry of the log")

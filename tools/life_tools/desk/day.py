@@ -231,8 +231,13 @@ class Day:
     def note(self, entry: Entry, lane: int, run: Run, found: Reckoned, rows: dict[int, int], end: Record) -> None:
         """Notes in an entry what became of its rows, in one write."""
         record = entry.record
-        for name, answers in (("accepted", found.accepted), ("refused", found.refused), ("answered", found.answered)):
-            record[name] += [[mine, answers[row]] for row, mine in rows.items() if row in answers]
+        for row, own in rows.items():
+            if row in found.accepted:
+                record["accepted"].append([own, found.accepted[row]])
+            elif row in found.refused:
+                record["refused"].append([own, found.refused[row]])
+            elif row in found.answered:
+                record["answered"].append([own, found.answered[row]])
         this = {"run": run.number, "lane": lane, **{name: run.record[name] for name in ("begun", "before", "sha256")}, **end}
         runs: list[Record] = [*record["runs"], this]
         text = "".join(lane_text(self.log.run(each["run"]).transcript(), each["lane"]) for each in runs)

@@ -20,7 +20,7 @@ from life_tools.desk.entries import HELD, Entry
 from life_tools.desk.plausibility import NetPremiums, Why, doubtful_issue
 from life_tools.desk.records import Record
 from life_tools.desk.settings import DAY, EQUAL, NUMBER, POLICY, Settings
-from life_tools.journal.blocks import mapped
+from life_tools.journal.blocks import prefix_at
 from life_tools.rules.commands import Command
 from life_tools.rules.policies import Refusal
 from life_tools.scripts.lines import Line
@@ -46,8 +46,8 @@ class Holder:
         # numpy takes a tenth of a second, which a desk without a book spares
         from life_tools.journal.records import places_in, upgrade_in
 
-        with mapped(journal, count) as data:
-            self.desk.read(data, upgrade_in(data, count), places_in(data, count, numbers).tolist())
+        data = prefix_at(journal, count)
+        self.desk.read(data, upgrade_in(data, count), places_in(data, count, numbers).tolist())
 
     def hold(self, entry: Entry) -> list[Record]:
         """Holds rows of an entry that are still to be posted; says which. What a person released is not looked at again."""

@@ -8,7 +8,7 @@ from typing import Iterable, Iterator
 from life_tools.desk.entries import Entry, Log
 from life_tools.desk.records import Record
 from life_tools.desk.reporting import quoted
-from life_tools.journal.blocks import mapped
+from life_tools.journal.blocks import prefix_at
 from life_tools.journal.file import gate_of
 from life_tools.rules.commands import Command, body_of, command_in, words_of
 from life_tools.scripts.lines import Line
@@ -95,13 +95,13 @@ def said(posting: Posting) -> str:
 
 def differences(journal: str, count: int, postings: Iterable[Posting]) -> Iterator[str]:
     """What the journal has otherwise than the log says."""
-    with mapped(journal, count) as data:
-        for posting in postings:
-            place = posting.position - 1
-            if posting.position > count:
-                yield f"{said(posting)}, and the journal has {count} postings"
-            elif data[gate_of(place) + 1:gate_of(place + 1)] != body_of(posting.command):
-                yield f"{said(posting)}, and the journal has another posting there"
+    data = prefix_at(journal, count)
+    for posting in postings:
+        place = posting.position - 1
+        if posting.position > count:
+            yield f"{said(posting)}, and the journal has {count} postings"
+        elif data[gate_of(place) + 1:gate_of(place + 1)] != body_of(posting.command):
+            yield f"{said(posting)}, and the journal has another posting there"
 
 
 def positions_wanted(journal: str, count: int, wanted: Wanted) -> Iterator[int]:
@@ -118,6 +118,5 @@ def positions_wanted(journal: str, count: int, wanted: Wanted) -> Iterator[int]:
         yield from range(1, count + 1)
 
 
-def command_at(journal: str, count: int, position: int) -> Command:
-    with mapped(journal, count) as data:
-        return command_in(data[gate_of(position - 1) + 1:gate_of(position)])
+def command_at(journal: str, position: int) -> Command:
+    return command_in(prefix_at(journal, position)[gate_of(position - 1) + 1:gate_of(position)])
