@@ -1,10 +1,10 @@
 #!/bin/sh
 # Installs what the checks use beside the kit and python3, by apt-get, where this is Debian and may install. A package
 # that can't be had is told in a line; the checks that need it then say that they are skipped.
-packages="chromium chromium-driver codespell debootstrap flake8 fonts-dejavu-extra gcc graphviz hledger hyperfine ledger
-libc6-dev libjs-katex libreoffice-calc lintian mkdocs mkdocs-material mypy poppler-utils python3-distributed python3-flask
-python3-hypothesis python3-matplotlib python3-numpy python3-openpyxl python3-pandas python3-pytest
-python3-pytest-timeout python3-pytest-xdist python3-selenium rsync shellcheck sqlite3 strace"
+packages="btrfs-progs chromium chromium-driver codespell debootstrap e2fsprogs flake8 fonts-dejavu-extra gcc graphviz
+hledger hyperfine ledger libc6-dev libjs-katex libreoffice-calc lintian mkdocs mkdocs-material mypy poppler-utils
+python3-distributed python3-flask python3-hypothesis python3-matplotlib python3-numpy python3-openpyxl python3-pandas
+python3-pytest python3-pytest-timeout python3-pytest-xdist python3-selenium rsync shellcheck sqlite3 strace xfsprogs"
 
 missing() {
     for package in $packages; do

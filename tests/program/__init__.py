@@ -1,0 +1,1 @@
+"""The program: its answers, files, faults and kills."""

@@ -1,0 +1,144 @@
+"""A sync that fails, and the runs after it: what they answer is on the medium, whatever the system kept in memory.
+
+Linux marks pages whose write-back failed as clean. So the sync of the next run succeeds without a write, and what that run
+reads could come from such a page. Each case makes a medium whose writes fail at the commit byte of a posting, or at the byte
+that closes a checkpoint, and compares what each later run answers with a copy of the medium that is mounted elsewhere.
+"""
+from __future__ import annotations
+
+import re
+from pathlib import Path
+from typing import Iterator, NamedTuple
+
+import pytest
+
+from life_tools.common.formats import day_in
+from life_tools.journal.file import file_of
+from life_tools.rules.commands import Command
+from tests.support.failing_medium import SYSTEMS, Medium, Mounts, StoppedRun
+from tests.support.folders import Folder
+from tests.support.program import Program
+
+pytestmark = [pytest.mark.root, pytest.mark.needs("strace", "losetup", "unshare", "nsenter", "chattr")]
+
+# the commit byte of the next record is the last byte of a page, so that nothing else of that page changes: 17 + 65 * 1134 = 18
+# * PAGE - 1
+RECORDS = 1134
+PAGE = 4096
+DAY = day_in("2020-01-01")
+FIRST = 2001
+COURSES = ("the failure lasts", "the failure passes", "killed before the sync")
+LATER = (["state", str(FIRST)], ["state"], ["state", str(FIRST)], ["run"], ["state", str(FIRST)], ["run"], ["state"], ["run"])
+
+
+class Answer(NamedTuple):
+    """What a later run was asked and answered, and the medium behind it."""
+
+    words: list[str]
+    status: int
+    out: str
+    medium: Path
+
+
+def issues(count: int) -> list[Command]:
+    return [Command("issue", number, DAY, plan="whole", age=30, years=0, amount=100000, premium=2000)
+            for number in range(1, count + 1)]
+
+
+def premiums(count: int) -> list[Command]:
+    return [Command("premium", number, DAY, amount=2000) for number in range(1, count + 1)]
+
+
+def issue(number: int) -> str:
+    return f"1,issue,{number},2020-01-01,whole,30,0,1000.00,20.00\n"
+
+
+@pytest.fixture
+def medium(tmp_path: Path, request: pytest.FixtureRequest) -> Iterator[Medium]:
+    with Mounts(tmp_path) as mounts:
+        yield Medium(mounts, request.param)
+
+
+def on_each() -> pytest.MarkDecorator:
+    return pytest.mark.parametrize("medium", SYSTEMS, ids=[system.name for system in SYSTEMS], indirect=True)
+
+
+def stopped(program: Program, medium: Medium, folder: Path, words: list[str], script: str, n: int) -> StoppedRun:
+    (folder / "script").write_text(script)
+    (folder / "calls").unlink(missing_ok=True)
+    return StoppedRun([*program.words, *words], medium.files, folder / "calls", folder / "script", n)
+
+
+def fail_at_the_commit_byte(program: Program, medium: Medium, folder: Path, course: str) -> None:
+    """A posting whose commit byte is written and not synced: the medium fails from then on."""
+    run = stopped(program, medium, folder, ["run"], issue(FIRST), 2)
+    medium.fail()
+    if course == "killed before the sync":
+        run.kill()
+        assert not medium.write_back(), "the medium didn't fail"
+    else:
+        status, out = run.go_on()
+        assert (status, out.splitlines()[0]) == (8, f"1,issue,{FIRST},fault")
+    if course != "the failure lasts":
+        medium.heal()
+
+
+def answers(medium: Medium, book: Folder) -> list[Answer]:
+    found = []
+    for n, words in enumerate(LATER):
+        ran = book.life(*words, given=issue(FIRST + 1 + n) if words == ["run"] else "")
+        found.append(Answer(words, ran.status, ran.out, medium.copy()))
+    return found
+
+
+def is_on_medium(answer: Answer, there: Folder) -> bool:
+    """Whether what a run answered is so in the journal on the medium; one that says that the disk failed says nothing of it."""
+    if answer.words == ["run"]:
+        accepted = re.findall(r"^1,issue,(\d+),accepted,", answer.out, re.M)
+        return all(re.search(rf"^policy,{number},", there.life("state", number).out, re.M) for number in accepted)
+    return answer.status == 8 or there.life(*answer.words).out == answer.out
+
+
+@on_each()
+@pytest.mark.parametrize("course", COURSES)
+def test_later_runs_answer_what_the_medium_has(medium: Medium, course: str, program: Program, tmp_path: Path) -> None:
+    book = Folder(medium.files, program)
+    book.write("journal.life", file_of(issues(RECORDS)))
+    assert book.life("state").status == 0 and medium.write_back()
+    fail_at_the_commit_byte(program, medium, tmp_path, course)
+    later = answers(medium, book)
+    medium.unmount()
+    for place, answer in enumerate(later):
+        with medium.files_on(answer.medium) as files:
+            there = Folder(files, program)
+            if place == 0:
+                assert there.life("state", str(FIRST)).out == f"unknown,{FIRST}\n", "the medium didn't fail"
+            last = answer.out.splitlines()[-1:]
+            assert is_on_medium(answer, there), f"run {place + 1} after it, {answer.words}, isn't so on the medium: {last}"
+    if course == "the failure passes":
+        assert [answer.status for answer in later[1:]] == [0] * (len(later) - 1), "no later run goes on"
+
+
+@on_each()
+@pytest.mark.parametrize("writes", [1, 2, 3])
+def test_a_checkpoint_isnt_overwritten_while_it_counts(medium: Medium, writes: int, program: Program, tmp_path: Path) -> None:
+    """The byte that closes a checkpoint didn't reach the medium. The next `checkpoint` ends after each of its writes in turn,
+    and all pages but the first reach the medium. The state is then what it is by the journal alone."""
+    book = Folder(medium.files, program)
+    book.write("journal.life", file_of(issues(400)))
+    assert book.life("checkpoint").status == 0
+    book.write("journal.life", file_of([*issues(400), *premiums(400)]))
+    assert medium.write_back()
+    run = stopped(program, medium, tmp_path, ["checkpoint"], "", 1)
+    medium.fail()
+    assert run.go_on() == (8, "diskfault\n")
+    medium.heal()
+    stopped(program, medium, tmp_path, ["checkpoint"], "", writes).kill()
+    medium.write_back_from("checkpoint.life", PAGE)
+    copy = medium.copy()
+    medium.unmount()
+    with medium.files_on(copy) as files:
+        there = Folder(files, program)
+        by_checkpoint = there.life("state")
+        (files / "checkpoint.life").unlink()
+        assert by_checkpoint == there.life("state")
