@@ -62,6 +62,9 @@ def calls(name: str) -> Any:
             if result != int(size):
                 sys.exit(f"calls: a short write: {line}")
             found.append(f"write {role} {at} {written.hex()}")
+        elif word == "fadvise64":
+            at, many = part(r"\d+, (\d+), (\d+), POSIX_FADV_DONTNEED$", args)
+            found.append(f"drop {role} {at} {many}")
         elif word == "flock":
             found.append(f"lock {role} {args.split(', ')[1]}")
         elif role == "output":
@@ -76,7 +79,9 @@ HELD = ["open folder"] * 3
 
 
 def opened(file: Any) -> Any:
-    return [f"open {file}", f"lock {file} LOCK_EX|LOCK_NB", "open folder", "fsync folder", "close folder", f"fsync {file}"]
+    """The copies of a file's two ends are dropped once it is synced; of so short a file the second range is all of it."""
+    return [f"open {file}", f"lock {file} LOCK_EX|LOCK_NB", "open folder", "fsync folder", "close folder", f"fsync {file}",
+            f"drop {file} 0 {2 << 20}", f"drop {file} 0 0"]
 
 
 OPENED = opened("journal")

@@ -10,8 +10,8 @@ rm journal.life
 record_calls() {
     record=$1
     shift
-    strace -f -s 400 -xx -o "$record" -e trace=openat,flock,pread64,read,pwrite64,write,fsync,fdatasync,ftruncate,close,dup,dup2 \
-        "$@"
+    traced=openat,flock,pread64,read,pwrite64,write,fsync,fdatasync,fadvise64,ftruncate,close,dup,dup2
+    strace -f -s 400 -xx -o "$record" -e "trace=$traced" "$@"
 }
 record() {
     record_calls "$1" "$program" "$2" <three >out || {

@@ -24,6 +24,7 @@ play() {
     what=$root/.ci/$1
     shift
     case $what in
+        */test_*.py) TMPDIR=$desks LIFE_PROGRAM=$changed python3 -m pytest -q "$root/${what#"$root/.ci/"}" "$@" ;;
         *.sh) TMPDIR=$desks LIFE_PROGRAM=$changed sh "$what" ;;
         *) rm -rf "$desks/desk" && mkdir "$desks/desk" && python3 "$what" "$changed" "$desks/desk" "$@" ;;
     esac >said 2>&1
@@ -66,6 +67,20 @@ refused_with sync "call 5 fails with EIO: 0 lines are answered fault" faults/cal
 passes faults/calls.py statx 1 EINTR
 refused_with again "call 1 fails with EINTR: clerk diskfault" faults/calls.py statx 1 EINTR
 
+dropped=tests/program/test_dropped_copies.py
+passes $dropped
+refused_with undropped "^FAILED .*test_both_ends_are_dropped_before_anything_is_read\[18 bytes-journal" $dropped
+refused_with start "^FAILED .*test_both_ends_are_dropped_before_anything_is_read\[18 bytes-journal" $dropped
+refused_with end "^FAILED .*test_both_ends_are_dropped_before_anything_is_read\[5 MiB-journal" $dropped
+refused_with kept "^FAILED .*test_after_a_failed_sync_all_is_dropped\[of its commit byte" $dropped
+# the same bodies over a medium that fails, where one can be had
+failing=tests/program/test_failed_sync.py
+passes $failing -k "passes-ext4 or 2-xfs"
+if ! grep -q skipped said; then
+    refused_with undropped "^FAILED .*test_later_runs_answer_what_the_medium_has" $failing -k "passes-ext4"
+    refused_with kept "^FAILED .*test_" $failing -k "passes-ext4 or 2-xfs"
+fi
+
 passes checks/records.sh
 refused_with read "again ended with status 5" checks/records.sh
 refused_with longer "created: a read of 1 bytes at 0 gave 0 others" checks/records.sh
@@ -85,7 +100,9 @@ changed=$program
 passes faults/as_soon.py --clerk 8
 
 sort changes >all
+# some by two checks
+sort -u -o tried tried
 name=all
-sort tried | cmp -s - all || complain "tried aren't these: $(sort tried | comm -3 - all | tr -d '\t' | paste -sd ' ')"
+cmp -s tried all || complain "tried aren't these: $(comm -3 tried all | tr -d '\t' | paste -sd ' ')"
 grep -q "makes $(wc -l <tried) wrong changes" "$root/docs/proof/trusted.md" || complain "docs/proof/trusted.md tells another number"
 end "each of $(wc -l <tried) changed adapters is refused: of the files, the folder, the bell and the status"
