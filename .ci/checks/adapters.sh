@@ -104,5 +104,4 @@ sort changes >all
 sort -u -o tried tried
 name=all
 cmp -s tried all || complain "tried aren't these: $(comm -3 tried all | tr -d '\t' | paste -sd ' ')"
-grep -q "makes $(wc -l <tried) wrong changes" "$root/docs/proof/trusted.md" || complain "docs/proof/trusted.md tells another number"
 end "each of $(wc -l <tried) changed adapters is refused: of the files, the folder, the bell and the status"

@@ -87,8 +87,74 @@ def clauses() -> str:
     return "\n".join(rows) + "\n"
 
 
+# what is read and not proved: functions of a file (none: the whole file), what a reader looks at, what tries it
+READ: tuple[tuple[str, str, str, str], ...] = (
+    ("life_cli/src/main.rt", "main words_of hold_descriptors", "the arguments are the system's; it ends as `leave` says, or prints "
+     "`nomemory` if there are no arguments for want of memory; no file takes the place of a closed stream", "cases, descriptors"),
+    ("life_cli/src/shipped.rt", "leave", "the files stay open and locked until it has ended", "two runs at once"),
+    ("life_cli/src/devices.rt", "devices_of", "the devices are standard input, standard output, the folder and its two files",
+     "recorded system calls"),
+    ("outside_io/src/real_streams.rt", "read give_some write take_some", "what is noted has passed, and in that call; the moment is "
+     "noted in the call in which the bytes are handed on", "recorded system calls, early lines"),
+    ("outside_io/src/moments.rt", "start of later", "a moment has no other maker", "none"),
+    ("outside_io/src/folder_shelf.rt", "fetch read_file open_file", "the answer is the system's, for that name",
+     "recorded system calls"),
+    ("outside_io/src/noted_file.rt", "", "each note stands beside the call that was made, with its answer",
+     "recorded system calls, failing calls"),
+    ("outside_io/src/held_file.rt", "", "the calls, the lock, the folder's sync, whether the file is still "
+     "there, and that the system's copies of the file are dropped: of both ends after the first sync, of all of it after a failed one",
+     "two runs at once, failing calls, archives, dropped copies, failed syncs"),
+    ("lane_runner/src/answering.rt", "hand_over answer_lane", "the writer's bell is rung; the tests' stop (`Gate::at`) is called "
+     "with 0", "all orders of the steps, early lines"),
+    ("lane_runner/src/merging.rt", "wait_for_next", "the writer wakes for the line that it waits for; otherwise the run does not "
+     "return", "all orders of the steps"),
+    ("lane_runner/src/bell.rt", "", "the same", "all orders of the steps"),
+    ("moment_ring/src/inlet.rt", "next", "the moment of an accepted line comes", "early lines"),
+    ("stating_modes/src/reopened.rt", "reopen_both", "the journal is made safe before the second file is touched",
+     "recorded system calls"),
+    ("memory_requests/src", "", "an error of a call of the kit is a refused request; no body uses memory up",
+     "forged evidence, each request refused in turn"),
+    ("watcher_set/src/counting.rt", "ready", "the watcher is ready", "forged evidence"),
+    ("watcher_set/src/premiums.rt", "ready", "the watcher is ready", "forged evidence"),
+)
+
+
+def code_lines(path: pathlib.Path) -> int:
+    files = [path] if path.is_file() else sorted(path.rglob("*.rt"))
+    return sum(1 for file in files for line in file.read_text(encoding="utf-8").splitlines()
+               if line.strip() and not line.strip().startswith("//"))
+
+
+def lines_of(path: pathlib.Path, name: str) -> int:
+    """The lines of code of a file's functions of this name."""
+    count, indent = 0, None
+    for line in path.read_text(encoding="utf-8").splitlines():
+        if indent is None and re.match(rf"\s*(?:pub(?:\(crate\))? )?fn {name}\b", line):
+            indent = len(line) - len(line.lstrip())
+        if indent is not None:
+            count += bool(line.strip()) and not line.strip().startswith("//")
+            if line.startswith(" " * indent + "}"):
+                indent = None
+    return count
+
+
+def read() -> str:
+    rows, total = ["| File | Functions | Lines | What is read | Tried by |", "|---|---|---|---|---|"], 0
+    for file, names, what, tried in READ:
+        path = TOP / "crates" / file
+        if not path.exists():
+            raise SystemExit(f"generated: {file} isn't there, and it is to be read")
+        counted = sum(lines_of(path, name) for name in names.split()) if names else code_lines(path)
+        if not counted:
+            raise SystemExit(f"generated: {file} has no {names}, which are to be read")
+        total += counted
+        shown = ", ".join(f"`{name}`" for name in names.split()) or "all"
+        rows.append(f"| `{file}` | {shown} | {counted} | {what} | {tried} |")
+    return "\n".join([*rows, f"| **together** | | **{total}** | | |"]) + "\n"
+
+
 MAKERS: dict[str, Callable[..., str]] = {"launcher": launcher, "tools": tools, "help": help_of, "refusals": refusals,
-                                         "layers": layers, "counts": counts, "clauses": clauses}
+                                         "layers": layers, "counts": counts, "clauses": clauses, "read": read}
 
 
 def filled(text: str) -> str:
