@@ -113,9 +113,9 @@ def value_words(draw: random.Random, on: object, measure: str) -> list[str]:
     return ["value", *(word for part in words for word in part)]
 
 
-def make_script(draw: random.Random, book: Book) -> str:
-    """A script of 50 to 300 rows for the book, which is then the one that the rows would leave in their order."""
-    rows, asked, size = [], 0, draw.randrange(50, 301)
+def make_script(draw: random.Random, book: Book, sizes: range = range(50, 301)) -> str:
+    """A script of so many rows for the book, which is then the one that the rows would leave in their order."""
+    rows, asked, size = [], 0, draw.choice(sizes)
     numbers = list(book.policies)[-20:] + [draw.randrange(1, 2**32) for _ in range(size // 12 + 1)]
     for _ in range(size):
         lane, what = draw.randrange(1, 9), draw.random()

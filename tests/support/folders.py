@@ -54,6 +54,13 @@ class Folder:
         ran = subprocess.run([*self.program.words, *words], cwd=self.path, input=given, capture_output=True, check=False)
         return Ended(ran.returncode, ran.stdout.decode("ascii", "replace"), ran.stderr.decode("utf-8", "replace"))
 
+    def count(self) -> int:
+        """The commands in the journal: its records up to the first commit byte that isn't open."""
+        data, count = self.journal.read_bytes(), 0
+        while data[17 + 65 * count] == 1:
+            count += 1
+        return count
+
     def post(self, script: str) -> str:
         """Runs a script, which must end with status 0: its transcript."""
         ran = self.life("run", given=script)
@@ -70,6 +77,12 @@ class Folder:
         ended = self.tools(*words, given=given)
         assert ended.status == status and "Traceback" not in ended.err, ended
         return ended.out
+
+    def finds(self, *words: str, says: str, given: str | bytes = b"") -> Ended:
+        """A tool must end with status 1 and a line on standard error that the pattern finds, without a traceback."""
+        ended = self.tools(*words, given=given)
+        assert ended.status == 1 and re.search(says, ended.err, re.M) and "Traceback" not in ended.err, ended
+        return ended
 
     def files(self) -> dict[str, tuple[int, int, int]]:
         """Each file and folder below, by what changes where one is written or made anew."""

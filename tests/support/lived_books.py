@@ -81,8 +81,11 @@ def life_of(draw: random.Random, issue: Command, times: Times = Times()) -> list
 
 
 def lived(seed: int, policies: int, times: Times = Times()) -> list[Command]:
+    return lived_by(random.Random(seed), policies, times)
+
+
+def lived_by(draw: random.Random, policies: int, times: Times = Times()) -> list[Command]:
     """The commands of a book, sorted by day, with an upgrade in the midst."""
-    draw = random.Random(seed)
     numbers = draw.sample(range(1, 50 * policies), policies)
     commands = [command for number in numbers for command in life_of(draw, drawn_issue(draw, number, times), times)]
     commands.sort(key=lambda command: str(command.day))

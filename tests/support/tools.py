@@ -18,17 +18,27 @@ from tests.support.program import ROOT
 
 # a tool that hasn't ended by then is stopped by a signal
 SECONDS = 120
+# so much of either end of an output is shown
+SHOWN = 600
 # the status of one that ended with an exception
 FELL = 70
 
 
-@dataclass(frozen=True)
+def ends_of(text: str) -> str:
+    return text if len(text) <= 2 * SHOWN else f"{text[:SHOWN]} … {text[-SHOWN:]}"
+
+
+@dataclass(frozen=True, repr=False)
 class Ended:
     """How a command ended: its status, less than 0 where by a signal, and its standard output and error."""
 
     status: int
     out: str
     err: str
+
+    def __repr__(self) -> str:
+        """As a failed test shows it: of a long output the ends."""
+        return f"status {self.status}, printed {ends_of(self.out)!r}, on standard error {ends_of(self.err)!r}"
 
 
 def read_modules(name: str) -> None:
@@ -43,7 +53,8 @@ def take_descriptors(given: IO[bytes], out: IO[bytes], err: IO[bytes]) -> None:
     for file, standard in ((given, 0), (out, 1), (err, 2)):
         os.dup2(file.fileno(), standard)
     sys.stdin = open(0, encoding="utf-8", closefd=False)
-    sys.stdout, sys.stderr = (open(standard, "w", encoding="utf-8", closefd=False) for standard in (1, 2))
+    sys.stdout = open(1, "w", encoding="utf-8", closefd=False)
+    sys.stderr = open(2, "w", encoding="utf-8", errors="backslashreplace", closefd=False)
 
 
 def in_child(words: Sequence[str], folder: Path, env: Mapping[str, str], files: Sequence[IO[bytes]]) -> NoReturn:

@@ -1,0 +1,63 @@
+"""Each name of `life-tools` has a help, refuses what it doesn't know, and names a package that it misses."""
+from __future__ import annotations
+
+import os
+import re
+import subprocess
+import sys
+from pathlib import Path
+
+import pytest
+
+from life_tools.cli.entry import BY_NUMPY, ENTRIES
+from tests.support.folders import Folder
+from tests.support.missing import lacks
+from tests.support.program import ROOT
+from tests.support.tools import run_tool
+
+TOOLS = str(ROOT / "tools" / "life-tools")
+README = (ROOT / "tools" / "README.md").read_text(encoding="utf-8")
+
+
+@pytest.mark.parametrize("name", ENTRIES)
+def test_help(name: str, tmp_path: Path) -> None:
+    ended = run_tool([name, "--help"], tmp_path, {"COLUMNS": "80"})
+    assert ended.status == 0 and ended.out.startswith(f"usage: life-tools {name} ") and not ended.err
+    assert len(ended.out.split("\n\n")) >= 3, "it says nothing but its usage"
+
+
+@pytest.mark.parametrize("name", ENTRIES)
+def test_an_unknown_option(name: str, tmp_path: Path) -> None:
+    ended = run_tool([name, "--nonsense"], tmp_path, {})
+    assert ended.status == 2 and ended.err.startswith("usage: life-tools ") and not ended.out
+
+
+def test_an_unknown_name(tmp_path: Path) -> None:
+    ended = run_tool(["nonsense"], tmp_path, {})
+    assert ended.status == 2 and "invalid choice" in ended.err and not ended.out
+
+
+@pytest.mark.parametrize("name", ENTRIES)
+def test_the_table_of_the_readme_has_it(name: str) -> None:
+    assert re.search(rf"^\|.*`{name}\b", README, re.M)
+
+
+@pytest.mark.parametrize("name", ["position-on", "movement", "statement", "report"])
+def test_without_numpy(name: str, tmp_path: Path) -> None:
+    """A module of this name that can't be imported stands in its place."""
+    assert name in BY_NUMPY
+    (tmp_path / "numpy.py").write_text("raise ImportError\n", encoding="utf-8")
+    env = {**os.environ, "PYTHONPATH": str(tmp_path), "LIFE_TOOLS_ANEW": "1"}
+    ran = subprocess.run([sys.executable, TOOLS, name, "2020-01-01", "journal.life"], cwd=tmp_path, env=env, capture_output=True,
+                         text=True, check=False)
+    assert ran.returncode == 2 and not ran.stdout
+    assert f"life-tools {name}: Python's numpy is missing: apt-get install python3-numpy" in ran.stderr
+
+
+def test_a_python_without_packages_begins_debians(folder: Folder) -> None:
+    if not Path("/usr/bin/python3").exists():
+        lacks("there is no /usr/bin/python3")
+    folder.write("journal.life", b"")
+    ran = subprocess.run([sys.executable, "-S", TOOLS, "position-on", "2020-01-01", "journal.life"], cwd=folder.path,
+                         capture_output=True, text=True, check=False)
+    assert (ran.returncode, ran.stdout, ran.stderr) == (0, "0\n", "")

@@ -1,0 +1,195 @@
+"""The tools' readers of journals, scripts and tables beside the program: of drawn files, most of them with a fault, both say
+the same."""
+from __future__ import annotations
+
+from collections import Counter
+from random import Random
+
+import pytest
+
+from life_tools.common.formats import Wrong, money
+from life_tools.journal.file import file_of, read_journal
+from life_tools.rules.policies import Book, balances_of
+from life_tools.scripts.lines import Fault, read_script
+from life_tools.tables.basis import NotXml, read_basis
+from tests.support.drawn_scripts import make_book, make_script
+from tests.support.folders import Folder
+
+# --- journals ---
+
+
+def drawn_journal(draw: Random) -> bytes:
+    """The bytes of a journal with something changed, cut off, put in or left as it is."""
+    book = make_book(draw, draw.randrange(4))
+    # which leaves the commands in the book that the script would have accepted
+    make_script(draw, book)
+    data = bytearray(file_of(book.commands[:draw.randrange(1, 60)]))
+    what = draw.randrange(8)
+    if what == 0:
+        return bytes(draw.choice([0, 0, 1, 65]) for _ in range(draw.randrange(21)))
+    if what == 1:
+        return bytes(data[:draw.randrange(len(data) + 1)])
+    if what == 2:
+        data[draw.randrange(18)] ^= 1 << draw.randrange(8)
+    if what in (3, 4) and len(data) > 18:
+        data[draw.randrange(17, len(data))] ^= 1 << draw.randrange(8)
+    if what == 5 and len(data) > 18 + 65:
+        record = draw.randrange((len(data) - 18) // 65)
+        del data[17 + 65 * record:82 + 65 * record]
+    if what == 6:
+        data += bytes(draw.randrange(256) for _ in range(draw.randrange(200)))
+    return bytes(data)
+
+
+def judge_journal(folder: Folder, data: bytes) -> str:
+    folder.write("journal.life", data)
+    state, journal = folder.life("state"), read_journal(data)
+    if journal.refused:
+        assert (state.status, state.out) == (5, journal.refused + "\n"), (journal.why, data.hex())
+        return "refused"
+    balances = [f"balance,{account},{money(cents)}" for account, cents in balances_of(journal.commands).items()]
+    assert (state.status, state.out.splitlines()[-5:]) == (0, [*balances, f"count,{len(journal.commands)}"]), data.hex()
+    return "taken"
+
+
+# --- scripts ---
+
+FIELDS = ["", "9", "-1", "2100-02-29", "now", "whole", "value", "\u00e9", "1.5", "0.00", "00", "129", "130", "4000001", "64",
+          "65"]
+
+
+def drawn_script(draw: Random) -> bytes:
+    """A script with something changed in a row or two."""
+    rows = make_script(draw, Book()).split("\n")[:30]
+    for _ in range(draw.randrange(3)):
+        place = draw.randrange(len(rows))
+        fields = rows[place].split(",")
+        which = draw.randrange(len(fields))
+        field = fields[which]
+        fields[which] = draw.choice([field[:-1], field + "0", "0" + field, f'"{field}"', '"' + field, " " + field, field + '"',
+                                     *FIELDS])
+        if draw.random() < 0.2:
+            fields = draw.choice([fields[:which], [*fields, ""], [*fields, "x"], [",".join(fields[:2])]])
+        rows[place] = ",".join(fields)
+    return draw.choice(["\n", "\n", "\r\n", "\r", "\n\n"]).join(rows).encode() + draw.choice([b"", b"\n", b"\n\n"])
+
+
+def judge_script(folder: Folder, data: bytes) -> str:
+    folder.journal.unlink(missing_ok=True)
+    ran, lines = folder.life("run", given=data), read_script(data)
+    if isinstance(lines, Fault):
+        assert (ran.status, ran.out) == (3, lines.answer + "\n"), data
+        return "refused"
+    assert ran.status in (0, 4), (ran, data)
+    return "taken"
+
+
+# --- tables ---
+
+RATES = ["0.1", "1", "1.", ".5", "9E-05", "0.000000001", "0", "1e0"]
+WRONG_RATES = ["1.1", "-1", "", "0,1", "0.0000000001", "x", "1E-999", "0.1<!-- -->", "<b/>0.1", "&lt;"]
+STRANGE_ROWS = ["<Y>0.1</Y>", '<Y t="131">0</Y>', '<Y t="7">0</Y>', '<Y t="x">0</Y>', "<Z/>", '<Axis t="1"/>',
+                '<Y t="00">0.1</Y>', '<Y u="1" t="0" >0.1</Y>', "<Y t='0'>\n 0.1\t</Y>", '<Y t="0"/>']
+STRANGE_DURATIONS = ["<Y>0.1</Y>", '<Y t="x">0.1</Y>', '<Y t="2">0.1</Y>', '<Y t="0"/>', '<Y t="001">0.1</Y>',
+                     '<Y t="1">2</Y>', "<Z/>", '<Y t="1"><!-- -->0.1</Y>', '<Axis t="1"/>', '<Y t="4">0.1</Y>']
+FACTORS = [None, None, "", "0", " 1.0 ", "1000", "1<!-- -->", " "]
+DECLARATIONS = ["", '<?xml version="1.0"?>', '<?xml version="1.0" encoding="utf-8"?>\n']
+CHANGES = [(b"XTbML", b"XTBML"), (b"<Values>", b"<Value>"), (b"Axis", b"axis"), (b"</Y>", b"</y>"), (b"<Axis>", b"<Axis id='a'>"),
+           (b"<XTbML>", b"<!DOCTYPE x><XTbML>"), (b"</Table>", b"</Table><![CDATA[x]]>")]
+
+
+def drawn_rows(draw: Random, first: int, wrong: float) -> list[str]:
+    """A few rows from a first age or duration on, of which one is wrong or strange with this chance."""
+    rates = [draw.choice(RATES) for _ in range(draw.randrange(1, 4))]
+    if draw.random() < wrong:
+        rates[draw.randrange(len(rates))] = draw.choice(WRONG_RATES)
+    return [f'<Y t="{first + place}">{rate}</Y>' for place, rate in enumerate(rates)]
+
+
+def with_factor(draw: Random, factors: list[str | None], axes: str) -> str:
+    factor = draw.choice(factors)
+    scaling = "" if factor is None else f"<ScalingFactor>{factor}</ScalingFactor>"
+    return f"<Table><MetaData>{scaling}</MetaData><Values>{axes}</Values></Table>"
+
+
+def broken(draw: Random, data: bytes) -> bytes:
+    """The file, at times cut short or with a piece changed."""
+    what = draw.randrange(10)
+    if what == 0:
+        return data[:draw.randrange(len(data))]
+    return data.replace(*draw.choice(CHANGES)) if what == 1 else data
+
+
+def drawn_table(draw: Random) -> bytes:
+    """A table's file with something in it that is passed over, or that isn't right."""
+    rows = drawn_rows(draw, draw.choice([0, 0, 5, 128]), 0.3)
+    if draw.random() < 0.3:
+        rows[draw.randrange(len(rows))] = draw.choice(STRANGE_ROWS)
+    table = with_factor(draw, FACTORS, f"<Axis>{''.join(rows)}</Axis>")
+    head = [draw.choice(["", "", "\ufeff"]), draw.choice(DECLARATIONS), draw.choice(["", "<!-- \u00e9\u00df\u2192 -->", " \n"])]
+    around = [draw.choice(["", "<Table/>", "<Other>&amp;</Other>"]), table, draw.choice(["", table, "<Y t='1'>9</Y>"])]
+    return broken(draw, "".join([*head, "<XTbML>", *around, "</XTbML>", draw.choice(["", "\n", "<!-- -->"])]).encode())
+
+
+def drawn_issue_age(draw: Random, age: int, is_inner: bool) -> str:
+    """The axis of an issue age with its rates in it, or in an axis in it."""
+    rows = drawn_rows(draw, draw.choice([0, 1, 1]), 0.05)
+    if draw.random() < 0.1:
+        rows[draw.randrange(len(rows))] = draw.choice(STRANGE_DURATIONS)
+    text = "".join(rows) + draw.choice(["", "", "<Y/>", '<Y t="9"> </Y>\n'])
+    label = draw.choice([age + 1, "x"]) if draw.random() < 0.04 else age
+    return f'<Axis t="{label}">' + (f"<Axis>{text}</Axis>" if is_inner else text) + "</Axis>"
+
+
+def drawn_select_table(draw: Random) -> bytes:
+    """A select table's file in one of the layouts, most with an ultimate table that begins at or near its ages."""
+    first, is_inner = draw.choice([0, 0, 5, 128]), draw.random() < 0.6
+    axes = "".join(drawn_issue_age(draw, first + place, is_inner) for place in range(draw.randrange(1, 4)))
+    if draw.random() < 0.6 or not is_inner:
+        axes = f"<Axis>{axes}</Axis>"
+    start = min(first + draw.choice([0, 1, 2, 3]), 130)
+    factors = [*[None] * 9, *FACTORS[-2:]]
+    ultimate = with_factor(draw, factors, f"<Axis>{''.join(drawn_rows(draw, start, 0.05))}</Axis>")
+    behind = draw.choice([ultimate] * 8 + ["", "<Table/>" + ultimate, "<Other/>" + ultimate + "<Table/>"])
+    data = f"<XTbML>{with_factor(draw, factors, axes)}{behind}</XTbML>".encode()
+    return broken(draw, data) if draw.random() < 0.2 else data
+
+
+def judge_table(folder: Folder, data: bytes) -> str:
+    """What both say: that the table is taken, a word of a bad basis, or that it is no XML, which the program may pass over."""
+    folder.write("t.xml", data)
+    valued = folder.life("value", "2021-01-01")
+    try:
+        read_basis(str(folder.path / "basis.csv"))
+    except NotXml:
+        assert valued.status == 0 or valued.out.endswith(",notdocument\n"), (valued, data)
+        return "no XML"
+    except Wrong as wrong:
+        assert (valued.status, valued.out) == (4, f"{wrong}\n"), data
+        return str(wrong).split(",")[-1]
+    assert valued.status == 0, (valued, data)
+    return "taken"
+
+
+# seeds of each kind of file, side by side in blocks
+BLOCKS = range(5)
+
+
+@pytest.mark.parametrize("block", BLOCKS)
+def test_journals(folder: Folder, block: int) -> None:
+    said = Counter(judge_journal(folder, drawn_journal(Random(f"journal {block} {seed}"))) for seed in range(30))
+    assert min(said["refused"], said["taken"]) >= 5, said
+
+
+@pytest.mark.parametrize("block", BLOCKS)
+def test_scripts(folder: Folder, block: int) -> None:
+    said = Counter(judge_script(folder, drawn_script(Random(f"script {block} {seed}"))) for seed in range(30))
+    assert min(said["refused"], said["taken"]) >= 5, said
+
+
+@pytest.mark.parametrize("block", BLOCKS)
+def test_tables(folder: Folder, block: int) -> None:
+    folder.write("basis.csv", "1900-01-01,t.xml,0\n")
+    said = Counter(judge_table(folder, make(Random(f"table {block} {seed}")))
+                   for make, seeds in ((drawn_table, 40), (drawn_select_table, 50)) for seed in range(seeds))
+    assert len(said) >= 8 and said["taken"] >= 10, said
