@@ -181,6 +181,27 @@ def test_journals(folder: Folder, block: int) -> None:
     assert min(said["refused"], said["taken"]) >= 5, said
 
 
+EMPTY = b"\x01LIFEJRNL\x00\x01\x00\x40\x00\x00\x00\x00\x00"
+ISSUE = "1,issue,{number},2020-01-01,{plan},{age},{years},{amount},1.00\n"
+# each field of an issue at its limits and one beyond them
+LIMITS = {"number": ["0", "1", "4294967295", "4294967296"], "age": ["0", "128", "129", "130", "131"],
+          "years": ["0", "1", "2", "101", "102"], "plan": ["term", "whole", "limited"],
+          "amount": ["0.00", "0.01", "100000000.00", "100000000.01", "1000000000.00"]}
+
+
+def test_journals_of_few_bytes(folder: Folder) -> None:
+    """A creation that a crash ended may have left some of these."""
+    for data in [*(bytes(size) for size in range(21)), *(EMPTY[:size] for size in range(19)), bytes(1) + EMPTY[1:],
+                 bytes([2]) + EMPTY[1:], EMPTY[:17] + b"\x02", EMPTY[:17] + b"\x01"]:
+        judge_journal(folder, data)
+
+
+@pytest.mark.parametrize(("field", "value"), [(field, value) for field, values in LIMITS.items() for value in values])
+def test_scripts_at_the_limits(folder: Folder, field: str, value: str) -> None:
+    fields = {"number": "1", "plan": "endowment", "age": "30", "years": "10", "amount": "60.00", field: value}
+    judge_script(folder, ISSUE.format_map(fields).encode())
+
+
 @pytest.mark.parametrize("block", BLOCKS)
 def test_scripts(folder: Folder, block: int) -> None:
     said = Counter(judge_script(folder, drawn_script(Random(f"script {block} {seed}"))) for seed in range(30))

@@ -57,7 +57,7 @@ def test_without_numpy(name: str, tmp_path: Path) -> None:
 def test_a_python_without_packages_begins_debians(folder: Folder) -> None:
     if not Path("/usr/bin/python3").exists():
         lacks("there is no /usr/bin/python3")
-    folder.write("journal.life", b"")
+    folder.write("journal.life", b"\x01LIFEJRNL\x00\x01\x00\x40\x00\x00\x00\x00\x00")
     ran = subprocess.run([sys.executable, "-S", TOOLS, "position-on", "2020-01-01", "journal.life"], cwd=folder.path,
                          capture_output=True, text=True, check=False)
     assert (ran.returncode, ran.stdout, ran.stderr) == (0, "0\n", "")
