@@ -9,7 +9,7 @@ import subprocess
 import tempfile
 import zlib
 from concurrent.futures import ThreadPoolExecutor, wait
-from dataclasses import dataclass, field
+from dataclasses import dataclass, field, replace
 from typing import IO, Any, Iterator
 
 from life_tools.books.totals import Text, text_in
@@ -300,6 +300,7 @@ def run_on(task: Task, folder: str, room: str | None) -> Outcome:
 
 def run_once(task: Task, room: str | None = None) -> Outcome:
     """Runs a task; what can't be asked of the program is told with a status of its own. Copies are made in the room."""
+    desk = ""
     try:
         if not task.is_copied:
             demand_journal(task.folder)
@@ -308,4 +309,6 @@ def run_once(task: Task, room: str | None = None) -> Outcome:
             lay_copy(task, desk)
             return run_on(task, desk, room)
     except (Wrong, OSError, ValueError, zlib.error) as wrong:
-        return failure(task.name, wrong)
+        outcome = failure(task.name, wrong)
+        # the copy's folder says nothing to whoever reads this
+        return replace(outcome, line=outcome.line.replace(desk, task.folder)) if desk else outcome

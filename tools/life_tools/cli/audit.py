@@ -10,16 +10,16 @@
 from __future__ import annotations
 
 import argparse
-import csv
 import os
 import sys
 from collections import Counter
-from typing import Iterable, Sequence
+from typing import Sequence
 
 from life_tools.valuations.class_bases import Bases, basis_arguments, bases_in, class_arguments
 from life_tools.journal.copied_folder import JOURNAL
 from life_tools.audit.drawn_samples import sample_of
-from life_tools.cli.report import write_text, written_whole
+from life_tools.common.cells import write_rows
+from life_tools.common.files import write_text, written_whole
 from life_tools.cli.why import position_in
 from life_tools.audit.flags import DAYS_LATE, FLAGS, Flag, flags_at
 from life_tools.common.formats import Wrong, day_in, demand, money, number_of, remark
@@ -64,13 +64,6 @@ def row_of(flag: Flag) -> list[str]:
     return [flag.flag, *numbers, flag.why]
 
 
-def write_rows(head: Sequence[str], rows: Iterable[Sequence[str]]) -> None:
-    writer = csv.writer(sys.stdout, lineterminator="\n")
-    writer.writerow(head)
-    writer.writerows(rows)
-    sys.stdout.flush()
-
-
 def tell_flags(found: Sequence[Flag]) -> int:
     counts = Counter(each.flag for each in found)
     remark("; ".join(f"{flag}: {counts[flag]}" for flag in FLAGS))
@@ -81,7 +74,8 @@ def run_flags(options: argparse.Namespace) -> int:
     days, after = late_in(options.late), position_in(options.after) or 0
     flags = flags_at(os.path.join(options.folder, JOURNAL), position_in(options.at), days)
     found = [each for each in flags if each.position > after]
-    write_rows(FLAG_HEADS, map(row_of, found))
+    write_rows(sys.stdout, [FLAG_HEADS, *map(row_of, found)])
+    sys.stdout.flush()
     return tell_flags(found)
 
 
@@ -170,7 +164,7 @@ def letters_arguments(parser: argparse.ArgumentParser) -> None:
 def run_letters(options: argparse.Namespace) -> int:
     book = os.path.basename(os.path.realpath(options.folder))
     rows = letters_of(sample_at(options.sample), os.path.join(options.folder, JOURNAL), book)
-    write_rows(HEADS, rows)
+    write_rows(sys.stdout, [HEADS, *rows])
     return 0
 
 

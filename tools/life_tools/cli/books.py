@@ -46,6 +46,8 @@ from life_tools.journal.day_columns import number_at
 from life_tools.cli import books_audit, books_own, books_split
 from life_tools.cli.books_counts import run_headroom, run_position_on
 from life_tools.cli.headroom import add_arguments, wanted_of
+from life_tools.common.cells import write_csv_file
+from life_tools.common.files import written_whole
 from life_tools.common.formats import MOST_WORKERS, MOST_YEARS, Wrong, day_in, demand, number_of, remark
 from life_tools.journal.record_columns import columns_at
 
@@ -156,8 +158,8 @@ def write_list_of_parts(asked: Asked, outcomes: list[Outcome]) -> None:
     if not asked.parts:
         return
     os.makedirs(asked.parts.folder, exist_ok=True)
-    with open(os.path.join(asked.parts.folder, "parts.csv"), "w", encoding="utf-8") as file:
-        file.writelines(f"{it.name},{','.join(it.part)}\n" for it in outcomes if it.part)
+    rows = [(it.name, *it.part) for it in outcomes if it.part]
+    written_whole(os.path.join(asked.parts.folder, "parts.csv"), lambda path: write_csv_file(path, rows))
 
 
 def overlapping(outcomes: list[Outcome]) -> list[int]:
@@ -186,6 +188,15 @@ def tell_twice(books: list[ListedBook], outcomes: list[Outcome]) -> int:
     return found
 
 
+def tell_left_out(options: argparse.Namespace, asked: Asked) -> bool:
+    """Tells that the lines of policies are left out, which a cluster doesn't send back, unless that was asked for."""
+    are_lines = asked.words[0] in ("value", "state")
+    if not are_lines or asked.parts or asked.are_rows_kept or options.totals:
+        return False
+    remark("the lines of policies are left out: --parts FOLDER has them written, and --totals asks for the totals alone")
+    return True
+
+
 def run_program(options: argparse.Namespace, books: list[ListedBook]) -> int:
     asked = asked_of(options, books)
     outcomes = work(asked, books)
@@ -197,7 +208,8 @@ def run_program(options: argparse.Namespace, books: list[ListedBook]) -> int:
     write_list_of_parts(asked, outcomes)
     failed = [outcome.status for outcome in outcomes if outcome.status]
     twice = tell_twice(books, outcomes)
-    return failed[0] if failed else 1 if twice or any(outcome.doubt for outcome in outcomes) else status
+    lacks = tell_left_out(options, asked)
+    return failed[0] if failed else 1 if twice or lacks or any(outcome.doubt for outcome in outcomes) else status
 
 
 def arguments(parser: argparse.ArgumentParser) -> None:

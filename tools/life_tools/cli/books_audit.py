@@ -3,13 +3,15 @@ from __future__ import annotations
 
 import argparse
 import os
+import sys
 from typing import Callable, Sequence
 
 from life_tools.common.arrays import np
 from life_tools.books.lists import ListedBook
 from life_tools.books.runs import Outcome
 from life_tools.audit.drawn_samples import numbers_of
-from life_tools.cli.audit import FLAG_HEADS, late_in, row_of, tell_flags, write_papers, write_rows
+from life_tools.cli.audit import FLAG_HEADS, late_in, row_of, tell_flags, write_papers
+from life_tools.common.cells import write_rows
 from life_tools.audit.flags import DAYS_LATE
 from life_tools.common.formats import day_in, demand, money, remark
 from life_tools.audit.letters import HEADS
@@ -62,7 +64,7 @@ def drawn_at(options: argparse.Namespace, books: Sequence[ListedBook]) -> Parts:
 
 def show_flags(options: argparse.Namespace, well: Sequence[Outcome]) -> int:
     found = [(outcome.name, flag) for outcome in well for flag in outcome.made.what]
-    write_rows(["book", *FLAG_HEADS], ([name, *row_of(flag)] for name, flag in found))
+    write_rows(sys.stdout, [["book", *FLAG_HEADS], *([name, *row_of(flag)] for name, flag in found)])
     return tell_flags([flag for _, flag in found])
 
 
@@ -92,7 +94,7 @@ def show_papers(options: argparse.Namespace, well: Sequence[Outcome]) -> int:
 
 
 def show_letters(options: argparse.Namespace, well: Sequence[Outcome]) -> int:
-    write_rows(HEADS, (row for outcome in well for row in outcome.made.what))
+    write_rows(sys.stdout, [HEADS, *(row for outcome in well for row in outcome.made.what)])
     return 0
 
 

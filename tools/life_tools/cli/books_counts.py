@@ -21,13 +21,12 @@ from life_tools.journal.wholeness import demand_undamaged, tell
 
 
 class Counted(NamedTuple):
-    """What is said of a book: its line, what is remarked, and the status; or how it failed, and why in full."""
+    """What is said of a book: its line, what is remarked, and the status; or how it failed."""
 
     line: str
     remarks: str
     status: int
     failed: Outcome | None = None
-    why: str = ""
 
 
 Look = Callable[[ListedBook], "tuple[str, int]"]
@@ -40,7 +39,7 @@ def counted(look: Look, book: ListedBook) -> Counted:
             line, status = look(book)
         except (Wrong, OSError) as wrong:
             status = wrong.status if isinstance(wrong, Wrong) else Wrong.status
-            return Counted("", remarks.getvalue(), status, failure(book.name, wrong), str(wrong))
+            return Counted("", remarks.getvalue(), status, failure(book.name, wrong))
     return Counted(line, remarks.getvalue(), status)
 
 
@@ -66,17 +65,24 @@ def position_of(day: int, is_last: bool, book: ListedBook) -> tuple[str, int]:
     return f"{book.name},{found.at(is_last)}\n", whole | bool(found.astray(is_last))
 
 
-def run_position_on(books: Sequence[ListedBook], day: int, is_last: bool, processes: int) -> int:
-    """The position of a day in each book, all of them or none; 1 where one lacks a command, or has one too many."""
-    found = []
-    for each in each_of(partial(position_of, day, is_last), books, processes):
+def written(look: Look, books: Sequence[ListedBook], processes: int) -> int:
+    """The line of each book; one that can't be told is a line as well, and its status is the whole's."""
+    failed, told = 0, 0
+    for each in each_of(look, books, processes):
         if each.failed:
-            wrong = Wrong(each.why)
-            wrong.status = each.status
-            raise wrong
-        found.append(each)
-    sys.stdout.writelines(each.line for each in found)
-    return max(each.status for each in found)
+            it = each.failed
+            sys.stdout.write(f"{it.name},failed,{it.status},{it.line}\n")
+            remark(f"{it.name}: status {it.status}: {it.line}")
+            failed = failed or it.status
+        else:
+            sys.stdout.write(each.line)
+            told |= each.status
+    return failed or told
+
+
+def run_position_on(books: Sequence[ListedBook], day: int, is_last: bool, processes: int) -> int:
+    """The position of a day in each book; 1 where one lacks a command, or has one too many."""
+    return written(partial(position_of, day, is_last), books, processes)
 
 
 # --- headroom ---
@@ -87,16 +93,5 @@ def room_told(wanted: Wanted, book: ListedBook) -> tuple[str, int]:
 
 
 def run_headroom(books: Sequence[ListedBook], wanted: Wanted, processes: int) -> int:
-    """The room of each book; one that can't be told is a line, and its status is the whole's."""
     print(f"book,{HEAD}", flush=True)
-    failed, told = 0, 0
-    for each in each_of(partial(room_told, wanted), books, processes):
-        if each.failed:
-            it = each.failed
-            sys.stdout.write(f"{it.name},failed,{it.status},{it.line}\n")
-            remark(f"{it.name}: status {it.status}: {it.line}")
-            failed = failed or it.status
-        else:
-            sys.stdout.write(each.line)
-            told |= each.status
-    return failed or told
+    return written(partial(room_told, wanted), books, processes)

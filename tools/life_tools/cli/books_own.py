@@ -17,13 +17,14 @@ from life_tools.cli import books_audit
 from life_tools.cli.audit import late_argument, paper_arguments
 from life_tools.cli.due import MOST_DAYS, Due, listed, tell_sums
 from life_tools.cli.movement import TOLD
-from life_tools.cli.report import HEADS, keys_in, write_text, written_whole
+from life_tools.cli.report import HEADS, keys_in
+from life_tools.common.files import demand_new, write_folder, write_text, written_whole
 from life_tools.common.formats import MEASURES, bytes_of, day_in, demand, number_of, remark, rows_in
 from life_tools.valuations.groups import Groups
 from life_tools.reports.provenance import program_words, shown
 from life_tools.reports.report_sheets import movement_sheet, sheet_of
 from life_tools.common.revisions import made_now
-from life_tools.reports.sheet_files import demand_new, lines_of, write_csvs, write_folder, write_workbook
+from life_tools.reports.sheet_files import lines_of, write_csvs, write_workbook
 from life_tools.reports.sheet_pages import page
 from life_tools.reports.sheets import Sheet
 from life_tools.reports.statement import of_books

@@ -4,12 +4,11 @@ from __future__ import annotations
 import argparse
 import gc
 import importlib
-import os
 import sys
 from typing import Sequence
 
-from life_tools.common.formats import Wrong
 from life_tools.common.packages import see
+from life_tools.common.streams import ended, take_standard_streams
 
 # name -> the module of life_tools.cli that answers it, and what it does, in one line
 ENTRIES: dict[str, tuple[str, str]] = {
@@ -68,22 +67,24 @@ def parser_of(names: Sequence[str]) -> argparse.ArgumentParser:
     return parser
 
 
+def asked_for(given: list[str]) -> list[str]:
+    """The arguments, where `help`, `help NAME` and no argument at all ask for help as --help does."""
+    if given[:1] in ([], ["help"]):
+        return [*given[1:2], "--help"]
+    return given
+
+
 def main(words: Sequence[str] | None = None) -> int:
     """Runs an entry: 0 all is well, 1 something was found wrong, 2 it could not be done."""
     given = list(sys.argv[1:] if words is None else words)
     # millions of rows make no cycles, and looking for some among them takes as long as making them
     gc.disable()
-    try:
-        options = parser_of(given[:1]).parse_args(given)
+    take_standard_streams()
+
+    def run() -> int:
+        asked = asked_for(given)
+        options = parser_of(asked[:1]).parse_args(asked)
         status: int = options.run(options)
-        sys.stdout.flush()
         return status
-    except Wrong as wrong:
-        print(f"life-tools {given[0]}: {wrong}", file=sys.stderr)
-        return wrong.status
-    except BrokenPipeError:
-        # whoever read has left; what is still held back must not complain at the end
-        os.dup2(os.open(os.devnull, os.O_WRONLY), sys.stdout.fileno())
-        return 0
-    except KeyboardInterrupt:
-        return 130
+
+    return ended(given[0] if given else "", run)

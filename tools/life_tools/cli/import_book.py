@@ -7,12 +7,12 @@ from __future__ import annotations
 
 import argparse
 import contextlib
-import csv
 import os
-from typing import Iterable, Iterator
+from typing import Iterator
 
 from life_tools.scripts import foreign_books
 from life_tools.rules.commands import words_of
+from life_tools.common.cells import write_csv_file
 from life_tools.scripts.foreign_books import LAST, NEAREST, Mapped, map_at, mapped
 from life_tools.common.formats import MOST_LANES, MOST_SCRIPT_BYTES, Wrong, demand, number_of, remark
 
@@ -52,11 +52,6 @@ def names_of(script: str, parts: int) -> list[str]:
     return [script] if parts == 1 else [f"{front}-{part:0{width}}{ending}" for part in range(1, parts + 1)]
 
 
-def write_rows(path: str, rows: Iterable[tuple[object, ...]]) -> None:
-    with open(path, "x", encoding="utf-8", errors="surrogateescape", newline="") as file:
-        csv.writer(file, lineterminator="\n").writerows(rows)
-
-
 def write(options: argparse.Namespace, made: Mapped, parts: list[list[str]]) -> list[str]:
     """Writes the parts and the list of what is left; where one can't be written, none of them stays."""
     names, written = names_of(options.script, len(parts)), []
@@ -69,8 +64,9 @@ def write(options: argparse.Namespace, made: Mapped, parts: list[list[str]]) -> 
                 file.writelines(part)
         if options.classes:
             written.append(options.classes)
-            write_rows(options.classes, made.classes)
-        write_rows(options.left, [("line", "reason", "row"), *((row.line, reason, row.text) for row, reason in made.left)])
+            write_csv_file(options.classes, made.classes)
+        written.append(options.left)
+        write_csv_file(options.left, [("line", "reason", "row"), *((row.line, reason, row.text) for row, reason in made.left)])
     except OSError as error:
         for name in written:
             with contextlib.suppress(OSError):

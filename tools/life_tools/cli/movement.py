@@ -11,15 +11,17 @@ premiums and settlements of the accounts. By --deficiency it is of the minimum r
 from __future__ import annotations
 
 import argparse
-import csv
 import os
+from itertools import chain
 from typing import Iterator, NamedTuple
 
 from life_tools.reports.movement import LINES, Cash, Changes, Moved, analysis, cash_of, changes_of, demand_booked
 from life_tools.valuations.class_bases import Bases, bases_in
 from life_tools.valuations.class_columns import valued_columns
 from life_tools.journal.copied_folder import JOURNAL
-from life_tools.cli.report import add_title, write_text, written_whole
+from life_tools.cli.report import add_title
+from life_tools.common.cells import write_csv_file
+from life_tools.common.files import write_text, written_whole
 from life_tools.cli.why import measure_arguments, position_in
 from life_tools.common.formats import Wrong, day_in, demand, money, remark
 from life_tools.journal.at_position import book_at
@@ -104,11 +106,9 @@ def rows_of(changes: Changes) -> Iterator[list[str]]:
 
 
 def write_policies(path: str, changes: Changes) -> None:
-    with open(path, "w", newline="", encoding="utf-8") as file:
-        writer = csv.writer(file, lineterminator="\n")
-        parts = ("opening", "posted", "time", "basis", "closing")
-        writer.writerow(["policy", "line", *(f"{part} {bound}" for part in parts for bound in ("lower", "upper"))])
-        writer.writerows(rows_of(changes))
+    parts = ("opening", "posted", "time", "basis", "closing")
+    head = ["policy", "line", *(f"{part} {bound}" for part in parts for bound in ("lower", "upper"))]
+    write_csv_file(path, chain([head], rows_of(changes)))
 
 
 def shown(lines: list[Moved]) -> str:

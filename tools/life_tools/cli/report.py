@@ -25,7 +25,7 @@ from life_tools.reports.report_files import lines_of, write_csv
 from life_tools.reports.report_pages import page
 from life_tools.reports.report_sheets import sheet_of
 from life_tools.reports.sheet_files import write_workbook
-from life_tools.common.files import write_text as write_text, written_whole as written_whole
+from life_tools.common.files import write_text, written_whole
 
 DEFAULT = ("plan", "status", "issue-year")
 HEADS = {2: ("lower bound", "upper bound"), 4: ("lower bound", "upper bound", "minimum, lower", "minimum, upper")}

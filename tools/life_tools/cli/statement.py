@@ -13,12 +13,12 @@ import argparse
 import sys
 
 from life_tools.valuations.class_bases import basis_arguments, bases_in
-from life_tools.cli.report import write_text, written_whole
+from life_tools.common.files import demand_new, write_folder, write_text, written_whole
 from life_tools.cli.why import position_in
 from life_tools.common.formats import day_in, remark
 from life_tools.reports.periods import Asked, NotWhole
 from life_tools.reports.provenance import provenance
-from life_tools.reports.sheet_files import demand_new, lines_of, write_csvs, write_folder, write_policies, write_workbook
+from life_tools.reports.sheet_files import lines_of, write_csvs, write_policies, write_workbook
 from life_tools.reports.sheet_pages import page
 from life_tools.reports.statement import Statement, statement_of
 

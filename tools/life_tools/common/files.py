@@ -1,23 +1,107 @@
-"""Files that a tool writes: each is there whole, or not at all."""
+"""Files that a tool writes: each is there whole or not at all, and none takes the place of a book's own file.
+
+What is written lies meanwhile under a private name beside its place, which no other file has.
+"""
 from __future__ import annotations
 
 import os
+import re
+import shutil
+import tempfile
 from typing import Callable
 
-from life_tools.common.formats import Wrong
+from life_tools.common.formats import KINDS, Wrong, bytes_of, demand, rows_in
+
+# names that are a book's own, whatever lies there
+OWN_NAMES = ("journal.life", "checkpoint.life", "basis.csv")
+# so much of a file is looked at to tell what it is
+LOOKED_AT = 1 << 12
+SCRIPT_ROW = re.compile(f'"?[1-8]"?,"?({"|".join((*KINDS.values(), "value", "trim"))})"?(,|\r|\n|$)')
+BASIS_ROW = re.compile('"?[0-9]{4}-[0-9]{2}-[0-9]{2}"?,"?[A-Za-z0-9][A-Za-z0-9._-]{0,63}"?,"?[0-9]+"?[ \t]*(\r|\n|$)')
+
+
+# --- what isn't replaced ---
+
+def kind_of(data: bytes) -> str | None:
+    """What of a book a file is, by its first bytes."""
+    if data[1:9] in (b"LIFEJRNL", b"LIFECHKP"):
+        return "a journal" if data[1:9] == b"LIFEJRNL" else "a checkpoint"
+    if b"<XTbML" in data:
+        return "a table"
+    text = data.decode("utf-8", "replace").lstrip("\ufeff\r\n")
+    if BASIS_ROW.match(text):
+        return "a basis"
+    return "a script" if SCRIPT_ROW.match(text) else None
+
+
+def named_in_basis(path: str) -> bool:
+    """Whether the basis of the folder names a file as a table."""
+    folder, name = os.path.split(path)
+    basis = os.path.join(folder, OWN_NAMES[2])
+    return os.path.isfile(basis) and any(name in row.fields[1:2] for row in rows_in(bytes_of(basis)))
+
+
+def demand_replaceable(path: str) -> None:
+    """Refuses to write in the place of a journal, a checkpoint, a basis, a table or a script, or of what is no file."""
+    demand(os.path.basename(path) not in OWN_NAMES, f"{path} is a book's own file, and nothing else is written there")
+    if not os.path.lexists(path):
+        return
+    demand(os.path.isfile(path), f"{path} is no file, so it isn't replaced")
+    with open(path, "rb") as file:
+        kind = kind_of(file.read(LOOKED_AT)) or ("a table of the basis" if named_in_basis(path) else None)
+    demand(not kind, f"{path} is {kind}, which isn't replaced: name another file, or remove it first")
+
+
+# --- how it is written ---
+
+def open_mode(of: int) -> int:
+    """The mode that a new file or folder gets, which a private one hasn't."""
+    mask = os.umask(0)
+    os.umask(mask)
+    return of & ~mask
 
 
 def written_whole(path: str, write: Callable[[str], None]) -> None:
     """A file that is there whole or not at all."""
-    part = f"{path}.part"
+    part = None
     try:
+        demand_replaceable(path)
+        folder, name = os.path.split(path)
+        handle, part = tempfile.mkstemp(prefix=f".{name[:64]}.", dir=folder or ".")
+        os.close(handle)
         write(part)
+        os.chmod(part, open_mode(0o666))
         os.replace(part, path)
     except OSError as error:
         raise Wrong(f"{path}: {error.strerror}") from error
     finally:
-        if os.path.exists(part):
+        if part and os.path.exists(part):
             os.remove(part)
+
+
+def demand_new(*folders: str) -> None:
+    """Demands that new folders can be made under these names."""
+    for folder in folders:
+        demand(not os.path.lexists(folder), f"{folder} is there already")
+        demand(os.path.isdir(os.path.dirname(os.path.abspath(folder))), f"{folder}: No such file or directory")
+    demand(len({os.path.abspath(folder) for folder in folders}) == len(folders), f"{' and '.join(folders)} are one folder")
+
+
+def write_folder(folder: str, write: Callable[[str], None]) -> None:
+    """A new folder, which is there whole or not at all."""
+    demand_new(folder)
+    above, name = os.path.split(os.path.abspath(folder))
+    part = None
+    try:
+        part = tempfile.mkdtemp(prefix=f".{name[:64]}.", dir=above)
+        write(part)
+        os.chmod(part, open_mode(0o777))
+        os.rename(part, folder)
+    except OSError as error:
+        raise Wrong(f"{folder}: {error.strerror}") from error
+    finally:
+        if part:
+            shutil.rmtree(part, ignore_errors=True)
 
 
 def write_text(path: str, text: str) -> None:

@@ -129,7 +129,7 @@ def cents_of(text: str, most: int = MOST_CENTS) -> int | None:
 
 def printed_cents(text: str) -> int:
     """An amount or a balance as the program prints it, in cents."""
-    demand(re.fullmatch(r"-?(0|[1-9][0-9]*)\.[0-9]{2}", text), f"{text} is no amount")
+    demand(re.fullmatch(r"-?(0|[1-9][0-9]{0,18})\.[0-9]{2}", text), f"{text[:40]} is no amount")
     return int(text.replace(".", ""))
 
 

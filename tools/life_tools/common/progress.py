@@ -19,8 +19,15 @@ class Progress:
             return
         self.told, self.shown = now, True
         far = f"{done:,} of {self.whole:,}" if self.whole else f"{done:,}"
-        print(f"\r\033[K{self.doing}: {far}", end="", file=sys.stderr, flush=True)
+        self.show(f"{self.doing}: {far}")
 
     def end(self) -> None:
         if self.shown:
-            print("\r\033[K", end="", file=sys.stderr, flush=True)
+            self.show("")
+
+    @staticmethod
+    def show(text: str) -> None:
+        """In place of the line before; a terminal obeys these bytes, which a text on standard error shows."""
+        sys.stderr.flush()
+        sys.stderr.buffer.write(f"\r\033[K{text}".encode())
+        sys.stderr.buffer.flush()

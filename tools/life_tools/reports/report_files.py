@@ -1,15 +1,13 @@
-"""A report as text and as CSV, and the cells of a workbook."""
+"""A report as text and as CSV."""
 from __future__ import annotations
 
-import csv
-from decimal import Decimal
-from typing import Any, Sequence
+from itertools import chain
+from typing import Sequence
 
+from life_tools.common.cells import write_csv_file
 from life_tools.valuations.groups import Groups, Sums
 
 Tables = Sequence[tuple[Sequence[str], Groups]]
-# a spreadsheet keeps fifteen digits of a number
-MOST_DIGITS = 15
 
 
 def lines_of(keys: Sequence[str], groups: Groups, total: Sums, columns: Sequence[str]) -> list[str]:
@@ -22,16 +20,5 @@ def lines_of(keys: Sequence[str], groups: Groups, total: Sums, columns: Sequence
 
 
 def write_csv(path: str, tables: Tables, total: Sums, columns: Sequence[str]) -> None:
-    with open(path, "w", newline="", encoding="utf-8") as file:
-        writer = csv.writer(file, lineterminator="\n")
-        writer.writerow(["by", "group", *columns])
-        for keys, groups in tables:
-            for name, sums in groups.items():
-                writer.writerow([",".join(keys), ",".join(name), *sums.cells()])
-        writer.writerow(["all", "total", *total.cells()])
-
-
-def cell_of(text: str) -> Any:
-    """An amount or a count as a number, as far as a spreadsheet keeps all its digits."""
-    digits = text.replace("-", "").replace(".", "")
-    return Decimal(text) if digits.isdigit() and len(digits) <= MOST_DIGITS else text
+    rows = ([",".join(keys), ",".join(name), *sums.cells()] for keys, groups in tables for name, sums in groups.items())
+    write_csv_file(path, chain([["by", "group", *columns]], rows, [["all", "total", *total.cells()]]))

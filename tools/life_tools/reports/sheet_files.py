@@ -1,20 +1,15 @@
 """Sheets as text, as CSV files of a folder, and as a workbook."""
 from __future__ import annotations
 
-import csv
 import os
-import shutil
 from itertools import chain
-from typing import Any, Callable, Iterable, Sequence
+from typing import Any, Sequence
 
-from life_tools.common.formats import Wrong, demand
+from life_tools.common.cells import number_of_cell, put_text, write_csv_file
 from life_tools.common.packages import package
-from life_tools.reports.report_files import cell_of
 from life_tools.reports.sheets import CENTS, COUNT, TEXT, Cell, Column, Sheet, cell_text
 
 Facts = dict[str, str]
-# a text that begins so is a formula to a spreadsheet
-FORMULAS = ("=", "+", "-", "@", "\t", "\r")
 # among the facts, before a sheet's name
 NOTE_ON = "note on "
 FORMATS = {COUNT: "#,##0", CENTS: "#,##0.00"}
@@ -43,69 +38,28 @@ def lines_of(sheet: Sheet) -> list[str]:
 
 # --- CSV ---
 
-def harmless(text: str) -> str:
-    return f"'{text}" if text.startswith(FORMULAS) else text
-
-
-def csv_rows(sheet: Sheet) -> list[list[str]]:
-    head, *rows = texts_of(sheet)
-    kinds = [column.kind for column in sheet.columns]
-    return [head, *([harmless(cell) if kind == TEXT else cell for cell, kind in zip(row, kinds)] for row in rows)]
-
-
-def write_rows(path: str, rows: Iterable[Sequence[str]]) -> None:
-    with open(path, "x", newline="", encoding="utf-8") as file:
-        csv.writer(file, lineterminator="\n").writerows(rows)
-
-
-def demand_new(*folders: str) -> None:
-    """Demands that new folders can be made under these names."""
-    for folder in folders:
-        demand(not os.path.lexists(folder), f"{folder} is there already")
-        demand(os.path.isdir(os.path.dirname(os.path.abspath(folder))), f"{folder}: No such file or directory")
-    demand(len({os.path.abspath(folder) for folder in folders}) == len(folders), f"{' and '.join(folders)} are one folder")
-
-
-def write_folder(folder: str, write: Callable[[str], None]) -> None:
-    """A new folder, which is there whole or not at all."""
-    demand_new(folder)
-    part = f"{folder.rstrip('/')}.part"
-    try:
-        os.mkdir(part)
-        write(part)
-        os.rename(part, folder)
-    except OSError as error:
-        raise Wrong(f"{error.filename or folder}: {error.strerror}") from error
-    finally:
-        shutil.rmtree(part, ignore_errors=True)
-
-
 def write_csvs(folder: str, facts: Facts, sheets: Sequence[Sheet]) -> None:
     """A file for each sheet, and one of the facts and of what is to be said of the sheets."""
     notes = [(f"{NOTE_ON}{sheet.name}", note) for sheet in sheets for note in sheet.notes]
-    told = ([name, harmless(text)] for name, text in (*facts.items(), *notes))
-    write_rows(os.path.join(folder, "facts.csv"), [["fact", "value"], *told])
+    write_csv_file(os.path.join(folder, "facts.csv"), [("fact", "value"), *facts.items(), *notes])
     for sheet in sheets:
-        write_rows(os.path.join(folder, f"{sheet.name}.csv"), csv_rows(sheet))
+        write_csv_file(os.path.join(folder, f"{sheet.name}.csv"), texts_of(sheet))
 
 
 def write_policies(folder: str, sheets: Sequence[Sheet]) -> None:
     """A file for each sheet that tells each policy's part."""
     for sheet in sheets:
         if sheet.policy_head:
-            write_rows(os.path.join(folder, f"{sheet.name}.csv"), chain([sheet.policy_head], sheet.policy_rows))
+            write_csv_file(os.path.join(folder, f"{sheet.name}.csv"), chain([sheet.policy_head], sheet.policy_rows))
 
 
 # --- a workbook ---
 
 def put(page: Any, row: int, place: int, cell: Cell, column: Column, bold: Any) -> None:
     text = cell_text(cell, column)
-    made = page.cell(row, place)
-    if column.kind == TEXT or not text:
-        made.value = text or None
-        made.data_type = "s" if text else "n"
-    else:
-        made.value = cell_of(text)
+    made = put_text(page, row, place, text)
+    if column.kind != TEXT and text:
+        made.value = number_of_cell(text)
         made.number_format = FORMATS[column.kind]
     if bold:
         made.font = bold
@@ -123,15 +77,14 @@ def widen(page: Any, sheet: Sheet) -> None:
 
 def head(page: Any, title: str, styles: Any) -> None:
     """A title, which is a text whatever it begins with."""
-    made = page.cell(1, 1, title)
-    made.data_type, made.font = "s", styles.Font(bold=True, size=14)
+    put_text(page, 1, 1, title).font = styles.Font(bold=True, size=14)
 
 
 def fill(page: Any, sheet: Sheet, styles: Any) -> None:
     bold = styles.Font(bold=True)
     head(page, sheet.title, styles)
     for place, column in enumerate(sheet.columns, 1):
-        named = page.cell(3, place, column.name)
+        named = put_text(page, 3, place, column.name)
         named.font = bold
         side = "left" if column.kind == TEXT else "right"
         named.alignment = styles.Alignment(horizontal=side, wrap_text=True, vertical="bottom")
@@ -141,7 +94,7 @@ def fill(page: Any, sheet: Sheet, styles: Any) -> None:
             if row.is_total:
                 page.cell(at, place).border = styles.Border(top=styles.Side(style="thin"))
     for at, text in enumerate((*sheet.notes, *sheet.checks), len(sheet.rows) + 5):
-        page.cell(at, 1, text)
+        put_text(page, at, 1, text)
     page.freeze_panes = "B4"
     fit(page)
     widen(page, sheet)
@@ -165,9 +118,8 @@ def write_workbook(path: str, title: str, facts: Facts, sheets: Sequence[Sheet])
     first.title = "facts"
     head(first, title, styles)
     for at, (name, text) in enumerate(facts.items(), 3):
-        first.cell(at, 1, name).font = styles.Font(bold=True)
-        first.cell(at, 2).value = text
-        first.cell(at, 2).data_type = "s"
+        put_text(first, at, 1, name).font = styles.Font(bold=True)
+        put_text(first, at, 2, text)
     first.column_dimensions["A"].width, first.column_dimensions["B"].width = 14, 100
     fit(first)
     for sheet in sheets:

@@ -9,7 +9,7 @@ from __future__ import annotations
 from typing import Iterable, Sequence
 
 from life_tools.rules.commands import Command
-from life_tools.common.formats import Wrong
+from life_tools.common.files import written_whole
 from life_tools.scripts.lines import Line, script_at
 from life_tools.scripts.warnings import FAR, Desk, came_before
 
@@ -62,11 +62,11 @@ def policies_in(paths: Iterable[str]) -> set[int]:
 
 
 def write_rows(path: str, lines: Iterable[Line]) -> None:
-    try:
-        with open(path, "w", encoding="utf-8", errors="surrogateescape", newline="") as file:
+    def write(part: str) -> None:
+        with open(part, "w", encoding="utf-8", errors="surrogateescape", newline="") as file:
             file.writelines(f"{line.row.text}\n" for line in lines)
-    except OSError as error:
-        raise Wrong(f"{path}: {error.strerror}") from error
+
+    written_whole(path, write)
 
 
 def divide(lines: Sequence[Line], held: Iterable[int], to_send: str, to_hold: str) -> None:

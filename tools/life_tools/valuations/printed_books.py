@@ -5,8 +5,12 @@ import datetime
 from dataclasses import dataclass, replace
 from typing import NamedTuple
 
-from life_tools.common.formats import MOST_NUMBER, Wrong, day_in, demand, measure_of, money, number_of, printed_cents
+from life_tools.common.formats import (MOST_COMMANDS, MOST_NUMBER, Wrong, day_in, demand, measure_of, money, number_of,
+                                       printed_cents)
 from life_tools.rules.policies import Policy
+
+# an amount has fewer
+MOST_LETTERS = 22
 
 
 class ValuedRow(NamedTuple):
@@ -34,7 +38,7 @@ class PrintedValuation(NamedTuple):
 
 def cents(text: str) -> int:
     """An amount that the program printed; `printed_cents` finds what is wrong with one that isn't."""
-    if text[-3:-2] == "." and text[:-3].isdigit() and text[-2:].isdigit():
+    if text[-3:-2] == "." and text[:-3].isdecimal() and text[-2:].isdecimal() and len(text) < MOST_LETTERS:
         return int(text[:-3] + text[-2:])
     return printed_cents(text)
 
@@ -87,8 +91,10 @@ def policy_of(line: str) -> Policy:
     fields = line.split(",")
     demand(len(fields) == 11 and fields[0] == "policy", f"{line} is no policy of a state")
     _, number, status, plan, age, years, amount, premium, issued, paid, outstanding = fields
-    day = day_in(issued)
-    return Policy(int(number), plan, int(age), int(years), cents(amount), cents(premium), day, day, status, int(paid),
+    day, whole = day_in(issued), [number_of(text, 0, MOST_NUMBER) for text in (number, age, years, paid)]
+    demand(None not in whole, f"{line} is no policy of a state")
+    whole_number, at_age, for_years, premiums = (each or 0 for each in whole)
+    return Policy(whole_number, plan, at_age, for_years, cents(amount), cents(premium), day, day, status, premiums,
                   cents(outstanding))
 
 
@@ -101,11 +107,13 @@ def state_in(text: str) -> PrintedState:
         if line.startswith("policy,"):
             policies.append(policy_of(line))
         elif line.startswith("balance,"):
-            _, account, amount = line.split(",")
-            balances[account] = printed_cents(amount)
+            fields = line.split(",")
+            demand(len(fields) == 3, f"{line} is no balance of a state")
+            balances[fields[1]] = printed_cents(fields[2])
         else:
-            demand(line.startswith("count,"), f"{line} is no line of a state")
-            count = int(line[6:])
+            found = number_of(line[6:], 0, MOST_COMMANDS) if line.startswith("count,") else None
+            demand(found is not None, f"{line} is no line of a state")
+            count = found or 0
     demand(count >= 0, "the state has no count")
     return PrintedState(policies, balances, count)
 

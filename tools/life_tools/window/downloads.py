@@ -1,39 +1,23 @@
 """Tables that leave the window as files: CSV and workbooks, of which no cell begins a formula."""
 from __future__ import annotations
 
-import csv
 import io
+from itertools import islice
 from typing import Any, Iterable, Iterator, Sequence
 
-from life_tools.common.formats import CENTS, NUMBER
+from life_tools.common.cells import harmless, is_number, number_of_cell, put_text, write_rows
 from life_tools.common.packages import package
-from life_tools.reports.report_files import cell_of
 
-BEGINS_FORMULA = ("=", "+", "-", "@", "\t", "\r")
 A_PART = 512
-
-
-def is_number(text: str) -> bool:
-    bare = text.removeprefix("-")
-    return bool(NUMBER.fullmatch(bare) or CENTS.fullmatch(bare))
-
-
-def plain(cell: str) -> str:
-    """A cell as it is, or with a quote before it where a spreadsheet would work it out."""
-    return f"'{cell}" if cell.startswith(BEGINS_FORMULA) and not is_number(cell) else cell
 
 
 def csv_parts(rows: Iterable[Sequence[str]]) -> Iterator[str]:
     """The text of a CSV, part by part."""
-    out = io.StringIO()
-    writer = csv.writer(out, lineterminator="\n")
-    for at, row in enumerate(rows, 1):
-        writer.writerow([plain(cell) for cell in row])
-        if not at % A_PART:
-            yield out.getvalue()
-            out.seek(0)
-            out.truncate()
-    yield out.getvalue()
+    left = iter(rows)
+    while some := list(islice(left, A_PART)):
+        out = io.StringIO()
+        write_rows(out, some)
+        yield out.getvalue()
 
 
 def workbook(sheets: Sequence[tuple[str, Sequence[Sequence[str]]]]) -> bytes:
@@ -42,17 +26,17 @@ def workbook(sheets: Sequence[tuple[str, Sequence[Sequence[str]]]]) -> bytes:
     book = openpyxl.Workbook()
     book.remove(book.active)
     for name, rows in sheets:
-        sheet = book.create_sheet(plain(name)[:31])
-        for row in rows:
-            sheet.append([typed(each) for each in row])
+        sheet = book.create_sheet(harmless(name)[:31])
+        for at, row in enumerate(rows, 1):
+            for place, cell in enumerate(row, 1):
+                if is_number(cell):
+                    sheet.cell(at, place).value = number_of_cell(cell)
+                else:
+                    put_text(sheet, at, place, cell)
         shape(openpyxl, sheet, rows)
     made = io.BytesIO()
     book.save(made)
     return made.getvalue()
-
-
-def typed(cell: str) -> Any:
-    return cell_of(cell) if is_number(cell) else plain(cell)
 
 
 def shape(openpyxl: Any, sheet: Any, rows: Sequence[Sequence[str]]) -> None:

@@ -7,7 +7,8 @@ import os
 from life_tools.reports.report_pages import apart, money
 from life_tools.reports.sheet_files import NOTE_ON
 from life_tools.window.asked import Asked, BadRequest
-from life_tools.window.downloads import csv_parts, is_number
+from life_tools.common.cells import is_number
+from life_tools.window.downloads import csv_parts
 from life_tools.window.book_copy import BookCopy
 from life_tools.window.month_pages import XLSX
 from life_tools.window.parts import RIGHT, Answer, File, Head, Page, Table, cells, link

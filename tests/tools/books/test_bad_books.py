@@ -1,0 +1,42 @@
+"""A list in which a book is bad: the others are still worked on, and the bad one has one status whoever reads it."""
+from __future__ import annotations
+
+import shutil
+
+import pytest
+
+from tests.support.folders import Folder
+
+# the program's own status of a file that is no journal
+BAD_JOURNAL = 5
+
+
+@pytest.fixture
+def three(small_office: Folder) -> Folder:
+    """Three books, of which the second one is no journal."""
+    for name in ("a", "b", "c"):
+        book = small_office.below(name)
+        for each in ("journal.life", "basis.csv", "q.xml", "g.xml"):
+            shutil.copy(small_office.path / each, book.path)
+    small_office.write("b/journal.life", "nothing of the kind, which is long enough to be one\n")
+    small_office.write("books.csv", "a,a,basis.csv\nb,b,basis.csv\nc,c,basis.csv\n")
+    return small_office
+
+
+def test_the_positions_of_the_others(three: Folder) -> None:
+    alone = three.below("a").printed("position-on", "2022-12-31", "journal.life").strip()
+    ended = three.tools("books", "books.csv", "position-on", "2022-12-31")
+    lines = ended.out.splitlines()
+    assert ended.status == BAD_JOURNAL and lines[0] == f"a,{alone}" and lines[2] == f"c,{alone}", ended
+    assert lines[1].startswith(f"b,failed,{BAD_JOURNAL},badjournal,notajournal")
+    # which can't be taken for a list of positions
+    three.write("positions.csv", ended.out)
+    three.refused("books", "books.csv", "value", "2022-12-31", "--at", "positions.csv", says="line 2: .* is no name with a position")
+
+
+@pytest.mark.parametrize("words", ["value 2022-12-31", "state", "report 2022-12-31", "due 2022-12-31", "flags", "position-on 2022-12-31",
+                                   "headroom"])
+def test_a_bad_book_has_one_status(three: Folder, words: str) -> None:
+    ended = three.tools("books", "books.csv", *words.split())
+    assert ended.status == BAD_JOURNAL, ended
+    assert f"b: status {BAD_JOURNAL}: badjournal,notajournal" in ended.err, ended

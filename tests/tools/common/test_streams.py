@@ -1,0 +1,138 @@
+"""How a tool ends whose output can't be written, or that meets what nobody foresaw: one line and 2, never a traceback."""
+from __future__ import annotations
+
+import errno
+import fcntl
+import os
+import pty
+import re
+import subprocess
+import sys
+from pathlib import Path
+
+import pytest
+
+from life_tools.common.streams import visible
+from tests.support.folders import Folder
+from tests.support.program import ROOT
+
+TOOLS = str(ROOT / "tools" / "life-tools")
+# the arguments, and the status with a whole output
+PRINT = [("read journal.life", 0), ("check small-office.csv", 1), ("report 2022-12-31", 0), ("verify", 0), ("--help", 0)]
+
+
+@pytest.fixture
+def office(small_office: Folder) -> Folder:
+    return small_office
+
+
+def ran(folder: Folder, words: str, redirected: str, env: dict[str, str] | None = None) -> tuple[int, str]:
+    """The status of a tool with its output redirected by a shell, and what it says on standard error."""
+    done = subprocess.run(["bash", "-c", f'"$0" "$@" {redirected}', sys.executable, TOOLS, *words.split()], cwd=folder.path,
+                          stderr=subprocess.PIPE, stdin=subprocess.DEVNULL, check=False,
+                          env={**os.environ, "LIFE_PROGRAM": str(folder.program.path), **(env or {})})
+    return done.returncode, done.stderr.decode("utf-8", "replace")
+
+
+@pytest.mark.parametrize("words, status", PRINT)
+@pytest.mark.parametrize("redirected, says", [(">/dev/full", "No space left on device"), (">&-", "closed|Bad file descriptor")])
+def test_an_output_that_cant_be_written(office: Folder, words: str, status: int, redirected: str, says: str) -> None:
+    ended, said = ran(office, words, redirected)
+    assert ended == 2 and re.search(says, said) and "Traceback" not in said, (ended, said)
+
+
+@pytest.mark.parametrize("words, status", PRINT)
+def test_a_reader_that_has_left(office: Folder, words: str, status: int) -> None:
+    """Something was left out, so it isn't 0, and a 1 isn't made a 0."""
+    ended, said = ran(office, words, '| true; exit "${PIPESTATUS[0]}"', {"PYTHONUNBUFFERED": "1"})
+    assert ended in (1, status) and "Traceback" not in said and "Broken pipe" not in said, (ended, said)
+    if words == "check small-office.csv":
+        assert ended == 1
+
+
+def test_standard_error_that_is_closed(office: Folder) -> None:
+    """What is told people doesn't go to the next program."""
+    done = subprocess.run(["sh", "-c", '"$0" "$@" 2>&-', sys.executable, TOOLS, "check", "small-office.csv"], cwd=office.path,
+                          capture_output=True, check=False, env={**os.environ, "LIFE_PROGRAM": str(office.program.path)})
+    assert done.returncode == 1 and b"nothing is posted" not in done.stdout
+
+
+@pytest.mark.parametrize("locale", ["C", "de_DE.ISO-8859-1", "POSIX"])
+def test_bytes_pass_whatever_the_locale(office: Folder, locale: str) -> None:
+    script = b'1,issue,9001,2022-01-01,term,30,10,1000.00,10.00\n1,"\xe9\xff",1\n'
+    office.write("strange.csv", script)
+    ended, said = ran(office, "rest strange.csv journal.life 0", ">out", {"LC_ALL": locale, "PYTHONCOERCECLOCALE": "0", "PYTHONUTF8": "0"})
+    assert ended == 2 and "Traceback" not in said and "foreseen" not in said, (ended, said)
+    ended, said = ran(office, "explain badscript,2,2 strange.csv", ">out", {"LC_ALL": locale, "PYTHONUTF8": "0", "PYTHONCOERCECLOCALE": "0"})
+    assert ended in (0, 1) and "foreseen" not in said, (ended, said)
+
+
+def test_no_lock_is_to_be_had(office: Folder, monkeypatch: pytest.MonkeyPatch) -> None:
+    def refuse(*_: object) -> None:
+        raise OSError(errno.ENOLCK, os.strerror(errno.ENOLCK))
+
+    monkeypatch.setattr(fcntl, "flock", refuse)
+    office.refused("at", "3", "state", says="No locks available")
+
+
+def test_what_nobody_foresaw(office: Folder, monkeypatch: pytest.MonkeyPatch, tmp_path: Path) -> None:
+    """One line and 2; the traceback is in a file whose path is printed."""
+    from life_tools.cli import verify
+
+    def fail(*_: object) -> None:
+        raise KeyError("unheard of")
+
+    monkeypatch.setattr(verify, "shape_with", fail)
+    ended = office.tools("verify")
+    assert ended.status == 2 and ended.out == "" and len(ended.err.splitlines()) == 1, ended
+    found = re.search(r"its traceback is in (\S+)", ended.err)
+    assert found and "KeyError" in ended.err
+    assert "in fail" in Path(found[1]).read_text(encoding="utf-8")
+    os.remove(found[1])
+
+
+def test_help_is_asked_for_in_each_way(office: Folder) -> None:
+    whole = office.printed("--help")
+    assert office.printed("help") == office.printed("-h") == office.printed() == whole
+    assert office.printed("help", "verify") == office.printed("verify", "--help")
+
+
+# --- a terminal ---
+
+def on_terminal(folder: Folder, *words: str) -> str:
+    child, terminal = pty.fork()
+    if child == 0:
+        os.chdir(folder.path)
+        os.environ["LIFE_PROGRAM"] = str(folder.program.path)
+        os.execv(sys.executable, [sys.executable, TOOLS, *words])
+    said = b""
+    while True:
+        try:
+            said += os.read(terminal, 1000)
+        except OSError:
+            break
+    os.waitpid(child, 0)
+    return said.decode("utf-8", "replace")
+
+
+def test_a_terminal_isnt_sent_what_it_obeys(office: Folder) -> None:
+    """A row, a name and a table of strangers that would clear the screen and set its title."""
+    evil = "\x1b[2J\x1b]0;owned\x07"
+    office.write("evil.csv", f'1,premium,7001,2022-01-01,"{evil}"\n')
+    for words in (("explain", "badscript,1,5", "evil.csv"), ("check", "evil.csv"), ("read", f"no{evil}file"),
+                  ("table", "check", "evil.csv")):
+        said = on_terminal(office, *words)
+        assert "\x1b[2J" not in said and "\x07" not in said and said, said
+    assert "\\x1b[2J" in on_terminal(office, "read", f"no{evil}file")
+
+
+def test_a_file_is_written_what_it_was(office: Folder) -> None:
+    """Only a terminal is shown other bytes: the rest of a script is that script's rows."""
+    row = '1,"premium",7001,2030-01-01,"1.00"'
+    office.write("rows.csv", f"{row}\n")
+    count = str((office.journal.stat().st_size - 18) // 65)
+    assert office.printed("rest", "rows.csv", "journal.life", count) == f"{row}\n"
+
+
+def test_what_is_visible() -> None:
+    assert visible("a\tb\nc\x1b[1m\r\x7f\x9b\u202e\udcff\u00e9") == "a\tb\nc\\x1b[1m\\x0d\\x7f\\x9b\\u202e\\xff\u00e9"

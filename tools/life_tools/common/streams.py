@@ -1,0 +1,117 @@
+"""Standard output and error of a tool: what a terminal shows of a stranger's bytes, and whether all was written."""
+from __future__ import annotations
+
+import errno
+import io
+import os
+import re
+import sys
+import tempfile
+import traceback
+from typing import Callable
+
+from life_tools.common.formats import Wrong
+
+# control characters but tabs and line ends, bytes that are no UTF-8, and marks that turn the direction of what follows
+OBEYED = re.compile("[\0-\x08\x0b-\x1f\x7f-\x9f\u202a-\u202e\u2066-\u2069\udc80-\udcff]")
+DONE, REPORTED, NOT_DONE, STOPPED = 0, 1, 2, 130
+# so much of an error's text is shown
+MOST_LETTERS = 500
+
+
+def escaped(found: re.Match[str]) -> str:
+    code = ord(found[0])
+    # a byte that is no UTF-8 is shown as that byte
+    code -= 0xdc00 if code >= 0xdc80 else 0
+    return f"\\x{code:02x}" if code < 0x100 else f"\\u{code:04x}"
+
+
+def visible(text: str) -> str:
+    """A text as a terminal may show it: what it would obey is escaped."""
+    return OBEYED.sub(escaped, text)
+
+
+class Shown(io.TextIOWrapper):
+    """A stream to a terminal, which shows what it would else obey."""
+
+    def write(self, text: str) -> int:
+        return super().write(visible(text))
+
+
+class Closed(io.TextIOBase):
+    """Standard output that the caller has closed."""
+
+    def write(self, text: str) -> int:
+        raise OSError(errno.EBADF, "standard output is closed")
+
+
+def take_standard_streams() -> None:
+    """Standard output has a file's bytes as they are, whatever the locale; on a terminal they are shown."""
+    if sys.stderr is None:
+        sys.stderr = open(os.devnull, "w", encoding="utf-8")
+    elif sys.stderr.isatty() and isinstance(sys.stderr, io.TextIOWrapper):
+        sys.stderr = Shown(sys.stderr.detach(), encoding="utf-8", errors="backslashreplace", line_buffering=True)
+    if sys.stdout is None:
+        sys.stdout = Closed()
+    elif isinstance(sys.stdout, io.TextIOWrapper):
+        if sys.stdout.isatty():
+            sys.stdout = Shown(sys.stdout.detach(), encoding="utf-8", errors="surrogateescape", line_buffering=True)
+        else:
+            sys.stdout.reconfigure(encoding="utf-8", errors="surrogateescape")
+
+
+def give_up_output() -> None:
+    """What is still held back is dropped, and can't fail once more at the end."""
+    if not isinstance(sys.stdout, Closed):
+        os.dup2(os.open(os.devnull, os.O_WRONLY), 1)
+
+
+def kept_traceback() -> str:
+    """The file that has the traceback of an error that nobody foresaw."""
+    with tempfile.NamedTemporaryFile("w", prefix="life-tools-", suffix=".traceback", delete=False, encoding="utf-8",
+                                     errors="backslashreplace") as file:
+        file.write(traceback.format_exc())
+    return file.name
+
+
+def said_of(error: OSError) -> str:
+    """A fault of the system in a line: of which file, and what."""
+    return f"{error.filename}: {error.strerror}" if error.filename else error.strerror or str(error)
+
+
+def ended(name: str, run: Callable[[], int]) -> int:
+    """The status of a tool, whatever happens in it: what can't be done is one line on standard error, and 2."""
+    try:
+        status = run()
+        sys.stdout.flush()
+        return status
+    except BrokenPipeError:
+        # whoever read has left, so something is left out
+        give_up_output()
+        return REPORTED
+    except Wrong as wrong:
+        return told(name, str(wrong), wrong.status)
+    except KeyboardInterrupt:
+        return STOPPED
+    except MemoryError:
+        return told(name, "out of memory", NOT_DONE)
+    except OSError as error:
+        return told(name, said_of(error), NOT_DONE)
+    except Exception as error:
+        if isinstance(error, ValueError) and "integer string conversion" in str(error):
+            return told(name, "a number has thousands of digits, and none that `life` takes or prints has", NOT_DONE)
+        shown = f"{type(error).__name__}: {error}".replace("\n", " ")[:MOST_LETTERS]
+        return told(name, f"an error that was not foreseen, {shown}; its traceback is in {kept_traceback()}", NOT_DONE)
+
+
+def told(name: str, message: str, status: int) -> int:
+    """Says why a tool ends; what it has printed by then is written before, as far as that goes."""
+    try:
+        sys.stdout.flush()
+    except OSError:
+        give_up_output()
+    try:
+        print(f"life-tools {name}: {message}", file=sys.stderr)
+    except OSError:
+        status = max(status, NOT_DONE)
+    return status
