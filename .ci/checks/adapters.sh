@@ -73,12 +73,12 @@ refused_with undropped "^FAILED .*test_both_ends_are_dropped_before_anything_is_
 refused_with start "^FAILED .*test_both_ends_are_dropped_before_anything_is_read\[18 bytes-journal" $dropped
 refused_with end "^FAILED .*test_both_ends_are_dropped_before_anything_is_read\[5 MiB-journal" $dropped
 refused_with kept "^FAILED .*test_after_a_failed_sync_all_is_dropped\[of its commit byte" $dropped
-# the same bodies over a medium that fails, where one can be had
+# the same two over a medium that fails, where one can be had
 failing=tests/program/test_failed_sync.py
-passes $failing -k "passes-ext4 or 2-xfs"
+passes $failing -k failed-ext4
 if ! grep -q skipped said; then
-    refused_with undropped "^FAILED .*test_later_runs_answer_what_the_medium_has" $failing -k "passes-ext4"
-    refused_with kept "^FAILED .*test_" $failing -k "passes-ext4 or 2-xfs"
+    refused_with undropped "^FAILED .*killed after the sync failed-ext4" $failing -k failed-ext4
+    refused_with kept "^FAILED .*test_the_middle_of_a_file" $failing -k middle --slow
 fi
 
 passes checks/records.sh

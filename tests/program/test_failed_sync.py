@@ -25,9 +25,12 @@ pytestmark = [pytest.mark.root, pytest.mark.needs("strace", "losetup", "unshare"
 # * PAGE - 1
 RECORDS = 1134
 PAGE = 4096
+# so many that the ends that are dropped at the opening leave a middle
+LONG = 100_000
 DAY = day_in("2020-01-01")
 FIRST = 2001
-COURSES = ("the failure lasts", "the failure passes", "killed before the sync")
+LASTS, PASSES, KILLED_BEFORE, KILLED_AFTER = COURSES = (
+    "the failure lasts", "the failure passes", "killed before the sync", "killed after the sync failed")
 LATER = (["state", str(FIRST)], ["state"], ["state", str(FIRST)], ["run"], ["state", str(FIRST)], ["run"], ["state"], ["run"])
 
 
@@ -40,8 +43,8 @@ class Answer(NamedTuple):
     medium: Path
 
 
-def issues(count: int) -> list[Command]:
-    return [Command("issue", number, DAY, plan="whole", age=30, years=0, amount=100000, premium=2000)
+def issues(count: int, premium: int = 2000) -> list[Command]:
+    return [Command("issue", number, DAY, plan="whole", age=30, years=0, amount=100000, premium=premium)
             for number in range(1, count + 1)]
 
 
@@ -63,23 +66,24 @@ def on_each() -> pytest.MarkDecorator:
     return pytest.mark.parametrize("medium", SYSTEMS, ids=[system.name for system in SYSTEMS], indirect=True)
 
 
-def stopped(program: Program, medium: Medium, folder: Path, words: list[str], script: str, n: int) -> StoppedRun:
+def stopped(program: Program, medium: Medium, folder: Path, words: list[str], script: str, n: int,
+            is_killed: bool = False) -> StoppedRun:
     (folder / "script").write_text(script)
     (folder / "calls").unlink(missing_ok=True)
-    return StoppedRun([*program.words, *words], medium.files, folder / "calls", folder / "script", n)
+    return StoppedRun([*program.words, *words], medium.files, folder / "calls", folder / "script", n, is_killed)
 
 
 def fail_at_the_commit_byte(program: Program, medium: Medium, folder: Path, course: str) -> None:
     """A posting whose commit byte is written and not synced: the medium fails from then on."""
-    run = stopped(program, medium, folder, ["run"], issue(FIRST), 2)
+    run = stopped(program, medium, folder, ["run"], issue(FIRST), 2, course == KILLED_AFTER)
     medium.fail()
-    if course == "killed before the sync":
+    if course == KILLED_BEFORE:
         run.kill()
         assert not medium.write_back(), "the medium didn't fail"
     else:
         status, out = run.go_on()
-        assert (status, out.splitlines()[0]) == (8, f"1,issue,{FIRST},fault")
-    if course != "the failure lasts":
+        assert course == KILLED_AFTER and status < 0 or (status, out.splitlines()[0]) == (8, f"1,issue,{FIRST},fault")
+    if course != LASTS:
         medium.heal()
 
 
@@ -115,7 +119,7 @@ def test_later_runs_answer_what_the_medium_has(medium: Medium, course: str, prog
                 assert there.life("state", str(FIRST)).out == f"unknown,{FIRST}\n", "the medium didn't fail"
             last = answer.out.splitlines()[-1:]
             assert is_on_medium(answer, there), f"run {place + 1} after it, {answer.words}, isn't so on the medium: {last}"
-    if course == "the failure passes":
+    if course == PASSES:
         assert [answer.status for answer in later[1:]] == [0] * (len(later) - 1), "no later run goes on"
 
 
@@ -142,3 +146,28 @@ def test_a_checkpoint_isnt_overwritten_while_it_counts(medium: Medium, writes: i
         by_checkpoint = there.life("state")
         (files / "checkpoint.life").unlink()
         assert by_checkpoint == there.life("state")
+
+
+@pytest.mark.slow
+@pytest.mark.parametrize("medium", SYSTEMS[:1], ids=[SYSTEMS[0].name], indirect=True)
+def test_the_middle_of_a_file_overwritten_in_place_is_read_from_the_medium(medium: Medium, program: Program) -> None:
+    """A journal is copied over another one in place, and the medium takes none of it. The first run hears of the failure; the
+    next one, whose opening drops the file's two ends alone, prints what is on the medium."""
+    book = Folder(medium.files, program)
+    before, after = file_of(issues(LONG)), file_of(issues(LONG, premium=2500))
+    book.write("journal.life", before)
+    assert medium.write_back()
+    medium.fail()
+    with open(book.journal, "r+b") as file:
+        file.write(after)
+    assert not medium.write_back(), "the medium didn't fail"
+    medium.heal()
+    assert book.life("state", "1").status == 8
+    found = book.life("state")
+    copy = medium.copy()
+    medium.unmount()
+    with medium.files_on(copy) as files:
+        assert (files / "journal.life").read_bytes() == before, "the medium didn't fail"
+    policies = [line for line in found.out.splitlines() if line.startswith("policy,")]
+    assert (found.status, len(policies)) == (0, LONG)
+    assert [line for line in policies if ",1000.00,20.00," not in line][:3] == []
