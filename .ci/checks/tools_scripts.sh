@@ -14,7 +14,7 @@ cat >day.csv <<'ROWS'
 
 3,settle,13,2024-03-28,5000.00
 1,claim,99,2025-03-01
-4,issue,21,2035-01-01,term,30,10,1000.00,10.00
+4,issue,21,2035-01-01,term,30,10,1000.00,20.00
 5,settle,15,2024-04-20,40000.00
 6,settle,15,2024-04-20,50000.00
 1,value,2025-02-28,now,1
@@ -42,7 +42,7 @@ line 6 of one-order.csv: 1,claim,99,2025-03-01
   policy 99 is unknown
   it is refused: unknown
   to do: is it mistyped? is it the right folder?
-line 7 of one-order.csv: 4,issue,21,2035-01-01,term,30,10,1000.00,10.00
+line 7 of one-order.csv: 4,issue,21,2035-01-01,term,30,10,1000.00,20.00
   the day is behind today, which is 2025-03-01
 LINES
 finds "^rows: 7, told: 5;" check one-order.csv --today 2025-03-01 --life "$life"

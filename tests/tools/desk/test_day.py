@@ -171,7 +171,7 @@ def test_equal_rows_of_one_file_and_of_two(begun: Desk) -> None:
     begun.hand_in("b.csv", crlf(row))
     ended = begun.day(status=1)
     assert "inbox/a.csv, line 2: 1,settle,7001,2024-06-01,1.00: held: it equals line 1 of inbox/a.csv" in ended.err
-    assert f"held: a row of policy 7001 is held in log/{begun.entry_folder(2).name}" in ended.err
+    assert f"held: a row of policy 7001 before it is held in log/{begun.entry_folder(2).name}" in ended.err
     assert begun.count() == 4
 
 
@@ -203,7 +203,7 @@ def test_what_is_not_plausible_waits_for_a_person(begun: Desk, row: str) -> None
     policy = row.split(",")[2]
     begun.hand_in("a.csv", f"{row}\n1,settle,{policy},2024-05-30,5.00\n")
     ended = begun.day(status=1)
-    assert f"{row}: held: {IMPLAUSIBLE[row]}" in ended.err and f"a row of policy {policy} is held" in ended.err
+    assert f"{row}: held: {IMPLAUSIBLE[row]}" in ended.err and f"a row of policy {policy} before it is held" in ended.err
     assert ended.out.endswith("-a,0,0,2,0\n") and begun.count() == 3
 
 

@@ -6,11 +6,9 @@ policy's number is unknown; where an accepted posting equals it, as where a sett
 amount isn't the policy's premium, or more than is outstanding; where it is a claim within a year of a reinstatement; and
 where the program refuses it on a copy of the journal, with what to do. Of a claim that is refused it tells whether the policy
 was insured on the day of death: it never is a reason to reinstate.
-The rows are looked at in the order in which that dry run answered them. The status is 1 where a row is told. The copy lies
-where that of `dry-run` does.
-
-With --hold the rows of a future day, those more than 400 days off, an issue of a number that is used already, and all later
-rows of their numbers go into a file of their own, for a person to look at; the others into another, to be sent.
+An issue is told where it is not plausible, by its day, or by its premium beside the net premium of the basis, as desk.toml
+sets it. The rows are looked at in the order in which that dry run answered them. The status is 1 where a row is told. The copy
+lies where that of `dry-run` does.
 """
 from __future__ import annotations
 
@@ -19,9 +17,9 @@ import datetime
 import sys
 
 from life_tools.common.formats import MOST_COMMANDS, Wrong, day_in, demand, number_of, remark
-from life_tools.scripts.held_back import Holding, divide, policies_in
 from life_tools.common.packages import stay
 from life_tools.common.program import life_command
+from life_tools.desk.plausibility import Doubts
 from life_tools.scripts.lines import Line, lanes_of, script_at
 from life_tools.scripts.warnings import Desk
 from life_tools.scripts.transcript_check import answers_in
@@ -34,13 +32,10 @@ def arguments(parser: argparse.ArgumentParser) -> None:
     parser.add_argument("--today", metavar="DAY", help="the day on which it is sent, YYYY-MM-DD (that of this machine)")
     parser.add_argument("--folder", metavar="FOLDER", default=".", help="where journal.life and the basis lie (.)")
     parser.add_argument("--basis", metavar="NAME", default="basis.csv", help="the name of the basis file there (basis.csv)")
-    parser.add_argument("--hold", metavar=("SEND", "HELD"), nargs=2, help="write the rows to send, and those held back, if any")
-    parser.add_argument("--also-held", metavar="FILE", action="append", default=[],
-                        help="rows that were held back before: all of their numbers are, too")
     parser.add_argument("--life", metavar="PROGRAM", help="the program to run")
 
 
-def look_over(lines: list[Line], transcript: str, desk: Desk, holding: Holding) -> dict[int, list[str]]:
+def look_over(lines: list[Line], transcript: str, desk: Desk, doubts: Doubts) -> dict[int, list[str]]:
     """What is told of rows, by their numbers."""
     left = {lane: iter(rows) for lane, rows in lanes_of(lines).items()}
     told: dict[int, list[str]] = {}
@@ -48,14 +43,12 @@ def look_over(lines: list[Line], transcript: str, desk: Desk, holding: Holding) 
         line = next(left.get(number_of(head[0], 1, 8) or 0, iter(())), None)
         if line is None:
             raise Wrong(f"the dry run answered {','.join(head)}, and no row is left for that")
-        holding.look(line, desk)
-        told[line.row.number] = desk.warnings(line, line.command) if line.command else []
+        told[line.row.number] = [*desk.warnings(line, line.command), *doubts.of(line.command)] if line.command else []
         answer = head[len(line.head):]
         if answer[:1] == ["accepted"] and line.command:
             desk.take(line.command, number_of(answer[1], 1, MOST_COMMANDS) or 0)
         elif answer[:1] == ["refused"]:
             told[line.row.number] += [f"it is refused: {','.join(answer[1:])}", *desk.advice(line, answer[1:])]
-    holding.end(lines)
     return told
 
 
@@ -90,18 +83,12 @@ def run(options: argparse.Namespace) -> int:
     today = day_in(options.today) if options.today else datetime.date.today()
     lines, desk = script_at(options.script), Desk(today)
     transcript = tried(options, lines, desk)
-    holding = Holding(policies_in(options.also_held))
-    told = look_over(lines, transcript, desk, holding)
-    if options.hold:
-        divide(lines, holding.rows, *options.hold)
-        for row, why in holding.rows.items():
-            told.setdefault(row, []).append(f"it is held back: {why}")
+    told = look_over(lines, transcript, desk, Doubts(today, options.folder, options.basis))
     for line in lines:
         if told.get(line.row.number):
             print(f"line {line.row.line} of {options.script}: {line.row.text}")
             print("".join(f"  {text}\n" for text in told[line.row.number]), end="")
     sys.stdout.flush()
     rows = sum(bool(texts) for texts in told.values())
-    held = f", held back: {len(holding.rows)}" if options.hold else ""
-    remark(f"rows: {len(lines)}, told: {rows}{held}; nothing is posted")
+    remark(f"rows: {len(lines)}, told: {rows}; nothing is posted")
     return 1 if rows else 0

@@ -32,7 +32,7 @@ BOOKS_OWN = ("journal.life", "checkpoint.life", "desk.toml")
 
 
 class Left(Exception):
-    """A file that is not claimed, and why; it stays where it is."""
+    """A file that is not claimed, or not read yet: where it lies, and why."""
 
 
 # --- who calls, and whose the file is ---
@@ -68,6 +68,10 @@ def caller() -> Record:
 
 # --- which files are left where they are ---
 
+def stays(why: str) -> Left:
+    return Left(f"is left where it is: {why}")
+
+
 def is_being_written(path: str) -> bool:
     """Whether a process has the file open for writing, as far as the system says: it gives a lease for reading only for a
     file that none has so. Whoever asked is to ignore SIGIO."""
@@ -87,11 +91,11 @@ def demand_script(path: str, folder: str) -> None:
     real, book = os.path.realpath(path), os.path.realpath(folder)
     is_own = os.path.dirname(real) == book and os.path.basename(real) in BOOKS_OWN
     if is_own or os.path.commonpath([real, os.path.join(book, "log")]) == os.path.join(book, "log"):
-        raise Left("it belongs to the book")
+        raise stays("it belongs to the book")
     with open(path, "rb") as file:
         rows = rows_in(file.read(1 << 16))
     if rows and is_basis_row(rows[0]):
-        raise Left("its first row is that of a basis, not of a script")
+        raise stays("its first row is that of a basis, not of a script")
 
 
 def demand_ready(path: str, folder: str) -> os.stat_result:
@@ -99,16 +103,16 @@ def demand_ready(path: str, folder: str) -> os.stat_result:
     try:
         found = os.lstat(path)
     except FileNotFoundError:
-        raise Left("it is not there") from None
+        raise stays("it is not there") from None
     if not stat.S_ISREG(found.st_mode):
-        raise Left("it is not a regular file")
+        raise stays("it is not a regular file")
     if abs(time.time() - found.st_mtime) < YOUNG_SECONDS:
-        raise Left(f"it was changed less than {YOUNG_SECONDS} seconds ago and may still be written; the next run takes it")
+        raise stays(f"it was changed less than {YOUNG_SECONDS} seconds ago and may still be written; the next run takes it")
     if found.st_size == 0:
-        raise Left("it is empty")
+        raise stays("it is empty")
     demand_script(path, folder)
     if is_being_written(path):
-        raise Left("a process still has it open for writing; the next run takes it")
+        raise stays("a process still has it open for writing; the next run takes it")
     return found
 
 
@@ -130,12 +134,12 @@ def claimed(path: str, folder: str, log: Log) -> Entry:
         entry = Entry(log.new_folder(now()[:10], os.path.splitext(os.path.basename(path))[0]), new_record(path, found))
         entry.save()
     except OSError as error:
-        raise Left(f"{error.strerror}: {error.filename or path}") from error
+        raise stays(f"{error.strerror}: {error.filename or path}") from error
     try:
         take(entry)
     except OSError as error:
         finish_claims([entry])
-        raise Left(f"{error.strerror}: {error.filename or path}") from error
+        raise stays(f"{error.strerror}: {error.filename or path}") from error
     return entry
 
 
@@ -186,7 +190,7 @@ def open_entry(entry: Entry) -> None:
     A file that a process still writes stays unread until the next run."""
     path = entry.path(HANDED_IN)
     if is_being_written(path):
-        raise Left(f"a process still writes it; it lies in {entry.shown}, and the next run reads it")
+        raise Left(f"lies in {entry.shown}, where a process still writes it: the next run reads it")
     data = b"" if os.path.getsize(path) > MOST_SCRIPT_BYTES else bytes_of(path)
     record = entry.record
     record["file"].update(bytes=os.path.getsize(path), sha256=hashlib.sha256(data).hexdigest() if data else sum_of(path))

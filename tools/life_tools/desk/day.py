@@ -51,6 +51,7 @@ class Day:
         self.entries: dict[str, Entry] = {}
         # what was held before, and what this `day` worked on, by the entries' names
         self.worked: set[str] = set()
+        self.is_explained = False
         self.status = 0
 
     def say(self, text: str) -> None:
@@ -78,6 +79,8 @@ class Day:
         if os.path.lexists(self.journal):
             demand(os.path.isfile(self.journal), f"{self.journal} is not a file: nothing was done")
             demand(not self.asked.is_new, f"there is a journal.life in {folder}, and --new begins one: leave --new out")
+            is_known = os.path.getsize(self.journal) or self.log.newest_run()
+            demand(is_known, f"{self.journal} is empty: restore it from a backup, or remove it and begin a book by --new")
             return
         demand(not noted, f"the log in {folder} is that of a book of {noted} postings, whose journal.life is not there: put it "
                "back, or restore it from a backup")
@@ -90,10 +93,11 @@ class Day:
             return True
         wait_for_journal(self.journal, self.patience)
         shape = shape_with(self.journal, *beside(self.journal))
-        is_explained = self.open_run() is not None
-        if shape.verdict == DAMAGED or not is_explained:
-            for reason in shape.reasons():
-                self.say(reason)
+        # what a run that was interrupted left behind the end is no news, nor what was said already
+        self.is_explained = self.is_explained or self.open_run() is not None
+        for reason in shape.reasons() if shape.verdict == DAMAGED or not self.is_explained else ():
+            self.say(reason)
+        self.is_explained = True
         if shape.verdict == DAMAGED:
             self.say(f"{self.journal} is damaged, so nothing is posted: keep it aside, and restore a backup; after that "
                      "`life-tools day --restored` posts anew what the backup lacks")
@@ -124,7 +128,7 @@ class Day:
             try:
                 kept = finish_claims([self.entries.get(entry.name, entry)])
             except Left as left:
-                self.say(f"{entry.file}: {left}")
+                self.say(f"{shown(entry.file)} {left}")
                 continue
             for each in kept:
                 self.entries[each.name] = each
@@ -142,7 +146,7 @@ class Day:
         try:
             entry = claimed(path, self.asked.folder, self.log)
         except Left as left:
-            self.say(f"{shown(path)} is left where it is: {left}")
+            self.say(f"{shown(path)} {left}")
             return
         self.entries[entry.name] = entry
 
@@ -272,7 +276,8 @@ class Day:
             self.tell_entry(entry)
         for entry in entries:
             if entry not in worked and entry.held:
-                self.say(f"{entry.shown}: {len(entry.held)} rows of {entry.file} wait for a person since {entry.name[7:17]}: "
+                since = entry.record["times"]["claimed"][:10]
+                self.say(f"{entry.shown}: {len(entry.held)} rows of {shown(entry.file)} wait for a person since {since}: "
                          f"`life-tools day --release {entry.number}` posts them, --discard puts them away")
         self.tell_room()
 

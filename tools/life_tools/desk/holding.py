@@ -27,13 +27,18 @@ from life_tools.scripts.lines import Line
 from life_tools.scripts.warnings import FAR, Desk, came_before
 
 
+# where a row stands: the number of its entry, and its own there
+Place = tuple[int, int]
+
+
 class Holder:
     """Looks at entries in the order in which they are posted."""
 
-    def __init__(self, today: datetime.date, settings: Settings, nets: NetPremiums, waiting: dict[int, str]) -> None:
+    def __init__(self, today: datetime.date, settings: Settings, nets: NetPremiums,
+                 waiting: dict[int, tuple[Place, str]]) -> None:
         self.settings, self.nets = settings, nets
         self.desk = Desk(today)
-        # of each policy of which a row is held, the entry that holds it
+        # of each policy of which a row is held, the first such row, and the name of its entry
         self.waiting = waiting
         # the rows above, which have no position yet
         self.above: dict[Command, str] = {}
@@ -56,21 +61,23 @@ class Holder:
             command = line.command
             if command is None:
                 continue
-            why = None if entry.is_release else self.why(command)
+            place = entry.number, line.row.number
+            why = None if entry.is_release else self.why(command, place)
             if why:
-                self.waiting.setdefault(command.number, entry.shown)
+                self.waiting[command.number] = min((place, entry.shown), self.waiting.get(command.number, (place, entry.shown)))
                 found.append(held_row(line, command, why))
             else:
                 self.pass_on(command, f"line {line.row.line} of {entry.file}")
         entry.record["held"] += found
         return found
 
-    def why(self, command: Command) -> Why | None:
-        """Why a row is held, if it is."""
+    def why(self, command: Command, place: Place) -> Why | None:
+        """Why a row is held, if it is; a row before the first held one of its policy is not held with that."""
         if command.kind == "upgrade":
             return None
-        if command.number in self.waiting:
-            return POLICY, f"a row of policy {command.number} is held in {self.waiting[command.number]}"
+        first = self.waiting.get(command.number)
+        if first and first[0] < place:
+            return POLICY, f"a row of policy {command.number} before it is held in {first[1]}"
         return self.equal(command) or self.doubtful(command)
 
     def equal(self, command: Command) -> Why | None:
@@ -111,10 +118,11 @@ def held_row(line: Line, command: Command, why: Why) -> Record:
             "reason": why[0], "why": why[1], "state": HELD}
 
 
-def waiting_in(entries: Iterable[Entry]) -> dict[int, str]:
-    """Of each policy of which a row is held, the first entry that holds one."""
-    waiting: dict[int, str] = {}
+def waiting_in(entries: Iterable[Entry]) -> dict[int, tuple[Place, str]]:
+    """Of each policy of which a row is held, the first such row, and the name of its entry."""
+    waiting: dict[int, tuple[Place, str]] = {}
     for entry in entries:
         for each in entry.held:
-            waiting.setdefault(each["policy"], entry.shown)
+            found = (entry.number, each["row"]), entry.shown
+            waiting[each["policy"]] = min(found, waiting.get(each["policy"], found))
     return waiting

@@ -6,7 +6,7 @@ import os
 from fractions import Fraction
 
 from life_tools.common.formats import Wrong, money
-from life_tools.desk.settings import DAY, PREMIUM, Settings
+from life_tools.desk.settings import DAY, PREMIUM, Settings, settings_of
 from life_tools.reserves.exact import Cover, Terms, terms_of
 from life_tools.rules.commands import Command
 from life_tools.rules.policies import issued
@@ -78,3 +78,19 @@ def doubtful_premium(command: Command, nets: NetPremiums, settings: Settings) ->
 def doubtful_issue(command: Command, today: datetime.date, nets: NetPremiums, settings: Settings) -> Why | None:
     """Why a person has to look at an issue, if one has."""
     return doubtful_day(command, today, settings) or doubtful_premium(command, nets, settings)
+
+
+class Doubts:
+    """What is doubtful of issues by a folder's basis and its `desk.toml`."""
+
+    def __init__(self, today: datetime.date, folder: str, basis: str) -> None:
+        self.today, self.settings = today, settings_of(folder)
+        self.nets = NetPremiums(folder, basis)
+
+    def of(self, command: Command) -> list[str]:
+        """What is doubtful of an issue; that its day hasn't come is said of each kind of row elsewhere."""
+        if command.kind != "issue":
+            return []
+        day = doubtful_day(command, self.today, self.settings) if command.on <= self.today else None
+        premium = doubtful_premium(command, self.nets, self.settings)
+        return [why[1] for why in (day, premium) if why]

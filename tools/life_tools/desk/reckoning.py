@@ -89,7 +89,8 @@ class Reckoning:
         if self.records.get(position) != line.command:
             record = self.records.get(position)
             has = ",".join(words_of(record)) if record else "nothing"
-            raise NotOfTheRun(f"{line.row.text} was printed as accepted at position {position}, where the journal has {has}")
+            raise NotOfTheRun(f"{line.row.text} was printed as accepted at position {position}, where the journal has {has}: the "
+                              "journal was changed since. After a restore from a backup call `life-tools day --restored`")
         self.found.accepted[line.row.number] = position
 
     def deal(self, first: int) -> None:

@@ -13,7 +13,8 @@ import time
 from dataclasses import dataclass
 from typing import Iterable, Sequence
 
-from life_tools.common.formats import MOST_LANES, MOST_SCRIPT_BYTES, Wrong, remark
+from life_tools.common.formats import MOST_LANES, MOST_SCRIPT_BYTES, Wrong
+from life_tools.common.locks import holder_of
 from life_tools.common.program import life_command, program_file
 from life_tools.desk.claiming import caller, sum_of
 from life_tools.desk.entries import BEGUN, REMARKS, RUN, SCRIPT, TRANSCRIPT, Entry, Log, Run
@@ -25,6 +26,8 @@ from life_tools.scripts.lines import Line, lines_in
 
 UNBEGUN = ".new"
 DISK_FAULT = 8
+# so often a journal that can't be had is tried again though nobody is seen to have it
+MOST_UNSEEN = 5
 # the script or its basis is refused, and nothing is posted
 BAD_SCRIPT, BAD_BASIS = REFUSED_STATUSES = (3, 4)
 PACKAGE = os.path.dirname(os.path.dirname(os.path.abspath(__file__)))
@@ -162,18 +165,17 @@ def program_for(folder: str, basis: str, life: str | None, lock: int) -> Program
     return Program(words, words[0] if len(words) == 1 else program_file(), folder, basis, lock)
 
 
-def is_refused_by_lock(run: Run, status: int) -> bool:
-    """Whether the program could not have the journal: then it posted nothing."""
-    return status == DISK_FAULT and run.transcript() == "diskfault\n"
-
-
 def run_when_free(program: Program, run: Run, journal: str, patience: Patience, stop: Stopping) -> int:
-    """Runs the program once nobody else has the journal, again where another run was quicker."""
+    """Runs the program, and again where another run had the journal: then it posted nothing."""
+    unseen = 0
     while True:
         status = program.run(run, stop)
-        if stop.caught or patience.is_over or not is_refused_by_lock(run, status):
+        if stop.caught or patience.is_over or not (status == DISK_FAULT and run.transcript() == "diskfault\n"):
             return status
-        remark(f"day: waiting: {journal} can't be had yet; another run may have it")
+        # who had it may be gone by now; a disk that failed has no holder either, and is not tried for long
+        unseen = 0 if holder_of(journal) else unseen + 1
+        if unseen > MOST_UNSEEN:
+            return status
         stop.is_posting = False
         try:
             wait_for_journal(journal, patience)

@@ -119,7 +119,7 @@ def accepted_in(path: str) -> int:
 
 def log_count(log: str) -> int | None:
     """How many commands the journal had after the newest run that `life-tools day` noted; nothing where it noted none."""
-    demand(os.path.isdir(log), f"there is no folder {log}")
+    demand(os.path.isdir(log), f"{log}: No such file or directory")
     runs = os.path.join(log, "runs")
     try:
         numbers = [name for name in os.listdir(runs) if name.isdecimal()] if os.path.isdir(runs) else []
