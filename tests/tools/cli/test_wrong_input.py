@@ -89,8 +89,11 @@ at 1 value 2021-02-29 | life value 2021-02-29 ended with 2
 """
 # Where @ stands, a strange file is handed; the others are those of the folder.
 PLACES = """\
+day --folder @
+day --status --folder @
+day --release 1 --folder @
+log --folder @
 check @
-check next.csv --also-held @
 due 2021-01-01 @
 import @ --map map.csv --script new --left new-left
 import other.csv --map @ --script new --left new-left
