@@ -12,7 +12,7 @@ import pytest
 from tests.support.folders import Folder
 
 WRITERS = ("report 2022-12-31 --csv {}", "report 2022-12-31 --html {}", "movement 2021-12-31 11 2022-12-31 27 --policies {}",
-           "statement 2021-12-31 11 2022-12-31 27 --html {}", "check small-office.csv --today 2023-01-01 --hold {} held.csv")
+           "statement 2021-12-31 11 2022-12-31 27 --html {}")
 
 
 @pytest.mark.parametrize("words", WRITERS)

@@ -100,11 +100,12 @@ def test_what_is_no_script_stays(begun: Desk) -> None:
     os.symlink("/etc/passwd", begun.folder.path / "inbox" / "link.csv")
     os.mkfifo(begun.folder.path / "inbox" / "pipe.csv")
     begun.hand_in("empty.csv", "")
-    names = ["inbox/folder.csv", "inbox/link.csv", "inbox/pipe.csv", "inbox/empty.csv", "basis.csv", "journal.life", "none.csv"]
-    ended = begun.day(*names, status=1)
-    for name, why in zip(names, ["not a regular file"] * 3 + ["is empty", "that of a basis", "belongs to the book", "not there"]):
-        assert f"day: {name} is left where it is: it{' is' if why.startswith('not') else ''}" in ended.err or why in ended.err
-        assert why in ended.err
+    whys = {"inbox/folder.csv": "it is not a regular file", "inbox/link.csv": "it is not a regular file",
+            "inbox/pipe.csv": "it is not a regular file", "inbox/empty.csv": "it is empty", "none.csv": "it is not there",
+            "basis.csv": "it is a basis, not a script", "journal.life": "it belongs to the book"}
+    ended = begun.day(*whys, status=1)
+    for name, why in whys.items():
+        assert f"day: {name} is left where it is: {why}\n" in ended.err
     assert begun.folder.journal.exists() and (begun.folder.path / "basis.csv").exists() and ended.out == ""
     assert begun.inbox == ["empty.csv", "folder.csv", "link.csv", "pipe.csv"]
 

@@ -6,7 +6,8 @@ from tests.support.folders import Folder
 
 def test_check_names_doubtful_issues(table_q: Folder) -> None:
     """Of 1000.00 the net premium by table Q is 381.68, as in the trial of the band."""
-    table_q.write("a.csv", "1,issue,1,2024-05-01,endowment,0,3,1000.00,400.00\n1,issue,2,1901-05-01,endowment,0,3,1000.00,40.00\n")
+    rows = ["1,issue,1,2024-05-01,endowment,0,3,1000.00,400.00", "1,issue,2,1901-05-01,endowment,0,3,1000.00,40.00"]
+    table_q.write("a.csv", "\n".join(rows))
     printed = table_q.printed("check", "a.csv", "--today", "2024-06-03", status=1)
     assert printed == ("line 2 of a.csv: 1,issue,2,1901-05-01,endowment,0,3,1000.00,40.00\n"
                        "  the day is before that of the lane's posting above, which is 2024-05-01\n"

@@ -19,6 +19,7 @@ import argparse
 import os
 import sys
 
+from life_tools.common.cells import write_rows
 from life_tools.common.formats import MOST_COMMANDS, MOST_NUMBER, day_in, demand, number_of, remark
 from life_tools.desk.entries import Log
 from life_tools.desk.postings import HEAD, Wanted, command_at, differences, found_in, positions_wanted
@@ -57,7 +58,7 @@ def run(options: argparse.Namespace) -> int:
     journal = os.path.join(options.folder, JOURNAL)
     count = demand_undamaged(journal).count if os.path.exists(journal) else 0
     found = found_in(log, wanted)
-    sys.stdout.write("".join(f"{line}\n" for line in [HEAD, *(posting.row() for posting in found)]))
+    write_rows(sys.stdout, [HEAD, *(posting.row() for posting in found)])
     sys.stdout.flush()
     said = list(differences(journal, count, found))
     others = unnamed(journal, count, wanted, {posting.position for posting in found})

@@ -19,11 +19,11 @@ import sys
 import time
 from typing import Iterable
 
-from life_tools.common.formats import MOST_SCRIPT_BYTES, Wrong, bytes_of, rows_in
+from life_tools.common.files import LOOKED_AT, kind_of
+from life_tools.common.formats import MOST_SCRIPT_BYTES, Wrong, bytes_of
 from life_tools.desk.entries import CLAIMING, DONE, ENTRY, HANDED_IN, NAMED, OPEN, Entry, Log
 from life_tools.desk.records import Record, at_moment, now, sync_folder, write_safely
 from life_tools.scripts.lines import read_script, Fault
-from life_tools.tables.basis import is_basis_row
 
 # a file that was changed so lately may still be written
 YOUNG_SECONDS = 2
@@ -93,9 +93,9 @@ def demand_script(path: str, folder: str) -> None:
     if is_own or os.path.commonpath([real, os.path.join(book, "log")]) == os.path.join(book, "log"):
         raise stays("it belongs to the book")
     with open(path, "rb") as file:
-        rows = rows_in(file.read(1 << 16))
-    if rows and is_basis_row(rows[0]):
-        raise stays("its first row is that of a basis, not of a script")
+        kind = kind_of(file.read(LOOKED_AT))
+    if kind not in (None, "a script"):
+        raise stays(f"it is {kind}, not a script")
 
 
 def demand_ready(path: str, folder: str) -> os.stat_result:

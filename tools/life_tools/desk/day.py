@@ -15,7 +15,7 @@ from life_tools.desk.plausibility import NetPremiums
 from life_tools.desk.reckoning import Reckoned, commands_between, reckoned
 from life_tools.desk.records import Record, now, write_safely
 from life_tools.desk.releases import mark_released
-from life_tools.desk.reporting import HEAD, held_text, refused_text, row_of, shown
+from life_tools.desk.reporting import held_text, print_entries, refused_text, shown
 from life_tools.desk.running import (REFUSED_STATUSES, Program, chosen, count_of, new_run, refused_rows, rows_of, run_when_free,
                                      script_of)
 from life_tools.desk.settings import Settings
@@ -270,8 +270,7 @@ class Day:
     def report(self) -> None:
         entries = sorted(self.entries.values(), key=lambda entry: entry.number)
         worked = [entry for entry in entries if entry.name in self.worked]
-        if worked:
-            print("\n".join([HEAD, *(row_of(entry) for entry in worked)]), flush=True)
+        print_entries(worked)
         for entry in worked:
             self.tell_entry(entry)
         for entry in entries:

@@ -7,13 +7,14 @@ from typing import Iterable, Iterator
 
 from life_tools.desk.entries import Entry, Log
 from life_tools.desk.records import Record
-from life_tools.desk.reporting import quoted
+from life_tools.desk.reporting import shown
 from life_tools.journal.blocks import prefix_at
 from life_tools.journal.file import gate_of
 from life_tools.rules.commands import Command, body_of, command_in, words_of
 from life_tools.scripts.lines import Line
 
-HEAD = "position,kind,policy,day,file,line,owner,posted_by,host,posted_at,released_by,why,entry"
+HEAD = ["position", "kind", "policy", "day", "file", "line", "owner", "posted_by", "host", "posted_at",
+        "released_by", "why", "entry"]
 
 
 @dataclass(frozen=True)
@@ -41,13 +42,13 @@ class Posting:
         names = {record["file"]["owner"], record["caller"]["login"], origin.get("by"), origin.get("login")}
         return {name for name in names if name}
 
-    def row(self) -> str:
+    def row(self) -> list[object]:
         record, origin = self.entry.record, self.entry.record["from"] or {}
         command = self.command
-        fields = [str(self.position), command.kind, str(command.number or ""), str(command.day or ""), record["file"]["name"],
-                  str(self.line_handed_in), record["file"]["owner"], record["caller"]["login"], record["caller"]["host"],
-                  self.run["begun"], origin.get("by") or "", origin.get("because") or "", self.entry.shown]
-        return ",".join(map(quoted, fields))
+        released = [shown(origin.get(name) or "") for name in ("by", "because")]
+        return [self.position, command.kind, command.number or "", command.day or "", shown(record["file"]["name"]),
+                self.line_handed_in, record["file"]["owner"], record["caller"]["login"], record["caller"]["host"],
+                self.run["begun"], *released, self.entry.shown]
 
 
 @dataclass(frozen=True)

@@ -1,33 +1,39 @@
 """What `day` and `log` say of entries and their rows."""
 from __future__ import annotations
 
+import sys
+from typing import Iterable
+
+from life_tools.common.cells import write_rows
 from life_tools.common.formats import Wrong
+from life_tools.common.streams import visible
 from life_tools.desk.entries import DISCARDED, Entry
 from life_tools.desk.reckoning import NOT_PRINTED
 from life_tools.desk.records import Record
 from life_tools.rules.remedies import remedy_of
 from life_tools.scripts.lines import Line
 
-HEAD = "file,entry,accepted,refused,held,left"
+HEAD = ["file", "entry", "accepted", "refused", "held", "left"]
 
 
 def shown(text: str) -> str:
     """A text of a stranger on one line, with control bytes escaped."""
-    return "".join(letter if letter.isprintable() else ascii(letter)[1:-1] for letter in text)
+    return visible(text).replace("\n", "\\x0a")
 
 
-def quoted(text: str) -> str:
-    """A field of a CSV, in quotes where it needs them."""
-    safe = shown(text)
-    return '"' + safe.replace('"', '""') + '"' if any(letter in safe for letter in ',"') else safe
-
-
-def row_of(entry: Entry) -> str:
+def row_of(entry: Entry) -> list[object]:
     """An entry as a row: its file, its folder, and how many of its rows are accepted, refused, held and left."""
     record = entry.record
-    refused = "whole" if record["refused_whole"] else str(len(record["refused"]))
-    counts = [str(len(record["accepted"])), refused, str(len(entry.held)), str(len(entry.left))]
-    return ",".join([quoted(entry.file), quoted(entry.shown), *counts])
+    refused = "whole" if record["refused_whole"] else len(record["refused"])
+    return [shown(entry.file), entry.shown, len(record["accepted"]), refused, len(entry.held), len(entry.left)]
+
+
+def print_entries(entries: Iterable[Entry]) -> None:
+    """The rows of entries on standard output, below a head; nothing where there is none."""
+    rows = [row_of(entry) for entry in entries]
+    if rows:
+        write_rows(sys.stdout, [HEAD, *rows])
+        sys.stdout.flush()
 
 
 def refused_text(entry: Entry, line: Line, words: str) -> str:

@@ -6,7 +6,7 @@ import os
 from life_tools.common.formats import demand, remark
 from life_tools.common.locks import holder_of
 from life_tools.desk.entries import BEGUN, CLAIMING, LOCK, OPEN, Entry, Log
-from life_tools.desk.reporting import HEAD, held_text, row_of
+from life_tools.desk.reporting import held_text, print_entries
 
 
 def lines_of(entry: Entry) -> list[str]:
@@ -36,9 +36,7 @@ def report(log: Log, journal: str) -> int:
                     "or was interrupted; the next `day` finds out what was posted, and goes on")
     entries = log.undone()
     said += [line for entry in entries for line in lines_of(entry)]
-    rows = [row_of(entry) for entry in entries if entry.record["state"] != CLAIMING]
-    if rows:
-        print("\n".join([HEAD, *rows]), flush=True)
+    print_entries(entry for entry in entries if entry.record["state"] != CLAIMING)
     for line in said:
         remark(f"day: {line}")
     return 1 if said or entries else 0
