@@ -10,18 +10,17 @@ of the code, or bound where it stands.
 from __future__ import annotations
 
 import html
-import pathlib
 import re
 import shutil
 import sys
 from collections.abc import Iterable, Iterator
+from pathlib import Path
 
-sys.path.insert(0, str(pathlib.Path(__file__).resolve().parents[2] / ".ci"))
+sys.path.insert(0, str(Path(__file__).resolve().parents[2]))
 
-import counts
-import definitions as known
-import statements
-from public_clauses import Clause, Function, Public, all_public
+from tests.language import counts, specs, statements  # noqa: E402 # of the repository, which is put on the path above
+from tests.language.promise import Public, all_public  # noqa: E402 # likewise
+from tests.language.source import CRATES, Clause, Function  # noqa: E402 # likewise
 
 STYLE = """
 :root { color-scheme: light dark; }
@@ -63,14 +62,14 @@ class Pages:
     def linked(self, text: str, imports: dict[str, str], place: str = "") -> str:
         """A text in which each word that is a definition of ours leads to it."""
         parts, behind = [], 0
-        for word in known.WORD.finditer(text):
+        for word in specs.WORD.finditer(text):
             key = imports.get(word[0], f"{place}.{word[0]}")
             if key in self.shown:
                 parts += [html.escape(text[behind:word.start()]), self.link_to(key, word[0])]
                 behind = word.end()
         return "".join(parts) + html.escape(text[behind:])
 
-    def write(self, folder: pathlib.Path) -> int:
+    def write(self, folder: Path) -> int:
         for crate in self.public.functions:
             write_page(folder / f"{crate}.html", crate, self.crate(crate))
             inside = [key for key in self.of_crate(crate) if ".inside." in key]
@@ -99,8 +98,8 @@ class Pages:
         if functions:
             yield f"<h2>{title}</h2>"
         for one in functions:
-            imports = known.imports_of(one.file.read_text(encoding="utf-8"))
-            yield f'<h3 id="{anchor_of(one)}"><code>{html.escape(one.name)}</code></h3>\n<p class="place">{one.place}</p>'
+            imports = specs.imports_of(one.file.read_text(encoding="utf-8"))
+            yield f'<h3 id="{anchor_of(one)}"><code>{html.escape(one.shown)}</code></h3>\n<p class="place">{one.place}</p>'
             if one.comment:
                 yield f"<p>{said(one.comment)}</p>"
             for clause in one.clauses:
@@ -120,7 +119,7 @@ class Pages:
                 if one.place == place and key in keys:
                     yield self.definition(key, one)
 
-    def definition(self, key: str, one: known.Definition) -> str:
+    def definition(self, key: str, one: specs.Definition) -> str:
         comment = f": {said(one.comment)}" if one.comment else ""
         text = self.linked("\n".join(statements.bare("\n".join(one.lines)).splitlines()), self.public.texts.imports[one.place],
                            one.place)
@@ -138,8 +137,8 @@ class Pages:
         yield from table(counts.table_of(self.public))
         yield "<h2>The program</h2>\n<ul>"
         for crate in ("life_app", "life_cli"):
-            yield from (f'<li><a href="{crate}.html#{anchor_of(one)}">{html.escape(one.name)}</a> of {crate}</li>'
-                        for one in self.public.functions[crate] if not one.is_worked and "::" not in one.name)
+            yield from (f'<li><a href="{crate}.html#{anchor_of(one)}">{html.escape(one.shown)}</a> of {crate}</li>'
+                        for one in self.public.functions[crate] if not one.is_worked and not one.owner)
         yield "</ul>\n<h2>Crates, the lowest first</h2>\n<ul>"
         for crate in self.public.functions:
             yield f'<li><a href="{crate}.html">{crate}</a>: {said(head_of_crate(crate))}</li>'
@@ -147,7 +146,7 @@ class Pages:
 
     def names(self) -> Iterator[str]:
         yield "<h1>Names</h1>\n<h2>Functions</h2>\n<ul class=\"names\">"
-        links = [(one.name, f'<a href="{crate}.html#{anchor_of(one)}">{html.escape(one.name)}</a> {crate}')
+        links = [(one.shown, f'<a href="{crate}.html#{anchor_of(one)}">{html.escape(one.shown)}</a> {crate}')
                  for crate, functions in self.public.functions.items() for one in functions if not one.is_worked]
         yield from (f"<li>{link}</li>" for _, link in sorted(links))
         yield "</ul>\n<h2>Definitions</h2>\n<ul class=\"names\">"
@@ -163,7 +162,7 @@ def anchor(key: str) -> str:
 
 
 def anchor_of(one: Function) -> str:
-    return "fn-" + re.sub(r"[^\w]+", "-", f"{one.place.rpartition(':')[0]} {one.name}")
+    return "fn-" + re.sub(r"[^\w]+", "-", f"{one.place.rpartition(':')[0]} {one.shown}")
 
 
 def said(comment: str) -> str:
@@ -173,14 +172,14 @@ def said(comment: str) -> str:
 
 def head_of_crate(crate: str) -> str:
     """The first words of a crate."""
-    source = known.TOP / "crates" / crate / "src"
+    source = CRATES / crate / "src"
     root = source / "lib.rt" if (source / "lib.rt").exists() else source / "main.rt"
     head = root.read_text(encoding="utf-8").split("\n#!")[0].split("\n//!\n")[0].splitlines()
     return " ".join(line[3:].strip() for line in head if line.startswith("//!"))
 
 
-def file_of(place: str) -> pathlib.Path:
-    return known.TOP / "crates" / (place.replace(".", "/") + ".antt")
+def file_of(place: str) -> Path:
+    return CRATES / (place.replace(".", "/") + ".antt")
 
 
 def head_of_file(place: str) -> str:
@@ -193,7 +192,7 @@ def head_of_file(place: str) -> str:
     return " ".join(lines)
 
 
-def place_of(one: known.Definition) -> str:
+def place_of(one: specs.Definition) -> str:
     """The file and the line at which a definition begins."""
     return f"{'/'.join(one.place.split('.')[1:])}.antt:{one.line}"
 
@@ -203,7 +202,7 @@ def worked_cases(functions: list[Function]) -> Iterator[str]:
         yield "<h2>Worked cases</h2>\n<ul>"
         for one in functions:
             comment = f": {said(one.comment)}" if one.comment else ""
-            yield f'<li><code>{html.escape(one.name)}</code>{comment} <span class="place">{one.place}</span></li>'
+            yield f'<li><code>{html.escape(one.shown)}</code>{comment} <span class="place">{one.place}</span></li>'
         yield "</ul>"
 
 
@@ -218,7 +217,7 @@ def table(text: str) -> Iterator[str]:
     yield "</table>"
 
 
-def write_page(path: pathlib.Path, title: str, parts: Iterable[str]) -> None:
+def write_page(path: Path, title: str, parts: Iterable[str]) -> None:
     body = "\n".join(parts)
     path.write_text(f'<!DOCTYPE html>\n<html lang="en">\n<head>\n<meta charset="utf-8">\n<title>{title}: life</title>\n'
                     f'<meta name="viewport" content="width=device-width, '
@@ -228,7 +227,7 @@ def write_page(path: pathlib.Path, title: str, parts: Iterable[str]) -> None:
                     f"<main>\n{body}\n</main>\n</body>\n</html>\n", encoding="utf-8")
 
 
-def write_clauses(folder: pathlib.Path) -> int:
+def write_clauses(folder: Path) -> int:
     """All pages into a folder that is made anew; returns the number of crates."""
     shutil.rmtree(folder, ignore_errors=True)
     folder.mkdir(parents=True)
@@ -236,7 +235,7 @@ def write_clauses(folder: pathlib.Path) -> int:
 
 
 def main() -> int:
-    folder = pathlib.Path(sys.argv[1])
+    folder = Path(sys.argv[1])
     crates = write_clauses(folder)
     print(f"{crates} crates, from {folder / 'index.html'} on")
     return 0

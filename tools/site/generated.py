@@ -15,7 +15,7 @@ import sys
 from collections.abc import Callable
 
 TOP = pathlib.Path(__file__).resolve().parents[2]
-sys.path[:0] = [str(TOP / "tools"), str(TOP / "tools" / "site"), str(TOP / ".ci")]
+sys.path[:0] = [str(TOP / "tools"), str(TOP / "tools" / "site"), str(TOP)]
 BLOCK = re.compile(r"(<!-- generated: (\S+)(.*?) -->\n)(.*?)(<!-- end -->)", re.S)
 
 
@@ -69,15 +69,15 @@ def layers() -> str:
 
 def counts() -> str:
     """How much is to be read for the main statements."""
-    import counts as counted
-    from public_clauses import all_public
+    from tests.language import counts as counted
+    from tests.language.promise import all_public
     return counted.table_of(all_public())
 
 
 def clauses() -> str:
     """For each crate with public clauses: what it is about, its functions with contracts, and the clauses they carry."""
     from clause_pages import head_of_crate
-    from public_clauses import all_public
+    from tests.language.promise import all_public
     rows = ["| Crate | What it is about | Functions with a contract | Named clauses |", "|---|---|---|---|"]
     for crate, functions in all_public().functions.items():
         with_clauses = [one for one in functions if one.clauses and not one.is_worked]

@@ -11,7 +11,7 @@ import re
 from collections.abc import Callable, Iterator
 from dataclasses import dataclass
 
-import statements
+from . import statements
 
 BINDER = re.compile(r"^([^():→×⊎{}≡]+) : (.*)$", re.S)
 LAMBDA = re.compile(r"λ\s+(.*?)\.\s", re.S)
@@ -62,7 +62,8 @@ def binders(text: str) -> list[tuple[list[str], str]]:
     while rest.startswith(("(", "{", "⦃")):
         end = closes(rest)
         one = BINDER.match(rest[1:end].strip())
-        if not one:
+        # a bracket in a text in quotation marks has no other
+        if not one or end < 0:
             return []
         found.append((one[1].split(), one[2]))
         rest = rest[end + 1:].strip()
@@ -74,7 +75,7 @@ def items(text: str) -> tuple[str, ...]:
     """The words of a term, a bracketed part as one."""
     found, rest = [], text.strip()
     while rest:
-        end = closes(rest) + 1 if rest[0] in statements.OPEN else len(re.split(r"[\s({⦃]", rest, maxsplit=1)[0])
+        end = closes(rest) + 1 or len(rest) if rest[0] in statements.OPEN else len(re.split(r"[\s({⦃]", rest, maxsplit=1)[0])
         found.append(rest[:end])
         rest = rest[end:].strip()
     return tuple(found)

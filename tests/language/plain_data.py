@@ -4,12 +4,12 @@ a value can be made of such, a name for such a type, or a type parameter of a fu
 """
 from __future__ import annotations
 
-import pathlib
 import re
+from pathlib import Path
 
-import conditions
-import definitions as known
-import statements
+from . import conditions, specs, statements
+from .source import ROOT
+from .specs import Imports
 
 OF_THE_KIT = {f"std.specs.{name}" for name in (
     "Prelude.ℕ", "Prelude.ℤ", "Prelude.Bool", "Prelude.List", "Prelude.Option", "Prelude.String", "Global.Global")}
@@ -19,14 +19,11 @@ FIELD = re.compile(r"^\s+(?:pub )?[^\s:]+ : ", re.M)
 CONSTRUCTOR = re.compile(r"^\s+[^\s:]+ : (.*)$", re.M)
 NO_VALUES = re.compile(r"\benum\s+(\w+)[^{;]*\{\s*\}")
 
-# What the names of each file mean.
-Imports = dict[str, dict[str, str]]
-
 
 class PlainData:
     """Tells it of types by the definitions of specs/ and what the names of each file mean."""
 
-    def __init__(self, definitions: dict[str, known.Definition], imports: Imports) -> None:
+    def __init__(self, definitions: dict[str, specs.Definition], imports: Imports) -> None:
         self.definitions, self.imports = definitions, imports
         self.told: dict[str, bool] = {}
 
@@ -64,7 +61,7 @@ class PlainData:
         return len(clauses) == 1 and self.holds(" ".join(clauses[0].split()), places)
 
 
-def without_values(code: dict[pathlib.Path, str]) -> list[str]:
+def without_values(code: dict[Path, str]) -> list[str]:
     """The enumerations of the code that have no value, by their files."""
-    return [f"{path.relative_to(known.TOP)} has {name}" for path, text in code.items() if "enum" in text
+    return [f"{path.relative_to(ROOT)} has {name}" for path, text in code.items() if "enum" in text
             for name in NO_VALUES.findall(statements.bare(text))]

@@ -4,13 +4,14 @@ Whoever holds to `A → B` shows B, and asks for A. In `A → ⊥` and `¬ A` it
 fields show; a definition by several clauses, and each side of `⊎`, are choices: one of them is enough.
 """
 
+from __future__ import annotations
+
 import functools
 import re
 
-import definitions as known
+from . import specs
 
 OPEN, CLOSE = "({⦃", ")}⦄"
-CLAUSE = re.compile(r"\b(requires|ensures)\b\*?(?:\s+\w+)?\s*\{")
 BINDER = re.compile(r"^[^():→×⊎{}]+ : (.*)$", re.S)
 LAMBDA = re.compile(r"^λ[^.]*(?:\([^)]*\))?[^.]*\. (.*)$", re.S)
 NEGATION = re.compile(r"^¬\s*(.*)$", re.S)
@@ -85,7 +86,7 @@ class Sides:
             return
         outside, inside = groups(text)
         into = (self.sure if sure else self.choice) if shown else self.asked
-        into.update(known.WORD.findall(outside))
+        into.update(specs.WORD.findall(outside))
         for group in inside:
             for form in (BINDER, LAMBDA):
                 found = form.match(group.strip())
@@ -118,7 +119,7 @@ def clauses_of(name: str, lines: list[str]) -> list[str]:
     return clauses
 
 
-def body_of(one: known.Definition) -> str:
+def body_of(one: specs.Definition) -> str:
     """What a definition says: a record's fields, or its clauses."""
     lines = bare("\n".join(one.lines)).splitlines()
     if re.match(r"\s*pub record", lines[0]):
@@ -126,7 +127,7 @@ def body_of(one: known.Definition) -> str:
     return "\n".join(clauses_of(one.name, lines))
 
 
-def sides_of(one: known.Definition) -> Sides:
+def sides_of(one: specs.Definition) -> Sides:
     """What a definition shows and asks for. Of several clauses each is a choice."""
     lines = bare("\n".join(one.lines)).splitlines()
     sides = Sides()
@@ -138,26 +139,3 @@ def sides_of(one: known.Definition) -> Sides:
     for clause in clauses:
         sides.read(clause, True, len(clauses) == 1)
     return sides
-
-
-def functions_of(text: str) -> list[tuple[str, list[tuple[bool, str]]]]:
-    """The public functions of a file: the head of each as it is indented, and its clauses, whether each is shown and what it
-    says."""
-    found = []
-    for function in re.split(r"\n(?=pub fn |    pub fn |fn |impl |pub struct |struct |#\[)", bare(text)):
-        if not function.lstrip().startswith("pub fn "):
-            continue
-        clauses = []
-        for clause in CLAUSE.finditer(function):
-            depth, place = 1, clause.end()
-            while depth:
-                depth += {"{": 1, "}": -1}.get(function[place], 0)
-                place += 1
-            clauses.append((clause.group(1) == "ensures", function[clause.end():place - 1]))
-        found.append((re.split(r"\b(?:requires|ensures)\b|\{", function, maxsplit=1)[0].rstrip(), clauses))
-    return found
-
-
-def contracts_of(text: str) -> list[tuple[bool, str]]:
-    """The clauses of all public functions of a file."""
-    return [clause for _, clauses in functions_of(text) for clause in clauses]

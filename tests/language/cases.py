@@ -7,25 +7,20 @@ stands; so it holds what it names itself, and what it builds. Each definition un
 `life_app` and `life_cli` has to be held so, or to stand below with the reason; and none that is held may stand there.
 
 A premise of such a clause, and each statement of these two crates under one, has to be built: a case shows it, as a part
-that is no choice, by its name or in a field of what it builds (`statements.py`). A premise that nothing builds might never
+that is no choice, by its name or in a field of what it builds (`statements`). A premise that nothing builds might never
 hold, and then the law under it says nothing. So might a case of which a part, or the function that shows it, stands under a
-hypothesis that no case builds (`conditions.py`, `plain_data.py`): it is conditional, builds nothing, and has to stand below
-with the reason. `worked_tries.py` tries that.
-
-usage: python3 .ci/worked.py [--all]      with --all: each definition that no case holds, each premise, each conditional case
+hypothesis that no case builds (`conditions`, `plain_data`): it is conditional, builds nothing, and has to stand below
+with the reason. tests/repository/test_cases.py tries that.
 """
 from __future__ import annotations
 
 import copy
-import pathlib
 import re
-import sys
 from dataclasses import replace
+from pathlib import Path
 
-import conditions
-import definitions as known
-import plain_data
-import statements
+from . import conditions, plain_data, specs, statements
+from .source import CRATES, Function, Source, parsed
 
 HOME = ("life_app.specs.", "life_cli.specs.")
 WORKED = re.compile(r"\.specs\.(?:\w+\.)*Worked\w*\.")
@@ -78,9 +73,9 @@ class Texts:
     """All definitions of specs/, what each shows and asks for, and what its words mean; and the code."""
 
     def __init__(self) -> None:
-        self.definitions, self.imports = known.read_specs()
-        self.code = {path: path.read_text(encoding="utf-8") for path in sorted(known.TOP.glob("crates/*/src/**/*.rt"))}
-        self.imports |= {str(path): known.imports_of(text) for path, text in self.code.items()}
+        self.definitions, self.imports = specs.read_specs()
+        self.code = {path: path.read_text(encoding="utf-8") for path in sorted(CRATES.glob("*/src/**/*.rt"))}
+        self.imports |= {str(path): specs.imports_of(text) for path, text in self.code.items()}
         self.read()
 
     def read(self) -> None:
@@ -88,16 +83,19 @@ class Texts:
         self.meanings: dict[tuple[str, str], conditions.Meaning | None] = {}
         self.sides: dict[str, statements.Sides] = {}
 
-    def changed(self, path: pathlib.Path, text: str) -> Texts:
+    def source(self, path: Path) -> Source:
+        return parsed(path.relative_to(CRATES).parts[0], path, self.code[path])
+
+    def changed(self, path: Path, text: str) -> Texts:
         """The same with another text of a file."""
         other = copy.copy(self)
         if path in self.code:
             other.code = self.code | {path: text}
-            other.imports = self.imports | {str(path): known.imports_of(text)}
+            other.imports = self.imports | {str(path): specs.imports_of(text)}
         else:
-            place, fresh = known.place_of(path), dict[str, known.Definition]()
-            known.read_file(place, text, fresh)
-            other.imports = self.imports | {place: known.imports_of(text)}
+            place = specs.place_of(path)
+            fresh = specs.definitions_in(place, text)
+            other.imports = self.imports | {place: specs.imports_of(text)}
             other.definitions = {key: one for key, one in self.definitions.items() if one.place != place} | fresh
         other.read()
         return other
@@ -160,7 +158,7 @@ class Texts:
         return self.meant(getattr(self.sides[key], side), self.imports[place], place)
 
     def under(self, roots: set[str], less: set[str]) -> set[str]:
-        return known.reach(roots, self.definitions, self.imports, less)[0]
+        return specs.reach(roots, self.definitions, self.imports, less)[0]
 
     def statements(self) -> set[str]:
         """The definitions that say something, and aren't data: an equation, an order, a choice, or another one."""
@@ -176,13 +174,13 @@ def contracts(texts: Texts) -> tuple[set[str], set[str]]:
     """The definitions that public clauses of the two crates name, and those under them that are asked for."""
     named, open_names = set(), []
     for crate in (prefix.split(".")[0] for prefix in HOME):
-        for path, text in texts.code.items():
-            if not path.is_relative_to(known.TOP / "crates" / crate) or path.name.startswith("worked"):
+        for path in texts.code:
+            if not path.is_relative_to(CRATES / crate) or path.name.startswith("worked"):
                 continue
             imports = texts.imports[str(path)]
-            for shown, clause in statements.contracts_of(text):
+            for shown, clause in (said for _, clauses in contracts_in(texts.source(path)) for said in clauses):
                 sides = statements.Sides().read(clause, shown)
-                named |= texts.meant(set(known.WORD.findall(clause)), imports)
+                named |= texts.meant(set(specs.WORD.findall(clause)), imports)
                 open_names += [(key, True) for key in texts.meant(sides.sure | sides.choice, imports)]
                 open_names += [(key, False) for key in texts.meant(sides.asked, imports)]
     return named, asked_for(texts, open_names)
@@ -207,10 +205,10 @@ def asked_for(texts: Texts, open_names: list[tuple[str, bool]]) -> set[str]:
 def parts_of(texts: Texts) -> list[conditions.Part]:
     """What the worked cases show, the definitions of worked files that clauses name, each under what its function asks for."""
     parts: list[conditions.Part] = []
-    for path, text in texts.code.items():
+    for path in texts.code:
         imports = texts.imports[str(path)]
-        for head, clauses in statements.functions_of(text) if any(map(WORKED.search, imports.values())) else []:
-            asked = given_to(head, text) + tuple(conditions.bare(clause) for shown, clause in clauses if not shown)
+        for one, clauses in contracts_in(texts.source(path)) if any(map(WORKED.search, imports.values())) else []:
+            asked = given_to(one, texts.source(path)) + tuple(conditions.bare(clause) for shown, clause in clauses if not shown)
             for word, clause in cases_in(texts, clauses, imports):
                 within = conditions.Part(imports[word], "", asked, frozenset(), frozenset([str(path)]))
                 reader = conditions.Reader(imports[word], texts.meaning, texts.is_data)
@@ -221,24 +219,31 @@ def parts_of(texts: Texts) -> list[conditions.Part]:
     return parts
 
 
-def given_to(head: str, text: str) -> tuple[str, ...]:
+def contracts_in(source: Source) -> list[tuple[Function, list[tuple[bool, str]]]]:
+    """The public functions of a file, each with its clauses: whether each is shown, and what it says."""
+    return [(one, [(clause.side == "ensures", statements.bare(clause.text)) for clause in one.clauses])
+            for one in source.functions if one.is_public]
+
+
+def given_to(one: Function, source: Source) -> tuple[str, ...]:
     """What a function is given, but for devices as parameters: whoever can't give it is shown nothing. All of its head is, where
     it is of a type's own, which may have parameters too."""
-    found = re.fullmatch(r"pub fn \w+(?:<([^()]*)>)?\(\)( -> [^()]*)?", " ".join(head.split()))
-    if not found or head.startswith(" "):
-        return (" ".join(head.split()),)
-    return tuple(one for one in (found[1] or "").split(", ") if one and not is_device(one, text))
+    said = " ".join(one.said.split())
+    found = re.fullmatch(r"fn \w+(?:<([^()]*)>)?\(\)( -> [^()]*)?", said)
+    if not found or one.kind:
+        return (said,)
+    return tuple(given for given in (found[1] or "").split(", ") if given and not is_device(given, source))
 
 
-def is_device(one: str, text: str) -> bool:
+def is_device(given: str, source: Source) -> bool:
     """Whether it is a parameter bound by a trait of devices, which the file has from the crate of these."""
-    name, _, bound = one.partition(": ")
-    return name in plain_data.PARAMETERS and bool(re.search(rf"\buse outside_io::[^;]*\b{re.escape(bound)}\b", text))
+    name, _, bound = given.partition(": ")
+    return name in plain_data.PARAMETERS and any(one.first == "outside_io" and one.local == bound for one in source.uses)
 
 
 def cases_in(texts: Texts, clauses: list[tuple[bool, str]], imports: dict[str, str]) -> list[tuple[str, str]]:
     """The names of worked cases that clauses show, each with the clause."""
-    return [(word, clause) for shown, clause in clauses if shown for word in sorted(set(known.WORD.findall(clause)))
+    return [(word, clause) for shown, clause in clauses if shown for word in sorted(set(specs.WORD.findall(clause)))
             if word in imports and WORKED.search(imports[word]) and imports[word] in texts.definitions]
 
 
@@ -259,8 +264,7 @@ def built_by(texts: Texts, shown: list[conditions.Part]) -> set[str]:
 def held_by(texts: Texts, cases: set[str], built: set[str]) -> set[str]:
     """What the cases hold."""
     whole = {key for key in texts.under(cases, set()) if key.startswith(HOME) and re.search(r"\.specs\.Worked\w", key)}
-    named = set().union(*(known.named_in(texts.definitions[key].lines, texts.definitions[key].place,
-                                         texts.imports[texts.definitions[key].place], texts.definitions) for key in whole))
+    named = set().union(*(specs.named_in(texts.definitions[key], texts.imports, texts.definitions) for key in whole))
     asked = set().union(*(texts.side(key, "asked") for key in whole))
     plain = {case for case in cases if not case.startswith(HOME) or ".Worked." in case}
     return texts.under(plain, OF_A_DISK) | built | (named - asked)
@@ -283,6 +287,34 @@ def told_data(texts: Texts) -> list[str]:
     return [f"no value can be had of {one}, so it is no data" for one in plain_data.without_values(texts.code)]
 
 
+def empty_parts(text: str) -> list[str]:
+    """The parts of a statement that say nothing: an equation or an order of a term with itself."""
+    found: list[str] = []
+    for side in statements.split(statements.split(conditions.bare(text), "→")[-1], "⊎"):
+        for factor in statements.split(side, "×"):
+            part = conditions.bare(factor)
+            bound = [kind for _, kind in conditions.binders(part)]
+            if bound or any(len(statements.split(part, mark)) > 1 for mark in "→×⊎"):
+                found += (empty for kind in bound or [part] for empty in empty_parts(kind))
+                continue
+            sign, terms = conditions.sides(part)
+            if sign in ("≡", "≤") and len(set(terms)) == 1:
+                found.append(part)
+    return found
+
+
+def told_empty(texts: Texts, keys: set[str]) -> list[str]:
+    """What is wrong of these definitions: a part that says nothing."""
+    wrong = []
+    for key in sorted(keys):
+        one = texts.definitions[key]
+        lines = statements.bare("\n".join(one.lines)).splitlines()
+        is_record = re.match(r"\s*(pub )?record", lines[0])
+        for said in statements.fields_of(lines) if is_record else statements.clauses_of(one.name, lines):
+            wrong += [f"{key} says nothing where it says {part}" for part in empty_parts(said)]
+    return wrong
+
+
 class Found:
     """What is wrong of these texts, and what was counted."""
 
@@ -297,24 +329,6 @@ class Found:
         self.wrong += [f"{key} is held, or gone, and needs no exception" for key in sorted(EXCEPTED - self.bare)]
         self.wrong += [f"no worked case builds the premise {key}" for key in sorted(self.premises - built)]
         told, self.conditional = told_conditional(shown, others)
-        self.wrong += told + told_data(texts)
+        self.wrong += told + told_data(texts) + told_empty(texts, self.promise | self.cases)
         if len(EXCEPTED) >= 20:
             self.wrong.append(f"{len(EXCEPTED)} exceptions are too many")
-
-
-def main() -> int:
-    found = Found(Texts())
-    for what in found.wrong:
-        print(f"worked: {what}", file=sys.stderr)
-    if "--all" in sys.argv:
-        print(*sorted(found.bare), *(f"premise {key}" for key in sorted(found.premises)), sep="\n")
-        print(*(f"conditional {case}" for case in sorted(found.conditional)), sep="\n")
-    if not found.wrong:
-        promise, held = len(found.promise), len(found.promise - found.bare)
-        print(f"worked: {len(found.cases)} cases hold {held} of the {promise} definitions under the promise, and build "
-              f"its {len(found.premises)} premises; {len(EXCEPTED)} are excepted, and {len(found.conditional)} cases conditional")
-    return 1 if found.wrong else 0
-
-
-if __name__ == "__main__":
-    sys.exit(main())

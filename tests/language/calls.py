@@ -1,0 +1,208 @@
+"""Which public functions of the program `main` reaches, by the texts of the sources.
+
+A function is reached where reached code names it. A method is reached where reached code calls one of its name with as many
+arguments, its type is named by reached code, and the calling file knows the type: it names the type, or something that it
+names has the type in its fields or its head. A method of a trait is also reached through its trait, and where its trait is
+from outside of the program.
+"""
+from __future__ import annotations
+
+from collections import defaultdict
+from collections.abc import Iterable, Iterator
+from dataclasses import dataclass
+from pathlib import Path
+
+from .source import Function, Source, arguments, crates_of_the_program, public_functions, sources_of
+from .tokens import Token
+
+
+@dataclass(frozen=True)
+class Call:
+    """A name in a body: what stands before it, and how many arguments follow; -1 where none are written."""
+
+    name: str
+    before: str
+    arguments: int
+
+
+def calls_in(body: list[Token]) -> Iterator[Call]:
+    """The lower-case names of a body, each with what stands before it: `.`, the word before `::`, or nothing."""
+    for at, one in enumerate(body):
+        if one.kind != "word" or not (one.text[0].islower() or one.text[0] == "_"):
+            continue
+        mark = body[at - 1].text if at else ""
+        before = path_before(body, at) if mark == "::" else mark if mark == "." else ""
+        behind = at + 1
+        if behind + 1 < len(body) and body[behind].text == "::" and body[behind + 1].text == "<":
+            behind = behind_angles(body, behind + 1)
+        has_arguments = behind < len(body) and body[behind].text == "("
+        yield Call(one.text, before, len(arguments_of(body, behind)) if has_arguments else -1)
+
+
+def path_before(body: list[Token], at: int) -> str:
+    """The word before the `::` in front of this place; parameters in angles are passed over."""
+    place = at - 2
+    if place >= 0 and body[place].text == ">":
+        depth = 0
+        while place >= 0:
+            depth += (body[place].text == ">") - (body[place].text == "<")
+            place -= 1
+            if depth == 0:
+                break
+        if place >= 0 and body[place].text == "::":
+            place -= 1
+    return body[place].text if place >= 0 else ""
+
+
+def behind_angles(body: list[Token], at: int) -> int:
+    depth = 0
+    while at < len(body):
+        depth += (body[at].text == "<") - (body[at].text == ">")
+        at += 1
+        if depth == 0:
+            break
+    return at
+
+
+def arguments_of(body: list[Token], at: int) -> list[list[Token]]:
+    """The arguments of a call. A comma between `<` and `>` can't be told from one between comparisons, so both ways are one."""
+    found: list[list[Token]] = [[]]
+    depth = 0
+    for one in body[at:]:
+        depth += (one.text in ("(", "[", "{")) - (one.text in (")", "]", "}")) if one.kind == "sign" else 0
+        if depth == 0:
+            break
+        if one.text == "|" and depth == 1 and not found[-1]:
+            # the parameters of a closure have commas of their own
+            return arguments(body, at)
+        if one.text == "," and depth == 1:
+            found.append([])
+        elif not (one.text == "(" and depth == 1 and found == [[]]):
+            found[-1].append(one)
+    return [part for part in found if part]
+
+
+def words_of(tokens: Iterable[Token]) -> set[str]:
+    return {one.text for one in tokens if one.kind == "word"}
+
+
+class Program:
+    """All sources of the program's crates, and what `main` reaches in them."""
+
+    def __init__(self, sources: Iterable[Source]) -> None:
+        self.sources = {one.file: one for one in sources}
+        self.functions = [one for source in self.sources.values() for one in source.functions]
+        self.crates = {source.crate for source in self.sources.values()}
+        self.types: dict[str, set[str]] = defaultdict(set)
+        self.traits: set[str] = set()
+        for named in (each for source in self.sources.values() for each in source.named):
+            if named.kind in ("const", "static"):
+                continue
+            self.types[named.name] |= words_of(named.tokens)
+            if named.kind == "trait":
+                self.traits.add(named.name)
+        self.heads: dict[str, set[str]] = defaultdict(set)
+        for one in self.functions:
+            self.heads[one.name] |= words_of(one.head)
+        self.words: dict[Path, set[str]] = {}
+        self.mentioned: set[str] = set()
+        self.called: dict[str, set[tuple[Path, str, int]]] = defaultdict(set)
+        self.reached: set[Function] = set()
+
+    def known_to(self, file: Path) -> set[str]:
+        """The types that a file knows."""
+        if file not in self.words:
+            source = self.sources[file]
+            said = {word for one in source.functions for word in words_of(one.head) | words_of(one.body)}
+            said |= {word for named in source.named for word in words_of(named.tokens)} | {one.local for one in source.uses}
+            said |= {one.name for one in source.uses} | {one.owner for one in source.functions}
+            left = said | {word for name in said for word in self.heads.get(name, ())}
+            known: set[str] = set()
+            while left:
+                name = left.pop()
+                if name in self.types and name not in known:
+                    known.add(name)
+                    left |= self.types[name]
+            self.words[file] = known
+        return self.words[file]
+
+    def reach(self, main: Function) -> None:
+        """Takes in what `main` reaches, until nothing is new."""
+        self.take(main)
+        found = True
+        while found:
+            new = [one for one in self.functions if one not in self.reached and self.is_met(one)]
+            found = bool(new)
+            for one in new:
+                self.take(one)
+
+    def is_met(self, one: Function) -> bool:
+        """Whether a method is called on a type that is met, or through its trait."""
+        if not one.owner or one.owner not in self.mentioned:
+            return False
+        if one.trait and one.trait not in self.traits:
+            return True
+        return any(self.is_call_of(one, *call) for call in self.called[one.name])
+
+    def is_call_of(self, one: Function, file: Path, before: str, given: int) -> bool:
+        known = self.known_to(file)
+        if not (one.owner in known or one.trait in known or one.kind == "trait"):
+            return False
+        if before == ".":
+            return one.has_self and given in (len(one.parameters) - 1, -1)
+        if before in self.types and before not in (one.owner, one.trait):
+            # through a name for the type, or a trait
+            return before in self.traits or one.owner in self.types[before]
+        return before == one.owner or before == one.trait or before not in self.types
+
+    def take(self, one: Function) -> None:
+        self.reached.add(one)
+        self.mention(words_of(one.head) | words_of(one.body) | {one.owner})
+        source = self.sources[one.file]
+        for call in calls_in(one.body):
+            before = one.owner if call.before == "Self" else call.before
+            if before == "." or before[:1].isupper():
+                self.called[call.name].add((one.file, before, call.arguments))
+            else:
+                self.call(source, call.name, call.arguments >= 0, before)
+
+    def mention(self, words: set[str]) -> None:
+        """Takes in the types that these words name, and those that they are made of."""
+        left = words - self.mentioned
+        while left:
+            word = left.pop()
+            if word in self.types and word not in self.mentioned:
+                self.mentioned.add(word)
+                left |= self.types[word]
+
+    def call(self, source: Source, name: str, is_call: bool, module: str) -> None:
+        """A function is called, or handed on, by a name that the file brings or has."""
+        brought = next((one for one in source.uses if one.local == name), None)
+        crate = source.crate if brought is None or brought.first in ("crate", "super", "self") else brought.first
+        meant = brought.name if brought else name
+        is_here = brought is not None or any(one.name == name and not one.owner for one in source.functions)
+        if not (is_here or module and is_call):
+            return
+        free = [one for one in self.functions if one.name == meant and not one.owner]
+        crate = module if module in self.crates else crate
+        for one in [one for one in free if one.crate == crate] or free:
+            if one not in self.reached:
+                self.take(one)
+
+
+def is_run(one: Function) -> bool:
+    """Whether a function is there to be run: it is no law, whose body is empty, and no worked case."""
+    return not one.is_law and "worked" not in one.file.name and "worked" not in one.file.parts
+
+
+def reached_and_not(changed: Iterable[Source] = ()) -> tuple[set[str], set[str]]:
+    """The public functions that `main` reaches and the others, with these sources in place of those that stand there."""
+    crates = [crate for crate in crates_of_the_program() if crate != "measure"]
+    others = {one.file: one for one in changed}
+    program = Program([others.get(source.file, source) for crate in crates for source in sources_of(crate)])
+    program.reach(next(one for one in program.functions if one.name == "main" and one.crate == "life_cli"))
+    shown = {(one.file, one.line) for crate in crates for one in public_functions(crate)}
+    public = [one for one in program.functions if is_run(one) and one.is_public
+              and ((one.file, one.line) in shown or one.file in others)]
+    reached = {one.full for one in public if one in program.reached}
+    return reached, {one.full for one in public} - reached

@@ -1,0 +1,79 @@
+"""How much is to be read for the main statements: the table in docs/proof/review.md.
+
+tests/repository/promise.csv lists the definitions under the clauses of the program with their words, so that one that
+comes to say less is seen. `python3 -m tests.language counts --write` writes both anew.
+"""
+from __future__ import annotations
+
+import csv
+import io
+import re
+
+from . import specs
+from .promise import Public
+from .source import ROOT
+
+PAGE = ROOT / "docs" / "proof" / "review.md"
+LIST = ROOT / "tests" / "repository" / "promise.csv"
+HEAD = "| what | definitions | files | lines | words |\n|---|---|---|---|---|\n"
+GIVEN = ["transcript_text.specs.Transcript.run_wording", "life_app.specs.TableReserves.table_reserves"]
+PREMISES = ["life_args.specs.Words.IsRun", "program_endings.specs.Writing.IsWholeInput", "command_csv.specs.Reads.Reads",
+            "life_app.specs.Headline.IsGivenBasis", "basis_shelf.specs.Bases.IsBasis", "office_state.specs.Journals.Opens"]
+DISK_MODEL = [f"outside_io.specs.FileCalls.{name}" for name in ("AreAllowed", "FileImage", "FileLeft", "file_reads")]
+HEADLINE = ["life_app.specs.Headline.IsPromised"]
+WHOLE = [*HEADLINE, "life_app.specs.Headline.IsUnrun", *GIVEN, *PREMISES, *DISK_MODEL]
+# why no transcript stands there, what was written of it by status, and what is safe when it is shown
+TOLD = ["script_run.specs.Script.EndsUnread", "program_endings.specs.WithoutBasis.EndsNoBasis",
+        "program_endings.specs.Refusals.EndsNoOffice", "script_run.specs.Texts.WroteAsEnded",
+        "script_run.specs.Shown.AreSafeWhenShown", "outside_io.specs.Streams.TakenPiece"]
+COUNTED: tuple[tuple[str, list[str], list[str]], ...] = (
+    ("the headline, whatever its texts and reserves are", HEADLINE, []),
+    ("with the program's texts and reserves", [*HEADLINE, *GIVEN], []),
+    ("these, `IsUnrun`, the premises and the disk model", WHOLE, []),
+    ("so, less which text tells what by status, and what is safe when shown", WHOLE, TOLD),
+    ("what `run_shipped` promises", ["life_cli.specs.ShippedRun.IsShipped"], []),
+    ("the contract of `run_shipped`", ["life_cli/src/shipped.rt"], []),
+    ("all public clauses of `life_app` and `life_cli`", [], []),
+)
+
+
+def row_of(what: str, names: list[str], less: list[str], public: Public) -> str:
+    texts = public.texts
+    roots = set().union(*(specs.roots_of(name, texts.definitions) for name in names))
+    seen = specs.reach(roots, texts.definitions, texts.imports, set(less))[0] if names else public.promise
+    count = specs.counted(texts.definitions[key] for key in seen)
+    return f"| {what} | {count.definitions} | {count.files} | {count.lines} | {count.words} |\n"
+
+
+def table_of(public: Public) -> str:
+    return HEAD + "".join(row_of(*counted, public) for counted in COUNTED)
+
+
+def list_of(public: Public) -> str:
+    """The definitions under the program's clauses and its clauses themselves, each with its words, as lines of CSV."""
+    made = io.StringIO()
+    rows = csv.writer(made, lineterminator="\n")
+    rows.writerow(["what", "name", "words"])
+    for key in sorted(public.promise):
+        rows.writerow(["definition", key, public.texts.definitions[key].words])
+    for one in (one for crate in ("life_app", "life_cli") for one in public.functions[crate] if not one.is_worked):
+        for number, clause in enumerate(one.clauses, 1):
+            rows.writerow([clause.side, f"{one.full} {clause.name or number}", len(clause.said.split())])
+    return made.getvalue()
+
+
+def wrong(public: Public) -> list[str]:
+    """Where the page or the list has other counts than the definitions make."""
+    found = re.search(re.escape(HEAD) + r"(?:\|.*\n)*", PAGE.read_text(encoding="utf-8"))
+    told = [] if found and found[0] == table_of(public) else [f"{PAGE.name}: the table of what is to be read"]
+    known, now = LIST.read_text(encoding="utf-8").splitlines(), list_of(public).splitlines()
+    return told + [f"{LIST.name}: - {line}" for line in known if line not in now] + [
+        f"{LIST.name}: + {line}" for line in now if line not in known]
+
+
+def write(public: Public) -> None:
+    text = PAGE.read_text(encoding="utf-8")
+    table = re.search(re.escape(HEAD) + r"(?:\|.*\n)*", text)
+    if table:
+        PAGE.write_text(text.replace(table[0], table_of(public)), encoding="utf-8")
+    LIST.write_text(list_of(public), encoding="utf-8")
