@@ -1,7 +1,8 @@
 """What the definitions and sources say of themselves.
 
 usage: python3 -m tests.language above CRATE          the crates that a change of this one has proved again
-       python3 -m tests.language counts [--write]     how much is to be read, for docs/proof/review.md; --write puts it there
+       python3 -m tests.language counts               how much is to be read for the main statements
+       python3 -m tests.language counts --write       writes the list of clauses and definitions with their words anew
        python3 -m tests.language rests [--less NAME] NAME..    the definitions that a name rests on, by file
        python3 -m tests.language cases                what no worked case holds, and which cases are conditional
 
@@ -64,7 +65,7 @@ def main() -> int:
         found = cases.Found(cases.Texts())
         print(*sorted(found.bare), *(f"conditional {case}" for case in sorted(found.conditional)), *found.wrong, sep="\n")
     elif asked.write:
-        counts.write(all_public())
+        counts.LIST.write_text(counts.list_of(all_public()), encoding="utf-8")
     else:
         print(counts.table_of(all_public()), end="")
     return 0

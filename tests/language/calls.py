@@ -3,7 +3,8 @@
 A function is reached where reached code names it. A method is reached where reached code calls one of its name with as many
 arguments, its type is named by reached code, and the calling file knows the type: it names the type, or something that it
 names has the type in its fields or its head. A method of a trait is also reached through its trait, and where its trait is
-from outside of the program.
+from outside of the program. Types aren't inferred: where a file knows two types, a call of a method that both have reaches
+both.
 """
 from __future__ import annotations
 
@@ -86,6 +87,10 @@ def words_of(tokens: Iterable[Token]) -> set[str]:
     return {one.text for one in tokens if one.kind == "word"}
 
 
+# A type by its crate and its name.
+Key = tuple[str, str]
+
+
 class Program:
     """All sources of the program's crates, and what `main` reaches in them."""
 
@@ -93,38 +98,72 @@ class Program:
         self.sources = {one.file: one for one in sources}
         self.functions = [one for source in self.sources.values() for one in source.functions]
         self.crates = {source.crate for source in self.sources.values()}
-        self.types: dict[str, set[str]] = defaultdict(set)
-        self.traits: set[str] = set()
-        for named in (each for source in self.sources.values() for each in source.named):
-            if named.kind in ("const", "static"):
-                continue
-            self.types[named.name] |= words_of(named.tokens)
-            if named.kind == "trait":
-                self.traits.add(named.name)
-        self.heads: dict[str, set[str]] = defaultdict(set)
-        for one in self.functions:
-            self.heads[one.name] |= words_of(one.head)
-        self.words: dict[Path, set[str]] = {}
-        self.mentioned: set[str] = set()
+        self.brought = {file: {use.local: use for use in source.uses} for file, source in self.sources.items()}
+        self.types: dict[Key, tuple[Path, set[str]]] = {}
+        self.named: dict[str, set[Key]] = defaultdict(set)
+        self.traits: set[Key] = set()
+        for source in self.sources.values():
+            for one in source.named:
+                if one.kind not in ("const", "static"):
+                    key = (source.crate, one.name)
+                    self.types[key] = (source.file, words_of(one.tokens))
+                    self.named[one.name].add(key)
+                    if one.kind == "trait":
+                        self.traits.add(key)
+        self.heads: dict[str, list[Function]] = defaultdict(list)
+        for each in self.functions:
+            self.heads[each.name].append(each)
+        self.known: dict[Path, set[Key]] = {}
+        self.mentioned: set[Key] = set()
         self.called: dict[str, set[tuple[Path, str, int]]] = defaultdict(set)
         self.reached: set[Function] = set()
 
-    def known_to(self, file: Path) -> set[str]:
-        """The types that a file knows."""
-        if file not in self.words:
+    def meant(self, file: Path, name: str) -> set[Key]:
+        """The types of the program that a name means in a file: one that the file brings, or one of its own crate."""
+        use = self.brought[file].get(name)
+        crate = self.sources[file].crate
+        if use is None or use.first in ("crate", "super", "self"):
+            own = (crate, use.name if use else name)
+            return {own} if own in self.types else self.named[name] if use else set()
+        if use.first not in self.crates:
+            return set()
+        return {(use.first, use.name)} if (use.first, use.name) in self.types else self.named[use.name]
+
+    def closed(self, some: Iterable[Key]) -> set[Key]:
+        """These types, and those that they are made of."""
+        found: set[Key] = set()
+        left = set(some)
+        while left:
+            key = left.pop()
+            if key not in found:
+                found.add(key)
+                file, words = self.types[key]
+                left |= {one for word in words for one in self.meant(file, word)}
+        return found
+
+    def known_to(self, file: Path) -> set[Key]:
+        """The types that a file knows: those that it names, those that these are made of, and those in the heads of what it calls
+        of them."""
+        if file not in self.known:
             source = self.sources[file]
-            said = {word for one in source.functions for word in words_of(one.head) | words_of(one.body)}
-            said |= {word for named in source.named for word in words_of(named.tokens)} | {one.local for one in source.uses}
-            said |= {one.name for one in source.uses} | {one.owner for one in source.functions}
-            left = said | {word for name in said for word in self.heads.get(name, ())}
-            known: set[str] = set()
-            while left:
-                name = left.pop()
-                if name in self.types and name not in known:
-                    known.add(name)
-                    left |= self.types[name]
-            self.words[file] = known
-        return self.words[file]
+            said = {word for one in source.functions for word in words_of(one.head) | words_of(one.body) | {one.owner}}
+            said |= {word for named in source.named for word in words_of(named.tokens)} | set(self.brought[file])
+            known = self.closed(key for word in said for key in self.meant(file, word))
+            left = [one for word in said for one in self.heads.get(word, ())]
+            while True:
+                called = [one for one in left if self.may_call(file, one, known)]
+                if not called:
+                    break
+                left = [one for one in left if one not in called]
+                known |= self.closed(key for one in called for word in words_of(one.head) for key in self.meant(one.file, word))
+            self.known[file] = known
+        return self.known[file]
+
+    def may_call(self, file: Path, one: Function, known: set[Key]) -> bool:
+        """Whether a file that names a function may mean this one: it has its type, or brings it."""
+        if one.owner:
+            return bool(self.meant(one.file, one.owner) & known)
+        return one.name in self.brought[file] or one.crate == self.sources[file].crate
 
     def reach(self, main: Function) -> None:
         """Takes in what `main` reaches, until nothing is new."""
@@ -138,42 +177,34 @@ class Program:
 
     def is_met(self, one: Function) -> bool:
         """Whether a method is called on a type that is met, or through its trait."""
-        if not one.owner or one.owner not in self.mentioned:
+        owners = self.meant(one.file, one.owner) if one.owner else set()
+        if not owners & self.mentioned:
             return False
-        if one.trait and one.trait not in self.traits:
+        traits = self.meant(one.file, one.trait) if one.trait else set()
+        if one.trait and not traits & self.traits:
             return True
-        return any(self.is_call_of(one, *call) for call in self.called[one.name])
+        return any(self.is_call_of(one, owners | traits, *call) for call in self.called[one.name])
 
-    def is_call_of(self, one: Function, file: Path, before: str, given: int) -> bool:
-        known = self.known_to(file)
-        if not (one.owner in known or one.trait in known or one.kind == "trait"):
+    def is_call_of(self, one: Function, keys: set[Key], file: Path, before: str, given: int) -> bool:
+        if not keys & self.known_to(file):
             return False
         if before == ".":
             return one.has_self and given in (len(one.parameters) - 1, -1)
-        if before in self.types and before not in (one.owner, one.trait):
-            # through a name for the type, or a trait
-            return before in self.traits or one.owner in self.types[before]
-        return before == one.owner or before == one.trait or before not in self.types
+        meant = self.meant(file, before)
+        # a type parameter, or the type itself, a name for it, or a trait of its
+        return not meant or bool(keys & self.closed(meant)) or bool(meant & self.traits)
 
     def take(self, one: Function) -> None:
         self.reached.add(one)
-        self.mention(words_of(one.head) | words_of(one.body) | {one.owner})
         source = self.sources[one.file]
+        words = words_of(one.head) | words_of(one.body) | {one.owner}
+        self.mentioned |= self.closed({key for word in words for key in self.meant(one.file, word)} - self.mentioned)
         for call in calls_in(one.body):
             before = one.owner if call.before == "Self" else call.before
             if before == "." or before[:1].isupper():
                 self.called[call.name].add((one.file, before, call.arguments))
             else:
                 self.call(source, call.name, call.arguments >= 0, before)
-
-    def mention(self, words: set[str]) -> None:
-        """Takes in the types that these words name, and those that they are made of."""
-        left = words - self.mentioned
-        while left:
-            word = left.pop()
-            if word in self.types and word not in self.mentioned:
-                self.mentioned.add(word)
-                left |= self.types[word]
 
     def call(self, source: Source, name: str, is_call: bool, module: str) -> None:
         """A function is called, or handed on, by a name that the file brings or has."""

@@ -293,7 +293,7 @@ def empty_parts(text: str) -> list[str]:
     for side in statements.split(statements.split(conditions.bare(text), "→")[-1], "⊎"):
         for factor in statements.split(side, "×"):
             part = conditions.bare(factor)
-            bound = [kind for _, kind in conditions.binders(part)]
+            bound = [kind for _, kind in conditions.binders(factor)]
             if bound or any(len(statements.split(part, mark)) > 1 for mark in "→×⊎"):
                 found += (empty for kind in bound or [part] for empty in empty_parts(kind))
                 continue

@@ -1,19 +1,17 @@
 """How much is to be read for the main statements: the table in docs/proof/review.md.
 
-tests/repository/promise.csv lists the definitions under the clauses of the program with their words, so that one that
-comes to say less is seen. `python3 -m tests.language counts --write` writes both anew.
+tests/repository/promise.csv lists the clauses of the program and the definitions under them with their words, so that one
+that comes to say less is seen. `python3 -m tests.language counts --write` writes it anew.
 """
 from __future__ import annotations
 
 import csv
 import io
-import re
 
 from . import specs
 from .promise import Public
 from .source import ROOT
 
-PAGE = ROOT / "docs" / "proof" / "review.md"
 LIST = ROOT / "tests" / "repository" / "promise.csv"
 HEAD = "| what | definitions | files | lines | words |\n|---|---|---|---|---|\n"
 GIVEN = ["transcript_text.specs.Transcript.run_wording", "life_app.specs.TableReserves.table_reserves"]
@@ -62,18 +60,7 @@ def list_of(public: Public) -> str:
     return made.getvalue()
 
 
-def wrong(public: Public) -> list[str]:
-    """Where the page or the list has other counts than the definitions make."""
-    found = re.search(re.escape(HEAD) + r"(?:\|.*\n)*", PAGE.read_text(encoding="utf-8"))
-    told = [] if found and found[0] == table_of(public) else [f"{PAGE.name}: the table of what is to be read"]
+def changed(public: Public) -> list[str]:
+    """The lines by which the list differs from what the definitions and clauses are now."""
     known, now = LIST.read_text(encoding="utf-8").splitlines(), list_of(public).splitlines()
-    return told + [f"{LIST.name}: - {line}" for line in known if line not in now] + [
-        f"{LIST.name}: + {line}" for line in now if line not in known]
-
-
-def write(public: Public) -> None:
-    text = PAGE.read_text(encoding="utf-8")
-    table = re.search(re.escape(HEAD) + r"(?:\|.*\n)*", text)
-    if table:
-        PAGE.write_text(text.replace(table[0], table_of(public)), encoding="utf-8")
-    LIST.write_text(list_of(public), encoding="utf-8")
+    return [f"- {line}" for line in known if line not in now] + [f"+ {line}" for line in now if line not in known]

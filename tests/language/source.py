@@ -220,7 +220,7 @@ class Parser:
             self.source.public_uses += [one.local for one in found if is_public]
         elif word == "ghost" and tokens[at + 1].text == "use":
             self.source.ghosts += used(tokens[at + 2:end - 1])
-        elif word in (*TYPES, "const", "static"):
+        elif word in (*TYPES, "const", "static") and not owner[0]:
             self.name(word, at, end, is_public)
         return end
 

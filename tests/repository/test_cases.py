@@ -1,21 +1,23 @@
-"""Puts hypotheses that nothing builds into worked cases and their contracts, one at a time and in memory, and wants worked.py
-to tell of each by the name of its case; and such as are met, or of plain data, of which it has to tell nothing.
+"""Each definition under the promise is held by a worked case, and a case or a definition that comes to say less is told.
 
-usage: python3 worked_tries.py [-v]      with -v: what is told of each
+A hypothesis that nothing builds is put into worked cases and their contracts, one at a time and in memory, and it has to be
+told by the name of its case; of such as are met, or of plain data, nothing has to be told.
 """
 from __future__ import annotations
 
-import pathlib
-import sys
+from pathlib import Path
 
-import conditions
-import definitions as known
-import worked
+import pytest
 
-CASES = known.TOP / "crates/life_app/specs/WorkedRun/Promise.antt"
-LANES = known.TOP / "crates/life_app/specs/WorkedRun/Lanes.antt"
-CONTRACT = known.TOP / "crates/life_app/src/worked_run.rt"
-CODE = known.TOP / "crates/money_core/src/lib.rt"
+from tests.language import conditions, counts
+from tests.language.cases import Found, Texts, empty_parts, parts_of, told_conditional, told_data
+from tests.language.promise import all_public
+from tests.language.source import CRATES
+
+CASES = CRATES / "life_app/specs/WorkedRun/Promise.antt"
+LANES = CRATES / "life_app/specs/WorkedRun/Lanes.antt"
+CONTRACT = CRATES / "life_app/src/worked_run.rt"
+CODE = CRATES / "money_core/src/lib.rt"
 
 PART = "PromisedByHand = IsPromised called"
 SHOWN = "ensures promised { PromisedByHand }"
@@ -59,7 +61,7 @@ NO_LESS = ("(n : ℕ)", "{pair : Pair} (words : List (Option ℕ))", "(disk : Ca
            "(disk : CalledDisk) → called.honest disk")
 
 # Other ways to say less: the file, what stands in it, what is put there, and the case that is named.
-WAYS = [
+WAYS: list[tuple[Path, str, str, str]] = [
     (CASES, GIVEN, f"(⊥ → {GIVEN})", "Promise.GivenByHand"),
     (CASES, PART, "PromisedByHand = Under (IsPromised called Opens) × IsPromised called", PROMISED),
     (CASES, PART, "PromisedByHand = Beneath (IsPromised called Opens) × IsPromised called", PROMISED),
@@ -77,7 +79,6 @@ WAYS = [
     (CONTRACT, "    ensures legal {", "    requires { ⊥ }\n    ensures legal {", "Lanes.PromisedLanes"),
     (CONTRACT, "    ensures given {", "    requires* { ⌜ ⊥ ⌝ }\n    ensures given {", PROMISED),
     (CONTRACT, "fn promise_by_hand()", "fn promise_by_hand()\n    ghost nothing: { ⊥ }", PROMISED),
-    (CONTRACT, "pub fn promise_by_hand()", "impl<T: Nothing> Of<T> {\n    pub fn promise_by_hand()", PROMISED),
     (CONTRACT, "fn promise_by_hand()", "fn promise_by_hand(void: Void)", PROMISED),
     (CONTRACT, "fn promise_by_hand()", "fn promise_by_hand<D: Disk>()", PROMISED),
     (LANES, "PromisedLanes = AreLinesOf", "PromisedLanes = ⊥ → AreLinesOf", "Lanes.PromisedLanes"),
@@ -85,39 +86,70 @@ WAYS = [
 ]
 
 
-def put(texts: worked.Texts, path: pathlib.Path, old: str, new: str) -> worked.Texts:
+@pytest.fixture(scope="module")
+def texts() -> Texts:
+    return Texts()
+
+
+def put(texts: Texts, path: Path, old: str, new: str) -> Texts:
     """With the one in place of the other; the cases have the helpers too."""
     text = texts.code.get(path) or path.read_text(encoding="utf-8")
-    if old not in text:
-        sys.exit(f"worked_tries: {path.name} has no {old}")
+    assert old in text, f"{path.name} has no {old}"
     text = text.replace(old, new, 1)
     return texts.changed(path, text.replace(BEFORE, HELPERS + BEFORE) if path == CASES else text)
 
 
-def told_of(texts: worked.Texts) -> list[str]:
-    """What worked.py tells of conditional cases, and of code that spoils what it takes for data."""
-    return worked.told_conditional(*conditions.met(worked.parts_of(texts)))[0] + worked.told_data(texts)
+def told_of(texts: Texts) -> list[str]:
+    """What is told of conditional cases, and of code that spoils what is taken for data."""
+    return told_conditional(*conditions.met(parts_of(texts)))[0] + told_data(texts)
 
 
-def main() -> int:
-    texts, wrong = worked.Texts(), []
-    ways = [(CASES, PART, f"PromisedByHand = {one} → IsPromised called", PROMISED) for one in HYPOTHESES] + WAYS
-    for path, old, new, name in ways:
-        told = told_of(put(texts, path, old, new))
-        if "-v" in sys.argv:
-            print(new, *told, sep="\n    ")
-        if not any(f"{name} is conditional" in one or f"has {name}," in one for one in told):
-            wrong.append(f"nothing is told of {name} with {new}: {told}")
-    for one in NO_LESS:
-        told = worked.Found(put(texts, CASES, PART, f"PromisedByHand = {one} → IsPromised called")).wrong
-        if told:
-            wrong.append(f"with {one} a case shows no less, and it is told: {told}")
-    for what in wrong:
-        print(f"worked_tries: {what}", file=sys.stderr)
-    if not wrong:
-        print(f"worked_tries: {len(ways)} ways to say less are told, and {len(NO_LESS)} that say no less aren't")
-    return 1 if wrong else 0
+def test_each_definition_under_the_promise_is_held_and_each_premise_is_built(texts: Texts) -> None:
+    assert Found(texts).wrong == []
 
 
-if __name__ == "__main__":
-    sys.exit(main())
+@pytest.mark.parametrize("path, old, new, name", [
+    *((CASES, PART, f"PromisedByHand = {one} → IsPromised called", PROMISED) for one in HYPOTHESES), *WAYS])
+def test_a_case_that_says_less_is_told(texts: Texts, path: Path, old: str, new: str, name: str) -> None:
+    told = told_of(put(texts, path, old, new))
+    assert any(f"{name} is conditional" in one or f"has {name}," in one for one in told)
+
+
+def test_a_case_of_a_type_with_parameters_is_told(texts: Texts) -> None:
+    text = texts.code[CONTRACT]
+    begin = text.index("pub fn promise_by_hand()")
+    end = text.index("\n{}\n", begin) + len("\n{}\n")
+    within = text[:begin] + "impl<T: Nothing> Of<T> {\n" + text[begin:end] + "}\n" + text[end:]
+    assert any(f"{PROMISED} is conditional" in one for one in told_of(texts.changed(CONTRACT, within)))
+
+
+@pytest.mark.parametrize("one", NO_LESS)
+def test_a_case_that_says_no_less_is_not_told(texts: Texts, one: str) -> None:
+    assert Found(put(texts, CASES, PART, f"PromisedByHand = {one} → IsPromised called")).wrong == []
+
+
+@pytest.mark.parametrize("said, empty", [
+    ("x ≡ x", ["x ≡ x"]), ("(n : ℕ) → f n ≡ f n", ["f n ≡ f n"]), ("(a ≡ b) × (c d ≡ c d)", ["c d ≡ c d"]),
+    ("(same : 1 ≡ 1) × (n ≤ n)", ["1 ≡ 1", "n ≤ n"]), ("x ≡ y", []), ("x ≡ x → x ≡ y", []), ('codes "(" ≡ codes ")"', []),
+])
+def test_what_says_nothing_is_found(said: str, empty: list[str]) -> None:
+    assert empty_parts(said) == empty
+
+
+@pytest.mark.parametrize("path, old, new", [
+    (CRATES / "life_app/specs/Runs.antt", "pub handed : run.next ≡ run.new", "pub handed : run.new ≡ run.new"),
+    (CASES, PART, "PromisedByHand = (called ≡ called) × IsPromised called"),
+], ids=["a definition's field", "a worked case"])
+def test_an_emptied_definition_or_case_is_told(texts: Texts, path: Path, old: str, new: str) -> None:
+    assert any("says nothing" in one for one in Found(put(texts, path, old, new)).wrong)
+
+
+def test_no_clause_and_no_definition_under_the_promise_has_come_to_say_less_or_more() -> None:
+    """Where this is meant, `python3 -m tests.language counts --write` writes the list anew, and the change of it is reviewed."""
+    assert counts.changed(all_public()) == []
+
+
+def test_a_definition_that_says_less_changes_the_list() -> None:
+    public = all_public()
+    public.texts = put(public.texts, CRATES / "life_app/specs/Runs.antt", "  pub all : run.answered ≡ accepted_of run.history\n", "")
+    assert [line.split(",")[1] for line in counts.changed(public)] == ["life_app.specs.Runs.HasReturned"] * 2

@@ -1,51 +1,50 @@
-"""The names that the pages for engineers tell in backticks are those of crates, functions, definitions and files here.
-
-A word is taken for a name where it has an underscore or a capital letter within it or at its start, and for a file
-where it ends as one of ours does. usage: python3 .ci/told_names.py
-"""
+"""The names in backticks on pages for engineers are those of crates, functions, definitions and files that are there."""
 from __future__ import annotations
 
-
-import pathlib
+import functools
 import re
-import sys
 from collections.abc import Iterator
-from typing import Any
+from pathlib import Path
 
-TOP = pathlib.Path(__file__).resolve().parent.parent
-PAGES = ("docs/PROOF.md", "docs/DECISIONS.md")
+import pytest
+
+from tests.language.source import ROOT
+
+PAGES = ("docs/proof/index.md", "docs/development/decisions.md")
 SOURCES = ("crates.txt", "crates/*/src/**/*.rt", "crates/*/specs/**/*.antt", "crates/*/must-fail/*.edit")
+# a word that is taken for a name: it has an underscore or a capital letter
 NAME = re.compile(r"(?=\w*[A-Z_])[A-Za-z]\w*")
-FILE = re.compile(r"[\w./-]*\.(?:rt|antt|sh|py|md|csv)")
+FILE = re.compile(r"[\w./-]*\.(?:rt|antt|sh|py|md|csv|txt)")
+FOLDERS = (".ci", "bench", "crates", "docs", "tools", "examples", "tests")
 
 
-def told_in(page: str) -> Iterator[Any]:
+def told_in(page: str) -> Iterator[tuple[int, str]]:
     """The words in backticks of a page, each with its line."""
     fenced = False
-    for number, line in enumerate((TOP / page).read_text(encoding="utf-8").splitlines(), 1):
+    for number, line in enumerate(page.splitlines(), 1):
         fenced ^= line.startswith("```")
         for code in [] if fenced else re.findall("`([^`]+)`", line):
-            for word in re.split(r"::|[^\w./*-]+", code):
-                yield number, word.strip(".")
+            yield from ((number, word.strip(".")) for word in re.split(r"::|[^\w./*-]+", code))
 
 
-def main() -> int:
-    text = "\n".join(path.read_text(encoding="utf-8") for pattern in SOURCES for path in TOP.glob(pattern))
-    names = set(re.findall(r"[A-Za-z]\w*", text))
-    files = {path.name for folder in (".ci", "bench", "crates", "docs", "tools", "examples", "tests")
-             for path in (TOP / folder).rglob("*")}
-    looked, wrong = 0, 0
-    for page in PAGES:
-        for number, word in told_in(page):
-            known = word in names if NAME.fullmatch(word) else pathlib.Path(word).name in files if FILE.fullmatch(word) else None
-            looked += known is not None
-            if known is False:
-                print(f"told_names: {page}:{number}: there is no {word}", file=sys.stderr)
-                wrong += 1
-    if not wrong:
-        print(f"told_names: {looked} names of {len(PAGES)} pages are there")
-    return 1 if wrong else 0
+@functools.cache
+def there() -> tuple[set[str], set[str]]:
+    """The words of all sources, and the names of all files."""
+    text = "\n".join(path.read_text(encoding="utf-8") for pattern in SOURCES for path in ROOT.glob(pattern))
+    return set(re.findall(r"[A-Za-z]\w*", text)), {path.name for folder in FOLDERS for path in (ROOT / folder).rglob("*")}
 
 
-if __name__ == "__main__":
-    sys.exit(main())
+def missing(page: str) -> list[str]:
+    names, files = there()
+    return [f"line {number}: {word}" for number, word in told_in(page)
+            if NAME.fullmatch(word) and word not in names or FILE.fullmatch(word) and Path(word).name not in files]
+
+
+@pytest.mark.parametrize("page", PAGES)
+def test_each_name_on_a_page_is_there(page: str) -> None:
+    assert missing((ROOT / page).read_text(encoding="utf-8")) == []
+
+
+def test_a_name_that_is_gone_is_told() -> None:
+    assert missing("`life_app` and `life_apple`, `run_shipped`, `gone.py`\n```\n`Nothing_here`\n```\n") == [
+        "line 1: life_apple", "line 1: gone.py"]

@@ -1,15 +1,11 @@
 """Who waits for the lock is woken: all interleavings of three callers of one turn each, over both queues.
 
-usage: python3 .ci/interleavings.py     the status is 1 where a caller sleeps for ever, or two are inside, or too many
-turns pass one that waits
-
 The steps are the atomic accesses of turn_lock: src/entering.rt, src/queues.rt, and take and give of src/steps.rt.
 No contract says that a wake arrives; this search does, of a model. Where a ring is left out, or two accesses change
 places (FAULTS), it has to find a caller that sleeps for ever.
 """
 from __future__ import annotations
 
-import sys
 from typing import NamedTuple
 
 FREE, TAKEN, NOBODY = -1, -2, -3
@@ -251,20 +247,3 @@ def search(queues: tuple[int, ...], limits: tuple[int, int], fault: str = "") ->
                 seen.add(after)
                 left.append(after)
     return len(seen), ""
-
-
-def main() -> int:
-    failed = 0
-    for (callers, queues), (how, limits) in zip(QUEUES.items(), LIMITS.items()):
-        states, wrong = search(queues, limits)
-        print(f"lock: {callers}, {how}: {states} states, {wrong or 'all take their turns'}")
-        failed += wrong != ""
-    for fault, how in FAULTS.items():
-        _, wrong = search(QUEUES["one brief"], LIMITS[how], fault)
-        print(f"lock: {fault}: {wrong + ', as is wanted' if wrong else 'nothing is found'}")
-        failed += wrong == ""
-    return min(failed, 1)
-
-
-if __name__ == "__main__":
-    sys.exit(main())

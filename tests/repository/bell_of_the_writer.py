@@ -1,7 +1,5 @@
 """The writer is woken for each line that it can write: all interleavings of a writer and two or three lanes.
 
-usage: python3 .ci/interleavings_bell.py     the status is 1 where a line that can be written waits for another one
-
 The steps are the atomic accesses of lane_runner: src/bell.rt, `wait_for_next` of src/merging.rt, `hand_over` of
 src/answering.rt. A lane may wait before each line for as long as it likes, as one does whose record is synced, or who is
 held up at a gate. No contract says that a ring arrives; this search does, of a model. Where a ring is left out or held
@@ -9,7 +7,6 @@ back, or two accesses change places (FAULTS), it has to find a line that waits.
 """
 from __future__ import annotations
 
-import sys
 from collections.abc import Iterator
 from typing import NamedTuple
 
@@ -150,20 +147,3 @@ def search(lines: tuple[int, ...], fault: str = "") -> tuple[int, str]:
                 seen.add(then)
                 left.append(then)
     return len(seen), ""
-
-
-def main() -> int:
-    failed = 0
-    for name, lines in RUNS.items():
-        states, wrong = search(lines)
-        print(f"bell: {name}: {states} states, {wrong or 'no line that can be written waits'}")
-        failed += wrong != ""
-    for fault, name in FAULTS.items():
-        _, wrong = search(RUNS[name], fault)
-        print(f"bell: {fault}: {wrong + ', as is wanted' if wrong else 'nothing is found'}")
-        failed += wrong == ""
-    return min(failed, 1)
-
-
-if __name__ == "__main__":
-    sys.exit(main())

@@ -1,0 +1,76 @@
+"""The scripts as they are written: types by `mypy --strict`, style by flake8 and shellcheck, and no Python within a shell script."""
+from __future__ import annotations
+
+import os
+import re
+import subprocess
+from pathlib import Path
+
+import pytest
+
+from tests.language.source import ROOT
+
+# Folders whose Python files find one another by their names alone
+FLAT = sorted({str(file.parent.relative_to(ROOT)) for folder in ("bench", ".ci") for file in (ROOT / folder).rglob("*.py")})
+# SC1090, SC1091: a part that is read by a path of its own; SC2015, SC2016, SC2094: as it is meant; SC3013: `-nt`, which each
+# shell here has; SC2013: words, not lines
+ALLOWED = "SC1090,SC1091,SC2013,SC2015,SC2016,SC2094,SC3013"
+WITHIN = re.compile(r"""python3?"? (-[A-Za-z]+ )*- |python3?"? (-[A-Za-z]+ )*-$|<<'?PY|python3 -c (?!["']import [^ ;"]+["'])""")
+
+
+def said(words: list[str], folder: Path = ROOT, path: str = "") -> str:
+    """What a judge says, where it isn't content."""
+    env = {**os.environ, "MYPYPATH": path} if path else None
+    ran = subprocess.run(words, cwd=folder, env=env, capture_output=True, text=True, check=False)
+    return "" if ran.returncode == 0 else ran.stdout + ran.stderr
+
+
+def cache(name: str) -> str:
+    """What a later run of mypy reads again."""
+    return str(ROOT / "out" / "mypy" / name.replace("/", "-"))
+
+
+def shell_scripts() -> list[str]:
+    listed = subprocess.run(["git", "ls-files", "life", ".ci/run", "*.sh", "tools/installed/life*"], cwd=ROOT, capture_output=True,
+                            text=True, check=True)
+    return [name for name in listed.stdout.splitlines() if (ROOT / name).exists()]
+
+
+@pytest.mark.needs("mypy")
+@pytest.mark.parametrize("folder, words", [
+    ("tools", ["life_tools", "life-tools", "packing"]), (".", ["--explicit-package-bases", "tests"])])
+def test_types_of_packages(folder: str, words: list[str]) -> None:
+    paths = f"{ROOT}/tools:{ROOT}:{ROOT}/bench"
+    assert said(["mypy", "--strict", "--cache-dir", cache("packages"), *words], ROOT / folder, paths) == ""
+
+
+@pytest.mark.needs("mypy")
+@pytest.mark.parametrize("folder", FLAT)
+def test_types_of_scripts(folder: str) -> None:
+    files = sorted(file.name for file in (ROOT / folder).glob("*.py"))
+    paths = ":".join(str(ROOT / name) for name in ("tools", ".", *FLAT))
+    assert said(["mypy", "--strict", "--cache-dir", cache(folder), *files], ROOT / folder, paths) == ""
+
+
+@pytest.mark.needs("flake8")
+def test_style_of_python() -> None:
+    assert said(["flake8", "--max-line-length", "130", "tools", "tests", "bench", ".ci"]) == ""
+
+
+@pytest.mark.needs("shellcheck")
+def test_style_of_shell() -> None:
+    scripts = [name for name in shell_scripts() if not name.startswith(".ci/") or name in (".ci/run", ".ci/setup.sh")]
+    assert said(["shellcheck", "-s", "sh", "-e", ALLOWED, *scripts]) == ""
+
+
+@pytest.mark.parametrize("script", shell_scripts())
+def test_no_python_within_a_shell_script(script: str) -> None:
+    """A program in Python that a shell script holds is looked at by none of these."""
+    lines = (ROOT / script).read_text(encoding="utf-8", errors="replace").splitlines()
+    assert [line for line in lines if WITHIN.search(line)] == []
+
+
+@pytest.mark.parametrize("line, is_told", [
+    ("python3 - <<'PY'", True), ("python3 -c 'print(1)'", True), ('python3 -c "import numpy"', False), ("python3 -B tool.py", False)])
+def test_python_within_shell_is_seen(line: str, is_told: bool) -> None:
+    assert bool(WITHIN.search(line)) == is_told
