@@ -43,7 +43,8 @@ def rests(names: list[str], less: list[str]) -> int:
         print(f"{place}: {', '.join(found)}")
     print(*(f"  type {name}" for name in sorted(types)), sep="\n")
     count = specs.counted(definitions[key] for key in seen)
-    print(f"definitions: {count.definitions} in {count.files} files, {count.lines} lines, {count.words} words; {len(types)} types")
+    print(f"definitions: {count.definitions} in {count.files} files, {count.lines} lines, {count.words} words; "
+          f"{len(types)} types")
     return 0
 
 

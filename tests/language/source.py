@@ -38,7 +38,7 @@ class Clause:
 
 @dataclass(eq=False)
 class Function:
-    """A function: where it stands, the kind, type and trait of what it belongs to, its head as tokens and as text, and its body."""
+    """A function: where it stands, what it belongs to (an `impl` or a trait, of which type), its head, clauses and body."""
 
     crate: str
     file: Path

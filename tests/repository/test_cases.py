@@ -151,5 +151,6 @@ def test_no_clause_and_no_definition_under_the_promise_has_come_to_say_less_or_m
 
 def test_a_definition_that_says_less_changes_the_list() -> None:
     public = all_public()
-    public.texts = put(public.texts, CRATES / "life_app/specs/Runs.antt", "  pub all : run.answered ≡ accepted_of run.history\n", "")
+    file, said = CRATES / "life_app/specs/Runs.antt", "  pub all : run.answered ≡ accepted_of run.history\n"
+    public.texts = put(public.texts, file, said, "")
     assert [line.split(",")[1] for line in counts.changed(public)] == ["life_app.specs.Runs.HasReturned"] * 2

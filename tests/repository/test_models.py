@@ -10,7 +10,7 @@ from pathlib import Path
 
 import pytest
 
-from tests.language.source import CRATES, Function, parsed, source_of
+from tests.language.source import CRATES, parsed, source_of
 from tests.language.tokens import code_of, tokens_of
 from tests.repository import bell_of_the_writer as bell
 from tests.repository import turns_of_the_lock as turns
@@ -73,8 +73,8 @@ def constant(name: str) -> list[str]:
 
 def test_the_limits_of_the_model_are_those_of_the_lock() -> None:
     """Turns of the model are heavy ones."""
-    brief, others = turns.LIMITS["free"]
-    assert (constant("MOST_BEFORE_BRIEF"), constant("MOST_BEFORE_OTHERS")) == ([str(brief), "*", "HEAVY"], [str(others), "*", "HEAVY"])
+    for limit, name in zip(turns.LIMITS["free"], ("MOST_BEFORE_BRIEF", "MOST_BEFORE_OTHERS")):
+        assert constant(name) == [str(limit), "*", "HEAVY"]
 
 
 @pytest.mark.parametrize("callers, limits", [*zip(turns.QUEUES.values(), turns.LIMITS.values())],

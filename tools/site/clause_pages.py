@@ -130,8 +130,8 @@ class Pages:
 
     def index(self) -> Iterator[str]:
         yield ("<h1>Clauses and definitions</h1>\n<p>Each public clause of each crate, and the definitions under it, as they "
-               "stand in the files. <a href=\"../proof/index.html\">What is promised</a> says what they promise together, and the "
-               "<a href=\"../proof/review.html\">reviewer's guide</a> in which order to read them. "
+               "stand in the files. <a href=\"../proof/index.html\">What is promised</a> says what they promise together, and "
+               "the <a href=\"../proof/review.html\">reviewer's guide</a> in which order to read them. "
                '<a href="names.html">All names</a>, by letter.</p>')
         yield "<h2>How much is to be read</h2>"
         yield from table(counts.table_of(self.public))
