@@ -4,6 +4,7 @@ pub mod CrashLaws
 pub mod FaultsTold
 pub mod TextLaws
 pub mod HeadlineLaws
+pub mod LegalityLaws
 pub mod RunLaws
 pub mod LeftLaws
 pub mod ProgramSteps

@@ -8,6 +8,7 @@ pub mod Given
 pub mod Texts
 pub mod TableReserves
 pub mod Headline
+pub mod Legality
 pub mod Runs
 pub mod KeptRuns
 pub mod Worked

@@ -3,6 +3,7 @@
 
 mod kept;
 mod laws;
+mod legality;
 mod modes;
 mod program;
 mod promise;
@@ -14,5 +15,6 @@ pub use laws::{
     crashes_of_a_run, crashes_of_an_opening, runs_after_a_crash, runs_in_a_row, runs_over_both,
     scripts_are_read_or_refused,
 };
+pub use legality::answered_legally;
 pub use program::{Ended, life};
 pub use promise::headline;
