@@ -9,7 +9,7 @@ import pytest
 from tests.support.folders import EXAMPLES, Folder
 
 VALUES = ["check-values", "journal.life", "basis.csv"]
-MEASURES = {"terminal": [], "mean": ["--mean"], "deficiency": ["--deficiency"]}
+MEASURES: dict[str, list[str]] = {"terminal": [], "mean": ["--mean"], "deficiency": ["--deficiency"]}
 
 
 def changed(text: str, pattern: str, to: str) -> str:
@@ -63,6 +63,18 @@ def test_a_premium_that_is_called_otherwise_is_found(office: Folder, old: str, n
     text = office.read("deficiency")
     if re.search(rf"^row,1[0-9],inforce,.*,{old}$", text, re.M):
         finds_in(office, VALUES, changed(text, rf"^(row,1[0-9],inforce,.*),{old}$", rf"\1,{new}"), "above the net premium")
+
+
+def test_policies_that_have_no_value(office: Folder) -> None:
+    """By a basis that begins after the issue of some, which have a word."""
+    office.write("later.csv", "2021-06-01,g.xml,400\n")
+    text = office.life("value", "2024-03-12", "--basis", "later.csv").out
+    words = int(text.splitlines()[-1].split(",")[-1])
+    assert words == text.count(",nobasis\n") > 0
+    office.write("printed", text)
+    office.printed("check-values", "journal.life", "later.csv", "printed")
+    wrong = changed(text, rf",{words}\n\Z", f",{words - 1}\n")
+    finds_in(office, ["check-values", "journal.life", "later.csv"], wrong, "isn't total")
 
 
 def test_a_measure_that_isnt_one(office: Folder) -> None:

@@ -82,8 +82,16 @@ def test_a_row_that_is_refused_in_each_order(office: Folder) -> None:
 
 
 def test_nothing_is_told_of_a_right_row(office: Folder) -> None:
-    office.write("right.csv", "5,settle,15,2024-04-20,40000.00\n")
+    office.write("right.csv", "5,settle,15,2024-04-20,15000.00\n5,settle,15,2024-04-20,25000.00\n")
     assert office.printed("check", "right.csv") == ""
+
+
+def test_a_claim_long_after_the_newest_posting(folder: Folder) -> None:
+    """Premiums are awaited of the policy, so it can't have been without a posting for so long."""
+    folder.post("1,issue,7,2024-01-01,whole,30,0,60.00,1.00\n")
+    folder.write("claim.csv", "1,claim,7,2025-06-01\n")
+    told = folder.finds("check", "claim.csv", "--today", "2025-06-01", says="^rows: 1, told: 1;").out
+    assert "  the day is 517 days behind the policy's newest posting, which is of 2024-01-01" in told.splitlines()
 
 
 def test_more_than_is_outstanding(office: Folder) -> None:

@@ -21,7 +21,8 @@ TABLES: dict[str, tuple[str | None, list[str]]] = {
     "no ultimate table": (SELECT.format(1, ""), ["^wanted: a second Table behind this one", "^line 2 of t.xml, byte 1 "]),
     "a gap before the ultimate rates": (
         SELECT.format(1, GAP),
-        ["^wanted: an ultimate rate for the age right behind", "^line 2 of t.xml, byte 22 ", "^cure:   let the ultimate rates begin"]),
+        ["^wanted: an ultimate rate for the age right behind", "^line 2 of t.xml, byte 22 ",
+         "^cure:   let the ultimate rates begin"]),
     "another document": ("<html><body>not found</body></html>", ["^wanted: the path XTbML"]),
 }
 BASES = {
