@@ -77,13 +77,6 @@ def test_no_watcher_is_brought_but_those_that_are_always_ready() -> None:
     assert found + made == []
 
 
-@pytest.mark.parametrize("file", ["counting.rt", "premiums.rt"])
-def test_the_programs_watchers_are_always_ready(file: str) -> None:
-    source = next(one for one in sources_of("watcher_set") if one.file.name == file)
-    ready = next(one for one in source.functions if one.name == "ready")
-    assert "".join(token.text for token in ready.body) == "Ok(())"
-
-
 def test_a_watcher_of_which_the_head_is_broken_over_two_lines_is_seen() -> None:
     text = "impl Watcher\n    for Late\n{\n    fn ready(&self) -> bool {\n        false\n    }\n}\n"
     planted = parsed("life_app", CRATES / "life_app" / "src" / "planted.rt", text)

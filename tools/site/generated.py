@@ -114,8 +114,6 @@ READ: tuple[tuple[str, str, str, str], ...] = (
      "recorded system calls"),
     ("memory_requests/src", "", "an error of a call of the kit is a refused request; no body uses memory up",
      "forged evidence, each request refused in turn"),
-    ("watcher_set/src/counting.rt", "ready", "the watcher is ready", "forged evidence"),
-    ("watcher_set/src/premiums.rt", "ready", "the watcher is ready", "forged evidence"),
 )
 
 
