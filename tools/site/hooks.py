@@ -33,6 +33,8 @@ def on_page_markdown(markdown: str, page: Any, config: Any, files: Any) -> str:
 
 def on_post_build(config: Any) -> None:
     site = pathlib.Path(config["site_dir"])
+    # its links lead from the root of a server, which there is none of
+    (site / "404.html").unlink()
     (site / "katex" / "contrib").mkdir(parents=True)
     for name, placed in KATEX_FILES.items():
         shutil.copyfile(KATEX / name, site / "katex" / placed)
