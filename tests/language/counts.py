@@ -28,7 +28,7 @@ COUNTED: tuple[tuple[str, list[str], list[str]], ...] = (
     ("the headline, whatever its texts and reserves are", HEADLINE, []),
     ("with the program's texts and reserves", [*HEADLINE, *GIVEN], []),
     ("these, `IsUnrun`, the premises and the disk model", WHOLE, []),
-    ("so, less which text tells what by status, and what is safe when shown", WHOLE, TOLD),
+    ("the same without the texts by status and what is safe when shown", WHOLE, TOLD),
     ("what `run_shipped` promises", ["life_cli.specs.ShippedRun.IsShipped"], []),
     ("the contract of `run_shipped`", ["life_cli/src/shipped.rt"], []),
     ("all public clauses of `life_app` and `life_cli`", [], []),

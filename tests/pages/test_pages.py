@@ -71,6 +71,52 @@ def test_every_picture_says_what_it_shows() -> None:
     assert not bare, bare
 
 
+# texts of the code that are not printed: what a command line's parts are called inside
+NOT_PRINTED = {"values", "seed", "lanes", "workers", "on", "id", "at", "count", "t"}
+
+
+def printed_words() -> set[str]:
+    """The words in the program's code that it can print."""
+    words: set[str] = set()
+    for file in TOP.glob("crates/*/src/**/*.rt"):
+        crate = file.relative_to(TOP / "crates").parts[0]
+        if crate != "measure" and not crate.endswith("_tests"):
+            code = re.sub("//.*", "", file.read_text(encoding="utf-8"))
+            for text in re.findall(r'"([a-z]+(?:,[a-z]+)*)(?:\\n|,)?"', code):
+                words.update(text.split(","))
+    return words - NOT_PRINTED
+
+
+def test_the_reference_has_every_word_that_the_program_prints() -> None:
+    lines = [line for file in (TOP / "docs/reference").glob("*.md") for line in file.read_text(encoding="utf-8").splitlines()]
+    known = {word for line in lines for code in re.findall("`([^`]+)`", line) for word in re.findall("[a-z]+", code)}
+    words = printed_words()
+    assert len(words) >= 50
+    assert not words - known, f"docs/reference does not have {sorted(words - known)}"
+
+
+NAMED_IN = ["docs/development/architecture.md", "docs/development/changing.md", "docs/proof/review.md", "docs/reference/limits.md"]
+
+
+@pytest.mark.parametrize("page", NAMED_IN)
+def test_files_that_a_page_names_are_there(page: str) -> None:
+    """Files of crates by their paths, others by their names; and the functions that a table has beside a file of a crate."""
+    text = (TOP / page).read_text(encoding="utf-8")
+    tracked = subprocess.run(["git", "ls-files"], cwd=TOP, stdout=subprocess.PIPE, check=True).stdout.decode().split()
+    names = {pathlib.Path(name).name for name in tracked}
+    named = set(re.findall(r"`([\w./*-]+\.(?:rt|antt|sh|py|md|csv|xml|dot|txt))`", text))
+    gone = [name for name in sorted(named) if "*" not in name and pathlib.Path(name).name not in names]
+    gone += [path for path in sorted(set(re.findall(r"`(\w+/(?:src|specs|proofs)/[\w/.]*)`", text)))
+             if not (TOP / "crates" / path).exists()]
+    for line in text.splitlines():
+        cells, files = line.split("|"), [TOP / "crates" / name for name in re.findall(r"`(\w+/src/[\w/.]*\.rt)`", line)]
+        if line.startswith("|") and files and all(file.is_file() for file in files):
+            code = "".join(file.read_text(encoding="utf-8") for file in files)
+            gone += [f"{name} in {cells[2].strip()}" for name in re.findall(r"`(?:\w+::)?(\w+)`", cells[1])
+                     if not re.search(rf"\bfn {name}\b", code)]
+    assert named and not gone, gone
+
+
 def test_generated_blocks_agree() -> None:
     checked = subprocess.run(["/usr/bin/python3", "tools/site/generated.py", "--check"], cwd=TOP, stderr=subprocess.PIPE,
                              check=False)
@@ -100,11 +146,12 @@ REPLACED = {
 
 
 def prose_of(page: str) -> list[tuple[int, str]]:
-    """A page's lines outside of blocks of code, with their numbers, and without what stands in backticks."""
-    fenced, lines = False, []
+    """A page's lines outside of blocks of code and of generated ones, with their numbers, and without what is in backticks."""
+    fenced, lines, generated = False, [], False
     for number, line in enumerate((TOP / page).read_text(encoding="utf-8").splitlines(), 1):
         fenced ^= line.startswith("```")
-        if not fenced and not line.startswith("    "):
+        generated = line.startswith("<!-- generated") or generated and line != "<!-- end -->"
+        if not fenced and not generated and not line.startswith("    "):
             lines.append((number, re.sub("`[^`]*`", "", line)))
     return lines
 
