@@ -301,8 +301,8 @@ def reserve_over_years() -> Picture:
         made.text(700, place + 4, words)
     made.text(610, 250, "The program prints two bounds that are proved", sort="quiet")
     made.text(610, 268, "to enclose the exact reserve, at most", sort="quiet")
-    made.text(610, 286, "two cents apart. On the curve they cannot", sort="quiet")
-    made.text(610, 304, "be told from it.", sort="quiet")
+    made.text(610, 286, "two cents apart. The curve is too coarse to", sort="quiet")
+    made.text(610, 304, "show the difference.", sort="quiet")
     return made
 
 
