@@ -1,0 +1,173 @@
+"""After an interruption one `day` goes on: it says what was posted, and posts the rest."""
+from __future__ import annotations
+
+import contextlib
+import os
+import re
+import signal
+import subprocess
+import sys
+import time
+
+import pytest
+
+from life_tools.desk import claiming
+from life_tools.desk.entries import Log
+from tests.support.desks import TODAY, Desk
+from tests.support.folders import Folder
+from tests.support.killed_days import start_day
+from tests.support.program import ROOT
+
+ROWS = 120
+
+
+@pytest.fixture
+def desk(folder: Folder) -> Desk:
+    """A book that is begun, and a file of many rows in the inbox."""
+    desk = Desk(folder)
+    desk.hand_in("first.csv", "1,issue,9000,2024-05-01,whole,40,0,1000.00,40.00\n")
+    desk.day("--new", status=1)
+    desk.hand_in("many.csv", "".join(f"1,issue,{number},2024-05-01,whole,40,0,1000.00,40.00\n" for number in range(1, ROWS + 1)))
+    return desk
+
+
+def posted(desk: Desk) -> int:
+    """How many records the file has begun; the last ones may not be postings yet."""
+    return (desk.folder.journal.stat().st_size - 18) // 65
+
+
+def until_posted(desk: Desk, count: int) -> None:
+    end = time.monotonic() + 60
+    while posted(desk) < count and time.monotonic() < end:
+        time.sleep(0.001)
+
+
+def kill(child: int) -> None:
+    with contextlib.suppress(ProcessLookupError):
+        os.killpg(child, signal.SIGKILL)
+    os.waitpid(child, 0)
+
+
+def test_the_rest_of_a_killed_run_is_posted(desk: Desk) -> None:
+    child = start_day(desk, "said", "none", 0)
+    until_posted(desk, 20)
+    kill(child)
+    time.sleep(0.2)
+    status = desk.day("--status", status=1)
+    assert "run 2, begun" in status.err and f"{ROWS} rows of inbox/many.csv are still to be posted" in status.err
+    ended = desk.day(status=1)
+    found = re.search(rf"run 2 of inbox/many.csv, begun .*, was interrupted: (\d+) of its {ROWS} rows were posted as positions "
+                      r"2 to (\d+), 0 were refused\nday: the other (\d+) rows are posted now\n", ended.err)
+    assert found and int(found[1]) >= 17 and int(found[2]) == int(found[1]) + 1 and int(found[3]) == ROWS - int(found[1])
+    assert desk.count() == ROWS + 1 and ended.out.endswith(f"-many,{ROWS},0,0,0\n")
+    assert len(desk.log()) == ROWS + 1 and desk.day().err == ""
+
+
+def test_a_transcript_that_is_missing_or_lost_is_no_hindrance(desk: Desk) -> None:
+    """As after a power cut: the journal is safe, and what was printed is not."""
+    child = start_day(desk, "said", "none", 0)
+    until_posted(desk, 20)
+    kill(child)
+    time.sleep(0.2)
+    os.remove(desk.folder.path / "log/runs/000002/transcript")
+    assert "of its 120 rows were posted as positions 2 to" in desk.day(status=1).err
+    assert desk.count() == ROWS + 1 and [int(row["position"]) for row in desk.log()] == list(range(1, ROWS + 2))
+
+
+def test_after_a_kill_that_posted_nothing_the_whole_file_is_posted(desk: Desk) -> None:
+    """It was refused as sent before; whoever believed that lost the file."""
+    run = desk.folder.path / "log/runs/000002"
+    child = start_day(desk, "said", "none", 0)
+    while not (run / "run.json").exists():
+        time.sleep(0.001)
+    kill(child)
+    time.sleep(0.2)
+    done = desk.count() - 1
+    ended = desk.day(status=1)
+    assert re.search(rf": {done} of its {ROWS} rows were posted.*\nday: the other {ROWS - done} rows are posted now", ended.err)
+    assert desk.count() == ROWS + 1
+
+
+def test_a_program_whose_day_was_killed_is_waited_for(desk: Desk) -> None:
+    """It goes on without `day`, and no other one takes up its rows meanwhile."""
+    child = start_day(desk, "said", "none", 0)
+    until_posted(desk, 10)
+    os.kill(child, signal.SIGKILL)
+    os.waitpid(child, 0)
+    ended = desk.day(status=1)
+    assert "day: waiting: the run of a `day` that was killed still goes on in this book" in ended.err
+    assert f"{ROWS} of its {ROWS} rows were posted as positions 2 to {ROWS + 1}, 0 were refused" in ended.err
+    assert "nothing of it is left to post" in ended.err and desk.count() == ROWS + 1
+
+
+@pytest.mark.parametrize("number", [signal.SIGTERM, signal.SIGINT])
+def test_a_signal_during_a_posting_is_noted_in_the_entry(desk: Desk, number: signal.Signals) -> None:
+    env = {**os.environ, "LIFE_PROGRAM": str(desk.folder.program.path)}
+    with subprocess.Popen([sys.executable, str(ROOT / "tools/life-tools"), "day", "--today", TODAY], env=env,
+                          cwd=desk.folder.path, stdout=subprocess.PIPE, stderr=subprocess.PIPE, text=True) as ran:
+        until_posted(desk, 20)
+        ran.send_signal(number)
+        out, err = ran.communicate(timeout=60)
+    assert ran.returncode == 130 and "Traceback" not in err, (ran.returncode, out, err)
+    run = desk.entry(2)["runs"][0]
+    accepted = len(desk.entry(2)["accepted"])
+    assert run["status"] == -number and accepted == desk.count() - 1 and 17 <= accepted < ROWS
+    assert f"run 2 was ended by signal {number}; {accepted} rows were posted, {ROWS - accepted} are left" in err
+    assert out.endswith(f"-many,{accepted},0,0,{ROWS - accepted}\n")
+    desk.day(status=1)
+    assert desk.count() == ROWS + 1
+
+
+def test_a_released_row_that_equals_another_is_found_again(desk: Desk) -> None:
+    """Two equal part settlements of one release, and the kill of its run."""
+    desk.day(status=1)
+    desk.hand_in("a.csv", "1,claim,1,2024-05-20\n" + "1,settle,1,2024-05-21,1.00\n" * 60)
+    desk.day(status=1)
+    run = desk.folder.path / "log/runs/000004"
+    child = os.fork()
+    if child == 0:
+        os.setpgid(0, 0)
+        with contextlib.suppress(BaseException):
+            desk.day("--release", "3", "--by", "anna")
+        os._exit(0)
+    while not run.exists():
+        time.sleep(0.001)
+    until_posted(desk, ROWS + 1 + 2 + 15)
+    kill(child)
+    time.sleep(0.2)
+    desk.day(status=1)
+    assert desk.count() == ROWS + 1 + 61 and len(desk.log("--policy", "1")) == 62
+
+
+# --- claims ---
+
+def test_a_claim_that_was_interrupted_before_the_rename_is_made_again(desk: Desk) -> None:
+    entry_folder = desk.folder.path / "log/000002-2024-06-03-many"
+    entry_folder.mkdir()
+    assert desk.day(status=1).out.endswith(f"-many,{ROWS},0,0,0\n")
+    assert not entry_folder.exists() and desk.count() == ROWS + 1
+
+
+@pytest.mark.parametrize("call", range(1, 60, 3))
+def test_a_claim_killed_at_any_call_is_finished(desk: Desk, call: int) -> None:
+    """Each third of the first calls of a `day`, which verifies the book and claims the file."""
+    child = start_day(desk, "said", "call", call)
+    os.waitpid(child, 0)
+    desk.day(status=1)
+    assert desk.count() == ROWS + 1 and desk.inbox == [] and len(desk.log()) == ROWS + 1
+
+
+def test_what_is_added_to_a_claimed_file_is_an_entry_of_its_own(desk: Desk, monkeypatch: pytest.MonkeyPatch) -> None:
+    """Where the system can't say that a file is still open, as on a network: the rows that come late are posted, too."""
+    desk.day(status=1)
+    monkeypatch.setattr(claiming, "is_being_written", lambda path: False)
+    file = desk.hand_in("late.csv", "1,claim,1,2024-05-20\n")
+    with open(file, "a", encoding="ascii") as late:
+        os.utime(file, (1e9, 1e9))
+        entry = claiming.claimed(str(file), str(desk.folder.path), Log(str(desk.folder.path)))
+        late.write("1,settle,1,2024-05-21,1.00\n")
+    ended = desk.day(status=1)
+    assert f"{file} was written to after it was claimed: what was added is log/000004" in ended.err
+    assert len(desk.entry(entry.number)["accepted"]) == 1 and len(desk.entry(4)["accepted"]) == 1
+    assert (desk.entry_folder(4) / "handed-in.csv").read_text() == "1,settle,1,2024-05-21,1.00\n"
+    assert desk.day().err == ""
