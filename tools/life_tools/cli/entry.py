@@ -40,6 +40,8 @@ ENTRIES: dict[str, tuple[str, str]] = {
     "plot": ("plot", "draw printed valuations, a printed book or a printed projection"),
     "audit": ("audit", "for an auditor: doubtful postings, a sample of the policies, papers and letters on it"),
     "table": ("table", "a table before a book is valued by it: looked at, converted, rounded, joined"),
+    "backup": ("backup", "copy to a second place what the book has more than its copy there"),
+    "restore": ("restore", "make a book of such a copy, and verify it"),
     "seal": ("seal", "a seal of the book and its basis, to keep elsewhere; and whether they still are so"),
     "browse": ("browse", "a window on a book, in a web browser of this machine"),
     "version": ("version", "version and revision, and whether program and tools belong together"),

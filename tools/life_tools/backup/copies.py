@@ -1,0 +1,156 @@
+"""The copy of a book in a folder, and how what was added since is appended to it.
+
+    journal.prefix    the journal's first 17 bytes and 65 for each posting, without the commit byte that ends the journal
+    backup.seal       a seal of journal.prefix, and of the basis and its tables in files/ (life-tools seal tells its lines)
+    files/            basis and tables, desk.toml, the folder's seals and log/
+    .lock             locked while somebody copies
+
+Bytes of `journal.prefix` that the seal covers are never changed. What lies behind them was not sealed: a copier was killed, or
+its machine. It stays if the journal has the same bytes, and is cut off if not.
+"""
+from __future__ import annotations
+
+import datetime
+import fcntl
+import hashlib
+import os
+from contextlib import contextmanager
+from dataclasses import dataclass
+from typing import BinaryIO, Iterator
+
+from life_tools.backup.safe import Safe, drop_copies, safe_count
+from life_tools.common.formats import Wrong, opened
+from life_tools.desk.records import sync_folder, write_safely
+from life_tools.journal.file import EMPTY, FIRST_GATE, gate_of
+from life_tools.journal.record_columns import Columns
+from life_tools.journal.seals import Seal, Sealed, newest_of, seal_at, text_of
+
+PREFIX, SEAL, FILES, LOCK = "journal.prefix", "backup.seal", "files", ".lock"
+AT_ONCE = 1 << 20
+
+
+class Differs(Wrong):
+    """The copy is of another book, or one of both was changed."""
+
+    status = 1
+
+
+@dataclass(frozen=True)
+class Copied:
+    """What a copy did: how many postings are copied, how many of them now, and how many are left since they may not be safe."""
+
+    count: int
+    added: int
+    under_way: int
+
+
+@contextmanager
+def locked(folder: str) -> Iterator[None]:
+    """Keeps other copiers off a copy."""
+    os.makedirs(folder, exist_ok=True)
+    handle = os.open(os.path.join(folder, LOCK), os.O_RDWR | os.O_CREAT | os.O_CLOEXEC, 0o666)
+    try:
+        fcntl.flock(handle, fcntl.LOCK_EX | fcntl.LOCK_NB)
+        yield
+    except BlockingIOError as error:
+        raise Wrong(f"another backup is writing to {folder}; nothing was copied") from error
+    finally:
+        os.close(handle)
+
+
+def seal_in_copy(folder: str) -> Seal | None:
+    """The seal of a copy; none of one that was begun only."""
+    path = os.path.join(folder, SEAL)
+    return seal_at(path) if os.path.lexists(path) else None
+
+
+def pieces(file: BinaryIO, start: int, end: int) -> Iterator[bytes]:
+    """The bytes of a file from a place on up to another, as far as it has them."""
+    while start < end and (piece := os.pread(file.fileno(), min(AT_ONCE, end - start), start)):
+        start += len(piece)
+        yield piece
+
+
+def sum_of(file: BinaryIO, end: int) -> str:
+    found = hashlib.sha256()
+    for piece in pieces(file, 0, end):
+        found.update(piece)
+    return found.hexdigest()
+
+
+def unsealed_part(copy: BinaryIO, journal: BinaryIO, start: int, end: int) -> int:
+    """Where a copy goes on: behind what was not sealed, if the journal has the same bytes there, else where the seal ends."""
+    length = min(os.fstat(copy.fileno()).st_size, end)
+    is_same = all(a == b for a, b in zip(pieces(copy, start, length), pieces(journal, start, length)))
+    return length if is_same else start
+
+
+def demand_same(copy: BinaryIO, journal: BinaryIO, seal: Seal, names: tuple[str, str]) -> None:
+    """Demands that the copy and the journal both begin with what was sealed."""
+    for file, name in ((copy, names[0]), (journal, names[1])):
+        if os.fstat(file.fileno()).st_size < seal.size or sum_of(file, seal.size) != seal.sum:
+            raise Differs(f"{name}: its first {seal.size} bytes aren't the {seal.position} postings that were copied; nothing "
+                          "was copied. Keep both files, and find out which of them was changed")
+
+
+def append(copy: BinaryIO, journal: BinaryIO, start: int, end: int) -> None:
+    """Appends a part of the journal to the copy, and makes it safe."""
+    copy.truncate(start)
+    place = start
+    for piece in pieces(journal, start, end):
+        os.pwrite(copy.fileno(), piece, place)
+        place += len(piece)
+    if place != end:
+        raise Wrong("journal.life became shorter while it was copied")
+    os.fsync(copy.fileno())
+    drop_copies(copy.fileno(), end)
+
+
+def newest_day(journal: BinaryIO, before: Seal | None, safe: Safe, path: str) -> datetime.date | None:
+    """The latest day of the copied postings."""
+    start = before.position if before else 0
+    added = EMPTY[:FIRST_GATE] + b"".join(pieces(journal, gate_of(start), safe.size))
+    days = [before.day if before else None, newest_of(Columns(added, safe.count - start).days(), path)]
+    return max((day for day in days if day), default=None)
+
+
+def new_seal(journal: BinaryIO, copy: BinaryIO, before: Seal | None, safe: Safe, path: str, files: tuple[Sealed, ...]) -> Seal:
+    """The seal of what the copy has now, if the journal has the same."""
+    found = sum_of(copy, safe.size)
+    if found != sum_of(journal, safe.size):
+        raise Wrong(f"{path}: what was copied isn't what the journal has; the copy is as it was sealed before")
+    today = datetime.datetime.now(datetime.timezone.utc).date()
+    return Seal(today, safe.count, safe.count, newest_day(journal, before, safe, path), found, files)
+
+
+def copy_journal(path: str, folder: str, files: tuple[Sealed, ...]) -> Copied:
+    """Appends to the copy in a folder what a journal has more and is safe; the copy is sealed anew, with these other files."""
+    seal = seal_in_copy(folder)
+    names = os.path.join(folder, PREFIX), path
+    with opened(path) as journal, opened_copy(names[0]) as copy:
+        if seal:
+            demand_same(copy, journal, seal, names)
+        before, start = (seal.position, seal.size) if seal else (0, 0)
+        safe = safe_count(journal, path, before)
+        if safe.count < before:
+            raise Differs(f"{path} has {safe.count} postings, and {before} were copied; nothing was copied")
+        start = unsealed_part(copy, journal, start, safe.size)
+        if not seal and not start and os.fstat(copy.fileno()).st_size:
+            raise Differs(f"{names[0]} is no part of {path}, and has no seal; nothing was copied: name an empty folder")
+        if start < safe.size or os.fstat(copy.fileno()).st_size != start:
+            append(copy, journal, start, safe.size)
+        if not seal or (seal.position, seal.files) != (safe.count, files):
+            sealed = new_seal(journal, copy, seal, safe, path, files)
+            write_safely(os.path.join(folder, SEAL), text_of(sealed).encode("ascii"))
+        return Copied(safe.count, safe.count - before, safe.under_way)
+
+
+@contextmanager
+def opened_copy(path: str) -> Iterator[BinaryIO]:
+    """The file that is appended to, made where there is none."""
+    is_new = not os.path.lexists(path)
+    handle = os.open(path, os.O_RDWR | os.O_CREAT | os.O_CLOEXEC | os.O_NOFOLLOW, 0o666)
+    with os.fdopen(handle, "r+b", buffering=0) as file:
+        if is_new:
+            sync_folder(os.path.dirname(path))
+        yield file
