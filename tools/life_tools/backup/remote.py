@@ -27,8 +27,8 @@ SYNCED = "cd {0} && sync -f {1} && head -c {2} {1} | sha256sum"
 
 
 def is_place(to: str) -> bool:
-    """Whether it names a folder of another machine."""
-    return PLACE.fullmatch(to) is not None
+    """Whether it names a folder of another machine, as rsync takes it: a folder here with a colon is named by ./"""
+    return ":" in to.partition("/")[0]
 
 
 @dataclass(frozen=True)
@@ -77,7 +77,7 @@ def last_line(text: str) -> str:
 def place_in(to: str, ssh: str) -> Place:
     found = PLACE.fullmatch(to)
     if not found:
-        raise Wrong(f"{to} is no place HOST:FOLDER")
+        raise Wrong(f"{to} names no folder of another machine: HOST:FOLDER or USER@HOST:FOLDER is wanted")
     return Place(found[1], found[2], ssh)
 
 
@@ -112,11 +112,11 @@ def send_copy(folder: str, place: Place) -> int:
     demand_same(place, here, sealed)
     fit_end(place, here, seal.size, there, sealed)
     place.send("--append-verify", here)
-    place.send("--recursive", "--exclude=.*.part", os.path.join(folder, FILES))
+    place.send("--recursive", "--modify-window=-1", "--exclude=.*.part", os.path.join(folder, FILES))
     found = place.asked(SYNCED, PREFIX, seal.size)[:1]
     if found != [seal.sum]:
         raise Wrong(f"{place.shown}/{PREFIX} isn't what was sent; its seal is as it was before")
-    place.send(os.path.join(folder, SEAL))
+    place.send("--ignore-times", os.path.join(folder, SEAL))
     place.asked("cd {0} && sync -f {1}", SEAL)
     return seal.size - sealed
 

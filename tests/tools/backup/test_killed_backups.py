@@ -1,0 +1,26 @@
+"""Whatever kills a backup or the run that it follows, each copy opens to a prefix and loses nothing that it had."""
+from __future__ import annotations
+
+import os
+import random
+
+import pytest
+
+from tests.support.folders import Folder
+from tests.support.killed_backups import Trial
+
+# so many kills; another number may be asked for, as for a long trial by hand
+SOME, MANY = 15, int(os.environ.get("LIFE_TRIAL_KILLS", "100"))
+SEED = int(os.environ.get("LIFE_TRIAL_SEED", "75"))
+
+
+def test_killed_backups_lose_nothing(folder: Folder) -> None:
+    Trial(folder, random.Random(SEED)).go_on(SOME)
+
+
+@pytest.mark.slow
+@pytest.mark.timeout(3000)
+def test_many_killed_backups_lose_nothing(folder: Folder) -> None:
+    trial = Trial(folder, random.Random(SEED + 1))
+    trial.go_on(MANY)
+    print(f"{trial.kills} kills: {dict(trial.ways)}, {trial.books} books")
