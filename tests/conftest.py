@@ -1,8 +1,10 @@
 """The program under test, folders of books, and what a test needs of the machine."""
 from __future__ import annotations
 
+import hashlib
 import os
 from pathlib import Path
+from typing import Iterator
 
 import pytest
 from hypothesis import settings
@@ -82,6 +84,20 @@ def root() -> Path:
 @pytest.fixture(scope="session")
 def program() -> Program:
     return demand_program(is_proved=False)
+
+
+@pytest.fixture(scope="session", autouse=True)
+def own_program() -> Iterator[None]:
+    """The tools take the program under test for the one that they belong to, as installed tools take theirs; so a preview
+    is judged as the proved program is. What is said of any other program, tests of that try with another one."""
+    found = program_under_test()
+    if found is None:
+        yield
+        return
+    own = hashlib.sha256(found.path.read_bytes()).hexdigest()
+    with pytest.MonkeyPatch.context() as patch:
+        patch.setattr("life_tools.common.program.noted_sum", lambda: own)
+        yield
 
 
 @pytest.fixture

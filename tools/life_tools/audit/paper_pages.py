@@ -10,6 +10,7 @@ from life_tools.audit.papers import BookPapers, Paper, Papers
 from life_tools.reports.report_pages import STYLE, apart, money, table
 from life_tools.common.revisions import made_now, revision
 from life_tools.journal.seals import text_of
+from life_tools.reports.whole_pages import whole_page
 from life_tools.reserves.worked_rows import decimal
 
 PLACES = 6
@@ -63,7 +64,7 @@ def cover_of(papers: Papers) -> list[str]:
             (f"total {sample.by}", money(sample.total)), ("interval", f"{money(sample.total)} / {sample.asked}"),
             ("start", f"{plain_money(sample.start)} / {sample.asked}"), ("rows drawn", apart(str(rows))),
             ("certain rows", apart(str(draw.certain))), ("rows of 0, not drawn", apart(str(draw.nothing))),
-            ("revision of the tools", revision()), ("made", made_now())]
+            *papers.program.items(), ("revision of the tools", revision()), ("made", made_now())]
     return [facts(told), contents(papers), *seals(papers)]
 
 
@@ -110,10 +111,7 @@ def page(papers: Papers) -> str:
     """The whole page, which needs no network."""
     at = f" at position {papers.sample.position}" if len(papers.books) == 1 else ""
     title = f"Audit papers: {papers.title} on {papers.sample.on}{at}"
-    parts = ["<!doctype html>", "<html lang=\"en\"><head><meta charset=\"utf-8\">",
-             "<meta name=\"viewport\" content=\"width=device-width, initial-scale=1\">",
-             f"<title>{escape(title)}</title><style>{STYLE}{PRINTED}</style></head><body>", f"<h1>{escape(title)}</h1>",
-             *cover_of(papers), signed()]
+    parts = [*cover_of(papers), signed()]
     for book, paper in papers.all:
         parts += sheet(paper, book)
-    return "\n".join([*parts, "</body></html>", ""])
+    return whole_page(title, STYLE + PRINTED, papers.program, parts)

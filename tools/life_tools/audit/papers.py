@@ -20,7 +20,9 @@ from life_tools.journal.at_position import BookAt, book_at
 from life_tools.valuations.groups import demand_same
 from life_tools.valuations.printed_books import ValuedRow, policy_of
 from life_tools.valuations.printed_columns import blocks_of, state_of
+from life_tools.common.program import program_asked
 from life_tools.common.progress import Progress
+from life_tools.reports.provenance import book_name
 from life_tools.reserves.exact import row_for
 from life_tools.rules.policies import Policy
 from life_tools.audit.samples import Sample
@@ -72,6 +74,8 @@ class Papers:
     title: str
     draw: Draw
     books: list[BookPapers]
+    # what the papers say of the program that printed the rows
+    program: dict[str, str]
 
     @property
     def sample(self) -> Sample:
@@ -159,7 +163,7 @@ def sheets_of(sample: Sample, folder: str, name: str, bases: Bases, life: str | 
 
 # --- all books ---
 
-def together(title: str, books: Sequence[Sheets]) -> Papers:
+def together(title: str, books: Sequence[Sheets], program: dict[str, str]) -> Papers:
     """The papers of all books of a sample, which is drawn once more: it must come to the same rows."""
     sample = books[0].of.sample
     drawn = draw(np.concatenate([book.sizes for book in books]), sample.asked, sample.seed)
@@ -167,12 +171,12 @@ def together(title: str, books: Sequence[Sheets]) -> Papers:
     places = [begin + place for begin, book in zip(begins, books) for place in book.places]
     if (drawn.total, drawn.start, drawn.places) != (sample.total, sample.start, places):
         raise NotTheSample(f"seed {sample.seed} draws other rows of {title}")
-    return Papers(title, drawn, [book.of for book in books])
+    return Papers(title, drawn, [book.of for book in books], program)
 
 
-def papers_of(sample: Sample, folder: str, bases: Bases, life: str | None = None) -> Papers:
-    """The papers of a sample of one folder's book."""
+def papers_of(sample: Sample, folder: str, bases: Bases, life: str | None = None, title: str | None = None) -> Papers:
+    """The papers of a sample of one folder's book, which is named by a title or by its folder."""
     told, wanted = ", ".join(bases.names), ", ".join(sample.bases)
     demand(bases.names == sample.bases, f"the sample is of {wanted}, and not of {told}")
-    name = os.path.basename(os.path.realpath(folder))
-    return together(name, [sheets_of(sample, folder, name, bases, life)])
+    name = book_name(folder, title)
+    return together(name, [sheets_of(sample, folder, name, bases, life)], program_asked(life).facts())

@@ -3,7 +3,7 @@
     audit flags [--after P0] [--at P]             postings for people to look at, as CSV
     audit sample N --seed S --on DAY > SAMPLE     a monetary unit sample of a valuation's rows
     audit papers SAMPLE --html FILE | --pdf FILE  a page to print for each policy of a sample
-    audit letters SAMPLE                          what a letter of confirmation says of each, as CSV
+    audit letters SAMPLE [--html FILE]            what a letter of confirmation says of each, as CSV or to print
 
 `audit flags --help` and so on tell the words of each.
 """
@@ -18,15 +18,17 @@ from typing import Sequence
 from life_tools.valuations.class_bases import Bases, basis_arguments, bases_in, class_arguments
 from life_tools.journal.copied_folder import JOURNAL
 from life_tools.audit.drawn_samples import sample_of
+from life_tools.cli.report import add_title
 from life_tools.common.cells import write_rows
 from life_tools.common.files import write_text, written_whole
 from life_tools.cli.why import position_in
 from life_tools.audit.flags import DAYS_LATE, FLAGS, Flag, flags_at
 from life_tools.common.formats import Wrong, day_in, demand, money, number_of, remark
-from life_tools.audit.letters import HEADS, letters_of
+from life_tools.audit.letters import HEADS, letter_page, letters_of
 from life_tools.audit.paper_pages import page
 from life_tools.audit.papers import NotTheSample, Papers, papers_of
 from life_tools.common.printing import demand_printer, write_pdf
+from life_tools.reports.provenance import book_name
 from life_tools.audit.samples import BY, MEASURED, Sample, asked_in, sample_at, seed_in, text_of
 
 MOST_DAYS = 36_500
@@ -120,6 +122,7 @@ def papers_arguments(parser: argparse.ArgumentParser) -> None:
     parser.add_argument("sample", metavar="SAMPLE", help="what audit sample printed")
     paper_arguments(parser.add_mutually_exclusive_group(required=True))
     class_arguments(parser)
+    add_title(parser)
     parser.add_argument("--life", metavar="PROGRAM", help="the program to ask")
     folder_arguments(parser)
     parser.set_defaults(piece=run_papers)
@@ -148,7 +151,7 @@ def run_papers(options: argparse.Namespace) -> int:
     if options.pdf:
         demand_printer()
     try:
-        papers = papers_of(sample, options.folder, bases, options.life)
+        papers = papers_of(sample, options.folder, bases, options.life, options.title)
     except NotTheSample as other:
         remark(f"wrong: {options.sample}: {other}")
         return 1
@@ -157,14 +160,19 @@ def run_papers(options: argparse.Namespace) -> int:
 
 def letters_arguments(parser: argparse.ArgumentParser) -> None:
     parser.add_argument("sample", metavar="SAMPLE", help="what audit sample printed")
+    parser.add_argument("--html", metavar="FILE", help="the letters as pages to print, one for each policy, in place of the CSV")
+    add_title(parser)
     folder_arguments(parser)
     parser.set_defaults(piece=run_letters)
 
 
 def run_letters(options: argparse.Namespace) -> int:
-    book = os.path.basename(os.path.realpath(options.folder))
+    book = book_name(options.folder, options.title)
     rows = letters_of(sample_at(options.sample), os.path.join(options.folder, JOURNAL), book)
-    write_rows(sys.stdout, [HEADS, *rows])
+    if options.html:
+        written_whole(options.html, lambda path: write_text(path, letter_page(rows, book, {})))
+    else:
+        write_rows(sys.stdout, [HEADS, *rows])
     return 0
 
 
@@ -181,7 +189,7 @@ PIECES = {
               "end"),
     "sample": (sample_arguments, "a monetary unit sample of a valuation's rows"),
     "papers": (papers_arguments, "a page to print for each policy of a sample: its row worked out, its postings, its basis row"),
-    "letters": (letters_arguments, "what a letter of confirmation says of each policy of a sample, as CSV"),
+    "letters": (letters_arguments, "what a letter of confirmation says of each policy of a sample, as CSV or as pages to print"),
 }
 
 

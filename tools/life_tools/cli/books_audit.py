@@ -18,6 +18,7 @@ from life_tools.audit.letters import HEADS
 from life_tools.audit.listed_samples import Parts, lines_of, parts_at
 from life_tools.audit.papers import NotTheSample, together
 from life_tools.common.printing import demand_printer
+from life_tools.common.program import program_asked
 from life_tools.audit.samples import BY, asked_in, sample_from, seed_in
 from life_tools.audit.sampling import draw
 
@@ -86,7 +87,8 @@ def show_sample(options: argparse.Namespace, well: Sequence[Outcome]) -> int:
 
 def show_papers(options: argparse.Namespace, well: Sequence[Outcome]) -> int:
     try:
-        papers = together(options.title or os.path.basename(options.list), [outcome.made.what for outcome in well])
+        papers = together(options.title or os.path.basename(options.list), [outcome.made.what for outcome in well],
+                          program_asked().facts())
     except NotTheSample as other:
         remark(f"wrong: {options.words[1]}: {other}")
         return 1

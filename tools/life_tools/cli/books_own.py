@@ -21,7 +21,8 @@ from life_tools.cli.report import HEADS, keys_in
 from life_tools.common.files import demand_new, write_folder, write_text, written_whole
 from life_tools.common.formats import MEASURES, bytes_of, day_in, demand, number_of, remark, rows_in
 from life_tools.valuations.groups import Groups
-from life_tools.reports.provenance import program_words, shown
+from life_tools.common.program import program_asked
+from life_tools.reports.provenance import shown
 from life_tools.reports.report_sheets import movement_sheet, sheet_of
 from life_tools.common.revisions import made_now
 from life_tools.reports.sheet_files import lines_of, write_csvs, write_workbook
@@ -124,7 +125,7 @@ def rows_left(folder: str, books: Sequence[ListedBook]) -> dict[str, tuple[str, 
 def facts_of(options: argparse.Namespace, outcomes: Sequence[Outcome]) -> dict[str, str]:
     books = "; ".join(f"{outcome.name} at position {outcome.position}" for outcome in outcomes)
     return {"book": shown(options.title or os.path.basename(options.list)), "books": f"{len(outcomes)}: {books}",
-            **bases_told(options), "program": program_words(), "made": made_now()}
+            **bases_told(options), **program_asked().facts(), "made": made_now()}
 
 
 def bases_told(options: argparse.Namespace) -> dict[str, str]:

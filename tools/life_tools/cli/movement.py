@@ -5,8 +5,9 @@
 From the opening reserve (day ON1, position P1, basis B1) by what was posted, by the time gone by, and by a change of basis
 where B2 is given, to the closing reserve (ON2, P2). Each reserve is the program's, of copies of the journal's front. What
 was posted is measured on the opening day, but for new issues, which are measured on the closing day. A policy counts on one
-line, that of its last posting that isn't a premium: what was posted how often is told by `statement`. Beside it stand the
-premiums and settlements of the accounts. By --deficiency it is of the minimum reserves.
+line, that of its last posting that is neither a premium nor, after a claim or maturity of the period, its settlement;
+`statement` counts each posting. Beside it stand the premiums and settlements of the accounts. By --deficiency it is of the
+minimum reserves.
 """
 from __future__ import annotations
 
@@ -28,7 +29,7 @@ from life_tools.journal.at_position import book_at
 from life_tools.journal.records import records_behind
 from life_tools.valuations.printed_columns import state_of
 from life_tools.valuations.printed_valuations import SHOWN
-from life_tools.reports.provenance import provenance
+from life_tools.reports.provenance import provenance, with_program
 from life_tools.reports.report_sheets import movement_sheet
 from life_tools.reports.sheet_files import write_workbook
 from life_tools.reports.sheet_pages import page
@@ -66,7 +67,10 @@ def bases_of(options: argparse.Namespace) -> list[Bases]:
 
 
 TOLD = ("each column is a sum of the printed rows' bounds, of the lower or of the upper ones; a line is what that sum moved by",
-        "a policy counts on one line, that of its last posting; `statement` counts each posting")
+        "a policy that was posted to counts on one line, that of its last posting that is neither a premium nor, after a claim "
+        "or maturity of the period, its settlement; `statement` counts each posting",
+        "the policies of the opening and the closing line are all that were ever issued, whatever their status; those of `time "
+        "gone by` and `change of basis` are those whose reserve it changed")
 
 
 class Moment(NamedTuple):
@@ -161,6 +165,6 @@ def run(options: argparse.Namespace) -> int:
     title = f"from {options.on1} at position {options.p1} to {options.on2} at position {options.p2}{measure}"
     notes = notes_of(books)
     write_files(options, lines, cash, notes, title)
-    print("\n".join([title, shown(lines), *notes]))
+    print("\n".join([with_program(title, options.life), shown(lines), *notes]))
     print(f"premiums received {money(cash.premiums)}, settlements paid {money(cash.settlements)}")
     return 0

@@ -6,7 +6,7 @@
 KEYS is one of plan, status, issue-year, age-band, basis-row, or several with commas; each --by is a table. The rows are
 those that the program prints of a copy of the journal's front, and the policies those that it prints there. Every table
 adds up to the printed total, else nothing is written and the status is 1. Amounts insured are those in force or paid up;
-ages are those at issue.
+ages are those at issue. Policies issued after ON are counted where the position has them; their reserve is 0.
 """
 from __future__ import annotations
 
@@ -20,11 +20,11 @@ from life_tools.common.formats import Wrong, day_in, demand, remark
 from life_tools.journal.at_position import book_at
 from life_tools.valuations.groups import KEYS, Groups, Joined, demand_whole, grouped, joined, whole
 from life_tools.valuations.printed_columns import ColumnValuation, state_of
-from life_tools.reports.provenance import provenance
+from life_tools.reports.provenance import provenance, with_program
 from life_tools.reports.report_files import lines_of, write_csv
 from life_tools.reports.report_pages import page
 from life_tools.reports.report_sheets import sheet_of
-from life_tools.reports.sheet_files import write_workbook
+from life_tools.reports.sheet_files import warning_rows, write_workbook
 from life_tools.common.files import write_text, written_whole
 
 DEFAULT = ("plan", "status", "issue-year")
@@ -93,7 +93,8 @@ def run(options: argparse.Namespace) -> int:
     columns = ["policies", "insured", "amount insured", *heads, "words"]
     title = f"Valuation on {valuation.on} at position {valuation.position}"
     if options.csv:
-        written_whole(options.csv, lambda path: write_csv(path, tables, total, columns))
+        warnings = warning_rows(facts_of(options, valuation.position))
+        written_whole(options.csv, lambda path: write_csv(path, tables, total, columns, warnings))
     elif options.xlsx:
         sheets = [sheet_of(keys, groups, total, columns) for keys, groups in tables]
         told = {"valuation": f"{title}, {valuation.measure}", **facts_of(options, valuation.position)}
@@ -105,7 +106,7 @@ def run(options: argparse.Namespace) -> int:
         text = page(f"{told['book']}: {title}", told, valuation, total, tables, heads, checks)
         written_whole(options.html, lambda path: write_text(path, text))
     else:
-        print(f"{valuation.on} at position {valuation.position}, {valuation.measure}")
+        print(with_program(f"{valuation.on} at position {valuation.position}, {valuation.measure}", options.life))
         for keys, groups in tables:
             sys.stdout.write("\n" + "\n".join(lines_of(keys, groups, total, columns)) + "\n")
     return 0

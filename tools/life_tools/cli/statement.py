@@ -1,11 +1,19 @@
 """The statement of a book between two moments, sheet by sheet.
 
-    statement DAY1 P1 DAY2 P2 [--basis B | --classes FILE --bases FILE] [--mean] [--csv FOLDER | --xlsx FILE | --html FILE]
+    statement DAY1 P1 DAY2 P2 [--mean | --terminal] [--basis B | --classes FILE --bases FILE]
+              [--csv FOLDER | --xlsx FILE | --html FILE]
 
-DAY1 and DAY2 are the days, P1 and P2 the positions at which it begins and ends. Every sheet adds up to what the program
-prints of both positions, and to the balances of its accounts; else nothing is written, and the status is 1. --mean has mean
-reserves in place of terminal ones; deficiency stands beside them in any case. In the increase in reserves a posting of a day
-behind DAY2 counts on that day, and one of a policy that was there at P1 not before DAY1.
+DAY1 and DAY2 are the days, P1 and P2 the positions at which it begins and
+ends. Every sheet adds up to what the program prints of both positions, and to
+the balances of its accounts; otherwise nothing is written, and the status
+is 1. A statement at the end of a calendar year is made by --mean, with mean
+reserves; --terminal asks for terminal reserves, which are also taken where
+neither is given. The deficiency stands beside them in either case, and is one
+of terminal reserves. In the increase in reserves a posting dated after DAY2
+counts on DAY2, and a posting dated before DAY1, of a policy that was there at
+P1, counts on DAY1.
+
+    life-tools statement 2022-12-31 11 2023-12-31 30 --mean --html year.html
 """
 from __future__ import annotations
 
@@ -15,6 +23,7 @@ import sys
 from life_tools.valuations.class_bases import basis_arguments, bases_in
 from life_tools.common.files import demand_new, write_folder, write_text, written_whole
 from life_tools.cli.why import position_in
+from life_tools.common.program import UNPROVED
 from life_tools.common.formats import day_in, remark
 from life_tools.reports.periods import Asked, NotWhole
 from life_tools.reports.provenance import provenance
@@ -22,13 +31,18 @@ from life_tools.reports.sheet_files import lines_of, write_csvs, write_policies,
 from life_tools.reports.sheet_pages import page
 from life_tools.reports.statement import Statement, statement_of
 
+MEASURED = ("mean", "terminal")
+NOT_ASKED = "since neither --mean nor --terminal was given"
+
 
 def arguments(parser: argparse.ArgumentParser) -> None:
     parser.add_argument("on1", metavar="DAY1", help="the opening day")
     parser.add_argument("p1", metavar="P1", help="the opening position")
     parser.add_argument("on2", metavar="DAY2", help="the closing day")
     parser.add_argument("p2", metavar="P2", help="the closing position")
-    parser.add_argument("--mean", dest="measure", action="store_const", const="mean", default="terminal", help="mean reserves")
+    measures = parser.add_mutually_exclusive_group()
+    for measure in MEASURED:
+        measures.add_argument(f"--{measure}", dest="measure", action="store_const", const=measure, help=f"{measure} reserves")
     basis_arguments(parser)
     parser.add_argument("--folder", metavar="FOLDER", default=".", help="where journal.life, the bases and tables lie (.)")
     parser.add_argument("--life", metavar="PROGRAM", help="the program to ask")
@@ -44,8 +58,9 @@ def asked_in(options: argparse.Namespace) -> Asked:
     first, last = position_in(options.p1), position_in(options.p2)
     assert first is not None and last is not None
     bases = bases_in(options.basis, options.classes, options.bases)
-    return Asked(options.folder, day_in(options.on1), first, day_in(options.on2), last, bases, options.measure, options.life,
-                 bool(options.policies))
+    measure, why = options.measure or "terminal", f"as asked for by --{options.measure}" if options.measure else NOT_ASKED
+    return Asked(options.folder, day_in(options.on1), first, day_in(options.on2), last, bases, measure, options.life,
+                 bool(options.policies), why)
 
 
 def run(options: argparse.Namespace) -> int:
@@ -78,6 +93,7 @@ def write(statement: Statement, options: argparse.Namespace) -> None:
 
 
 def show(statement: Statement) -> None:
-    print(f"from {statement.facts['from']} to {statement.facts['to']}, {statement.facts['reserves']}")
+    title = f"from {statement.facts['from']} to {statement.facts['to']}: {statement.facts['reserves']}"
+    print(f"{title}, {UNPROVED}" if UNPROVED in statement.facts else title)
     for sheet in statement.sheets:
         sys.stdout.write("\n" + "\n".join(lines_of(sheet)) + "\n")

@@ -1,6 +1,7 @@
 """Tells the version and the revision of these tools, and whether the program beside them is the one they belong to.
 
-The status is 1 where it isn't, or where a clone's program isn't as new as its sources.
+The status is 1 where it isn't, where a clone's program isn't as new as its sources, or where LIFE_PROGRAM names another
+program than the proved one.
 """
 from __future__ import annotations
 
@@ -12,7 +13,7 @@ import subprocess
 import sys
 
 from life_tools.common.formats import Wrong, bytes_of
-from life_tools.common.program import program_beside
+from life_tools.common.program import program_asked, program_beside
 from life_tools.common.revisions import built_with, of_clone
 
 # whether a clone's program is newer than each of its sources, as its launcher decides that
@@ -64,4 +65,13 @@ def tell_of_installed(here: str, built: dict[str, str]) -> int:
 def run(options: argparse.Namespace) -> int:
     here = os.path.dirname(os.path.realpath(sys.argv[0]))
     built = built_with()
-    return tell_of_clone(os.path.dirname(here)) if built is None else tell_of_installed(here, built)
+    status = tell_of_clone(os.path.dirname(here)) if built is None else tell_of_installed(here, built)
+    return max(status, tell_of_asked()) if os.environ.get("LIFE_PROGRAM") else status
+
+
+def tell_of_asked() -> int:
+    """Whether the program that LIFE_PROGRAM names, which all tools then ask, is the proved one."""
+    asked = program_asked()
+    print(f"wrong: LIFE_PROGRAM names another program: {asked.why}" if asked.why
+          else f"asked: LIFE_PROGRAM names the proved program, SHA-256 {asked.sum}")
+    return 0 if asked.is_proved else 1

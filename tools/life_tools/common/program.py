@@ -2,13 +2,17 @@
 from __future__ import annotations
 
 import hashlib
-import json
 import os
-import pkgutil
+import re
 import sys
+from functools import lru_cache
+from typing import NamedTuple
 
-from life_tools.common.formats import bytes_of, demand
+from life_tools.common.formats import bytes_of, demand, remark
+from life_tools.common.revisions import built_with
 
+# what each page, sheet and file says of a program that isn't the one that these tools belong to
+UNPROVED = "not the proved program"
 
 # the program beside these tools: with its wrapper, and as it lay before there was one
 BESIDE = ("life-program", "life")
@@ -20,19 +24,102 @@ def program_beside(folder: str) -> str | None:
     return next((place for place in places if os.path.isfile(place) and os.access(place, os.X_OK)), None)
 
 
-def life_command(given: str | None = None) -> list[str]:
-    """The words that begin a run: the program told, else LIFE_PROGRAM, else the one beside these tools, else the clone's."""
+# --- which program is asked, and whether it is the proved one ---
+
+class Program(NamedTuple):
+    """The program that is asked: the words that begin a run, its SHA-256, and why it isn't the proved program, or nothing."""
+
+    words: tuple[str, ...]
+    sum: str
+    why: str
+    path: str = ""
+
+    @property
+    def is_proved(self) -> bool:
+        return not self.why
+
+    def told(self) -> str:
+        """As a sheet names it: by the revision of what is installed, else by its SHA-256."""
+        built = built_with()
+        if self.why:
+            return f"SHA-256 {self.sum or 'unknown'}, {UNPROVED}"
+        return f"revision {built['revision']}" if built else f"SHA-256 {self.sum}"
+
+    def facts(self) -> dict[str, str]:
+        """The facts of a page or a workbook, of which the second stands there only for a program that isn't the proved one."""
+        return {"program": self.told(), **({UNPROVED: self.why} if self.why else {})}
+
+
+def clone() -> str:
+    """The folder of the clone that these tools lie in, where they aren't installed."""
+    folder = os.path.dirname(os.path.abspath(__file__))
+    return os.path.dirname(os.path.dirname(os.path.dirname(folder)))
+
+
+def program_of_clone() -> str:
+    return os.path.join(clone(), "crates", "life_cli", "out", "life_cli")
+
+
+def noted_sum() -> str:
+    """The SHA-256 of the proved program that these tools belong to, or nothing where none is known.
+
+    Installed tools carry it. In a clone `sh life prove` notes it; where nothing is noted, it is that of the clone's own program.
+    """
+    built = built_with()
+    if built:
+        return built["sum"]
+    note = os.path.join(clone(), "out", "proved")
+    if os.path.isfile(note):
+        found = re.search("^program: ([0-9a-f]{64})$", bytes_of(note).decode("ascii", "replace"), re.M)
+        return found[1] if found else ""
+    return sum_of_program(program_of_clone()) if os.path.isfile(program_of_clone()) else ""
+
+
+@lru_cache(maxsize=None)
+def sum_of_program(path: str) -> str:
+    return hashlib.sha256(bytes_of(path)).hexdigest()
+
+
+def why_unproved(found: str) -> str:
+    """Why a program of this SHA-256 isn't the proved one of these tools, or nothing."""
+    noted = noted_sum()
+    if found and found == noted:
+        return ""
+    if not noted:
+        return f"the program that was asked has the SHA-256 {found}, and these tools know no proved program"
+    return f"the program that was asked has the SHA-256 {found}, and the proved program of these tools {noted}"
+
+
+@lru_cache(maxsize=None)
+def asked_by(words: tuple[str, ...], path: str) -> Program:
+    """The program of some words; where it isn't the proved one, people are told so, once."""
+    if not os.path.isfile(path):
+        return Program(words, "", f"there is no proved program {path}: sh life prove", path)
+    found = sum_of_program(path)
+    program = Program(words, found, why_unproved(found), path)
+    if not program.is_proved:
+        remark(f"life-tools: {UNPROVED}: {path}: {program.why}")
+    return program
+
+
+def program_asked(given: str | None = None) -> Program:
+    """The program that is told, else by LIFE_PROGRAM, else the one beside these tools, else the clone's by its launcher."""
     told = given or os.environ.get("LIFE_PROGRAM")
     if told:
         demand(os.path.isfile(told), f"{told} is no program")
-        return [os.path.abspath(told)]
+        return asked_by((os.path.abspath(told),), os.path.abspath(told))
     here = os.path.dirname(os.path.realpath(sys.argv[0]))
     beside = program_beside(here)
     if beside:
-        return [beside]
+        return asked_by((beside,), beside)
     launcher = os.path.join(os.path.dirname(here), "life")
     demand(os.path.isfile(launcher), "there is no program `life` beside these tools: name it by LIFE_PROGRAM or --life")
-    return ["sh", launcher]
+    return asked_by(("sh", launcher), os.path.join(os.path.dirname(launcher), "crates", "life_cli", "out", "life_cli"))
+
+
+def life_command(given: str | None = None) -> list[str]:
+    """The words that begin a run of the program that is asked."""
+    return list(program_asked(given).words)
 
 
 def program_file() -> str:
@@ -46,12 +133,6 @@ def program_file() -> str:
 
 
 def demand_as_installed() -> None:
-    """Installed tools know the sum of their program: another one, as a preview, isn't taken in its place."""
-    try:
-        noted = pkgutil.get_data("life_tools", "built.json")
-    except OSError:
-        return
-    program = program_file()
-    found = hashlib.sha256(bytes_of(program)).hexdigest()
-    is_that = noted is None or json.loads(noted)["sum"] == found
-    demand(is_that, f"{program} isn't the program that these tools were installed with")
+    """Installed tools do the work of many books by their own program alone: another one isn't taken in its place."""
+    is_that = built_with() is None or program_asked().is_proved
+    demand(is_that, f"{program_file()} isn't the program that these tools were installed with")

@@ -12,6 +12,8 @@ from typing import Iterator
 MEMORY = "/dev/shm"
 # what postings to a copy may add to it
 ROOM = 2**26
+# how the names of the private folders of windows begin
+WINDOW = "life-window-"
 # so old is a folder whose run was killed; a younger one may not be held yet by whoever made it
 STALE_SECONDS = 60
 
@@ -38,10 +40,15 @@ def is_left(path: str) -> bool:
 
 
 def remove_left(place: str, prefix: str) -> None:
+    """Takes away what runs that are gone left in a place under names that begin so."""
     for name in os.listdir(place):
         path = os.path.join(place, name)
-        if name.startswith(prefix) and os.path.isdir(path) and not os.path.islink(path) and is_left(path):
-            shutil.rmtree(path, ignore_errors=True)
+        try:
+            if name.startswith(prefix) and os.path.isdir(path) and not os.path.islink(path) and is_left(path):
+                shutil.rmtree(path, ignore_errors=True)
+        except FileNotFoundError:
+            # somebody else took it away meanwhile
+            continue
 
 
 @contextmanager
@@ -49,6 +56,8 @@ def temporary_folder(size: int, prefix: str) -> Iterator[str]:
     """A folder for so many bytes, the name of which begins so; what killed runs left of such is taken away."""
     place = place_to_post(size) or tempfile.gettempdir()
     remove_left(place, prefix)
+    # a window that was killed leaves its copy of the book
+    remove_left(tempfile.gettempdir(), WINDOW)
     with tempfile.TemporaryDirectory(prefix=prefix, dir=place) as desk:
         handle = os.open(desk, os.O_RDONLY | os.O_DIRECTORY)
         try:

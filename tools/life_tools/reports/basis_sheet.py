@@ -3,6 +3,7 @@ from __future__ import annotations
 
 from life_tools.common.arrays import Array, np
 from life_tools.valuations.class_columns import PlacedRow, picked
+from life_tools.common.formats import money
 from life_tools.valuations.groups import added
 from life_tools.reports.periods import Moment, Period, demand_whole
 from life_tools.journal.policy_columns import MADE_PAIDUP, is_insured
@@ -67,6 +68,20 @@ def demand_printed(moment: Moment, minimum: ColumnValuation, total: list[int], w
                  f"reserves: {without} policies have a word, and {moment.valuation.words} are printed")
 
 
+def deficiency_notes(period: Period, minimum: ColumnValuation) -> list[str]:
+    """What the deficiency compares, and a warning where the minimum of a policy is above its reserve."""
+    notes = ["Deficiency: what the minimum reserve has more than the terminal one, in upper bounds."]
+    if period.asked.measure == "mean":
+        notes.append("The minimum reserve is a terminal one, so the deficiency isn't compared with the mean reserves beside it.")
+    more = minimum.rows.bounds[:, 3] - minimum.rows.bounds[:, 1]
+    short = int(np.count_nonzero(more > 0))
+    if short:
+        notes.append(f"Warning: of {short} policies the minimum reserve is above the terminal reserve, by "
+                     f"{money(int(more.sum()))} in all. The minimum is the law's only where the basis is the law's minimum "
+                     "standard.")
+    return notes
+
+
 def basis_sheet(period: Period) -> Sheet:
     moment, minimum = period.closing, period.closing.minimum
     assert minimum is not None
@@ -79,7 +94,7 @@ def basis_sheet(period: Period) -> Sheet:
     sheet.add("total", "", "", "", "", *total, is_total=True)
     for key, (count, amount, *_) in sorted(others.items()):
         sheet.add(*key, count, amount, None, None, None, section=1)
-    sheet.notes = ["Deficiency: what the minimum reserve has more than the terminal one, in upper bounds."]
+    sheet.notes = deficiency_notes(period, minimum)
     if others:
         sheet.notes.append("Policies without a value are in no sum of reserves.")
     sheet.checks = ["The bounds and the deficiency add up to the printed totals."]

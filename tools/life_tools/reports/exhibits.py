@@ -6,7 +6,7 @@ from life_tools.rules.commands import PLAN_CODES
 from life_tools.common.formats import PLANS
 from life_tools.valuations.groups import added
 from life_tools.reports.periods import Moment, Period, demand_whole
-from life_tools.journal.policy_columns import EXPIRED, MADE_PAIDUP, Policies, is_insured
+from life_tools.journal.policy_columns import EXPIRED, MADE_PAIDUP, Policies, is_in_grace, is_insured
 from life_tools.reports.posted_steps import Steps
 from life_tools.reports.sheets import COUNT, TEXT, Column, Sheet
 
@@ -95,11 +95,14 @@ class LifeExhibit:
 
 
 def remarks(moment: Moment) -> list[str]:
-    """Policies that are in force by their status alone."""
+    """Policies that are in force by their status alone, each under the first of these that holds of it."""
     of, insured = moment.policies, is_insured(moment.policies)
-    ended, later = (int(np.count_nonzero(insured & each)) for each in (of.end <= moment.day, of.issued > moment.day))
-    return ([f"In force on {moment.on}, of which the cover has ended and no maturity is posted: {ended}"] if ended else []) + (
-        [f"In force on {moment.on}, but issued after that day: {later}"] if later else [])
+    later, ended = of.issued > moment.day, of.end <= moment.day
+    past = ~is_in_grace(of, np.full(len(of), moment.day, np.int32))
+    counted = {"issued after that day": later, "whose cover has ended, with no maturity posted": ended & ~later,
+               "past the grace of an unpaid premium, with no lapse posted": past & ~ended & ~later}
+    found = {says: int(np.count_nonzero(insured & each)) for says, each in counted.items()}
+    return [f"In force on {moment.on} by their status, but {says}: {count}" for says, count in found.items() if count]
 
 
 def exhibit_sheet(period: Period, exhibit: LifeExhibit) -> Sheet:

@@ -42,6 +42,12 @@ class Asked(NamedTuple):
     measure: str = "terminal"
     life: str | None = None
     are_parts_kept: bool = False
+    # why it is by this measure, as a person asked for it
+    why: str = ""
+
+    def reserves(self) -> str:
+        """The measure as the first line of a statement names it."""
+        return f"{self.measure} reserves{f', {self.why}' if self.why else ''}"
 
 
 @dataclass(frozen=True)

@@ -3,14 +3,12 @@ from __future__ import annotations
 
 import datetime
 import hashlib
-import json
 import os
-import pkgutil
 
 from life_tools.journal.copied_folder import JOURNAL
 from life_tools.common.formats import Wrong, demand
 from life_tools.journal.file import gate_of
-from life_tools.common.program import life_command, program_file
+from life_tools.common.program import UNPROVED, program_asked
 
 AT_ONCE = 1 << 20
 
@@ -35,27 +33,24 @@ def prefix_sum(folder: str, position: int) -> str:
     return sum_of_file(os.path.join(folder, JOURNAL), gate_of(position))
 
 
-def program_words(life: str | None = None) -> str:
-    """The revision of the installed program; of another one its SHA-256."""
-    command = life_command(life)
-    program = command[0] if len(command) == 1 else program_file()
-    found = sum_of_file(program)
-    try:
-        noted = pkgutil.get_data("life_tools", "built.json")
-    except OSError:
-        noted = None
-    built = json.loads(noted) if noted else {}
-    return f"revision {built['revision']}" if built.get("sum") == found else f"SHA-256 {found}"
-
-
 def shown(text: str) -> str:
     """A text of which a page, a CSV and a workbook take each letter."""
     return "".join(letter if letter.isprintable() else "?" for letter in text)
 
 
+def book_name(folder: str, title: str | None = None) -> str:
+    """How a book is named on what is made of it: by its title, or else by its folder."""
+    return shown(title or os.path.basename(os.path.realpath(folder)))
+
+
+def with_program(title: str, life: str | None = None) -> str:
+    """The first line of a printed sheet, which names a program that isn't the proved one."""
+    return title if program_asked(life).is_proved else f"{title}, {UNPROVED}"
+
+
 def provenance(folder: str, position: int, title: str | None = None, life: str | None = None) -> dict[str, str]:
     """The facts, by their names."""
-    name = shown(title or os.path.basename(os.path.realpath(folder)))
+    name = book_name(folder, title)
     made = datetime.datetime.now(datetime.timezone.utc)
     return {"book": name, "journal": f"SHA-256 {prefix_sum(folder, position)} up to position {position}",
-            "program": program_words(life), "made": made.strftime("%Y-%m-%d %H:%M UTC")}
+            **program_asked(life).facts(), "made": made.strftime("%Y-%m-%d %H:%M UTC")}

@@ -19,6 +19,6 @@ def lines_of(keys: Sequence[str], groups: Groups, total: Sums, columns: Sequence
     return ["  ".join(row) for row in padded]
 
 
-def write_csv(path: str, tables: Tables, total: Sums, columns: Sequence[str]) -> None:
+def write_csv(path: str, tables: Tables, total: Sums, columns: Sequence[str], warnings: Sequence[Sequence[str]]) -> None:
     rows = ([",".join(keys), ",".join(name), *sums.cells()] for keys, groups in tables for name, sums in groups.items())
-    write_csv_file(path, chain([["by", "group", *columns]], rows, [["all", "total", *total.cells()]]))
+    write_csv_file(path, chain([["by", "group", *columns]], rows, [["all", "total", *total.cells()]], warnings))

@@ -8,6 +8,7 @@ from typing import Sequence
 from life_tools.common.formats import money as plain_money
 from life_tools.valuations.groups import Groups, Sums
 from life_tools.valuations.printed_columns import NO_WORDS, ColumnValuation, Rows
+from life_tools.reports.whole_pages import fact_list, whole_page
 from life_tools.reserves.worked_rows import WORDS
 
 # at most so many policies are named beside a word
@@ -97,11 +98,7 @@ def words_of(rows: Rows) -> str:
 def page(title: str, provenance: dict[str, str], valuation: ColumnValuation, total: Sums,
          tables: Sequence[tuple[Sequence[str], Groups]], heads: Sequence[str], checks: Sequence[str]) -> str:
     """The whole page."""
-    told = "".join(f"<dt>{escape(name)}</dt><dd>{escape(text)}</dd>" for name, text in provenance.items())
-    parts = ["<!doctype html>", "<html lang=\"en\"><head><meta charset=\"utf-8\">",
-             "<meta name=\"viewport\" content=\"width=device-width, initial-scale=1\">",
-             f"<title>{escape(title)}</title><style>{STYLE}</style></head><body>", f"<h1>{escape(title)}</h1>",
-             f"<dl>{told}</dl>",
+    parts = [fact_list(provenance),
              "<p>Amounts in the journal's currency. The exact reserve lies between the lower and the upper bound. Bars are the "
              f"{escape(heads[-1])}, all to one scale.</p>", facts(valuation, total, heads)]
     columns, last = ["policies", "insured", "amount insured", *heads, "words"], len(valuation.total) - 1
@@ -112,4 +109,4 @@ def page(title: str, provenance: dict[str, str], valuation: ColumnValuation, tot
         parts.append(table([", ".join(keys), *columns], cells, ["total", *map(apart, total.cells())]))
     parts += ["<h2>Words in place of bounds</h2>", words_of(valuation.rows), "<h2>Checks that were made</h2><ul>"]
     parts += [f"<li>{escape(each)}</li>" for each in checks]
-    return "\n".join([*parts, "</ul></body></html>", ""])
+    return whole_page(title, STYLE, provenance, [*parts, "</ul>"])

@@ -7,6 +7,7 @@ from typing import Any, Sequence
 
 from life_tools.common.cells import number_of_cell, put_text, write_csv_file
 from life_tools.common.packages import package
+from life_tools.common.program import UNPROVED
 from life_tools.reports.sheets import CENTS, COUNT, TEXT, Cell, Column, Sheet, cell_text
 
 Facts = dict[str, str]
@@ -38,12 +39,17 @@ def lines_of(sheet: Sheet) -> list[str]:
 
 # --- CSV ---
 
+def warning_rows(facts: Facts) -> list[list[str]]:
+    """The last row of a CSV whose numbers aren't the proved program's."""
+    return [[UNPROVED, facts[UNPROVED]]] if UNPROVED in facts else []
+
+
 def write_csvs(folder: str, facts: Facts, sheets: Sequence[Sheet]) -> None:
     """A file for each sheet, and one of the facts and of what is to be said of the sheets."""
     notes = [(f"{NOTE_ON}{sheet.name}", note) for sheet in sheets for note in sheet.notes]
     write_csv_file(os.path.join(folder, "facts.csv"), [("fact", "value"), *facts.items(), *notes])
     for sheet in sheets:
-        write_csv_file(os.path.join(folder, f"{sheet.name}.csv"), texts_of(sheet))
+        write_csv_file(os.path.join(folder, f"{sheet.name}.csv"), [*texts_of(sheet), *warning_rows(facts)])
 
 
 def write_policies(folder: str, sheets: Sequence[Sheet]) -> None:
@@ -80,9 +86,10 @@ def head(page: Any, title: str, styles: Any) -> None:
     put_text(page, 1, 1, title).font = styles.Font(bold=True, size=14)
 
 
-def fill(page: Any, sheet: Sheet, styles: Any) -> None:
+def fill(page: Any, sheet: Sheet, styles: Any, warning: str) -> None:
     bold = styles.Font(bold=True)
     head(page, sheet.title, styles)
+    page.cell(2, 1, warning or None).font = styles.Font(bold=True, color="FF9B1C1C")
     for place, column in enumerate(sheet.columns, 1):
         named = put_text(page, 3, place, column.name)
         named.font = bold
@@ -120,8 +127,9 @@ def write_workbook(path: str, title: str, facts: Facts, sheets: Sequence[Sheet])
     for at, (name, text) in enumerate(facts.items(), 3):
         put_text(first, at, 1, name).font = styles.Font(bold=True)
         put_text(first, at, 2, text)
+    first.cell(2, 1, UNPROVED if UNPROVED in facts else None).font = styles.Font(bold=True, color="FF9B1C1C")
     first.column_dimensions["A"].width, first.column_dimensions["B"].width = 14, 100
     fit(first)
     for sheet in sheets:
-        fill(book.create_sheet(sheet.name), sheet, styles)
+        fill(book.create_sheet(sheet.name), sheet, styles, UNPROVED * (UNPROVED in facts))
     book.save(path)

@@ -5,14 +5,16 @@ from html import escape
 from typing import Sequence
 
 from life_tools.reports.report_pages import apart
-from life_tools.reports.sheets import TEXT, Row, Sheet, cell_text
+from life_tools.common.program import UNPROVED
+from life_tools.reports.sheets import MOST_COLUMNS, TEXT, Part, Row, Sheet, cell_text, parts_of
+from life_tools.reports.whole_pages import fact_list, whole_page
 
-MANY = 10
 STYLE = """
 :root { color-scheme: light }
 * { box-sizing: border-box }
 body { font: 16px/1.45 system-ui, sans-serif; color: #1b1f23; background: #fff; margin: 0 auto; padding: 1rem; max-width: 92rem }
-h1 { font-size: 1.5rem; margin: .2rem 0 } h2 { font-size: 1.15rem; margin: 2rem 0 .5rem } p { margin: .3rem 0 }
+h1 { font-size: 1.5rem; margin: .2rem 0 } h2 { font-size: 1.15rem; margin: 2rem 0 .5rem }
+h3 { font-size: 1rem; margin: 1rem 0 .3rem } p { margin: .3rem 0 }
 dl { display: grid; grid-template-columns: max-content 1fr; gap: .1rem 1rem; font-size: .9rem }
 dd { margin: 0; overflow-wrap: anywhere }
 dt, p, li { color: #57606a } p, li { font-size: .85rem }
@@ -20,15 +22,19 @@ table { border-collapse: collapse; width: 100%; font-size: .8rem; font-variant-n
 th, td { padding: .25rem .4rem; text-align: right; border-bottom: 1px solid #d9dee3; vertical-align: bottom }
 td { white-space: nowrap } td span { display: none } td.text, th.text { text-align: left; white-space: normal }
 tr.total td { font-weight: 600; border-top: 2px solid #1b1f23 }
-@media (max-width: 62rem) {
-  body { padding: .6rem } thead { display: none } table, tbody, tr { display: block }
+@media screen and (max-width: 62rem) {
+  body { padding: .6rem } dl { display: block } li, p { overflow-wrap: anywhere }
+  thead { display: none } table, tbody, tr { display: block }
   tr { border: 1px solid #d9dee3; border-radius: .4rem; margin: .5rem 0; padding: .4rem .6rem }
   tr.total { border: 2px solid #1b1f23 }
   td, tr.total td { display: flex; justify-content: space-between; gap: 1rem; border: 0; padding: .1rem 0; font-size: .9rem }
+  td, td.text { white-space: normal; overflow-wrap: anywhere }
   td span { display: inline; color: #57606a; font-weight: 400; white-space: normal } td:first-child { font-weight: 600 }
   td:first-child span, td.none, tr.total td.none { display: none }
 }
-@media print { body { max-width: none } section { break-inside: avoid } }
+@media print {
+  body { max-width: none; padding: 0 } h2, h3 { break-after: avoid } tr { break-inside: avoid } table { font-size: 8.5pt }
+}
 """
 
 
@@ -37,36 +43,39 @@ def head_cell(name: str, kind: str) -> str:
     return f"<th scope=\"col\"{' class=text' if kind == TEXT else ''}>{escape(name).replace(': ', '<br>')}</th>"
 
 
-def row_cells(row: Row, sheet: Sheet) -> str:
+def row_cells(row: Row, sheet: Sheet, part: Part) -> str:
     cells = []
-    for cell, column in zip(row.cells, sheet.columns):
+    for place, name in zip(part.places, part.names):
+        cell, column = row.cells[place], sheet.columns[place]
         text = cell_text(cell, column)
         shown = text if column.kind == TEXT else apart(text)
         # what is 0 in a wide table is left out of a card
-        is_none = cell in (None, "") or cell == 0 and len(sheet.columns) > MANY
+        is_none = cell in (None, "") or cell == 0 and len(sheet.columns) > MOST_COLUMNS
         kinds = [*(["text"] if column.kind == TEXT else []), *(["none"] if is_none else [])]
         named = f" class=\"{' '.join(kinds)}\"" if kinds else ""
         # a card names what a table has in its head
-        cells.append(f"<td{named}><span>{escape(column.name)}</span>{escape(shown)}</td>")
+        cells.append(f"<td{named}><span>{escape(name)}</span>{escape(shown)}</td>")
     return "".join(cells)
+
+
+def table_of(sheet: Sheet, part: Part) -> list[str]:
+    heads = "".join(head_cell(name, sheet.columns[place].kind) for place, name in zip(part.places, part.names))
+    rows = (f"<tr{' class=total' if row.is_total else ''}>{row_cells(row, sheet, part)}</tr>" for row in sheet.rows)
+    return [f"<h3>{escape(part.title)}</h3>" if part.title != sheet.title else "",
+            f"<table><thead><tr>{heads}</tr></thead>", "<tbody>", *rows, "</tbody></table>"]
 
 
 def section(sheet: Sheet) -> str:
     """A sheet with its notes and checks."""
-    heads = "".join(head_cell(column.name, column.kind) for column in sheet.columns)
-    rows = [f"<tr{' class=total' if row.is_total else ''}>{row_cells(row, sheet)}</tr>" for row in sheet.rows]
-    return "\n".join([f"<section id=\"{escape(sheet.name)}\"><h2>{escape(sheet.title)}</h2>",
-                      f"<table><thead><tr>{heads}</tr></thead>", "<tbody>", *rows, "</tbody></table>",
+    tables = [line for part in parts_of(sheet) for line in table_of(sheet, part)]
+    return "\n".join([f"<section id=\"{escape(sheet.name)}\"><h2>{escape(sheet.title)}</h2>", *tables,
                       *(f"<p>{escape(note)}</p>" for note in sheet.notes),
                       "<ul>", *(f"<li>{escape(check)}</li>" for check in sheet.checks), "</ul></section>"])
 
 
 def page(title: str, facts: dict[str, str], sheets: Sequence[Sheet]) -> str:
-    """The whole page."""
-    told = "".join(f"<dt>{escape(name)}</dt><dd>{escape(text)}</dd>" for name, text in facts.items())
-    return "\n".join(["<!doctype html>", "<html lang=\"en\"><head><meta charset=\"utf-8\">",
-                      "<meta name=\"viewport\" content=\"width=device-width, initial-scale=1\">",
-                      f"<title>{escape(title)}</title><style>{STYLE}</style></head><body>", f"<h1>{escape(title)}</h1>",
-                      f"<dl>{told}</dl>", "<p>Amounts in the journal's currency. What the program printed is proved; what was "
-                      "added to it is compared with its printed totals, as is told below each sheet.</p>",
-                      *(section(sheet) for sheet in sheets), "</body></html>", ""])
+    """The whole page, which is printed across."""
+    says = ("What the program printed is proved; what was added to it is compared with its printed totals, as is said below each "
+            "sheet.") if UNPROVED not in facts else "What was added is compared with printed totals, as is said below each sheet."
+    parts = [fact_list(facts), f"<p>Amounts in the journal's currency. {says}</p>", *(section(sheet) for sheet in sheets)]
+    return whole_page(title, STYLE, facts, parts, is_wide=True)

@@ -57,6 +57,32 @@ def cell_text(cell: Cell, column: Column) -> str:
     return money(cell) if column.kind == CENTS and isinstance(cell, int) else str(cell)
 
 
+# of a sheet with more columns the counts and the amounts are two tables, each of which is read and printed whole
+MOST_COLUMNS = 10
+COUNTED, VALUED = ": number", ": amount"
+
+
+class Part(NamedTuple):
+    """A table of a sheet: its title, and the places of its columns with their names there."""
+
+    title: str
+    places: list[int]
+    names: list[str]
+
+
+def parts_of(sheet: Sheet) -> list[Part]:
+    """The tables that a sheet is shown as: one, or of a wide one its counts and its amounts."""
+    columns = list(enumerate(sheet.columns))
+    if len(columns) <= MOST_COLUMNS or not any(column.name.endswith(COUNTED) for _, column in columns):
+        return [Part(sheet.title, [place for place, _ in columns], [column.name for _, column in columns])]
+    found = []
+    for kind, what, ends in ((COUNT, "number of policies", COUNTED), (CENTS, "amounts", VALUED)):
+        mine = [(place, column) for place, column in columns if column.kind in (TEXT, kind)]
+        found.append(Part(f"{sheet.title}: {what}", [place for place, _ in mine],
+                          [column.name.removesuffix(ends) for _, column in mine]))
+    return found
+
+
 def key_of(row: Row, columns: Sequence[Column]) -> tuple[Cell, ...]:
     """What a row is of: its texts, with its place in the sheet."""
     texts = (cell for cell, column in zip(row.cells, columns) if column.kind == TEXT)

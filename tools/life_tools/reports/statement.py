@@ -28,7 +28,7 @@ class Statement:
 
 def facts_of(asked: Asked) -> dict[str, str]:
     return {"from": f"{asked.on1} at position {asked.first}", "to": f"{asked.on2} at position {asked.last}",
-            "reserves": asked.measure, "basis": ", ".join(asked.bases.names)}
+            "reserves": asked.reserves(), "basis": ", ".join(asked.bases.names)}
 
 
 def sheets_of(period: Period) -> list[Sheet]:

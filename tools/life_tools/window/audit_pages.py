@@ -1,94 +1,123 @@
-"""The audit: seal, flags, a sample with its papers and letters, and whether the journal's file is whole."""
+"""The audit of a position: seal, flags, a sample with its papers and letters, and whether the journal's file is whole."""
 from __future__ import annotations
 
 import csv
+import datetime
 import os
 from typing import Sequence
 
-from life_tools.common.formats import MOST_COMMANDS, money
+from life_tools.common.formats import MOST_COMMANDS, Wrong, money
+from life_tools.journal.day_columns import number_at
 from life_tools.valuations.printed_books import row_of
 from life_tools.window.asked import Asked, BadRequest
 from life_tools.window.downloads import csv_parts
 from life_tools.window.find_pages import policy_cell
-from life_tools.window.lists import newest_day
-from life_tools.window.book_copy import BookCopy
-from life_tools.window.parts import RIGHT, Answer, Cell, File, Head, Page, Table, cells, heads, link
+from life_tools.window.parts import RIGHT, Answer, Cell, File, Head, Page, Table, cells, heads
 from life_tools.window.policies import STATUSES as STATUS_WORDS
 from life_tools.window.tool_runs import ToolRun, tool_run
+from life_tools.window.views import View
 
 SIZES = ("reserve", "amount")
 SIZE_WORDS = {"reserve": "the reserve's upper bound", "amount": "the amount insured"}
-SAMPLE_WORDS = ("at", "count", "seed", "on", "by")
+MEASURES = {"terminal": "terminal reserves", "mean": "mean reserves"}
+SAMPLE_WORDS = ("at", "p", "count", "seed", "on", "by", "measure")
 MOST_SHOWN = 500
 MOST_ROWS = 10_000
 
 
 # --- a seal, and the file ---
 
-def sealed(book: BookCopy, at: int) -> ToolRun:
-    return tool_run(book, ["seal", "--at", str(at), "--basis", book.book.basis], f"a seal of position {at:,}", False)
+def sealed(book: View) -> ToolRun:
+    words = ["seal", "--at", str(book.at), "--basis", book.basis.name]
+    return tool_run(book, words, f"a seal of position {book.at:,}", False)
 
 
-def verified(book: BookCopy) -> ToolRun:
+def verified(book: View) -> ToolRun:
     """What `verify` says of the journal as it lies there now."""
-    stat = os.stat(book.book.journal)
-    now = stat.st_size, stat.st_mtime_ns
-    return tool_run(book, ["verify", book.book.journal], "whether the journal's file is whole", True, now)
+    try:
+        stat = os.stat(book.listed.journal)
+    except OSError as error:
+        raise Wrong(f"the journal can't be looked at: {error.strerror}") from error
+    now = stat.st_size, stat.st_mtime_ns, stat.st_ino
+    return tool_run(book, ["verify", book.listed.journal], "whether the journal's file is whole", True, now)
 
 
-def audit(book: BookCopy, asked: Asked, at: int) -> Answer:
-    asked.only(("at",))
-    seal, whole = sealed(book, at), verified(book)
-    with book.tables() as database:
-        day = newest_day(database, at)
-    values = {"seal": seal.printed, "download": link(book.number, "seal.txt", at), "whole": whole, "day": day,
-              "sizes": [(each, SIZE_WORDS[each]) for each in SIZES]}
-    return Page("audit.html", "Audit", values)
+def audit(book: View, asked: Asked) -> Answer:
+    """A day is chosen, its position is told, and all that follows is of that position."""
+    asked.only(("at", "p", "on", "before"))
+    on = asked.day_or_none("on")
+    if on is not None and not asked.text("p"):
+        # the day's own position, as *Month and year* tells it
+        book = book.at_position(book.history().position_on(number_at(on)))
+    history, before = book.history(), asked.day_or_none("before")
+    if before is None and on is not None:
+        before = datetime.date(on.year - 1, 12, 31) if on.year > 1900 else None
+    seal, day = sealed(book), on or book.day
+    values = {"seal": seal.printed, "download": book.link("seal.txt"), "whole": whole_or_why(book), "on": on, "day": day,
+              "before": before, "after": history.position_on(number_at(before)) if before else 0,
+              "sizes": [(each, SIZE_WORDS[each]) for each in SIZES], "measures": list(MEASURES.items()),
+              "measure": measure_on(str(day)), "view": book}
+    return Page("audit.html", "Audit", values, of=book)
 
 
-def seal_file(book: BookCopy, asked: Asked, at: int) -> Answer:
-    asked.only(("at",))
-    return File(f"seal-{at}.txt", "text/plain", [sealed(book, at).printed])
+def measure_on(day: str) -> str:
+    """Mean reserves at the end of a calendar year, as in its statement, and terminal ones on any other day."""
+    return "mean" if day.endswith("-12-31") else "terminal"
+
+
+def whole_or_why(book: View) -> tuple[int, str]:
+    """What is said of the journal's file; a journal that was taken away is told, and the page stays."""
+    try:
+        run = verified(book)
+    except Wrong as wrong:
+        return 1, str(wrong)
+    return run.status, book.copy.without_paths(run.printed) + run.remarks
+
+
+def seal_file(book: View, asked: Asked) -> Answer:
+    asked.only(("at", "p"))
+    return File(f"seal-{book.at}.txt", "text/plain", [sealed(book).printed])
 
 
 # --- flags ---
 
-def flagged(book: BookCopy, asked: Asked, at: int) -> tuple[ToolRun, int]:
-    asked.only(("at", "after"))
-    after = asked.position("after", at, 0)
-    return tool_run(book, ["audit", "flags", "--after", str(after), "--at", str(at)], f"postings to look at, up to {at:,}"), after
+def flagged(book: View, asked: Asked) -> tuple[ToolRun, int]:
+    asked.only(("at", "p", "after"))
+    after = asked.position("after", book.at, 0)
+    words = ["audit", "flags", "--after", str(after), "--at", str(book.at)]
+    return tool_run(book, words, f"postings to look at, up to {book.at:,}"), after
 
 
 def csv_of(run: ToolRun) -> list[list[str]]:
     return list(csv.reader(run.printed.splitlines()))
 
 
-def flags(book: BookCopy, asked: Asked, at: int) -> Answer:
-    run, after = flagged(book, asked, at)
+def flags(book: View, asked: Asked) -> Answer:
+    run, after = flagged(book, asked)
     rows = csv_of(run)
     names, found = (rows[0], rows[1:]) if rows else ([], [])
     numeric = ("position", "policy", "amount")
     table = Table("Postings to look at", [Head(name, RIGHT if name in numeric else "") for name in names],
-                  [[flag_cell(book, name, text, at) for name, text in zip(names, row)] for row in found[:MOST_SHOWN]])
+                  [[flag_cell(book, name, text) for name, text in zip(names, row)] for row in found[:MOST_SHOWN]], kind="list")
     values = {"table": table, "count": len(found), "shown": min(len(found), MOST_SHOWN), "after": after, "remarks": run.remarks,
-              "csv": link(book.number, "flags.csv", at, after=after or "")}
+              "csv": book.link("flags.csv", after=after or "")}
     return Page("flags.html", "Postings to look at", values)
 
 
-def flag_cell(book: BookCopy, name: str, text: str, at: int) -> Cell:
+def flag_cell(book: View, name: str, text: str) -> Cell:
     if name == "policy" and text.isdigit():
-        return policy_cell(book, int(text), at)
+        return policy_cell(book, int(text))
     return cells([text])[0]
 
 
-def flags_csv(book: BookCopy, asked: Asked, at: int) -> Answer:
-    run, _ = flagged(book, asked, at)
-    return File(f"flags-{at}.csv", "text/csv", csv_parts(csv_of(run)))
+def flags_csv(book: View, asked: Asked) -> Answer:
+    run, _ = flagged(book, asked)
+    return File(f"flags-{book.at}.csv", "text/csv", csv_parts(csv_of(run)))
 
 
 # --- a sample ---
 
-def drawn(book: BookCopy, asked: Asked, at: int) -> tuple[ToolRun, dict[str, object]]:
+def drawn(book: View, asked: Asked) -> tuple[ToolRun, dict[str, object]]:
     """A sample of the position that is looked at; the same words draw the same."""
     asked.only(SAMPLE_WORDS)
     on = asked.day_or_none("on")
@@ -96,9 +125,11 @@ def drawn(book: BookCopy, asked: Asked, at: int) -> tuple[ToolRun, dict[str, obj
         raise BadRequest("on: the day of the valuation is wanted")
     count, seed = asked.number("count", 1, MOST_ROWS, 50), asked.number("seed", 0, MOST_COMMANDS, 1)
     by = asked.one_of("by", SIZES, SIZES[0])
-    words = ["audit", "sample", str(count), "--seed", str(seed), "--on", str(on), "--at", str(at), "--by", by]
-    run = tool_run(book, [*words, "--basis", book.book.basis], f"a sample of {count} by {SIZE_WORDS[by]}")
-    return run, {"count": count, "seed": seed, "on": on, "by": by}
+    measure = asked.one_of("measure", MEASURES, measure_on(str(on)))
+    words = ["audit", "sample", str(count), "--seed", str(seed), "--on", str(on), "--at", str(book.at), "--by", by]
+    words += ["--basis", book.basis.name, *(["--mean"] if measure == "mean" else [])]
+    run = tool_run(book, words, f"a sample of {count} by {SIZE_WORDS[by]}")
+    return run, {"count": count, "seed": seed, "on": on, "by": by, "measure": measure}
 
 
 def sample_rows(run: ToolRun) -> list[Sequence[str]]:
@@ -107,37 +138,51 @@ def sample_rows(run: ToolRun) -> list[Sequence[str]]:
     return [(str(it.number), it.status, str(it.year), *map(money, it.bounds)) for it in rows]
 
 
-def sample(book: BookCopy, asked: Asked, at: int) -> Answer:
-    run, words = drawn(book, asked, at)
+def sample(book: View, asked: Asked) -> Answer:
+    run, words = drawn(book, asked)
     rows = sample_rows(run)
     table = Table("The drawn rows", [Head("policy", RIGHT), Head("status"), *heads(("year", "lower bound", "upper bound"), 0)],
-                  [[policy_link(book, row[0], at, words), Cell(STATUS_WORDS[row[1]]), *cells(row[2:])]
-                   for row in rows[:MOST_SHOWN]])
-    files = [(says, link(book.number, name, at, **words)) for says, name in (
-        ("The sample", "sample.txt"), ("Papers to print", "papers.html"), ("Letters as CSV", "letters.csv"))]
+                  [[policy_link(book, row[0], words), Cell(STATUS_WORDS[row[1]]), *cells(row[2:])]
+                   for row in rows[:MOST_SHOWN]], kind="list")
+    files = [(says, book.link(name, **words)) for says, name in (
+        ("The sample", "sample.txt"), ("Papers to print", "papers.html"), ("Letters to print", "letters.html"),
+        ("Letters as CSV", "letters.csv"))]
     values = {"table": table, "count": len(rows), "shown": min(len(rows), MOST_SHOWN), "remarks": run.remarks, "words": words,
-              "files": files, "says": SIZE_WORDS[str(words["by"])], "sizes": [(each, SIZE_WORDS[each]) for each in SIZES]}
+              "files": files, "says": SIZE_WORDS[str(words["by"])], "of": MEASURES[str(words["measure"])]}
     return Page("sample.html", f"Sample of {words['on']}", values)
 
 
-def policy_link(book: BookCopy, number: str, at: int, words: dict[str, object]) -> Cell:
-    return Cell(number, link(book.number, "policy", at, number=number, on=words["on"]))
+def policy_link(book: View, number: str, words: dict[str, object]) -> Cell:
+    measure = words["measure"] if words["measure"] != "terminal" else ""
+    return Cell(number, book.link("policy", number=number, on=words["on"], measure=measure))
 
 
-def sample_file(book: BookCopy, asked: Asked, at: int) -> Answer:
-    run, words = drawn(book, asked, at)
+def sample_file(book: View, asked: Asked) -> Answer:
+    run, words = drawn(book, asked)
     return File(f"sample-{words['on']}-{words['seed']}.txt", "text/plain", [run.printed])
 
 
-def papers(book: BookCopy, asked: Asked, at: int) -> Answer:
+def named(words: dict[str, object], what: str, ends: str) -> str:
+    return f"{what}-{words['on']}-{words['seed']}.{ends}"
+
+
+def papers(book: View, asked: Asked) -> Answer:
     """The page that `audit papers` writes, as a file: it brings its own style, which this window doesn't let in."""
-    run, words = drawn(book, asked, at)
-    made = tool_run(book, ["audit", "papers", run.file("printed"), "--html", "OUT/papers.html"], "papers of the sample")
-    with open(made.file("papers.html"), "rb") as file:
-        return File(f"papers-{words['on']}-{words['seed']}.html", "text/html", file.read())
+    run, words = drawn(book, asked)
+    told = ["audit", "papers", run.file("printed"), "--title", book.name, "--html", "OUT/papers.html"]
+    with open(tool_run(book, told, "papers of the sample").file("papers.html"), "rb") as file:
+        return File(named(words, "papers", "html"), "text/html", file.read())
 
 
-def letters(book: BookCopy, asked: Asked, at: int) -> Answer:
-    run, words = drawn(book, asked, at)
-    made = tool_run(book, ["audit", "letters", run.file("printed")], "letters of the sample")
-    return File(f"letters-{words['on']}-{words['seed']}.csv", "text/csv", csv_parts(csv_of(made)))
+def letters_page(book: View, asked: Asked) -> Answer:
+    """The letters as `audit letters --html` writes them."""
+    run, words = drawn(book, asked)
+    told = ["audit", "letters", run.file("printed"), "--title", book.name, "--html", "OUT/letters.html"]
+    with open(tool_run(book, told, "letters of the sample").file("letters.html"), "rb") as file:
+        return File(named(words, "letters", "html"), "text/html", file.read())
+
+
+def letters(book: View, asked: Asked) -> Answer:
+    run, words = drawn(book, asked)
+    made = tool_run(book, ["audit", "letters", run.file("printed"), "--title", book.name], "letters of the sample")
+    return File(named(words, "letters", "csv"), "text/csv", csv_parts(csv_of(made)))

@@ -1,7 +1,7 @@
-"""A book that is looked at: a private copy of its journal's front and of its basis, and the tables made of it.
+"""A book that is looked at: a private copy of its journal's prefix and of its basis, and the tables made of it.
 
 The journal itself is opened for reading alone, and for no longer than the copy takes: whatever is posted meanwhile lies
-behind the copy's position.
+behind the copy's position. A basis that was taken is kept as it was, so that a page by it stays what it was.
 """
 from __future__ import annotations
 
@@ -12,41 +12,89 @@ import shutil
 import sqlite3
 import threading
 from contextlib import contextmanager
-from dataclasses import fields
-from typing import Callable, Iterator
+from dataclasses import dataclass, fields
+from typing import Callable, Iterable, Iterator
 
 from life_tools.books.lists import ListedBook
-from life_tools.journal.columns import Columns
+from life_tools.common.formats import Wrong, bytes_of, demand
+from life_tools.journal.columns import Columns, columns_at
 from life_tools.journal.copied_folder import JOURNAL, basis_files, copy_basis
-from life_tools.common.formats import bytes_of, demand
-from life_tools.journal.file import EMPTY, count_of
+from life_tools.journal.file import EMPTY, count_of, gate_of
 from life_tools.journal.policy_columns import Policies
-from life_tools.reports.provenance import prefix_sum
 from life_tools.journal.record_columns import copy_prefix, prefix_count
+from life_tools.reports.provenance import AT_ONCE, prefix_sum, shown
 from life_tools.window import tables
+from life_tools.window.history import NAMES, History, history_of
 from life_tools.window.jobs import Job, Jobs
 from life_tools.window.kept_columns import keep, kept
 
 # so many results are kept of a book
 MOST_KEPT = 24
 POLICIES = tuple(column.name for column in fields(Policies))
+Stamp = tuple[object, ...]
+
+
+@dataclass(frozen=True)
+class TakenBasis:
+    """A basis file with its tables as they were taken: its name, their SHA-256, and the private folder in which they lie."""
+
+    name: str
+    sum: str
+    folder: str
+
+
+@dataclass(frozen=True)
+class KeptPolicies:
+    """A folder with the policies of a position as columns."""
+
+    path: str
+
+
+@dataclass(frozen=True)
+class KeptList:
+    """A file with the policies of a position as a table."""
+
+    path: str
+
+
+def basis_sum(folder: str, name: str) -> str:
+    """The SHA-256 of a basis file and its tables, with their names."""
+    found = hashlib.sha256()
+    for each in basis_files(folder, name):
+        found.update(each.encode() + b"\0" + bytes_of(os.path.join(folder, each)))
+    return found.hexdigest()
+
+
+def stamp_of(*paths: str) -> Stamp:
+    """What changes where a file is written anew; it costs no reading."""
+    found = []
+    for path in paths:
+        stat = os.stat(path)
+        found.append((path, stat.st_dev, stat.st_ino, stat.st_size, stat.st_mtime_ns))
+    return tuple(found)
+
+
+def it_is(seen: str) -> str:
+    return f"they have {seen}" if " " not in seen else seen
 
 
 class BookCopy:
     """One book of the window, with its private folder, its tables and what was asked of it."""
 
-    def __init__(self, number: int, book: ListedBook, private: str, life: list[str]) -> None:
-        self.number, self.book, self.life = number, book, life
+    def __init__(self, number: int, book: ListedBook, private: str, life: list[str], root: str = "") -> None:
+        self.number, self.book, self.life, self.root = number, book, life, root
+        self.name = shown(book.name)
         self.folder = os.path.join(private, f"book-{number}")
-        self.desk = os.path.join(self.folder, "desk")
         self.scratch = os.path.join(self.folder, "scratch")
-        for folder in (self.folder, self.desk, self.scratch):
+        for folder in (self.folder, self.scratch):
             os.mkdir(folder, 0o700)
+        self.journal = os.path.join(self.folder, JOURNAL)
         self.database = os.path.join(self.folder, "tables")
         self.positions: list[int] = []
         self.made_at = datetime.datetime.now()
-        self.basis_sum = ""
+        self.bases: list[TakenBasis] = []
         self.sums: dict[int, str] = {}
+        self.seen: dict[str, tuple[Stamp, str]] = {}
         self.files = 0
         self.counting = threading.Lock()
         self.jobs = Jobs(MOST_KEPT, self.forget)
@@ -54,22 +102,33 @@ class BookCopy:
     # --- the copy and its tables ---
 
     @property
-    def journal(self) -> str:
-        """The private copy."""
-        return os.path.join(self.desk, JOURNAL)
-
-    @property
     def newest(self) -> int:
         return self.positions[-1]
 
+    @property
+    def basis(self) -> TakenBasis:
+        """The book's own basis as it was last taken."""
+        return next(each for each in reversed(self.bases) if each.name == self.book.basis)
+
     def sum_at(self, position: int) -> str:
-        """The SHA-256 of the front of so many postings, of a position that the tables were made for."""
+        """The SHA-256 of the journal up to a position; it is the same of each later copy."""
+        if position not in self.sums:
+            self.sums[position] = prefix_sum(self.folder, position)
         return self.sums[position]
+
+    def sum_all(self, positions: Iterable[int]) -> None:
+        """The same of many positions, for which the journal is read once."""
+        found = hashlib.sha256()
+        with open(self.journal, "rb") as file:
+            for position in sorted(set(positions) - set(self.sums)):
+                while (left := gate_of(position) - file.tell()) > 0:
+                    found.update(file.read(min(left, AT_ONCE)))
+                self.sums[position] = found.copy().hexdigest()
 
     def open(self) -> None:
         """Makes the copy and the tables, where they aren't made yet; raises Working meanwhile."""
         if not self.positions:
-            self.jobs.asked("open", f"opening the book {self.book.name}", self.make)
+            self.jobs.asked("open", f"opening the book {self.name}", self.make)
         if not self.jobs.is_known("orders"):
             self.jobs.job("orders", "orders of the lists", lambda job: tables.make_orders(self.database))
 
@@ -82,20 +141,41 @@ class BookCopy:
     def take_book(self, book: Columns) -> None:
         """From now on the position can be looked at."""
         keep(self.policies_at(book.count), POLICIES, book.policies)
-        self.sums[book.count] = prefix_sum(self.desk, book.count)
+        keep(self.history_at(book.count), NAMES, history_of(book))
+        self.sum_at(book.count)
         self.positions.append(book.count)
 
     def policies_at(self, position: int) -> str:
         return os.path.join(self.folder, f"policies-{position}")
 
+    def history_at(self, position: int) -> str:
+        return os.path.join(self.folder, f"history-{position}")
+
     def policies(self, position: int) -> Policies:
-        """The policies of a position that the tables were made for, as columns."""
-        return Policies(*kept(self.policies_at(position), POLICIES))
+        """The policies of a position, as columns; raises Working while those of an earlier position are made."""
+        path = self.policies_at(position)
+        if position not in self.positions:
+            title = f"the policies at position {position:,}"
+            found = self.kept(("policies", position), title, lambda job: self.make_policies(position))
+            assert isinstance(found, KeptPolicies)
+            path = found.path
+        return Policies(*kept(path, POLICIES))
+
+    def make_policies(self, position: int) -> KeptPolicies:
+        path = self.new_file()
+        keep(path, POLICIES, columns_at(self.journal, position).policies)
+        return KeptPolicies(path)
+
+    def history(self, position: int) -> History:
+        """What the book was at each position up to this one."""
+        return History(*(column[:position] for column in kept(self.history_at(self.newest), NAMES)))
+
+    # --- the journal and the basis as they are now ---
 
     def take_copy(self) -> None:
-        """Copies the front of the journal, as far as it goes now, and the basis."""
+        """Copies the prefix of the journal, as far as it goes now, and the basis."""
         demand(os.path.isfile(self.book.journal), f"{self.book.journal}: No such file or directory")
-        new = os.path.join(self.desk, "new")
+        new = os.path.join(self.folder, "new")
         copy_prefix(self.book.journal, None, new)
         if prefix_count(new) is None:
             # what is no plain journal has its reason told, and an unfinished creation is an empty one
@@ -103,33 +183,73 @@ class BookCopy:
             with open(new, "wb") as file:
                 file.write(EMPTY)
         os.replace(new, self.journal)
-        self.take_basis()
+        self.take_basis(self.book.basis)
         self.made_at = datetime.datetime.now()
 
-    def take_basis(self) -> None:
-        copy_basis(self.book.folder, self.book.basis, self.desk)
-        found = hashlib.sha256()
-        for name in basis_files(self.desk, self.book.basis):
-            found.update(name.encode() + b"\0" + bytes_of(os.path.join(self.desk, name)))
-        self.basis_sum = found.hexdigest()
+    def take_basis(self, name: str) -> TakenBasis:
+        """A basis of the book's folder as it is now, with its tables: the one that was taken already where it is the same."""
+        new = self.new_file()
+        os.mkdir(new, 0o700)
+        copy_basis(self.book.folder, name, new)
+        found = basis_sum(new, name)
+        for at, each in enumerate(self.bases):
+            if (each.name, each.sum) == (name, found):
+                shutil.rmtree(new)
+                # the one that was taken last stands last
+                self.bases.append(self.bases.pop(at))
+                return each
+        os.symlink(os.path.join("..", JOURNAL), os.path.join(new, JOURNAL))
+        self.bases.append(TakenBasis(name, found, new))
+        return self.bases[-1]
 
-    def behind(self) -> int | None:
-        """How many postings stand behind the newest position in the journal now; none where it isn't the same any more."""
+    def behind(self) -> int:
+        """How many postings stand behind the newest position in the journal now."""
         try:
-            size, seen = os.path.getsize(self.book.journal), os.path.getsize(self.journal)
-            if size == seen:
-                return 0
             count = prefix_count(self.book.journal)
         except OSError:
-            return None
-        return None if count is None or count < self.newest else count - self.newest
+            return 0
+        return max((count or 0) - self.newest, 0)
+
+    def changes(self) -> list[str]:
+        """What isn't any more as it was taken, with what it was and what it is."""
+        return [says for says in (self.journal_change(), self.basis_change()) if says]
+
+    def journal_change(self) -> str:
+        """Why the journal isn't the one any more that was copied, or nothing where that is its prefix."""
+        count, was = self.newest, self.sum_at(self.newest)
+        now = self.looked_at("journal", [self.book.journal], lambda: prefix_sum(self.book.folder, count))
+        if now == was:
+            return ""
+        return (f"The journal isn't the one any more of which this window was opened. Its first {count:,} postings had the "
+                f"SHA-256 {was}; now {it_is(now)}. What is shown is of the copy.")
+
+    def basis_change(self) -> str:
+        taken = self.basis
+        files = [os.path.join(self.book.folder, each) for each in basis_files(self.book.folder, taken.name)]
+        now = self.looked_at("basis", files, lambda: basis_sum(self.book.folder, taken.name))
+        if now == taken.sum:
+            return ""
+        return (f"The basis {taken.name} or a table of it changed: with its tables it had the SHA-256 {taken.sum}; now "
+                f"{it_is(now)}. What is shown is by the basis as it was.")
+
+    def looked_at(self, what: str, paths: list[str], look: Callable[[], str]) -> str:
+        """What is seen of files, looked at anew where they were written since; or why nothing is seen."""
+        try:
+            stamp = stamp_of(*paths)
+            seen = self.seen.get(what)
+            if seen is None or seen[0] != stamp:
+                seen = stamp, look()
+                self.seen[what] = seen
+            return seen[1]
+        except (OSError, Wrong):
+            return "it is shorter, or it is gone"
 
     def bring_up_to_date(self, job: Job) -> int:
-        """Takes what was posted since the copy was made, which has to be its front."""
+        """Takes what was posted since the copy was made, which has to be its prefix, and the basis as it is now."""
         first = self.newest
         job.at("copying the journal")
-        demand(prefix_sum(self.book.folder, first) == self.sums[first],
-               f"{self.book.journal} isn't the journal any more of which this window was opened: open another one")
+        change = self.journal_change()
+        demand(not change, f"{change} Open another window for the journal as it is now.")
         self.take_copy()
         if prefix_count(self.journal) == first:
             return first
@@ -146,6 +266,26 @@ class BookCopy:
         finally:
             database.close()
 
+    @contextmanager
+    def lists(self, position: int) -> Iterator[sqlite3.Connection]:
+        """The policies of a position as a table; raises Working while that of an earlier position is made."""
+        path = self.database
+        if position not in self.positions:
+            title = f"the policies at position {position:,} as a list"
+            found = self.kept(("list", position), title, lambda job: self.make_list(position, job))
+            assert isinstance(found, KeptList)
+            path = found.path
+        database = tables.opened(path)
+        try:
+            yield database
+        finally:
+            database.close()
+
+    def make_list(self, position: int, job: Job) -> KeptList:
+        path = self.new_file()
+        tables.make_list(path, columns_at(self.journal, position), job.at)
+        return KeptList(path)
+
     def new_file(self) -> str:
         """The name of a new private file; no word of a request is in it."""
         with self.counting:
@@ -153,13 +293,13 @@ class BookCopy:
             return os.path.join(self.folder, f"file-{self.files}")
 
     @contextmanager
-    def desk_at(self, position: int) -> Iterator[str]:
-        """A private folder for a while with the front at a position and the basis."""
+    def desk_at(self, position: int, basis: TakenBasis) -> Iterator[str]:
+        """A private folder for a while with the prefix at a position and the basis."""
         folder = self.new_file()
         os.mkdir(folder, 0o700)
         try:
             copy_prefix(self.journal, position, os.path.join(folder, JOURNAL))
-            copy_basis(self.desk, self.book.basis, folder)
+            copy_basis(basis.folder, basis.name, folder)
             yield folder
         finally:
             shutil.rmtree(folder, ignore_errors=True)
@@ -174,5 +314,11 @@ class BookCopy:
                 os.remove(path)
 
     def kept(self, key: tuple[object, ...], title: str, work: Callable[[Job], object]) -> object:
-        """The result of some work by the basis as it is."""
-        return self.jobs.asked((self.basis_sum, *key), title, work)
+        """The result of some work."""
+        return self.jobs.asked(key, title, work)
+
+    def without_paths(self, text: str) -> str:
+        """A text for a page, in which no path of this machine stands."""
+        for path, name in ((self.book.journal, "journal.life"), (self.book.folder, self.name), (self.folder, "copy")):
+            text = text.replace(path + os.sep, "").replace(path, name)
+        return text

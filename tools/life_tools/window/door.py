@@ -1,11 +1,14 @@
 """The door of the window: who is let in, by which names and words, and the headers with which each answer goes out.
 
-It stands before everything else, so that a request is refused before any page, path or word of it is looked at.
+It stands before everything else, so that a request is refused before any page, path or word of it is looked at. Every path
+begins with a prefix that is drawn for each window, to which alone the browser sends its cookie: another server of this
+machine, whatever its port, isn't shown it.
 """
 from __future__ import annotations
 
 import hmac
 import secrets
+import threading
 from dataclasses import dataclass, field
 from html import escape
 from http.cookies import CookieError, SimpleCookie
@@ -15,6 +18,7 @@ from urllib.parse import parse_qsl
 Environment = dict[str, Any]
 StartResponse = Callable[..., Any]
 Application = Callable[[Environment, StartResponse], Iterable[bytes]]
+Refused = tuple[int, str, list[tuple[str, str]]]
 
 TOKEN_BYTES = 16
 # a path with its words that is longer is no page's
@@ -37,12 +41,15 @@ def same(one: str, other: str) -> bool:
 
 @dataclass
 class Door:
-    """An application behind a door: the port tells by which names it is called, the token who may come in."""
+    """An application behind a door: the port tells by which names it is called, the token, which works once, who may come in."""
 
     inside: Application
     port: int
     token: str = field(default_factory=new_secret)
     cookie: str = field(default_factory=new_secret)
+    prefix: str = field(default_factory=lambda: f"/{secrets.token_hex(8)}")
+    is_used: bool = False
+    turn: threading.Lock = field(default_factory=threading.Lock)
 
     @property
     def cookie_name(self) -> str:
@@ -50,7 +57,7 @@ class Door:
 
     @property
     def address(self) -> str:
-        return f"http://127.0.0.1:{self.port}/?token={self.token}"
+        return f"http://127.0.0.1:{self.port}{self.prefix}/?token={self.token}"
 
     def __call__(self, environ: Environment, start: StartResponse) -> Iterable[bytes]:
         def guarded(status: str, headers: list[tuple[str, str]], *failure: Any) -> Any:
@@ -59,6 +66,8 @@ class Door:
 
         answer = self.refusal(environ) or self.exchange(environ)
         if answer is None:
+            environ["SCRIPT_NAME"] = self.prefix
+            environ["PATH_INFO"] = environ["PATH_INFO"].removeprefix(self.prefix)
             return self.inside(environ, guarded)
         status, words, more = answer
         page = f"<!doctype html><html lang=\"en\"><title>life</title><p>{escape(words)}</p></html>\n".encode()
@@ -66,29 +75,40 @@ class Door:
         guarded(f"{status} {REASONS[status]}", headers)
         return [b"" if environ.get("REQUEST_METHOD") == "HEAD" else page]
 
-    def refusal(self, environ: Environment) -> tuple[int, str, list[tuple[str, str]]] | None:
+    def refusal(self, environ: Environment) -> Refused | None:
         """Why a request isn't let in, whoever sends it."""
+        path = environ.get("PATH_INFO", "")
         if environ.get("HTTP_HOST") not in (f"127.0.0.1:{self.port}", f"localhost:{self.port}"):
             return 403, f"This window is called 127.0.0.1:{self.port} or localhost:{self.port}.", []
         if environ.get("REQUEST_METHOD") not in ("GET", "HEAD"):
             return 405, "This window only looks: GET and HEAD.", [("Allow", "GET, HEAD")]
-        if len(environ.get("PATH_INFO", "")) + len(environ.get("QUERY_STRING", "")) > MOST_LETTERS:
+        if len(path) + len(environ.get("QUERY_STRING", "")) > MOST_LETTERS:
             return 414, "No page has so long an address.", []
-        if "//" in environ.get("PATH_INFO", ""):
+        if "//" in path:
             return 404, "No page has such an address.", []
+        if not same(path[:len(self.prefix) + 1], f"{self.prefix}/"):
+            return 403, "Open the window by the address that life-tools browse gave.", []
         return None
 
-    def exchange(self, environ: Environment) -> tuple[int, str, list[tuple[str, str]]] | None:
-        """Whoever brings the token gets the cookie for it, and an address without the token; others need the cookie."""
+    def exchange(self, environ: Environment) -> Refused | None:
+        """Whoever first brings the token gets the cookie for it, and an address without the token; others need the cookie."""
         words = parse_qsl(environ.get("QUERY_STRING", ""), keep_blank_values=True)
-        if [name for name, _ in words] == ["token"] and environ.get("PATH_INFO") == "/":
-            if not same(words[0][1], self.token):
-                return 403, "That isn't this window's token.", []
-            kept = f"{self.cookie_name}={self.cookie}; HttpOnly; SameSite=Strict; Path=/"
-            return 303, "Come in.", [("Location", "/"), ("Set-Cookie", kept)]
+        if [name for name, _ in words] == ["token"] and environ.get("PATH_INFO") == f"{self.prefix}/":
+            return self.let_in(words[0][1])
         if not same(self.brought(environ), self.cookie):
-            return 403, "Open the window by the address that life-tools browse printed.", []
+            return 403, "Open the window by the address that life-tools browse gave.", []
         return None
+
+    def let_in(self, token: str) -> Refused:
+        if not same(token, self.token):
+            return 403, "That isn't this window's token.", []
+        with self.turn:
+            was_used, self.is_used = self.is_used, True
+        if was_used:
+            return 403, ("This address was used already, and works once. If it wasn't you who used it, close the window; "
+                         "life-tools browse opens another one."), []
+        kept = f"{self.cookie_name}={self.cookie}; HttpOnly; SameSite=Strict; Path={self.prefix}/"
+        return 303, "Come in.", [("Location", f"{self.prefix}/"), ("Set-Cookie", kept)]
 
     def brought(self, environ: Environment) -> str:
         try:

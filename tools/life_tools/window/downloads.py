@@ -2,11 +2,14 @@
 from __future__ import annotations
 
 import io
-from itertools import islice
+from dataclasses import replace
+from itertools import chain, islice
 from typing import Any, Iterable, Iterator, Sequence
 
 from life_tools.common.cells import harmless, is_number, number_of_cell, put_text, write_rows
 from life_tools.common.packages import package
+from life_tools.common.program import UNPROVED
+from life_tools.window.parts import File
 
 A_PART = 512
 
@@ -51,3 +54,11 @@ def shape(openpyxl: Any, sheet: Any, rows: Sequence[Sequence[str]]) -> None:
         for cell in line:
             if not isinstance(cell.value, str) and cell.value is not None:
                 cell.number_format = "#,##0.00" if "." in str(cell.value) else "#,##0"
+
+
+def warned(file: File, why: str) -> File:
+    """A download whose numbers aren't the proved program's: its name says so, and a CSV has it as its last row."""
+    if file.kind != "text/csv":
+        return replace(file, name=f"unproved-{file.name}")
+    parts = [file.parts.decode("utf-8", "replace")] if isinstance(file.parts, bytes) else file.parts
+    return replace(file, name=f"unproved-{file.name}", parts=chain(parts, csv_parts([[UNPROVED, why]])))

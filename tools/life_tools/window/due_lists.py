@@ -9,9 +9,11 @@ from life_tools.common.arrays import Array, np
 from life_tools.journal.day_columns import NEVER, day_at, number_at
 from life_tools.cli.due import SENT, WHATS, Due, Items
 from life_tools.common.formats import money
+from life_tools.journal.policy_columns import Policies, policies_in
+from life_tools.rules.policies import Policy
 from life_tools.window.jobs import Job
 from life_tools.window.kept_columns import keep, kept
-from life_tools.window.book_copy import BookCopy
+from life_tools.window.views import View
 
 # what the lines to send need beside the day: the amount
 WITH_AMOUNT = ("premium", "grace", "reinstate", "settle")
@@ -56,20 +58,22 @@ class Item:
     first: datetime.date
 
 
-def due_on(book: BookCopy, day: datetime.date, within: int, position: int) -> DueOn:
-    found = book.kept(("due", day, within, position), f"what is due on {day}", lambda job: made(book, day, within, position, job))
+def due_on(book: View, day: datetime.date, within: int) -> DueOn:
+    # what an earlier position needs is made first, and not within this piece of work
+    policies = book.policies()
+    found = book.kept(("due", day, within, book.at), f"what is due on {day}", lambda job: made(book, policies, day, within, job))
     assert isinstance(found, DueOn)
     return found
 
 
-def made(book: BookCopy, day: datetime.date, within: int, position: int, job: Job) -> DueOn:
+def made(book: View, policies: Policies, day: datetime.date, within: int, job: Job) -> DueOn:
     job.at("looking through the policies")
-    items = Items(book.policies(position), number_at(day), within).find_all()
+    items = Items(policies, number_at(day), within).find_all()
     sums = {}
     for code, what in enumerate(WHATS):
         cents = items.cents[items.what == code]
         sums[what] = len(cents), int(cents.sum())
-    path = book.new_file()
+    path = book.copy.new_file()
     keep(path, Due._fields, items)
     return DueOn(path, day, within, sums)
 
@@ -107,8 +111,7 @@ def is_sent_as_it_stands(what: str) -> bool:
     return what in SENT
 
 
-def of_policy(book: BookCopy, number: int, position: int, day: datetime.date) -> list[tuple[str, Item]]:
+def of_policy(policy: Policy, day: datetime.date) -> list[tuple[str, Item]]:
     """What is due of one policy on a day."""
-    policies = book.policies(position)
-    found = Items(policies.at(np.flatnonzero(policies.number == number)), number_at(day), 0).find_all()
+    found = Items(policies_in([policy]), number_at(day), 0).find_all()
     return [(WHATS[what], item) for what, item in zip(found.what.tolist(), items_in(found, np.arange(len(found.what))))]

@@ -125,6 +125,11 @@ class Jobs:
             raise Failed(job.failure)
         return job.result
 
+    def look(self, key: Hashable) -> Job | None:
+        """The work of this key, where it was begun."""
+        with self.changed:
+            return self.known.get(key)
+
     def is_known(self, key: Hashable) -> bool:
         """Whether the result is there already."""
         with self.changed:

@@ -2,23 +2,26 @@
 from __future__ import annotations
 
 import datetime
+import os
 import re
 
 from life_tools.journal.day_columns import number_at
 from life_tools.cli.report import HEADS
-from life_tools.common.formats import MEASURES
+from life_tools.common.arrays import np
+from life_tools.common.formats import MEASURES, MOST_BASIS_BYTES
 from life_tools.journal.positions import on_day
+from life_tools.journal.records import UPGRADE
 from life_tools.reports.provenance import provenance
 from life_tools.reports.report_pages import apart, money
 from life_tools.common.revisions import revision
 from life_tools.reports.sheets import BY_BOUNDS
-from life_tools.window import pictures
+from life_tools.tables.basis import NAME
+from life_tools.window import charts, pictures
 from life_tools.window.asked import Asked, BadRequest
 from life_tools.window.downloads import csv_parts, workbook
-from life_tools.journal.records import days_at
-from life_tools.window.lists import newest_day
-from life_tools.window.book_copy import BookCopy
-from life_tools.window.parts import Answer, Cell, File, Head, Page, Table, cells, heads, link
+from life_tools.window.audit_pages import MEASURES as RESERVES, measure_on
+from life_tools.window.views import View
+from life_tools.window.parts import Answer, Cell, File, Head, Page, Table, cells, heads
 from life_tools.window.policies import STATUSES as STATUS_WORDS
 from life_tools.window.policy_pages import MEASURE_WORDS
 from life_tools.window.tool_runs import ToolRun, tool_run
@@ -29,23 +32,25 @@ REPORT_WORDS = ("at", "on", "p", "measure")
 MOVEMENT_WORDS = ("at", "on1", "p1", "on2", "p2")
 XLSX = "application/vnd.openxmlformats-officedocument.spreadsheetml.sheet"
 NAMED = 20
+MOST_BASES = 30
 KEY_WORDS = {"plan": "plan", "status": "status", "issue-year": "year of issue", "age-band": "age at issue",
              "basis-row": "row of the basis"}
 
 
 # --- which day, and at which position ---
 
-def month(book: BookCopy, asked: Asked, at: int) -> Answer:
+def month(book: View, asked: Asked) -> Answer:
     """A day is chosen, its position is told, and what can be asked of both."""
     asked.only(("at", "on", "before"))
-    with book.tables() as database:
-        newest = newest_day(database, at)
-        on = asked.day("on", year_end_before(newest))
-        before = asked.day("before", datetime.date(max(on.year - 1, 1900), 12, 31))
-    days, upgrade = days_at(book.journal, at)
-    positions, opening = (on_day(days, number_at(day), upgrade) for day in (on, before))
-    values = {"on": on, "before": before, "positions": positions, "opening": opening, "newest_day": newest,
-              "measures": [(each, MEASURE_WORDS[each]) for each in MEASURES]}
+    on = asked.day("on", year_end_before(book.day))
+    before = asked.day("before", datetime.date(max(on.year - 1, 1900), 12, 31))
+    history = book.history()
+    upgrades = np.flatnonzero(history.kind == UPGRADE)
+    upgrade = int(upgrades[0]) + 1 if len(upgrades) else 0
+    positions, opening = (on_day(history.day, number_at(day), upgrade) for day in (on, before))
+    values = {"on": on, "before": before, "positions": positions, "opening": opening, "newest_day": book.day,
+              "measures": [(each, MEASURE_WORDS[each]) for each in MEASURES], "statement_measure": measure_on(str(on)),
+              "statement_measures": list(RESERVES.items()), "bases": other_bases(book)}
     return Page("month.html", "Month and year", values)
 
 
@@ -57,24 +62,27 @@ def year_end_before(newest: str | None) -> datetime.date:
 
 # --- a report ---
 
-def asked_valuation(book: BookCopy, asked: Asked, at: int) -> Valuation:
-    asked.only(REPORT_WORDS)
+def asked_valuation(book: View, asked: Asked, *more: str) -> Valuation:
+    asked.only((*REPORT_WORDS, *more))
     on = asked.day_or_none("on")
     if on is None:
         raise BadRequest("on: the day of the valuation is wanted")
-    return kept_valuation(book, on, asked.position("p", at, at), asked.one_of("measure", MEASURES, "terminal"))
+    return kept_valuation(book, on, asked.one_of("measure", MEASURES, "terminal"))
 
 
 def column_names(it: Valuation) -> list[str]:
     return ["policies", "insured", "amount insured", *HEADS[len(it.total)], "words"]
 
 
-def group_table(it: Valuation, key: str) -> Table:
+def group_table(book: View, it: Valuation, key: str) -> Table:
     groups = it.groups[key]
     most = max((each.bounds[-1] for each in groups.values()), default=0)
-    names = (", ".join(STATUS_WORDS.get(each, each) for each in name) for name in groups)
-    rows = [[Cell(name), *cells(sums.cells()), Cell("", picture=pictures.bar(sums.bounds[-1], most))]
-            for name, sums in zip(names, groups.values())]
+    rows = []
+    for name, sums in groups.items():
+        link = book.link("group", on=it.on, measure=it.measure, by=key, group=",".join(name))
+        says = ", ".join(STATUS_WORDS.get(each, each) for each in name)
+        rows.append([Cell(says, link), *(Cell(apart(text), link) for text in sums.cells()),
+                     Cell("", picture=pictures.bar(sums.bounds[-1], most))])
     return Table(f"By {KEY_WORDS[key]}", [*heads((KEY_WORDS[key], *column_names(it))), Head("", "bar")], rows,
                  [[Cell("added up"), *cells(it.whole.cells()), Cell("")], printed_row(it)])
 
@@ -84,15 +92,17 @@ def printed_row(it: Valuation) -> list[Cell]:
     return [Cell("printed by life"), *cells((it.policies, "", "", *map(money, it.total), it.words, ""))]
 
 
-def report(book: BookCopy, asked: Asked, at: int) -> Answer:
-    it = asked_valuation(book, asked, at)
-    words = {"on": it.on, "p": it.position, "measure": it.measure if it.measure != "terminal" else ""}
+def report(book: View, asked: Asked) -> Answer:
+    it = asked_valuation(book, asked)
+    words = {"on": it.on, "measure": it.measure if it.measure != "terminal" else ""}
     missing = [(word, WHY_NO_VALUE.get(word, ""), count, numbers) for word, count, numbers in words_of(it, NAMED)]
-    values = {"it": it, "facts": facts(it), "tables": [group_table(it, key) for key in it.groups],
+    later = int(np.count_nonzero(book.policies().issued > number_at(it.on)))
+    values = {"it": it, "facts": facts(it), "later": later, "compare": other_bases(book),
+              "tables": [group_table(book, it, key) for key in it.groups],
               "missing": missing, "balances": [(name, money(cents)) for name, cents in it.balances.items()],
               "insured": it.whole.insured,
-              "csv": link(book.number, "report.csv", at, **words), "xlsx": link(book.number, "report.xlsx", at, **words),
-              "other": [(MEASURE_WORDS[each], link(book.number, "report", at, on=it.on, p=it.position, measure=each))
+              "csv": book.link("report.csv", **words), "xlsx": book.link("report.xlsx", **words),
+              "other": [(MEASURE_WORDS[each], book.link("report", on=it.on, measure=each))
                         for each in MEASURES if each != it.measure]}
     return Page("report.html", f"Valuation on {it.on}", values)
 
@@ -116,14 +126,14 @@ def report_rows(it: Valuation) -> list[list[str]]:
     return [*rows, ["all", "total", *it.whole.cells()]]
 
 
-def report_csv(book: BookCopy, asked: Asked, at: int) -> Answer:
-    it = asked_valuation(book, asked, at)
+def report_csv(book: View, asked: Asked) -> Answer:
+    it = asked_valuation(book, asked)
     return File(f"{file_name(it)}.csv", "text/csv", csv_parts(report_rows(it)))
 
 
-def report_xlsx(book: BookCopy, asked: Asked, at: int) -> Answer:
+def report_xlsx(book: View, asked: Asked) -> Answer:
     """A sheet for each grouping, and one that tells of what the workbook is."""
-    it = asked_valuation(book, asked, at)
+    it = asked_valuation(book, asked)
     sheets = [("about", about(book, it))]
     for key, groups in it.groups.items():
         rows = [[KEY_WORDS[key], *column_names(it)], *([", ".join(name), *sums.cells()] for name, sums in groups.items())]
@@ -131,32 +141,44 @@ def report_xlsx(book: BookCopy, asked: Asked, at: int) -> Answer:
     return File(f"{file_name(it)}.xlsx", XLSX, workbook(sheets))
 
 
-def about(book: BookCopy, it: Valuation) -> list[list[str]]:
-    return [["what", "is"], ["book", book.book.name], ["day", str(it.on)], ["position", str(it.position)],
-            ["measure", it.measure], ["basis", book.book.basis], ["printed by life", ", ".join(map(money, it.total))],
-            *origin_of(book, it.position)]
+def about(book: View, it: Valuation) -> list[list[str]]:
+    return [["what", "is"], ["book", book.name], ["day", str(it.on)], ["position", str(it.position)],
+            ["measure", it.measure], ["basis", f"{book.basis.name}, with its tables SHA-256 {book.basis.sum}"],
+            ["printed by life", ", ".join(map(money, it.total))],
+            *origin_of(book)]
 
 
-def origin_of(book: BookCopy, position: int) -> list[list[str]]:
+def origin_of(book: View) -> list[list[str]]:
     """Journal, program, tools and moment."""
-    facts = provenance(book.desk, position, book.book.name)
-    return [[name, facts[name]] for name in ("journal", "program", "made")] + [["tools", revision()]]
+    facts = provenance(book.desk, book.at, book.name)
+    return [[name, says] for name, says in facts.items() if name != "book"] + [["tools", revision()]]
+
+
+def other_bases(book: View) -> list[str]:
+    """The files of the book's folder that may be another basis: small ones by their names."""
+    try:
+        with os.scandir(book.listed.folder) as found:
+            names = [each.name for each in found if each.name.endswith(".csv") and NAME.fullmatch(each.name)
+                     and each.is_file() and each.stat().st_size <= MOST_BASIS_BYTES]
+    except OSError:
+        return []
+    return sorted(name for name in names if name != book.basis.name)[:MOST_BASES]
 
 
 # --- a movement ---
 
-def asked_movement(book: BookCopy, asked: Asked, at: int) -> tuple[ToolRun, list[str]]:
+def asked_movement(book: View, asked: Asked, *more: str) -> tuple[ToolRun, list[str]]:
     """A run of `movement`, which ends with 1 where it doesn't add up, and then prints nothing."""
-    asked.only(MOVEMENT_WORDS)
+    asked.only((*MOVEMENT_WORDS, *more))
     days = [asked.day_or_none(name) for name in ("on1", "on2")]
     if None in days:
         raise BadRequest("on1, on2: the opening and the closing day are wanted")
-    first, last = asked.position("p1", at, at), asked.position("p2", at, at)
+    first, last = asked.position("p1", book.copy.newest, book.at), book.at
     if first > last:
-        raise BadRequest(f"p1: the opening position {first} is behind the closing one, {last}")
+        raise BadRequest(f"p1: the opening position {first} is after the closing one, {last}")
     words = [str(days[0]), str(first), str(days[1]), str(last)]
     title = f"the movement from {words[0]} at {first:,} to {words[2]} at {last:,}"
-    run = tool_run(book, ["movement", *words, "--basis", book.book.basis, "--policies", "OUT/policies.csv"], title, False)
+    run = tool_run(book, ["movement", *words, "--basis", book.basis.name, "--policies", "OUT/policies.csv"], title, False)
     return run, words
 
 
@@ -176,30 +198,32 @@ def moved_rows(run: ToolRun) -> tuple[list[list[str]], list[str]]:
     return rows, [AMOUNT.sub(lambda it: apart(it[0]), each) for each in said if each]
 
 
-def movement(book: BookCopy, asked: Asked, at: int) -> Answer:
-    run, words = asked_movement(book, asked, at)
+def movement(book: View, asked: Asked) -> Answer:
+    run, words = asked_movement(book, asked)
     closing_day = asked.day_or_none("on2")
     assert closing_day is not None
-    valuation = kept_valuation(book, closing_day, int(words[3]), "terminal")
+    valuation = kept_valuation(book, closing_day, "terminal")
     rows, said = moved_rows(run)
     opening, *between, closing = rows
-    most = max((abs(cents_of(row[3])) for row in between), default=0)
-    moved = [[*cells(row), Cell("", picture=pictures.bar(cents_of(row[3]), most))] for row in between]
-    table = Table("What moved", [*heads(("line", "policies", *(column.name for column in BY_BOUNDS))), Head("", "bar")],
-                  [[*cells(opening), Cell("")], *moved],
-                  [[*cells(closing), Cell("")],
-                   [Cell("printed by life"), *cells((valuation.policies, *map(money, valuation.total))), Cell("")]])
     on1, p1, on2, p2 = words
-    told = {"on1": on1, "p1": p1, "on2": on2, "p2": p2}
+    told: dict[str, object] = {"on1": on1, "p1": p1, "on2": on2, "p2": p2}
+    before, after = book.at_position(int(p1)), book
+    links = [before.link("report", on=on1), *(book.link("moved", **told, line=row[0]) for row in between),
+             after.link("report", on=on2)]
+    moved = [[Cell(row[0], link), *(Cell(apart(text), link) for text in row[1:])] for row, link in zip(rows, links)]
+    table = Table("What moved", heads(("line", "policies", *(column.name for column in BY_BOUNDS))), moved[:-1],
+                  [moved[-1], [Cell("printed by life"), *cells((valuation.policies, *map(money, valuation.total)))]])
     added = [sum(cents_of(row[place]) for row in rows[:-1]) for place in (2, 3)]
-    values = {"table": table, "said": said, "on1": on1, "p1": int(p1), "on2": on2, "p2": int(p2),
+    axes = charts.Axes("", [row[0] for row in rows], "reserve, by upper bounds")
+    says = f"The reserve from {opening[3]} on {on1} to {closing[3]} on {on2}, line by line"
+    moves = [cents_of(row[3]) for row in between]
+    picture = charts.waterfall(says, axes, cents_of(opening[3]), moves, cents_of(closing[3]), links)
+    values = {"table": table, "said": said, "on1": on1, "p1": int(p1), "on2": on2, "p2": int(p2), "picture": picture,
               "adds_up": added == [cents_of(closing[2]), cents_of(closing[3])] == list(valuation.total),
-              "added": [*map(money, added)],
-              "closing": [apart(closing[2]), apart(closing[3])],
-              "opening_report": link(book.number, "report", at, on=on1, p=p1),
-              "closing_report": link(book.number, "report", at, on=on2, p=p2),
-              "csv": link(book.number, "movement.csv", at, **told), "xlsx": link(book.number, "movement.xlsx", at, **told),
-              "policies": link(book.number, "movement-policies.csv", at, **told)}
+              "added": [*map(money, added)], "closing": [apart(closing[2]), apart(closing[3])],
+              "opening_report": links[0], "closing_report": links[-1],
+              "csv": book.link("movement.csv", **told), "xlsx": book.link("movement.xlsx", **told),
+              "policies": book.link("movement-policies.csv", **told)}
     return Page("movement.html", f"Movement to {on2}", values)
 
 
@@ -211,19 +235,19 @@ def movement_table(run: ToolRun) -> list[list[str]]:
     return [["line", "policies", *(column.name for column in BY_BOUNDS)], *moved_rows(run)[0]]
 
 
-def movement_csv(book: BookCopy, asked: Asked, at: int) -> Answer:
-    run, words = asked_movement(book, asked, at)
+def movement_csv(book: View, asked: Asked) -> Answer:
+    run, words = asked_movement(book, asked)
     return File(f"movement-{words[0]}-{words[2]}.csv", "text/csv", csv_parts(movement_table(run)))
 
 
-def movement_xlsx(book: BookCopy, asked: Asked, at: int) -> Answer:
-    run, words = asked_movement(book, asked, at)
-    of_what = [["what", "is"], ["book", book.book.name], ["from", f"{words[0]} at position {words[1]}"],
-               ["to", f"{words[2]} at position {words[3]}"], *origin_of(book, int(words[3]))]
+def movement_xlsx(book: View, asked: Asked) -> Answer:
+    run, words = asked_movement(book, asked)
+    of_what = [["what", "is"], ["book", book.name], ["from", f"{words[0]} at position {words[1]}"],
+               ["to", f"{words[2]} at position {words[3]}"], *origin_of(book)]
     return File(f"movement-{words[0]}-{words[2]}.xlsx", XLSX, workbook([("about", of_what), ("movement", movement_table(run))]))
 
 
-def movement_policies(book: BookCopy, asked: Asked, at: int) -> Answer:
-    run, words = asked_movement(book, asked, at)
+def movement_policies(book: View, asked: Asked) -> Answer:
+    run, words = asked_movement(book, asked)
     with open(run.file("policies.csv"), "rb") as file:
         return File(f"movement-{words[0]}-{words[2]}-policies.csv", "text/csv", file.read())

@@ -1,60 +1,36 @@
 """The window opened: a private folder, the door, a server on the loopback, and all of it put away at the end."""
 from __future__ import annotations
 
+import fcntl
 import gc
-import importlib
 import os
 import shutil
 import signal
+import stat
+import sys
 import tempfile
 import threading
 import time
+from contextlib import contextmanager
 from types import FrameType
-from typing import Any
+from typing import Iterator
 
 from life_tools.books.lists import ListedBook
-from life_tools.common.formats import Wrong, remark
+from life_tools.common.formats import remark
 from life_tools.common.packages import ANEW, package
-from life_tools.common.program import life_command
+from life_tools.common.program import Program, program_asked
 from life_tools.common.progress import Progress
+from life_tools.common.temporary import WINDOW, remove_left
 from life_tools.window.door import Door
 from life_tools.window.jobs import Failed, Working
 from life_tools.window.book_copy import BookCopy
-from life_tools.window.runs import end_all
+from life_tools.window.runs import NEEDED, Unchanged, end_all
+from life_tools.window.server import served
 from life_tools.window.site import Site
 
+ENDS = (signal.SIGINT, signal.SIGTERM, signal.SIGHUP)
 PACKAGES = (("flask", "python3-flask"), ("jinja2", "python3-jinja2"), ("werkzeug.serving", "python3-werkzeug"))
-LOOPBACK = "127.0.0.1"
-# a connection that says nothing for so many seconds is closed
-SILENCE = 30
 TRIES = 100
-
-
-def quiet_handler() -> Any:
-    """A handler of requests that keeps no log, since an address may hold the token."""
-    serving: Any = importlib.import_module("werkzeug.serving")
-
-    class Handler(serving.WSGIRequestHandler):  # type: ignore[misc]
-        timeout = SILENCE
-        # each request has a connection of its own, so that what a refused one left behind is never another one's
-        protocol_version = "HTTP/1.0"
-        server_version, sys_version = "life", ""
-
-        def version_string(self) -> str:
-            return "life"
-
-        def log(self, *_: object) -> None:
-            pass
-
-    return Handler
-
-
-def served(door: Door, port: int) -> Any:
-    serving: Any = importlib.import_module("werkzeug.serving")
-    try:
-        return serving.make_server(LOOPBACK, port, door, threaded=True, request_handler=quiet_handler())
-    except (OSError, SystemExit) as error:
-        raise Wrong(f"port {port} can't be had: {getattr(error, 'strerror', None) or 'it is taken'}") from None
 
 
 def tell_progress(book: BookCopy) -> None:
@@ -83,25 +59,38 @@ def ended(_: int, __: FrameType | None) -> None:
     raise Ended
 
 
+@contextmanager
+def private_folder() -> Iterator[str]:
+    """A folder for the window alone, locked as long as it is open; what a killed window left of such is taken away."""
+    place = tempfile.gettempdir()
+    remove_left(place, WINDOW)
+    private = tempfile.mkdtemp(prefix=WINDOW, dir=place)
+    handle = os.open(private, os.O_RDONLY | os.O_DIRECTORY)
+    try:
+        fcntl.flock(handle, fcntl.LOCK_EX)
+        yield private
+    finally:
+        for number in ENDS:
+            signal.signal(number, signal.SIG_IGN)
+        put_away(private)
+        os.close(handle)
+
+
 def browse(books: list[ListedBook], port: int) -> int:
     """Serves until it is ended."""
     for module, debian in PACKAGES:
         package(module, debian)
     # from now on nothing is begun anew, but what a page lacks is told in it
     os.environ[ANEW] = "1"
-    life = life_command()
-    private = tempfile.mkdtemp(prefix="life-window-")
-    for number in (signal.SIGINT, signal.SIGTERM, signal.SIGHUP):
+    for number in ENDS:
         signal.signal(number, ended)
     try:
-        looked_at = [BookCopy(number, book, private, life) for number, book in enumerate(books, 1)]
-        serve(looked_at, port)
+        program = program_asked()
+        NEEDED.append(Unchanged(program.path))
+        with private_folder() as private:
+            serve(books, port, private, program)
     except Ended:
         pass
-    finally:
-        for number in (signal.SIGINT, signal.SIGTERM, signal.SIGHUP):
-            signal.signal(number, signal.SIG_IGN)
-        put_away(private)
     return 0
 
 
@@ -116,16 +105,32 @@ def put_away(private: str) -> None:
     remark(f"life-tools browse: {private} couldn't be removed")
 
 
-def serve(books: list[BookCopy], port: int) -> None:
+def hand_over(address: str, private: str) -> None:
+    """Gives the address, which holds the key, to a terminal or to a file that its owner alone reads."""
+    if not sys.stdout.isatty():
+        kind = os.fstat(sys.stdout.fileno()).st_mode
+        if stat.S_ISREG(kind):
+            os.fchmod(sys.stdout.fileno(), 0o600)
+        else:
+            path = os.path.join(private, "address")
+            with open(os.open(path, os.O_WRONLY | os.O_CREAT | os.O_EXCL, 0o600), "w", encoding="ascii") as file:
+                file.write(f"{address}\n")
+            address = path
+    print(address, flush=True)
+
+
+def serve(listed: list[ListedBook], port: int, private: str, program: Program) -> None:
     # the port is known once it is bound, and the door has to know it
     door = Door(lambda environ, start: [], port)
+    books = [BookCopy(number, book, private, list(program.words), door.prefix) for number, book in enumerate(listed, 1)]
     server = served(door, port)
     door.port = server.server_port
-    door.inside = Site(books, door.port).application
+    door.inside = Site(books, door.port, door.prefix, program).application
     # a window stays open for days, and each request leaves cycles
     gc.enable()
-    print(door.address, flush=True)
-    remark("The window is open: the address holds its key, and leads in from a browser of this machine. Ctrl-C closes it.")
+    hand_over(door.address, private)
+    remark("The window is open: its address holds a key, works once, and leads in from a browser of this machine. Ctrl-C closes "
+           "it.")
     threading.Thread(target=tell_progress, args=(books[0],), daemon=True).start()
     try:
         server.serve_forever()

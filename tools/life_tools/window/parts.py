@@ -3,7 +3,6 @@ from __future__ import annotations
 
 from dataclasses import dataclass, field
 from typing import Any, Callable, Iterable, Mapping, Sequence, Union
-from urllib.parse import urlencode
 
 from life_tools.reports.report_pages import apart
 
@@ -18,6 +17,10 @@ class Page:
     template: str
     title: str
     values: Mapping[str, Any]
+    # after so many seconds the page comes anew, since something of it is still being made
+    refresh: int = 0
+    # the view that it is of, where that isn't the one of its address
+    of: Any = None
 
 
 @dataclass(frozen=True)
@@ -68,6 +71,8 @@ class Table:
     totals: Sequence[Sequence[Cell]] = field(default_factory=list)
     # of each row whether it is a sum of those above
     is_sum: Sequence[bool] = ()
+    # `list` is one of policies or postings, which takes two lines a row where the page is narrow
+    kind: str = ""
 
 
 def cells(texts: Iterable[object]) -> list[Cell]:
@@ -78,19 +83,6 @@ def cells(texts: Iterable[object]) -> list[Cell]:
 def heads(names: Sequence[str], left: int = 1) -> list[Head]:
     """Heads of which the first so many columns are words."""
     return [Head(name, "" if place < left else RIGHT) for place, name in enumerate(names)]
-
-
-def link(book: int, page: str, at: int | None = None, /, **words: object) -> str:
-    """The address of a page of a book; words without a value are left out."""
-    given = {name: str(value) for name, value in words.items() if value not in (None, "")}
-    told = {"at": str(at), **given} if at is not None else given
-    return f"/{book}/{page}" + (f"?{urlencode(told)}" if told else "")
-
-
-def turns(book: int, page: str, at: int, words: Mapping[str, object], now: int, last: int) -> list[tuple[str, str]]:
-    """The links to other pages of a list, with what they say."""
-    places = (("first", 1), ("before", now - 1), ("next", now + 1), ("last", last))
-    return [(says, link(book, page, at, **dict(words, page=to))) for says, to in places if 1 <= to <= last and to != now]
 
 
 def sorting_head(says: str, kind: str, way: str, address: Callable[[str], str]) -> Head:

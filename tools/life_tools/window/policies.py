@@ -13,7 +13,7 @@ from life_tools.reports.report_pages import money
 from life_tools.rules.policies import GRACE, Policy, anniversary, booking_of, due_of, end_of, payments_of, years_of
 from life_tools.window.due_lists import Item
 from life_tools.window.jobs import Job
-from life_tools.window.book_copy import BookCopy
+from life_tools.window.views import View
 from life_tools.window.runs import lines_of, printed_by
 from life_tools.window.tables import postings_of, steps_of
 
@@ -38,10 +38,10 @@ class Known(NamedTuple):
     steps: list[Step]
 
 
-def policy_at(book: BookCopy, number: int, position: int) -> Known | None:
+def policy_at(book: View, number: int) -> Known | None:
     """The policy as the rules make it of its postings."""
     with book.tables() as database:
-        postings = postings_of(database, number, position)
+        postings = postings_of(database, number, book.at)
     steps, policy = [], None
     for place, command, policy in steps_of(postings):
         steps.append(Step(place, command, booking_of(command, policy)))
@@ -105,16 +105,16 @@ def anniversaries_of(policy: Policy) -> list[datetime.date]:
     return [day for day in days if day <= LAST_DAY]
 
 
-def curve_of(book: BookCopy, known: Known, position: int) -> Curve:
+def curve_of(book: View, known: Known) -> Curve:
     """What the program prints on each anniversary of a journal that has this policy's postings alone."""
     title = f"policy {known.policy.number} over the years"
-    found = book.kept(("curve", known.policy.number, position), title, lambda job: drawn(book, known, job))
+    found = book.kept(("curve", known.policy.number, book.at), title, lambda job: drawn(book, known, job))
     assert isinstance(found, Curve)
     return found
 
 
-def drawn(book: BookCopy, known: Known, job: Job) -> Curve:
-    with book.desk_at(0) as desk:
+def drawn(book: View, known: Known, job: Job) -> Curve:
+    with book.at_position(0).desk_at_position() as desk:
         commands = [step.command for step in known.steps]
         if any(each.kind == "paidup" for each in commands):
             commands = [UPGRADE, *commands]
@@ -128,13 +128,13 @@ def drawn(book: BookCopy, known: Known, job: Job) -> Curve:
         return Curve(list(zip(days, rows)))
 
 
-def rows_on(book: BookCopy, desk: str, days: list[datetime.date]) -> Iterator[ValuedRow]:
+def rows_on(book: View, desk: str, days: list[datetime.date]) -> Iterator[ValuedRow]:
     """The rows of one policy that a script of valuations prints."""
     script = os.path.join(desk, "script")
     with open(script, "w", encoding="ascii") as file:
         file.writelines(f"1,value,{day},now,1\n" for day in days)
-    words = ["run", "--basis", book.book.basis]
-    path = printed_by(book.life, words, desk, book.scratch, os.path.join(desk, "printed"), script)
+    words = ["run", "--basis", book.basis.name]
+    path = printed_by(book.life, words, desk, book.copy.scratch, os.path.join(desk, "printed"), script)
     rows = [row_of(line, 2) for line in lines_of(path) if line.startswith("row,")]
     demand(len(rows) == len(days), f"life printed {len(rows)} rows for {len(days)} valuations of one policy")
     return iter(rows)

@@ -14,8 +14,8 @@ from life_tools.window import pictures
 from life_tools.window.asked import Asked, BadRequest
 from life_tools.window.due_lists import of_policy
 from life_tools.window.formulas import Explained, explained
-from life_tools.window.book_copy import BookCopy
-from life_tools.window.parts import RIGHT, Answer, Cell, Head, Page, Table, cells, heads, link
+from life_tools.window.views import View
+from life_tools.window.parts import RIGHT, Answer, Cell, Head, Page, Table, cells, heads
 from life_tools.window.policies import STATUSES, Known, curve_of, due_words, policy_at, standing_of, terms_of
 from life_tools.window.valuations import kept_valuation, row_of
 
@@ -23,23 +23,23 @@ WORDS = ("at", "number", "on", "day", "measure")
 MEASURE_WORDS = {"terminal": "terminal", "mean": "mean", "deficiency": "with the minimum (deficiency)"}
 
 
-def policy(book: BookCopy, asked: Asked, at: int) -> Answer:
+def policy(book: View, asked: Asked) -> Answer:
     """What a policy is, what was posted, what is due, and where a day is chosen its reserve."""
     asked.only(WORDS)
     number = asked.number("number", 1, MOST_NUMBER, 0)
     if not number:
         raise BadRequest("number: the number of a policy is wanted")
-    day, on = asked.day("day", datetime.date.today()), asked.day_or_none("on")
+    day, on = asked.day("day", book.today), asked.day_or_none("on")
     measure = asked.one_of("measure", MEASURES, "terminal")
-    known = policy_at(book, number, at)
+    known = policy_at(book, number)
     if known is None:
-        raise BadRequest(f"number: there is no policy {number} at position {at:,}")
-    reserve = reserve_of(book, known, at, on, measure) if on else {}
+        raise BadRequest(f"number: there is no policy {number} at position {book.at:,}")
+    reserve = reserve_of(book, known, on, measure) if on else {}
     values = {"policy": known.policy, "terms": terms_of(known.policy), "standing": standing_of(known.policy),
               "postings": postings_of(known), "day": day, "on": on, "measure": measure,
-              "due": [(what, due_words(what, it)) for what, it in of_policy(book, number, at, day)],
-              "measures": [(each, MEASURE_WORDS[each]) for each in MEASURES], **picture_of(book, known, at, on), **reserve,
-              "anniversaries": anniversaries_near(known, book, at, day, measure)}
+              "due": [(what, due_words(what, it)) for what, it in of_policy(known.policy, day)],
+              "measures": [(each, MEASURE_WORDS[each]) for each in MEASURES], **picture_of(book, known, on), **reserve,
+              "anniversaries": anniversaries_near(known, book, day, measure)}
     return Page("policy.html", f"Policy {number}", values)
 
 
@@ -54,36 +54,37 @@ def postings_of(known: Known) -> Table:
     return Table("Postings", [*names, Head("booked", "says")], rows)
 
 
-def anniversaries_near(known: Known, book: BookCopy, at: int, day: datetime.date, measure: str) -> list[tuple[str, str]]:
+def anniversaries_near(known: Known, book: View, day: datetime.date, measure: str) -> list[tuple[str, str]]:
     """Days on which the reserve is likely to be asked for: the ends of the last years that the postings reach."""
     first, last = known.policy.issued.year, max(known.policy.last.year, known.policy.issued.year)
     years = [year for year in range(last, last - 3, -1) if year >= first]
-    return [(f"{year}-12-31", link(book.number, "policy", at, number=known.policy.number, day=day, on=f"{year}-12-31",
-                                   measure=measure if measure != "terminal" else "")) for year in sorted(years)]
+    words: dict[str, object] = {"number": known.policy.number, "day": day, "measure": measure if measure != "terminal" else ""}
+    return [(f"{year}-12-31", book.link("policy", **words, on=f"{year}-12-31")) for year in sorted(years)]
 
 
-def reserve_of(book: BookCopy, known: Known, at: int, on: datetime.date, measure: str) -> dict[str, Any]:
+def reserve_of(book: View, known: Known, on: datetime.date, measure: str) -> dict[str, Any]:
     """The printed row of the whole book's valuation, and the same worked out."""
-    valuation = kept_valuation(book, on, at, measure)
+    valuation = kept_valuation(book, on, measure)
     row = row_of(valuation, known.policy.number)
     if row is None:
         raise BadRequest(f"number: the valuation has no row of policy {known.policy.number}")
     printed: ValuedRow = row
     names = ("lower bound", "upper bound", "minimum, lower", "minimum, upper")
-    basis = read_basis(os.path.join(book.desk, book.book.basis))
-    worked = book.kept(("why", known.policy.number, at, on, measure), f"the reserve of policy {known.policy.number}, worked out",
-                       lambda job: explained(known.policy, at, on, basis, measure, printed))
+    basis = read_basis(os.path.join(book.desk, book.basis.name))
+    key = "why", book.basis.name, known.policy.number, book.at, on, measure
+    worked = book.kept(key, f"the reserve of policy {known.policy.number}, worked out",
+                       lambda job: explained(known.policy, book.at, on, basis, measure, printed))
     assert isinstance(worked, Explained)
     rates = Table("Rates of death", heads(("year", "age", "rate"), 0), [cells((it[0] + 1, *it[1:])) for it in worked.rates])
     bounds = [(name, money(cents)) for name, cents in zip(names, row.bounds)]
     return {"row": row, "status": STATUSES[row.status], "bounds": bounds, "worked": worked, "rates": rates}
 
 
-def picture_of(book: BookCopy, known: Known, at: int, on: datetime.date | None) -> dict[str, Any]:
+def picture_of(book: View, known: Known, on: datetime.date | None) -> dict[str, Any]:
     it = known.policy
     if it.status not in ("inforce", "paidup"):
         return {"picture": "", "curve": None}
-    curve = curve_of(book, known, at)
+    curve = curve_of(book, known)
     points = [(place, row.bounds[1], str(day)) for place, (day, row) in enumerate(curve.rows) if not row.word]
     if len(points) < 2:
         return {"picture": "", "curve": None}

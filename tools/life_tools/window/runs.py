@@ -32,11 +32,36 @@ def end(run: subprocess.Popen[bytes]) -> None:
         pass
 
 
+class Unchanged:
+    """A file that has to stay what it was, as the program that a window asks: it is looked at before each run."""
+
+    def __init__(self, path: str) -> None:
+        self.path = path
+        self.stamp = self.look()
+
+    def look(self) -> tuple[int, ...]:
+        try:
+            seen = os.stat(self.path)
+        except OSError:
+            return ()
+        return seen.st_dev, seen.st_ino, seen.st_size, seen.st_mtime_ns
+
+    def demand_same(self) -> None:
+        demand(self.look() == self.stamp, "the program isn't the one any more with which this window was opened: open another "
+               "window, which looks at it anew")
+
+
+# what each run needs to find as it was
+NEEDED: list[Unchanged] = []
+
+
 def run_to(path: str, words: Sequence[str], folder: str, scratch: str, given: str | None = None) -> tuple[int, str]:
     """Runs words in a folder, with what they print going to a file: the status, and the last of what they remarked."""
     environment = {name: text for name, text in os.environ.items() if name != ANEW}
     environment["TMPDIR"] = scratch
     demand(not IS_CLOSED.is_set(), "the window is being closed")
+    for each in NEEDED:
+        each.demand_same()
     with ONE_AT_A_TIME, open(path, "wb") as out, open(given or os.devnull, "rb") as script:
         try:
             run = subprocess.Popen(words, cwd=folder, stdin=script, stdout=out, stderr=subprocess.PIPE, env=environment,

@@ -5,39 +5,47 @@ import datetime
 import importlib
 import os
 import pkgutil
+import traceback
 from typing import Any, Callable
 from urllib.parse import quote, urlencode
 
-from life_tools.reports.provenance import program_words
-from life_tools.common.revisions import revision
 from life_tools.common.formats import Wrong
-from life_tools.window import audit_pages, day_pages, find_pages, month_pages, policy_pages, stand_pages, statement_pages
-from life_tools.window.asked import Asked, BadRequest
-from life_tools.window.door import Application
-from life_tools.window.jobs import Failed, Job, TooMuch, Working
-from life_tools.window.lists import newest_day
+from life_tools.common.program import UNPROVED, Program
+from life_tools.common.revisions import revision
+from life_tools.window import (audit_pages, compare_pages, day_pages, find_pages, first_page, group_pages, month_pages,
+                               policy_pages, posting_pages, stand_pages, statement_lists, statement_pages)
+from life_tools.window.asked import Asked, BadRequest, shown
 from life_tools.window.book_copy import BookCopy
-from life_tools.window.parts import Answer, Elsewhere, File, Page, link
+from life_tools.window.door import Application
+from life_tools.window.downloads import warned
+from life_tools.window.jobs import Failed, Job, TooMuch, Working
+from life_tools.window.moments import moment_of, timeline
+from life_tools.window.parts import Answer, Elsewhere, File, Page
+from life_tools.window.views import Gone, View, address, view_of
 
 PACKAGE = "life_tools.window"
-Show = Callable[[BookCopy, Asked, int], Answer]
+Show = Callable[[View, Asked], Answer]
 PAGES: dict[str, Show] = {
-    "": find_pages.overview, "find": find_pages.find, "policy": policy_pages.policy,
+    "": first_page.first_page, "find": find_pages.find, "policy": policy_pages.policy, "moment": moment_of,
+    "premiums": posting_pages.premiums, "postings": posting_pages.postings, "held": posting_pages.held,
+    "refusals": posting_pages.refusals,
     "day": day_pages.day, "day/list": day_pages.day_list, "day/list.csv": day_pages.day_csv, "day/lines.csv": day_pages.day_lines,
     "month": month_pages.month, "report": month_pages.report, "report.csv": month_pages.report_csv,
-    "report.xlsx": month_pages.report_xlsx, "movement": month_pages.movement, "movement.csv": month_pages.movement_csv,
-    "movement.xlsx": month_pages.movement_xlsx, "movement-policies.csv": month_pages.movement_policies,
+    "report.xlsx": month_pages.report_xlsx, "group": group_pages.group, "bases": compare_pages.bases,
+    "movement": month_pages.movement, "movement.csv": month_pages.movement_csv, "movement.xlsx": month_pages.movement_xlsx,
+    "movement-policies.csv": month_pages.movement_policies, "moved": group_pages.moved,
     "statement": statement_pages.statement, "statement.csv": statement_pages.statement_csv,
-    "statement.xlsx": statement_pages.statement_xlsx,
+    "statement.xlsx": statement_pages.statement_xlsx, "statement/cell": statement_lists.cell,
     "audit": audit_pages.audit, "seal.txt": audit_pages.seal_file, "flags": audit_pages.flags, "flags.csv": audit_pages.flags_csv,
     "sample": audit_pages.sample, "sample.txt": audit_pages.sample_file, "papers.html": audit_pages.papers,
-    "letters.csv": audit_pages.letters,
+    "letters.csv": audit_pages.letters, "letters.html": audit_pages.letters_page,
     "stands": stand_pages.stands, "newest": stand_pages.newest,
 }
 # the pages that lead to the others
 MENU = {"": "Book", "find": "Find", "day": "The day", "month": "Month and year", "audit": "Audit", "stands": "How it stands"}
 UNDER = {"policy": "find", "report": "month", "movement": "month", "statement": "month", "day/list": "day", "flags": "audit",
-         "sample": "audit"}
+         "sample": "audit", "premiums": "", "postings": "", "held": "", "refusals": "", "group": "month", "moved": "month",
+         "bases": "month", "statement/cell": "month"}
 # what a page shows again by itself while it waits
 REFRESH = 1
 
@@ -52,16 +60,17 @@ def file_of_package(name: str) -> bytes:
 class Site:
     """The books of a window, and Flask's application over them."""
 
-    def __init__(self, books: list[BookCopy], port: int) -> None:
+    def __init__(self, books: list[BookCopy], port: int, root: str, program: Program) -> None:
         self.flask: Any = importlib.import_module("flask")
         jinja: Any = importlib.import_module("jinja2")
-        self.books, self.port = books, port
-        self.origin = f"program {program_words()[:28]} · tools {revision()[:12]}"
+        self.books, self.port, self.root, self.program = books, port, root, program
+        self.origin = f"program {program.told()} · tools {revision()[:12]}"
         nowhere = os.path.join(os.path.dirname(books[0].folder), "nothing")
         self.app: Any = self.flask.Flask(PACKAGE, static_folder=None, template_folder=None, root_path=nowhere,
                                          instance_path=nowhere)
         self.app.jinja_env.loader = jinja.FunctionLoader(lambda name: file_of_package(f"templates/{name}").decode())
         self.app.jinja_env.trim_blocks = self.app.jinja_env.lstrip_blocks = True
+        self.app.jinja_env.globals.update(is_proved=program.is_proved)
         self.app.add_url_rule("/", "books", self.first)
         self.app.add_url_rule("/window.css", "style", lambda: self.file("window.css", "text/css"))
         self.app.add_url_rule("/window.svg", "icon", lambda: self.file("window.svg", "image/svg+xml"))
@@ -78,8 +87,17 @@ class Site:
 
     def first(self) -> Any:
         if len(self.books) == 1:
-            return self.flask.redirect(link(1, ""), 303)
-        return self.rendered("books.html", "Books", {"books": self.books})
+            return self.flask.redirect(address(self.root, 1, "", {}), 303)
+        return self.rendered("books.html", "Books", {"rows": [self.listed(book) for book in self.books]})
+
+    def listed(self, book: BookCopy) -> dict[str, Any]:
+        """A book in the list of books: its counts and sums, once it is open."""
+        found: dict[str, Any] = {"name": book.name, "link": address(self.root, book.number, "", {})}
+        if not book.positions:
+            return found
+        kept = book.history(book.newest)
+        lives, insured = (int(column[-1]) if len(column) else 0 for column in (kept.lives, kept.insured))
+        return {**found, "count": book.newest, "lives": lives, "insured": insured}
 
     def file(self, name: str, kind: str) -> Any:
         return self.flask.Response(file_of_package(name), mimetype=kind)
@@ -92,63 +110,86 @@ class Site:
         try:
             book.open()
             asked = Asked(self.flask.request.args.items(multi=True))
-            return self.answered(book, name, show(book, asked, self.position(book, asked)), asked)
+            view = view_of(book, asked)
+            return self.answered(view, name, show(view, asked), asked)
         except Working as working:
             return self.waiting(book, working.job)
         except BadRequest as wrong:
-            return self.told(400, "That can't be asked", str(wrong), book)
+            return self.told(400, "That can't be asked", str(wrong), book, name)
+        except Gone as wrong:
+            return self.told(410, "This page can't be made any more", self.why_gone(book, wrong), book, name)
         except TooMuch as wrong:
-            return self.told(429, "Too much at a time", str(wrong), book)
-        except Failed as wrong:
-            return self.told(409, "That couldn't be done", str(wrong), book)
-        except Wrong as wrong:
-            return self.told(409, "That couldn't be done", str(wrong), book)
+            return self.told(429, "Too much at a time", str(wrong), book, name)
+        except (Failed, Wrong) as wrong:
+            return self.told(409, "That couldn't be done", str(wrong), book, name)
+        except OSError as error:
+            return self.told(409, "That couldn't be done", f"a file can't be read any more: {error.strerror}", book, name)
 
-    def position(self, book: BookCopy, asked: Asked) -> int:
-        """The position that is looked at: one of those that the tables were made for."""
-        at = asked.position("at", book.newest, book.newest)
-        if at not in book.positions:
-            known = ", ".join(f"{each:,}" for each in book.positions)
-            raise BadRequest(f"at: the tables were made for {known}, and not for {at:,}; reports and movements take any position")
-        return at
+    def why_gone(self, book: BookCopy, wrong: Gone) -> str:
+        return " ".join([str(wrong) + ".", *book.changes()])
 
-    def answered(self, book: BookCopy, name: str, answer: Answer, asked: Asked) -> Any:
+    def answered(self, view: View, name: str, answer: Answer, asked: Asked) -> Any:
         if isinstance(answer, Elsewhere):
             return self.flask.redirect(answer.link, 303)
         if isinstance(answer, File):
-            response = self.flask.Response(answer.parts, mimetype=answer.kind)
-            response.headers["Content-Disposition"] = f'attachment; filename="{answer.name}"'
+            file = answer if self.program.is_proved else warned(answer, self.program.why)
+            response = self.flask.Response(file.parts, mimetype=file.kind)
+            response.headers["Content-Disposition"] = f'attachment; filename="{file.name}"'
             return response
-        return self.page(book, name, answer, self.position(book, asked))
+        return self.page(answer.of or view, name, answer, asked)
 
-    def page(self, book: BookCopy, name: str, answer: Page, at: int) -> Any:
-        with book.tables() as database:
-            day = newest_day(database, at)
-        under = UNDER.get(name, name)
-        menu = [(says, link(book.number, page, at), page == under) for page, says in MENU.items()]
-        newer = link(book.number, name if name in MENU else "") if at != book.newest else ""
-        frame = {"menu": menu, "book": book, "at": at, "at_day": day, "behind": book.behind() if at == book.newest else 0,
-                 "newest_link": link(book.number, "newest"), "now": f"{datetime.datetime.now():%Y-%m-%d %H:%M}", "newer": newer}
-        return self.rendered(answer.template, answer.title, {**frame, **answer.values})
+    def page(self, view: View, name: str, answer: Page, asked: Asked) -> Any:
+        copy, under = view.copy, UNDER.get(name, name)
+        menu = [(says, view.link(page), page == under) for page, says in MENU.items()]
+        is_newest = view.at == copy.newest
+        changes = copy.changes()
+        frame = {"menu": menu, "book": view, "behind": copy.behind() if is_newest and not copy.journal_change() else 0,
+                 "changes": changes, "newest_link": view.newest_link("newest"),
+                 "now": f"{datetime.datetime.now():%Y-%m-%d %H:%M}",
+                 "newer": "" if is_newest else view.newest_link(name if name in MENU else ""),
+                 "older_basis": "" if view.basis in (copy.basis, *self.others(copy)) else view.newest_link(under),
+                 "times": timeline(view, name, asked)}
+        response = self.rendered(answer.template, answer.title, {**frame, **answer.values})
+        return self.again(response, answer.refresh) if answer.refresh else response
+
+    @staticmethod
+    def others(copy: BookCopy) -> list[Any]:
+        """Bases of other names, which aren't older ones of the book's own."""
+        return [each for each in copy.bases if each.name != copy.book.basis]
 
     def rendered(self, template: str, title: str, values: dict[str, Any], status: int = 200) -> Any:
-        text = self.flask.render_template(template, title=title, window=self, link=link, **values)
-        return self.flask.Response(text, status=status, mimetype="text/html")
+        warning = "" if self.program.is_proved else f"{UNPROVED[:1].upper()}{UNPROVED[1:]}: {self.program.why}."
+        text = self.flask.render_template(template, title=title, window=self, warning=warning, **values)
+        return self.flask.Response(text.encode("utf-8", "replace"), status=status, mimetype="text/html")
 
-    def waiting(self, book: BookCopy, job: Job) -> Any:
+    def again(self, response: Any, seconds: int) -> Any:
+        """The page comes anew by itself, told with its address, since one that was come to by a place within it would else not
+        be fetched again."""
         request = self.flask.request
-        response = self.rendered("working.html", "One moment", {"book": book, "job": job, "is_file": "." in request.path}, 202)
-        # told with its address, since a page that was come to by a place within it would else not be fetched again
         words = urlencode(list(request.args.items(multi=True)))
-        response.headers["Refresh"] = f"{REFRESH}; url={quote(request.path)}?{words}"
+        response.headers["Refresh"] = f"{seconds}; url={self.root}{quote(request.path)}?{words}"
         return response
 
-    def told(self, status: int, what: str, why: str, book: BookCopy | None = None) -> Any:
-        return self.rendered("told.html", what, {"why": why, "book": book, "status": status}, status)
+    def waiting(self, book: BookCopy, job: Job) -> Any:
+        values = {"copy": book, "job": job, "is_file": "." in self.flask.request.path}
+        return self.again(self.rendered("working.html", "One moment", values, 202), REFRESH)
+
+    def told(self, status: int, what: str, why: str, book: BookCopy | None = None, name: str = "") -> Any:
+        """A page with a reason, with the menu and with what was typed, so that it can be put right."""
+        values: dict[str, Any] = {"why": book.without_paths(why) if book else why, "copy": book, "status": status}
+        if book and book.positions and name in PAGES:
+            menu = [(says, address(self.root, book.number, page, {}), page == UNDER.get(name, name))
+                    for page, says in MENU.items()]
+            typed = [(word, text) for word, text in self.flask.request.args.items(multi=True) if word != "at"]
+            values.update(menu=menu, typed=[(shown(word), text[:200]) for word, text in typed][:12],
+                          action=address(self.root, book.number, name, {}), at=self.flask.request.args.get("at", "")[:20])
+        return self.rendered("told.html", what, values, status)
 
     def failed(self, error: Exception) -> Any:
         """What no page has caught: an address that is none, or a fault of the window's own."""
         code = getattr(error, "code", None)
         if isinstance(code, int) and 400 <= code < 500:
             return self.told(code, "There is no such page", "Go on from the book's first page.")
-        return self.told(500, "The window has a fault", f"{type(error).__name__}: {error}")
+        # whoever runs the window is told where it is; the page has no path of the machine
+        traceback.print_exception(error)
+        return self.told(500, "The window has a fault", f"{type(error).__name__}: the page wasn't made; nothing else is changed.")

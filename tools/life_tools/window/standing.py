@@ -3,11 +3,14 @@ from __future__ import annotations
 
 import datetime
 import os
+import stat
 from dataclasses import dataclass
 
-from life_tools.desk.entries import ENDED, Log, Run
+from life_tools.common.formats import Wrong
+from life_tools.desk.entries import DONE, ENDED, ENTRY, RUN, Entry, Log, Run
 from life_tools.journal.copied_folder import JOURNAL
 from life_tools.journal.file import EMPTY, FIRST_GATE
+from life_tools.reports.provenance import shown
 from life_tools.journal.record_columns import prefix_count, prefix_sum
 
 OWN = (JOURNAL, "checkpoint.life")
@@ -26,6 +29,14 @@ class LoggedRun:
     is_done: bool
 
 
+def is_plain(path: str) -> bool:
+    """Whether a path is a plain file; anything else, as a pipe that nobody writes, would be waited for without end."""
+    try:
+        return stat.S_ISREG(os.lstat(path).st_mode)
+    except OSError:
+        return False
+
+
 def folders_in(path: str) -> list[str]:
     try:
         with os.scandir(path) as found:
@@ -37,14 +48,49 @@ def folders_in(path: str) -> list[str]:
 def logged_runs(folder: str) -> tuple[list[LoggedRun], int]:
     """The last runs; and of how many files something is left to do, by a person or by the next `day`."""
     log = Log(folder)
-    runs = [log.run(number) for number in reversed(log.run_numbers()[-MOST_RUNS:])]
-    return [logged_run(run) for run in runs], len(log.undone())
+    numbers = [number for number in log.run_numbers() if is_plain(os.path.join(log.runs, f"{number:06}", RUN))]
+    runs = [log.run(number) for number in reversed(numbers[-MOST_RUNS:])]
+    undone = sum(not os.path.exists(os.path.join(log.path, name, DONE)) for name in log.names())
+    return [logged_run(run) for run in runs], undone
 
 
 def logged_run(run: Run) -> LoggedRun:
     status = run.record["status"]
     return LoggedRun(f"{run.number}, {run.record['begun'][:16]}", "none" if status is None else str(status),
                      str(run.record["before"]), run.record["state"] == ENDED)
+
+
+# --- what waits for a person ---
+
+def entries_in(folder: str) -> list[Entry]:
+    """The entries of the log, the last ones first, as far as their records can be read."""
+    log, found = Log(folder), []
+    for name in log.names()[:-MOST_LOOKED_AT - 1:-1]:
+        try:
+            found += [log.entry(name)] if is_plain(os.path.join(log.path, name, ENTRY)) else []
+        except Wrong:
+            continue
+    return found
+
+
+def held_rows(folder: str) -> list[tuple[str, str]]:
+    """The rows that wait for a person: the entry and the row."""
+    return [(shown(entry.name), shown(str(each["text"]))) for entry in entries_in(folder) for each in entry.held]
+
+
+def refused_rows(folder: str) -> list[tuple[str, str]]:
+    """The rows of the last entries that were refused: the entry and what was answered."""
+    return [(shown(entry.name), f"row {row}: {shown(answer_text(answer))}") for entry in entries_in(folder)[:MOST_RUNS]
+            for row, answer in entry.record["refused"]]
+
+
+def answer_text(answer: object) -> str:
+    return ",".join(map(str, answer)) if isinstance(answer, list) else str(answer)
+
+
+def waiting_in(folder: str) -> tuple[int, int]:
+    """How many rows are held back, and how many lines were refused."""
+    return len(held_rows(folder)), len(refused_rows(folder))
 
 
 @dataclass(frozen=True)
@@ -86,4 +132,4 @@ def backup_at(path: str, journal: str, newest: int) -> Backup | None:
         is_front = count is not None and count <= newest and prefix_sum(path, count) == prefix_sum(journal, count)
     except OSError:
         return None
-    return Backup(path, f"{made:%Y-%m-%d %H:%M}", count or 0, is_front)
+    return Backup(shown(path), f"{made:%Y-%m-%d %H:%M}", count or 0, is_front)

@@ -68,10 +68,8 @@ def make(path: str, journal: str, tell: Tell) -> Columns:
     book = columns_at(journal)
     with closing(written(path, "off")) as database:
         database.execute("begin")
-        database.execute(f"create table policy ({', '.join(map(definition, POLICY))}, since integer, until integer)")
+        make_policies(database, book, tell)
         database.execute(f"create table command (position integer primary key, {', '.join(map(definition, COMMAND[1:]))})")
-        policies = ((*row, 0, NEVER) for row in policy_rows(book))
-        insert(database, "policy", len(POLICY) + 2, told(tell, "policies", policies, len(book.policies)))
         insert(database, "command", len(COMMAND), told(tell, "postings", command_rows(book), book.count))
         tell("an order of policies", 0, None)
         database.execute("create index policy_number on policy (policy, since)")
@@ -83,12 +81,31 @@ def make(path: str, journal: str, tell: Tell) -> Columns:
         return book
 
 
+def make_list(path: str, book: Columns, tell: Tell) -> None:
+    """The table of the policies alone, with its orders."""
+    with closing(written(path, "off")) as database:
+        database.execute("begin")
+        make_policies(database, book, tell)
+        database.execute("commit")
+        make_orders_in(database)
+
+
+def make_policies(database: sqlite3.Connection, book: Columns, tell: Tell) -> None:
+    database.execute(f"create table policy ({', '.join(map(definition, POLICY))}, since integer, until integer)")
+    policies = ((*row, 0, NEVER) for row in policy_rows(book))
+    insert(database, "policy", len(POLICY) + 2, told(tell, "policies", policies, len(book.policies)))
+
+
 def make_orders(path: str) -> None:
     """Orders by which a long list is sorted at once."""
     with closing(written(path)) as database:
-        for name in INDEXED:
-            # with all by which rows are passed over, so that these needn't be read
-            database.execute(f"create index if not exists policy_by_{name} on policy ({name}, policy, since, until)")
+        make_orders_in(database)
+
+
+def make_orders_in(database: sqlite3.Connection) -> None:
+    for name in INDEXED:
+        # with all by which rows are passed over, so that these needn't be read
+        database.execute(f"create index if not exists policy_by_{name} on policy ({name}, policy, since, until)")
 
 
 # --- further records ---

@@ -7,7 +7,7 @@ from typing import Sequence
 
 from life_tools.common.formats import Wrong
 from life_tools.window.jobs import Job
-from life_tools.window.book_copy import BookCopy
+from life_tools.window.views import View
 from life_tools.window.runs import run_to, tool_words
 
 
@@ -29,7 +29,7 @@ class ToolRun:
         return os.path.join(self.path, name)
 
 
-def tool_run(book: BookCopy, words: Sequence[str], title: str, is_wrong_shown: bool = True, of: tuple[int, ...] = ()) -> ToolRun:
+def tool_run(book: View, words: Sequence[str], title: str, is_wrong_shown: bool = True, of: tuple[int, ...] = ()) -> ToolRun:
     """A run of a tool; `OUT/` in its words is a private folder of its own. Raises Working while it runs.
 
     What it is `of` beside its words is asked anew where that changes.
@@ -39,12 +39,13 @@ def tool_run(book: BookCopy, words: Sequence[str], title: str, is_wrong_shown: b
     return found
 
 
-def ran(book: BookCopy, words: Sequence[str], job: Job, is_wrong_shown: bool) -> ToolRun:
-    folder = book.new_file()
+def ran(book: View, words: Sequence[str], job: Job, is_wrong_shown: bool) -> ToolRun:
+    folder = book.copy.new_file()
     os.mkdir(folder, 0o700)
     job.at(f"life-tools {words[0]}")
     told = [word.replace("OUT/", folder + os.sep) for word in words]
-    status, remarks = run_to(os.path.join(folder, "printed"), [*tool_words(), *told], book.desk, book.scratch)
+    status, remarks = run_to(os.path.join(folder, "printed"), [*tool_words(), *told], book.desk, book.copy.scratch)
     if status not in (0, 1) or (status and not is_wrong_shown):
-        raise Wrong(remarks.removeprefix(f"life-tools {words[0]}: ") or f"life-tools {words[0]} ended with status {status}")
-    return ToolRun(folder, status, remarks.replace(folder + os.sep, "").replace(book.desk, book.book.folder))
+        said = remarks.rpartition("\n")[2].removeprefix(f"life-tools {words[0]}: ").removeprefix("wrong: ")
+        raise Wrong(book.copy.without_paths(said) or f"life-tools {words[0]} ended with status {status}")
+    return ToolRun(folder, status, book.copy.without_paths(remarks.replace(folder + os.sep, "").replace(book.desk, "copy")))

@@ -10,16 +10,16 @@ import os
 from dataclasses import dataclass, fields
 from typing import Iterator
 
-from life_tools.common.arrays import np
+from life_tools.common.arrays import Array, np
 from life_tools.valuations.class_bases import measure_words, one_basis
 from life_tools.valuations.class_columns import basis_rows
 from life_tools.journal.at_position import WORKERS
-from life_tools.valuations.groups import KEYS, Groups, Sums, demand_whole, grouped, joined, whole
+from life_tools.valuations.groups import KEYS, Groups, Joined, Sums, demand_whole, grouped, joined, whole
 from life_tools.valuations.printed_books import ValuedRow
 from life_tools.valuations.printed_columns import NO_WORDS, Rows, state_of, valuation_of
 from life_tools.window.jobs import Job
 from life_tools.window.kept_columns import keep, kept
-from life_tools.window.book_copy import BookCopy
+from life_tools.window.views import View
 from life_tools.window.runs import printed_by
 
 AT_ONCE = 1 << 18
@@ -44,17 +44,33 @@ class Valuation:
     def policies(self) -> int:
         return self.whole.policies
 
+    def codes(self, key: str) -> Array:
+        """Of each row the place of its group among the groups of a key."""
+        return kept(self.path, [code_name(key)])[0]
+
     def rows(self) -> Rows:
         """The rows, of which only what is asked for is read."""
         return Rows(*kept(self.path, COLUMNS))
 
 
-def kept_valuation(book: BookCopy, on: datetime.date, position: int, measure: str) -> Valuation:
+def kept_valuation(book: View, on: datetime.date, measure: str) -> Valuation:
     """The valuation of a day at a position; raises Working while the program is asked."""
-    title = f"the {measure} reserves on {on} at position {position:,}"
-    found = book.kept(("value", on, position, measure), title, lambda job: valued(book, on, position, measure, job))
+    title = f"the {measure} reserves on {on} at position {book.at:,}"
+    found = book.kept(("value", book.basis.name, on, book.at, measure), title, lambda job: valued(book, on, measure, job))
     assert isinstance(found, Valuation)
     return found
+
+
+def code_name(key: str) -> str:
+    return f"group-by-{key}"
+
+
+def codes_in(rows: Joined, key: str, groups: Groups) -> Array:
+    """Of each row the place of its group, in the order in which the groups stand."""
+    codes, names = KEYS[key](rows)
+    found, inverse = np.unique(codes, return_inverse=True)
+    place_of = {name: place for place, (name,) in enumerate(groups)}
+    return np.array([place_of[names[code]] for code in found.tolist()], np.int16)[inverse]
 
 
 def parts_of(path: str, doing: str, job: Job) -> Iterator[bytes]:
@@ -66,25 +82,27 @@ def parts_of(path: str, doing: str, job: Job) -> Iterator[bytes]:
             done += len(part)
 
 
-def valued(book: BookCopy, on: datetime.date, position: int, measure: str, job: Job) -> Valuation:
+def valued(book: View, on: datetime.date, measure: str, job: Job) -> Valuation:
     job.at("copying the front of the journal")
-    with book.desk_at(position) as desk:
+    with book.desk_at_position() as desk:
         job.at("life value")
-        words = ["value", str(on), "--at", str(position), "--basis", book.book.basis, *measure_words(measure), *WORKERS]
-        value = printed_by(book.life, words, desk, book.scratch, os.path.join(desk, "value"))
+        words = ["value", str(on), "--at", str(book.at), "--basis", book.basis.name, *measure_words(measure), *WORKERS]
+        value = printed_by(book.life, words, desk, book.copy.scratch, os.path.join(desk, "value"))
         valuation = valuation_of(parts_of(value, "reading the valuation, KiB", job))
         job.at("life state")
-        printed = printed_by(book.life, ["state"], desk, book.scratch, os.path.join(desk, "state"))
+        printed = printed_by(book.life, ["state"], desk, book.copy.scratch, os.path.join(desk, "state"))
         state = state_of(parts_of(printed, "reading the state, KiB", job))
-        basis = basis_rows(desk, one_basis(book.book.basis), state.policies.number, state.policies.issued)
+        basis = basis_rows(desk, one_basis(book.basis.name), state.policies.number, state.policies.issued)
     rows = joined(valuation, state, basis)
     groups = {}
     for key in KEYS:
         job.at(f"adding up by {key}")
         groups[key] = grouped(rows, [key])
         demand_whole(groups[key], [key], valuation)
-    path = book.new_file()
+    path = book.copy.new_file()
     keep(path, COLUMNS, valuation.rows)
+    for key, found in groups.items():
+        np.save(os.path.join(path, f"{code_name(key)}.npy"), codes_in(rows, key, found))
     return Valuation(path, valuation.on, valuation.position, valuation.measure, valuation.total, valuation.words, whole(rows),
                      groups, state.balances)
 

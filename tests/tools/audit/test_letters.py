@@ -1,0 +1,76 @@
+"""Letters of confirmation: until when a policy is insured, what is due of it, and the book's own name; by hand."""
+from __future__ import annotations
+
+import csv
+import io
+
+import pytest
+
+from tests.support.folders import Folder
+
+# By hand, of the day 2021-03-31; a whole life covers up to age 131. 1 is paid until 2022-01-15. 2 has a premium due since 2021-03-15, whose grace of 31 days ends
+# on 2021-04-15. 3 was due on 2021-01-20; its grace ended on 2021-02-20, and no lapse is posted. 4 is paid up since the upgrade,
+# so no premium is told. 5 has missed two premiums and is past its grace since 2020-04-01.
+SCRIPT = """\
+1,issue,1,2020-01-15,whole,40,0,1000.00,10.00
+1,premium,1,2020-01-15,10.00
+1,premium,1,2021-01-15,10.00
+1,issue,2,2020-03-15,endowment,40,20,2000.00,20.00
+1,premium,2,2020-03-15,20.00
+1,issue,3,2020-01-20,term,40,20,3000.00,30.00
+1,premium,3,2020-01-20,30.00
+1,issue,4,2020-02-10,whole,40,0,4000.00,40.00
+1,premium,4,2020-02-10,40.00
+1,premium,4,2021-02-10,40.00
+1,upgrade
+1,paidup,4,2021-03-01,500.00
+1,issue,5,2020-03-01,limited,40,10,5000.00,50.00
+"""
+# policy: premium a year, next premium due, premium in arrears, insured until
+WANTED = {"1": ("10.00", "2022-01-15", "", "2111-01-15"), "2": ("20.00", "2021-03-15", "20.00", "2021-04-15"),
+          "3": ("30.00", "2021-01-20", "30.00", "2021-02-20"), "4": ("", "", "", "2111-02-10"),
+          "5": ("50.00", "2020-03-01", "100.00", "2020-04-01")}
+COLUMNS = ("premium a year", "next premium due", "premium in arrears", "insured until")
+
+
+@pytest.fixture
+def office(table_q: Folder) -> Folder:
+    table_q.take("g.xml")
+    table_q.write("basis.csv", "1900-01-01,g.xml,400\n")
+    table_q.post(SCRIPT)
+    table_q.write("sample", table_q.printed("audit", "sample", "5", "--seed", "1", "--on", "2021-03-31", "--by", "amount"))
+    return table_q
+
+
+def letters(office: Folder, *words: str) -> dict[str, dict[str, str]]:
+    printed = office.printed("audit", "letters", "sample", *words)
+    return {row["policy"]: row for row in csv.DictReader(io.StringIO(printed))}
+
+
+def test_insured_until(office: Folder) -> None:
+    drawn = office.printed("audit", "sample", "13", "--seed", "1", "--on", "2021-03-31", "--by", "amount")
+    office.write("sample", drawn)
+    found = letters(office)
+    assert set(found) >= {"3", "5"}, found
+    for number, row in found.items():
+        assert tuple(row[name] for name in COLUMNS) == WANTED[number], number
+
+
+@pytest.mark.parametrize("words", [(), ("--title", "An Office, Ltd")])
+def test_the_book_has_its_own_name(office: Folder, words: tuple[str, ...]) -> None:
+    name = words[1] if words else office.path.name
+    assert {row["book"] for row in letters(office, *words).values()} == {name}
+    office.printed("audit", "papers", "sample", "--html", "papers.html", *words)
+    assert f"Audit papers: {name} on 2021-03-31" in office.read("papers.html")
+
+
+def test_a_page_for_each_letter(office: Folder) -> None:
+    rows = letters(office)
+    office.printed("audit", "letters", "sample", "--html", "letters.html", "--title", "An Office")
+    page = office.read("letters.html")
+    assert page.count("<section ") == len(rows) and "src=" not in page and "@import" not in page
+    if "2" in rows:
+        assert "20.00 since 2021-03-15" in page and "until 2021-04-15, unless the premium is paid by then" in page
+    if "5" in rows:
+        assert "no longer insured: the last day of grace was 2020-04-01" in page
+    assert "break-before: page" in page

@@ -1,0 +1,96 @@
+"""The statement on paper and on a screen, and the sentences that stand beside its sums."""
+from __future__ import annotations
+
+import re
+import subprocess
+from pathlib import Path
+
+import pytest
+
+from tests.support.folders import Folder
+
+# four plans of 900,000,000.00 in all and more, of which one has a premium past its grace on 2021-12-31 and one was issued later
+SCRIPT = "".join(f"1,issue,{number},2020-01-15,{plan},30,{years},{amount},1000.00\n1,premium,{number},2020-01-15,1000.00\n"
+                 for number, (plan, years, amount) in enumerate(
+                     [("whole", 0, "99999999.99"), ("endowment", 20, "87654321.09"), ("term", 20, "98765432.10"),
+                      ("limited", 20, "76543210.98")] * 3, 1)) + "1,issue,99,2022-03-01,term,30,10,1000.00,10.00\n"
+MOMENTS = ("2019-12-31", "0", "2020-12-31", "24")
+
+
+@pytest.fixture
+def office(table_q: Folder) -> Folder:
+    table_q.take("g.xml")
+    table_q.write("basis.csv", "1900-01-01,g.xml,400\n")
+    table_q.post(SCRIPT)
+    return table_q
+
+
+def words_of_pdf(page: Path) -> list[str]:
+    """The words on paper, as they are printed on A4."""
+    made = page.with_suffix(".pdf")
+    subprocess.run(["chromium", "--headless", "--no-sandbox", "--disable-gpu", "--no-pdf-header-footer", f"--print-to-pdf={made}",
+                    f"file://{page}"], check=True, capture_output=True, timeout=120)
+    printed = subprocess.run(["pdftotext", "-layout", str(made), "-"], check=True, capture_output=True, text=True).stdout
+    return printed.split()
+
+
+@pytest.mark.needs("chromium", "pdftotext")
+def test_the_printed_exhibit_has_all_its_columns(office: Folder) -> None:
+    """By hand: 3 * (99999999.99 + 87654321.09 + 98765432.10 + 76543210.98) = 1088888892.48, of 12 policies and 12 postings."""
+    office.printed("statement", *MOMENTS, "--mean", "--html", "page.html")
+    words = words_of_pdf(office.path / "page.html")
+    for wanted in ("299,999,999.97", "262,962,963.27", "296,296,296.30", "229,629,632.94", "1,088,888,892.48", "postings"):
+        assert wanted in words, f"{wanted} isn't on paper"
+    assert words.count("1,088,888,892.48") >= 2, "the totals of the lines issued and in force at the end"
+
+
+@pytest.mark.browser
+def test_no_sheet_scrolls_sideways(office: Folder) -> None:
+    from selenium import webdriver
+    from selenium.webdriver.chrome.service import Service
+    office.printed("statement", *MOMENTS, "--mean", "--html", "page.html")
+    options = webdriver.ChromeOptions()
+    for each in ("--headless=new", "--no-sandbox", "--disable-gpu", "--hide-scrollbars", "--disable-dev-shm-usage"):
+        options.add_argument(each)
+    options.binary_location = "/usr/bin/chromium"
+    driver = webdriver.Chrome(service=Service("/usr/bin/chromedriver"), options=options)
+    try:
+        for width in (1366, 768, 390):
+            driver.execute_cdp_cmd("Emulation.setDeviceMetricsOverride",
+                                   {"width": width, "height": 900, "deviceScaleFactor": 1, "mobile": width < 500})
+            driver.get(f"file://{office.path}/page.html")
+            assert driver.execute_script("return document.documentElement.scrollWidth") <= width, width
+    finally:
+        driver.quit()
+
+
+def first_line(office: Folder, *words: str) -> str:
+    return office.printed("statement", *MOMENTS, *words).splitlines()[0]
+
+
+def test_the_first_line_says_which_reserve_and_why(office: Folder) -> None:
+    assert first_line(office, "--mean").endswith(": mean reserves, as asked for by --mean")
+    assert first_line(office, "--terminal").endswith(": terminal reserves, as asked for by --terminal")
+    assert first_line(office).endswith(": terminal reserves, since neither --mean nor --terminal was given")
+    office.refused("statement", *MOMENTS, "--mean", "--terminal", says="not allowed with")
+
+
+def test_notes_of_those_in_force_by_their_status_alone(office: Folder) -> None:
+    """On 2021-12-31 the second premium, of 2021-01-15, is past its grace for all 12; 99 is issued later."""
+    printed = office.printed("statement", "2019-12-31", "0", "2021-12-31", "25")
+    assert "In force on 2021-12-31 by their status, but past the grace of an unpaid premium, with no lapse posted: 12" in printed
+    assert "In force on 2021-12-31 by their status, but issued after that day: 1" in printed
+
+
+def test_what_the_minimum_is_compared_with(office: Folder) -> None:
+    """A premium of 1000.00 on such amounts is far below the net premium, so each policy is short."""
+    printed = office.printed("statement", *MOMENTS, "--mean")
+    assert "The minimum reserve is a terminal one" in printed
+    assert re.search("Warning: of 12 policies the minimum reserve is above the terminal reserve", printed)
+    assert "The minimum reserve is a terminal one" not in office.printed("statement", *MOMENTS)
+
+
+def test_movement_says_what_counts_on_which_line(office: Folder) -> None:
+    printed = office.printed("movement", *MOMENTS)
+    assert "after a claim or maturity of the period, its settlement" in printed
+    assert "all that were ever issued, whatever their status" in printed

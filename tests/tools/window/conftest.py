@@ -1,0 +1,41 @@
+"""A window over a book that has lived, by tools that were installed with the program under test."""
+from __future__ import annotations
+
+from pathlib import Path
+from typing import Iterator
+
+import pytest
+
+from life_tools.journal.file import file_of
+from tests.support.folders import EXAMPLES, Folder
+from tests.support.lived_books import lived as commands_lived
+from tests.support.program import Program
+from tests.support.windows import Window, installed
+
+POLICIES = 300
+
+
+@pytest.fixture(scope="session")
+def tools(tmp_path_factory: pytest.TempPathFactory, program: Program) -> Path:
+    """The tools as they are installed, with the program under test for theirs."""
+    return installed(tmp_path_factory.mktemp("installed"), program)
+
+
+@pytest.fixture(scope="session")
+def lived(tmp_path_factory: pytest.TempPathFactory, program: Program) -> Folder:
+    """A book of some 2,000 commands of 27 years, with a basis and another one."""
+    folder = Folder(tmp_path_factory.mktemp("lived") / "office", program)
+    folder.path.mkdir()
+    folder.write("journal.life", file_of(commands_lived(3, POLICIES)))
+    for name in ("g.xml", "q.xml"):
+        folder.write(name, (EXAMPLES / name).read_bytes())
+    folder.write("basis.csv", "1990-01-01,g.xml,400\n")
+    folder.write("other.csv", "1990-01-01,g.xml,300\n")
+    return folder
+
+
+@pytest.fixture(scope="session")
+def window(tools: Path, lived: Folder) -> Iterator[Window]:
+    """An open window on it, of which tests only read."""
+    with Window(tools, lived.path) as opened:
+        yield opened

@@ -1,0 +1,235 @@
+"""What the first page shows: sums by months and years of a book's history, and what the program prints of year-ends."""
+from __future__ import annotations
+
+import datetime
+import os
+from dataclasses import dataclass
+from typing import NamedTuple, Sequence
+
+from life_tools.common.arrays import Array, Cents, np
+from life_tools.common.formats import demand, money, printed_cents
+from life_tools.journal.at_position import WORKERS
+from life_tools.journal.day_columns import NEVER, anniversaries, number_at
+from life_tools.journal.policy_columns import INFORCE, Policies, missed
+from life_tools.journal.records import CLAIM, MATURE, PREMIUM, REINSTATE
+from life_tools.valuations.class_bases import measure_words
+from life_tools.valuations.groups import added
+from life_tools.window.history import NO_DAY, History
+from life_tools.window.jobs import Job
+from life_tools.window.runs import printed_by
+from life_tools.window.views import View
+
+MOST_YEARS, MONTHS_BEFORE, MONTHS_AHEAD = 12, 18, 3
+RECEIVED = (PREMIUM, REINSTATE)
+# a year-end's reserve is a mean one, as in a statement of a calendar year
+MEASURE = "mean"
+LAST_BYTES = 512
+
+
+class YearEnd(NamedTuple):
+    """A year's end that the postings reach: its position, and what is insured there."""
+
+    day: datetime.date
+    position: int
+    lives: int
+    insured: int
+
+
+@dataclass(frozen=True)
+class Figures:
+    """Sums by the labels of months and years, in cents."""
+
+    year_ends: list[YearEnd]
+    months: list[str]
+    due: list[int]
+    received: list[int]
+    years: list[str]
+    claims: list[int]
+    maturities: list[int]
+
+
+def month_of(days: Array) -> Array:
+    """The months of days, as numbers from January 1970."""
+    found: Array = days.astype("datetime64[D]").astype("datetime64[M]").astype(np.int64)
+    return found
+
+
+def label_of(month: int) -> str:
+    return str(np.datetime64(month, "M"))
+
+
+def sums_in(codes: Array, first: int, count: int, cents: Cents) -> list[int]:
+    """The sums of the cents of so many codes from the first one on."""
+    mine = (codes >= first) & (codes < first + count)
+    return added(codes[mine] - first, count, cents[mine])
+
+
+# --- premiums ---
+
+class Installments(NamedTuple):
+    """Premiums by the day on which each was due: its cents; of a paid one the position that paid it, else the policy's place."""
+
+    due: Array
+    cents: Cents
+    position: Array
+    place: Array
+
+
+def paid_installments(history: History) -> Installments:
+    """Those that were paid; a reinstatement pays several."""
+    at = np.flatnonzero(np.isin(history.kind, RECEIVED) & (history.paid > 0))
+    count = history.paid[at].astype(np.int64)
+    each = np.repeat(at, count)
+    nth = np.arange(len(each)) - np.repeat(np.cumsum(count) - count, count)
+    due = np.where(nth == 0, history.due[each], anniversaries(history.due[each], nth))
+    cents = history.booked[each] // history.paid[each]
+    return Installments(due, cents, each + 1, np.full(len(each), -1))
+
+
+def unpaid_installments(of: Policies, until: int) -> Installments:
+    """Those of policies in force by their status that are due up to a day and aren't paid."""
+    place = np.flatnonzero((of.status == INFORCE) & (of.due != NEVER) & (of.due <= until))
+    count = missed(of.at(place), np.full(len(place), until, np.int32)).astype(np.int64)
+    each = np.repeat(place, count)
+    nth = np.arange(len(each)) - np.repeat(np.cumsum(count) - count, count)
+    due = anniversaries(of.issued[each], of.paid[each] + nth)
+    return Installments(due, of.premium[each], np.zeros(len(each), np.int64), each)
+
+
+def installments(book: View, history: History, until: int) -> Installments:
+    """All premiums that fell due up to a day, or were paid, of policies in force or as far as they were paid."""
+    paid, unpaid = paid_installments(history), unpaid_installments(book.policies(), until)
+    return Installments(*(np.concatenate([one, other]) for one, other in zip(paid, unpaid)))
+
+
+def month_ends(last: int) -> tuple[int, int, int]:
+    """The first and the count of the months that are shown, and the last day of these."""
+    now = int(month_of(np.array([last]))[0])
+    first, count = now - MONTHS_BEFORE + 1, MONTHS_BEFORE + MONTHS_AHEAD
+    until = int((np.datetime64(first + count, "M").astype("datetime64[D]") - np.timedelta64(1, "D")).astype(np.int64))
+    return first, count, until
+
+
+# --- all figures ---
+
+def year_ends_of(history: History, last: int) -> list[YearEnd]:
+    """The last year-ends that the postings reach."""
+    dated = history.day[history.day != NO_DAY]
+    first = day_of_number(int(dated.min())).year
+    newest = day_of_number(last)
+    newest_year = newest.year if (newest.month, newest.day) == (12, 31) else newest.year - 1
+    found = []
+    for year in range(max(first, newest_year - MOST_YEARS + 1), newest_year + 1):
+        day = datetime.date(year, 12, 31)
+        position = history.position_on(number_at(day))
+        lives, insured = (int(column[position - 1]) if position else 0 for column in (history.lives, history.insured))
+        found.append(YearEnd(day, position, lives, insured))
+    return found
+
+
+def day_of_number(number: int) -> datetime.date:
+    return datetime.date(1970, 1, 1) + datetime.timedelta(number)
+
+
+def figures_of(book: View) -> Figures:
+    """The figures of a position; raises Working while they are made."""
+    # what an earlier position needs is made first, and not within this piece of work
+    book.policies()
+    found = book.copy.kept(("figures", book.at), "the figures of the first page", lambda job: made(book))
+    assert isinstance(found, Figures)
+    return found
+
+
+def made(book: View) -> Figures:
+    history = book.history()
+    last = int(history.latest[-1]) if len(history) else int(NO_DAY)
+    if last == NO_DAY:
+        return Figures([], [], [], [], [], [], [])
+    first, count, until = month_ends(last)
+    premiums = installments(book, history, until)
+    is_received, months = np.isin(history.kind, RECEIVED), month_of(history.day)
+    ends = year_ends_of(history, last)
+    # their addresses are tied to the journal up to there
+    book.copy.sum_all([each.position for each in ends])
+    years, claims, maturities = claims_by_year(history, last)
+    return Figures(ends, [label_of(month) for month in range(first, first + count)],
+                   sums_in(month_of(premiums.due), first, count, premiums.cents),
+                   sums_in(months[is_received], first, count, history.booked[is_received]), years, claims, maturities)
+
+
+def claims_by_year(history: History, last: int) -> tuple[list[str], list[int], list[int]]:
+    """What was incurred by claims and by maturities, in each of the last years."""
+    year = month_of(np.array([last]))[0] // 12
+    first = year - MOST_YEARS + 1
+    found = []
+    for kind in (CLAIM, MATURE):
+        mine = history.kind == kind
+        found.append(sums_in(month_of(history.day[mine]) // 12, first, MOST_YEARS, history.booked[mine]))
+    labels = [str(1970 + each) for each in range(first, first + MOST_YEARS)]
+    # years before the first one with anything are left out
+    begins = next((at for at in range(MOST_YEARS) if found[0][at] or found[1][at]), 0)
+    return labels[begins:], found[0][begins:], found[1][begins:]
+
+
+# --- what the program prints of a year-end ---
+
+class Total(NamedTuple):
+    """A printed total: the bounds in cents, and how many rows have a word."""
+
+    lower: int
+    upper: int
+    words: int
+
+
+@dataclass(frozen=True)
+class Totals:
+    """The totals of some year-ends, none where one isn't there yet; what couldn't be had is told."""
+
+    found: list[Total | None]
+    failure: str
+
+    @property
+    def missing(self) -> int:
+        return sum(each is None for each in self.found)
+
+
+def totals_of(book: View, ends: Sequence[YearEnd]) -> Totals:
+    """The mean reserves of the year-ends, as far as they are there; the newest one that lacks is asked of the program."""
+    found, failure, is_asked = [], "", False
+    for end in reversed(ends):
+        key = book.basis.sum, "total", end.day, end.position
+        job = book.copy.jobs.look(key)
+        if job is None and not is_asked and not failure:
+            job = asked_total(book, end, key)
+        is_there = job is not None and job.ended.is_set()
+        is_asked = is_asked or (job is not None and not is_there)
+        if job is not None and job.failure:
+            failure = failure or job.failure
+        found.append(job.result if is_there and job is not None else None)
+    return Totals(found[::-1], failure)
+
+
+def asked_total(book: View, end: YearEnd, key: tuple[object, ...]) -> Job:
+    title = f"the mean reserve on {end.day} at position {end.position:,}"
+    return book.copy.jobs.job(key, title, lambda job: total_of(book.at_position(end.position), end.day, job))
+
+
+def total_of(book: View, on: datetime.date, job: Job) -> Total:
+    job.at("life value")
+    with book.desk_at_position() as desk:
+        words = ["value", str(on), "--at", str(book.at), "--basis", book.basis.name, *measure_words(MEASURE), *WORKERS]
+        path = printed_by(book.life, words, desk, book.copy.scratch, os.path.join(desk, "value"))
+        return total_in(path)
+
+
+def total_in(path: str) -> Total:
+    """The last line of a printed valuation."""
+    with open(path, "rb") as file:
+        file.seek(max(os.path.getsize(path) - LAST_BYTES, 0))
+        fields = file.read().decode("ascii", "replace").splitlines()[-1].split(",")
+    demand(fields[0] == "total" and len(fields) == 4, "the valuation has no total")
+    return Total(printed_cents(fields[1]), printed_cents(fields[2]), int(fields[3]))
+
+
+def told(total: Total | None) -> list[str]:
+    return [money(total.lower), money(total.upper), f"{total.words:,}"] if total else ["", "", ""]

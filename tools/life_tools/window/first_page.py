@@ -1,0 +1,145 @@
+"""The first page: what the book is in pictures, each of which leads to the list behind it, and what waits for a person."""
+from __future__ import annotations
+
+from typing import NamedTuple, Sequence
+
+from life_tools.common.formats import MOST_COMMANDS
+from life_tools.reports.report_pages import money
+from life_tools.window import charts
+from life_tools.window.asked import Asked
+from life_tools.window.due_lists import due_on
+from life_tools.window.figures import MEASURE, Figures, Totals, figures_of, told, totals_of
+from life_tools.window.find_pages import policy_cell
+from life_tools.window.lists import Kind, kinds_of
+from life_tools.window.parts import RIGHT, Answer, Cell, Head, Page, Table, cells, heads
+from life_tools.window.policies import STATUSES as STATUS_WORDS
+from life_tools.window.standing import waiting_in
+from life_tools.window.views import View
+
+NEWEST = 8
+# after so many seconds the page comes anew, while year-ends are still being valued
+REFRESH = 2
+COLOURS = {"inforce": "c1", "paidup": "c2", "lapsed": "c5", "claimed": "c4", "matured": "c3", "expired": "c6", "settled": "c7"}
+
+
+class Picture(NamedTuple):
+    """A chart with its heading, what is said of it, and the table behind it."""
+
+    title: str
+    says: str
+    svg: str
+    table: Table
+    is_proved: bool = False
+
+
+def first_page(book: View, asked: Asked) -> Answer:
+    """What is in the book, in pictures; the reserves of year-ends are asked of the program one by one."""
+    asked.only(("at",))
+    figures, kinds = figures_of(book), kinds_of(book.policies())
+    totals = totals_of(book, figures.year_ends)
+    waits = waiting_table(book)
+    pictures = [picture for picture in (year_end_picture(book, figures, totals), status_picture(book, kinds),
+                                        premium_picture(book, figures), claim_picture(book, figures)) if picture]
+    policies, insured = sum(it.policies for it in kinds), [it for it in kinds if it.status in ("inforce", "paidup")]
+    facts = [("postings", f"{book.at:,}"), ("policies ever issued", f"{policies:,}"),
+             ("insured", f"{sum(it.policies for it in insured):,}"), ("amount insured", money(sum(it.cents for it in insured)))]
+    values = {"facts": facts, "totals": totals, "pictures": pictures, "gauge": headroom_gauge(book), "waits": waits,
+              "by_status": by_status(book, kinds), "posted": posted(book), "left": f"{MOST_COMMANDS - book.at:,}"}
+    return Page("overview.html", "The book", values, REFRESH if totals.missing and not totals.failure else 0)
+
+
+def year_end_picture(book: View, figures: Figures, totals: Totals) -> Picture | None:
+    ends = figures.year_ends
+    if not ends:
+        return None
+    links = [book.at_position(each.position).link("report", on=each.day, measure=MEASURE) for each in ends]
+    series = [charts.Series("mean reserve, upper bound", "c1", [it.upper if it else None for it in totals.found], links),
+              charts.Series("amount insured", "c2", [each.insured for each in ends], links)]
+    axes = charts.Axes("end of year", [str(each.day.year) for each in ends], "amount")
+    says = f"Reserve and amount insured at the ends of {ends[0].day.year} to {ends[-1].day.year}"
+    names = ["year-end", "position", "insured", "amount insured", "lower bound", "upper bound", "words"]
+    rows = [[Cell(str(each.day), link), *cells((each.position, each.lives, money(each.insured), *told(total)))]
+            for each, total, link in zip(ends, totals.found, links)]
+    return Picture("Reserve and amount insured by year-end",
+                   "Each year-end at the position of its day; the columns lead to the report.",
+                   charts.columns(says, axes, series), Table(says, heads(names), rows), True)
+
+
+def status_picture(book: View, kinds: Sequence[Kind]) -> Picture | None:
+    if not kinds:
+        return None
+    counts = {status: sum(it.policies for it in kinds if it.status == status) for status in STATUS_WORDS}
+    parts = [(STATUS_WORDS[status], count, COLOURS[status], book.link("find", status=status)) for status, count in counts.items()
+             if count]
+    rows = [[Cell(name, link), *cells((count,))] for name, count, _, link in parts]
+    total = [Cell("all"), *cells((sum(counts.values()),))]
+    return Picture("Policies by status", "All that were ever issued; each part leads to its policies.",
+                   charts.divided("Policies by status: " + ", ".join(f"{name} {count:,}" for name, count, _, _ in parts), parts),
+                   Table("Policies by status", heads(("status", "policies")), rows, [total]))
+
+
+def premium_picture(book: View, figures: Figures) -> Picture | None:
+    if not figures.months:
+        return None
+    due, received = ([book.link("premiums", month=month, what=what) for month in figures.months] for what in ("due", "received"))
+    series = [charts.Series("due", "c2", figures.due, due), charts.Series("received", "c1", figures.received, received)]
+    says = f"Premiums due and received by month, {figures.months[0]} to {figures.months[-1]}"
+    rows = [[Cell(month), Cell(money(one), one_link), Cell(money(other), other_link)] for month, one, other, one_link, other_link
+            in zip(figures.months, figures.due, figures.received, due, received)]
+    return Picture("Premiums due and received by month",
+                   "Due: by the month in which a premium fell due that was paid since, or is still unpaid of a policy in force; "
+                   "received: by the day of the posting. A premium may be paid 90 days before it is due.",
+                   charts.columns(says, charts.Axes("month", figures.months, "premiums"), series),
+                   Table(says, heads(("month", "due", "received")), rows))
+
+
+def claim_picture(book: View, figures: Figures) -> Picture | None:
+    if not any((*figures.claims, *figures.maturities)):
+        return None
+    claims, maturities = ([book.link("postings", year=year, kind=kind) for year in figures.years] for kind in ("claim", "mature"))
+    series = [charts.Series("claims", "c4", figures.claims, claims),
+              charts.Series("maturities", "c3", figures.maturities, maturities)]
+    says = f"Claims and maturities incurred by year, {figures.years[0]} to {figures.years[-1]}"
+    rows = [[Cell(year), Cell(money(one), one_link), Cell(money(other), other_link)] for year, one, other, one_link, other_link
+            in zip(figures.years, figures.claims, figures.maturities, claims, maturities)]
+    return Picture("Claims and maturities by year", "What fell due by claims and by maturities, by the day of the posting.",
+                   charts.columns(says, charts.Axes("year", figures.years, "amount"), series, are_stacked=True),
+                   Table(says, heads(("year", "claims", "maturities")), rows))
+
+
+def headroom_gauge(book: View) -> str:
+    says = f"{book.at:,} of {MOST_COMMANDS:,} commands that a journal takes"
+    return charts.gauge(says, book.at, MOST_COMMANDS, book.link("stands"), lambda count: f"{count:,}")
+
+
+def waiting_table(book: View) -> Table:
+    """What waits for a person: rows held back, refusals of the last runs, and what is past its grace."""
+    held, refused = waiting_in(book.listed.folder)
+    due = due_on(book, book.today, 0)
+    lapses, cents = due.sums.get("lapse", (0, 0))
+    rows = [[Cell("rows held back", book.link("held") if held else ""), Cell("Rows of scripts that a person has to look at."),
+             *cells((held, ""))],
+            [Cell("refusals", book.link("refusals") if refused else ""), Cell("Lines that the last five runs refused."),
+             *cells((refused, ""))],
+            [Cell("past grace", book.link("day/list", what="lapse", day=book.today) if lapses else ""),
+             Cell(f"In arrears on {book.today}, and no longer to be paid."), *cells((lapses, money(cents)))]]
+    names = [Head("what"), Head("which", "says"), Head("count", RIGHT), Head("premiums", RIGHT)]
+    return Table("What waits for a person", names, rows)
+
+
+def by_status(book: View, kinds: Sequence[Kind]) -> Table:
+    rows = [[Cell(it.plan, book.link("find", plan=it.plan, status=it.status)), Cell(STATUS_WORDS[it.status]),
+             *cells((it.policies, money(it.cents)))] for it in kinds]
+    total = sum(it.policies for it in kinds), money(sum(it.cents for it in kinds))
+    return Table("Policies by plan and status", heads(("plan", "status", "policies", "amount"), 2), rows,
+                 [[Cell("all"), Cell(""), *cells(total)]])
+
+
+def posted(book: View) -> Table:
+    with book.tables() as database:
+        rows = database.execute("select position, day, kind, policy, amount_cents from command where position <= ? "
+                                "order by position desc limit ?", (book.at, NEWEST)).fetchall()
+    names = [Head("position", RIGHT), Head("day"), Head("posting"), Head("policy", RIGHT), Head("amount", RIGHT)]
+    return Table("The newest postings", names, [
+        [*cells((row["position"],)), Cell(row["day"] or ""), Cell(row["kind"]), policy_cell(book, row["policy"]),
+         Cell(money(row["amount_cents"]) if row["amount_cents"] else "")] for row in rows], kind="list")

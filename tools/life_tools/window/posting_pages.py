@@ -1,0 +1,147 @@
+"""Lists of postings and premiums behind a mark of a chart: each adds up to the number that the mark shows."""
+from __future__ import annotations
+
+import datetime
+import re
+from typing import Any, Sequence
+
+from life_tools.common.arrays import Array, np
+from life_tools.common.formats import FIRST_DAY, LAST_DAY
+from life_tools.journal.day_columns import day_at, number_at
+from life_tools.journal.records import CLAIM, MATURE
+from life_tools.reports.report_pages import money
+from life_tools.window.asked import Asked, BadRequest, shown
+from life_tools.window.figures import RECEIVED, Installments, installments, month_ends
+from life_tools.window.find_pages import policy_cell
+from life_tools.window.lists import A_PAGE
+from life_tools.window.parts import RIGHT, Answer, Cell, Head, Page, Table, cells
+from life_tools.window.standing import held_rows, refused_rows
+from life_tools.window.views import View, paged_words, turns
+
+KINDS = {"claim": CLAIM, "mature": MATURE}
+SAYS = {"claim": "Claims", "mature": "Maturities"}
+MONTH = re.compile("([0-9]{4})-(0[1-9]|1[0-2])")
+
+
+def month_in(asked: Asked) -> tuple[int, int]:
+    """The first and the last day of the month that is asked for."""
+    text = asked.text("month")
+    parts = MONTH.fullmatch(text)
+    if not parts or not FIRST_DAY.year <= int(parts[1]) <= LAST_DAY.year:
+        raise BadRequest(f"month: {shown(text)} is no month YYYY-MM from {FIRST_DAY.year} to {LAST_DAY.year}")
+    first = datetime.date(int(parts[1]), int(parts[2]), 1)
+    after = datetime.date(first.year + first.month // 12, first.month % 12 + 1, 1)
+    return number_at(first), number_at(after) - 1
+
+
+# --- premiums of a month ---
+
+def premiums(book: View, asked: Asked) -> Answer:
+    """The premiums that fell due in a month, or those that were received in it."""
+    asked.only(("at", "month", "what", "page"))
+    first, last = month_in(asked)
+    if asked.one_of("what", ("due", "received"), "due") == "received":
+        history = book.history()
+        mine = np.isin(history.kind, RECEIVED) & (history.day >= first) & (history.day <= last)
+        return posting_page(book, asked, np.flatnonzero(mine) + 1, f"Premiums received in {asked.text('month')}",
+                            {"month": asked.text("month"), "what": "received"})
+    return due_page(book, asked, first, last)
+
+
+def due_page(book: View, asked: Asked, first: int, last: int) -> Answer:
+    book.policies()
+    found = due_between(book, first, last)
+    order = np.lexsort((found.position, found.due))
+    pages = max(-(-len(order) // A_PAGE), 1)
+    page = asked.number("page", 1, pages, 1)
+    month = asked.text("month")
+    rows = due_rows(book, found, order[(page - 1) * A_PAGE:page * A_PAGE])
+    unpaid = found.position == 0
+    total = [Cell("all"), *cells((len(order),)), Cell(money(int(found.cents.sum()))), Cell("")]
+    names = [Head("due"), Head("policy", RIGHT), Head("premium", RIGHT), Head("paid", "says")]
+    says = (f"{len(order):,} fell due, {money(int(found.cents.sum()))} in all; {int(unpaid.sum()):,} of these, "
+            f"{money(int(found.cents[unpaid].sum()))}, aren't paid at this position.")
+    values = {"table": Table("Premiums due", names, rows, [total], kind="list"), "says": says, "page": page, "pages": pages,
+              "turns": turns(lambda to: book.link("premiums", month=month, what="due", page=to), page, pages)}
+    return Page("postings.html", f"Premiums due in {month}", values)
+
+
+def due_between(book: View, first: int, last: int) -> Installments:
+    """The premiums that fell due between two days, as the chart of months counts them."""
+    history = book.history()
+    newest = int(history.latest[-1]) if len(history) else last
+    found = installments(book, history, max(min(last, month_ends(newest)[2]), first))
+    mine = np.flatnonzero((found.due >= first) & (found.due <= last))
+    return Installments(*(column[mine] for column in found))
+
+
+def due_rows(book: View, found: Installments, order: Array) -> list[list[Cell]]:
+    policies = book.policies()
+    commands = commands_at(book, found.position[order])
+    rows = []
+    for at, row in zip(order.tolist(), commands):
+        number = row["policy"] if row else int(policies.number[found.place[at]])
+        paid = f"on {row['day']}, at position {row['position']:,}" if row else "not paid"
+        rows.append([Cell(str(day_at(found.due[at]))), policy_cell(book, number), Cell(money(int(found.cents[at]))), Cell(paid)])
+    return rows
+
+
+def commands_at(book: View, positions: Array) -> list[Any]:
+    """The rows of the postings at positions, and none for 0."""
+    wanted = [each for each in positions.tolist() if each]
+    with book.tables() as database:
+        marks = ",".join("?" * len(wanted))
+        columns = "position, day, kind, policy, amount_cents"
+        rows = database.execute(f"select {columns} from command where position in ({marks})", wanted)
+        found = {row["position"]: row for row in rows.fetchall()}
+    return [found.get(each) for each in positions.tolist()]
+
+
+# --- postings of a kind ---
+
+def postings(book: View, asked: Asked) -> Answer:
+    """The claims or the maturities of a year."""
+    asked.only(("at", "year", "kind", "page"))
+    kind, year = asked.one_of("kind", KINDS, "claim"), asked.number("year", FIRST_DAY.year, LAST_DAY.year, FIRST_DAY.year)
+    history = book.history()
+    first, last = (number_at(datetime.date(year, *each)) for each in ((1, 1), (12, 31)))
+    mine = (history.kind == KINDS[kind]) & (history.day >= first) & (history.day <= last)
+    return posting_page(book, asked, np.flatnonzero(mine) + 1, f"{SAYS[kind]} of {year}", {"year": year, "kind": kind})
+
+
+def posting_page(book: View, asked: Asked, positions: Array, title: str, words: dict[str, object]) -> Answer:
+    """Postings with what each booked, fifty a page."""
+    name = "postings" if "kind" in words else "premiums"
+    pages = max(-(-len(positions) // A_PAGE), 1)
+    page = asked.number("page", 1, pages, 1)
+    history, some = book.history(), positions[(page - 1) * A_PAGE:page * A_PAGE]
+    rows = [[*cells((row["position"],)), Cell(row["day"]), Cell(row["kind"]), policy_cell(book, row["policy"]),
+             Cell(money(int(history.booked[row["position"] - 1])))] for row in commands_at(book, some)]
+    whole = int(history.booked[positions - 1].sum())
+    names = [Head("position", RIGHT), Head("day"), Head("posting"), Head("policy", RIGHT), Head("booked", RIGHT)]
+    total = [Cell("all"), Cell(""), Cell(""), *cells((len(positions),)), Cell(money(whole))]
+    values = {"table": Table("Postings", names, rows, [total], kind="list"), "page": page, "pages": pages,
+              "says": f"{len(positions):,} posting{'' if len(positions) == 1 else 's'}, which booked {money(whole)}.",
+              "turns": turns(lambda to: book.link(name, **paged_words(words, to)), page, pages)}
+    return Page("postings.html", title, values)
+
+
+# --- what waits for a person, in the log ---
+
+def log_page(title: str, says: str, lines: Sequence[tuple[str, str]]) -> Answer:
+    rows = [[Cell(run), Cell(line)] for run, line in lines]
+    values = {"table": Table(title, [Head("run"), Head("row", "says")], rows), "page": 1, "pages": 1, "turns": [], "says": says}
+    return Page("postings.html", title, values)
+
+
+def held(book: View, asked: Asked) -> Answer:
+    asked.only(("at",))
+    rows = held_rows(book.listed.folder)
+    return log_page("Rows held back", f"{len(rows):,} rows of scripts are held back, until a person has looked at them and "
+                    "sends them or strikes them out.", rows)
+
+
+def refusals(book: View, asked: Asked) -> Answer:
+    asked.only(("at",))
+    rows = refused_rows(book.listed.folder)
+    return log_page("Refusals of the last runs", f"{len(rows):,} lines were refused by the last five runs.", rows)

@@ -1,0 +1,114 @@
+"""The server of the window: on the loopback, with so many connections at a time, each for so many seconds and no longer."""
+from __future__ import annotations
+
+import importlib
+import socket
+import threading
+import time
+from typing import Any
+
+from life_tools.common.formats import Wrong
+from life_tools.window.door import Door
+
+LOOPBACK = "127.0.0.1"
+MOST_CONNECTIONS = 64
+# a request has to be whole, and answered, within so many seconds
+WHOLE_REQUEST = 15
+# how often it is looked which connections are over their time
+EACH = 0.5
+FULL = b"HTTP/1.0 503 Service Unavailable\r\nConnection: close\r\nContent-Length: 0\r\n\r\n"
+
+
+class Deadlines:
+    """The connections that are open, each with the moment at which it is ended, and one thread that ends them."""
+
+    def __init__(self, most: int = MOST_CONNECTIONS, seconds: float = WHOLE_REQUEST) -> None:
+        self.most, self.seconds = most, seconds
+        self.open: dict[Any, float] = {}
+        self.turn = threading.Lock()
+        threading.Thread(target=self.watch, daemon=True).start()
+
+    def begins(self, line: Any) -> bool:
+        """Whether there is a place for one more."""
+        with self.turn:
+            if len(self.open) >= self.most:
+                return False
+            self.open[line] = time.monotonic() + self.seconds
+        return True
+
+    def ends(self, line: Any) -> None:
+        with self.turn:
+            self.open.pop(line, None)
+
+    def watch(self) -> None:
+        while True:
+            time.sleep(EACH)
+            now = time.monotonic()
+            with self.turn:
+                late = [line for line, until in self.open.items() if until < now]
+            for line in late:
+                end(line)
+
+
+def end(line: Any) -> None:
+    """Ends a connection for both sides; whoever reads or writes it is told so at once."""
+    try:
+        line.shutdown(socket.SHUT_RDWR)
+    except OSError:
+        pass
+
+
+def quiet_handler() -> Any:
+    """A handler of requests that keeps no log, since an address may hold the token."""
+    serving: Any = importlib.import_module("werkzeug.serving")
+
+    class Handler(serving.WSGIRequestHandler):  # type: ignore[misc]
+        timeout = WHOLE_REQUEST
+        # each request has a connection of its own, so that what a refused one left behind is never another one's
+        protocol_version = "HTTP/1.0"
+        server_version, sys_version = "life", ""
+
+        def version_string(self) -> str:
+            return "life"
+
+        def log(self, *_: object) -> None:
+            pass
+
+    return Handler
+
+
+def server_class() -> Any:
+    serving: Any = importlib.import_module("werkzeug.serving")
+
+    class Server(serving.ThreadedWSGIServer):  # type: ignore[misc]
+        # those beyond the most are told so at once, and hold nothing
+        request_queue_size = MOST_CONNECTIONS
+        deadlines = Deadlines()
+
+        def process_request(self, request: Any, client_address: Any) -> None:
+            if not self.deadlines.begins(request):
+                try:
+                    request.settimeout(EACH)
+                    request.sendall(FULL)
+                except OSError:
+                    pass
+                self.shutdown_request(request)
+                return
+            super().process_request(request, client_address)
+
+        def shutdown_request(self, request: Any) -> None:
+            self.deadlines.ends(request)
+            super().shutdown_request(request)
+
+        def handle_error(self, request: Any, client_address: Any) -> None:
+            """A connection that ended while it was answered is nothing to be told."""
+
+    return Server
+
+
+def served(door: Door, port: int) -> Any:
+    """A server of a door at a port, or at a free one for 0."""
+    try:
+        return server_class()(LOOPBACK, port, door, quiet_handler())
+    except (OSError, SystemExit) as error:
+        raise Wrong(f"port {port} can't be had: {getattr(error, 'strerror', None) or 'it is taken'}") from None

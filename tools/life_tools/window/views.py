@@ -1,0 +1,169 @@
+"""What a page is of: a book at a position, by a basis; its address is tied to the SHA-256 of both."""
+from __future__ import annotations
+
+import datetime
+import hashlib
+import re
+import sqlite3
+from contextlib import contextmanager
+from functools import cached_property
+from typing import Callable, Iterator, Mapping, Sequence
+from urllib.parse import urlencode
+
+from life_tools.books.lists import ListedBook
+from life_tools.common.formats import MOST_COMMANDS, Wrong, number_of
+from life_tools.journal.policy_columns import Policies
+from life_tools.window.asked import Asked, BadRequest, shown
+from life_tools.window.book_copy import BookCopy, TakenBasis
+from life_tools.window.history import History
+from life_tools.window.jobs import Job
+from life_tools.window.lists import newest_day
+
+# a position, perhaps with what ties it to a journal's prefix and a basis
+AT = re.compile("([0-9]{1,7})(?:-([0-9a-f]{12}))?")
+TIE = 12
+# the words of an address that name the position that its page shows, the first of them that is there
+POSITIONS = ("p2", "p")
+
+
+class Gone(Wrong):
+    """A page was of a journal or a basis that this window doesn't have."""
+
+
+def address(root: str, number: int, page: str, words: Mapping[str, object]) -> str:
+    """The address of a page of a book; words without a value are left out."""
+    given = {name: str(value) for name, value in words.items() if value not in (None, "")}
+    return f"{root}/{number}/{page}" + (f"?{urlencode(given)}" if given else "")
+
+
+class View:
+    """A book as a page shows it."""
+
+    def __init__(self, copy: BookCopy, at: int, basis: TakenBasis) -> None:
+        self.copy, self.at, self.basis = copy, at, basis
+        self.number, self.life = copy.number, copy.life
+
+    # --- what it is of ---
+
+    @property
+    def listed(self) -> ListedBook:
+        return self.copy.book
+
+    @property
+    def name(self) -> str:
+        return self.copy.name
+
+    @property
+    def desk(self) -> str:
+        """The private folder with the copied journal, the basis and its tables."""
+        return self.basis.folder
+
+    @property
+    def prefix_sum(self) -> str:
+        """The SHA-256 of the journal up to this position."""
+        return self.copy.sum_at(self.at)
+
+    @cached_property
+    def tie(self) -> str:
+        return tie_of(self.prefix_sum, self.basis.sum)
+
+    @cached_property
+    def day(self) -> str | None:
+        """The day of the last posting up to this position."""
+        with self.tables() as database:
+            return newest_day(database, self.at)
+
+    @property
+    def today(self) -> datetime.date:
+        """Today, or of an earlier position the day of its last posting."""
+        now = datetime.date.today()
+        return now if self.at == self.copy.newest or not self.day else datetime.date.fromisoformat(self.day)
+
+    @property
+    def is_newest(self) -> bool:
+        return self.at == self.copy.newest and self.basis is self.copy.basis
+
+    def at_position(self, position: int) -> View:
+        return self if position == self.at else View(self.copy, position, self.basis)
+
+    def by_basis(self, basis: TakenBasis) -> View:
+        return View(self.copy, self.at, basis)
+
+    # --- addresses ---
+
+    def link(self, page: str, /, **words: object) -> str:
+        """The address of a page of this position by this basis."""
+        return address(self.copy.root, self.number, page, {"at": f"{self.at}-{self.tie}", **words})
+
+    def newest_link(self, page: str, /, **words: object) -> str:
+        return address(self.copy.root, self.number, page, words)
+
+    # --- what is known of it ---
+
+    def kept(self, key: tuple[object, ...], title: str, work: Callable[[Job], object]) -> object:
+        """The result of some work by this basis."""
+        return self.copy.kept((self.basis.sum, *key), title, work)
+
+    def policies(self) -> Policies:
+        return self.copy.policies(self.at)
+
+    def history(self) -> History:
+        """What the book was at each position up to this one."""
+        return self.copy.history(self.at)
+
+    @contextmanager
+    def tables(self) -> Iterator[sqlite3.Connection]:
+        """The postings of all positions, and the policies of those that the window took."""
+        with self.copy.tables() as database:
+            yield database
+
+    @contextmanager
+    def lists(self) -> Iterator[sqlite3.Connection]:
+        """The policies of this position."""
+        with self.copy.lists(self.at) as database:
+            yield database
+
+    @contextmanager
+    def desk_at_position(self) -> Iterator[str]:
+        with self.copy.desk_at(self.at, self.basis) as desk:
+            yield desk
+
+
+def tie_of(prefix: str, basis: str) -> str:
+    return hashlib.sha256(f"{prefix} {basis}".encode()).hexdigest()[:TIE]
+
+
+def view_of(copy: BookCopy, asked: Asked) -> View:
+    """What an address asks to see; raises Gone where it was of a journal or a basis that isn't there any more."""
+    text = asked.text("at")
+    parts = AT.fullmatch(text) if text else None
+    at = number_of(parts[1], 0, MOST_COMMANDS) if parts else copy.newest
+    if text and (parts is None or at is None or at > copy.newest):
+        raise BadRequest(f"at: {shown(text)} is no position of this book, which goes to {copy.newest}")
+    assert at is not None
+    view = tied(copy, at, parts[2]) if parts and parts[2] else View(copy, at, copy.basis)
+    for name in POSITIONS:
+        if asked.text(name):
+            return view.at_position(asked.position(name, copy.newest, at))
+    return view
+
+
+def tied(copy: BookCopy, at: int, tie: str) -> View:
+    """The view of an address, by the basis with which that was made."""
+    for basis in reversed(copy.bases):
+        view = View(copy, at, basis)
+        if view.tie == tie:
+            return view
+    raise Gone(f"this page was of position {at:,} with the sum {tie} of journal and basis, and the window has it with "
+               f"{View(copy, at, copy.basis).tie}: the page can't be made any more")
+
+
+def paged_words(words: Mapping[str, object], to: int) -> dict[str, object]:
+    """The words of a list's address, with another page."""
+    return {**words, "page": to}
+
+
+def turns(link: Callable[[int], str], now: int, last: int) -> list[tuple[str, str]]:
+    """The links to other pages of a list, with what they say."""
+    places: Sequence[tuple[str, int]] = (("first", 1), ("before", now - 1), ("next", now + 1), ("last", last))
+    return [(says, link(to)) for says, to in places if 1 <= to <= last and to != now]
