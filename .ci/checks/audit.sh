@@ -86,9 +86,9 @@ grep -q "^[12] of 4 rows are right; the total isn't checked$" out || complain "m
 go_on "letters"
 says audit letters sample
 prints <<ROWS
-policy,book,as of,position,plan,issued,age at issue,status,amount,premium a year,premiums paid,paid up to,next premium due,insured until,last posting,outstanding,agrees,remarks
-14,sample,2022-12-31,11,limited,2021-01-20,50,inforce,15000.00,1200.00,3,2024-01-20,2024-01-20,2102-01-20,2023-01-20,0.00,,
-13,sample,2022-12-31,11,endowment,2021-03-15,28,inforce,9000.00,2950.00,2,2023-03-15,2023-03-15,2024-03-15,2022-03-15,0.00,,
+policy,book,as of,position,plan,issued,age at issue,status,amount,premium a year,premiums paid,paid up to,next premium due,premium in arrears,insured until,last posting,outstanding,agrees,remarks
+14,sample,2022-12-31,11,limited,2021-01-20,50,inforce,15000.00,1200.00,3,2024-01-20,2024-01-20,,2102-01-20,2023-01-20,0.00,,
+13,sample,2022-12-31,11,endowment,2021-03-15,28,inforce,9000.00,2950.00,2,2023-03-15,2023-03-15,,2024-03-15,2022-03-15,0.00,,
 ROWS
 
 go_on "papers"
