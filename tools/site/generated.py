@@ -22,7 +22,7 @@ BLOCK = re.compile(r"(<!-- generated: (\S+)(.*?) -->\n)(.*?)(<!-- end -->)", re.
 
 def printed(command: list[str]) -> str:
     """What a command prints, as on a terminal of 80 columns."""
-    return subprocess.run(command, cwd=TOP, stdout=subprocess.PIPE, stderr=subprocess.STDOUT, check=True,
+    return subprocess.run(command, cwd=TOP, stdout=subprocess.PIPE, stderr=subprocess.DEVNULL, check=True,
                           env={**os.environ, "COLUMNS": "80", "LC_ALL": "C"}).stdout.decode()
 
 
@@ -49,7 +49,7 @@ def refusals() -> str:
     from life_tools.rules.remedies import REMEDIES
     rows = ["| Reason | Answer to | What it means | What to do |", "|---|---|---|---|"]
     for remedy in REMEDIES:
-        kinds = ", ".join(f"`{kind}`" for kind in remedy.kinds) or "any line"
+        kinds = ", ".join(f"`{kind}`" for kind in remedy.kinds)
         rows.append(f"| `{remedy.reason}` | {kinds} | {remedy.means} | {remedy.what} |")
     return "\n".join(rows) + "\n"
 

@@ -61,9 +61,10 @@ def test_standard_error_that_is_closed(office: Folder) -> None:
 def test_bytes_pass_whatever_the_locale(office: Folder, locale: str) -> None:
     script = b'1,issue,9001,2022-01-01,term,30,10,1000.00,10.00\n1,"\xe9\xff",1\n'
     office.write("strange.csv", script)
-    ended, said = ran(office, "rest strange.csv journal.life 0", ">out", {"LC_ALL": locale, "PYTHONCOERCECLOCALE": "0", "PYTHONUTF8": "0"})
+    env = {"LC_ALL": locale, "PYTHONCOERCECLOCALE": "0", "PYTHONUTF8": "0"}
+    ended, said = ran(office, "rest strange.csv journal.life 0", ">out", env)
     assert ended == 2 and "Traceback" not in said and "foreseen" not in said, (ended, said)
-    ended, said = ran(office, "explain badscript,2,2 strange.csv", ">out", {"LC_ALL": locale, "PYTHONUTF8": "0", "PYTHONCOERCECLOCALE": "0"})
+    ended, said = ran(office, "explain badscript,2,2 strange.csv", ">out", env)
     assert ended in (0, 1) and "foreseen" not in said, (ended, said)
 
 

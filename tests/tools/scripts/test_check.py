@@ -26,21 +26,21 @@ line 2 of one-order.csv: 1,premium,12,2025-02-27,311.00
   the day is before that of the lane's posting above, which is 2025-02-28
   the policy's premium is 310.00
   it is refused: beforelast,2025-02-28
-  to do: post with this day or a later one
+  to do: post it with this day or a later one
 line 3 of one-order.csv: 2,settle,11,2022-05-01,50000.00
   the day is 679 days before the policy's newest posting, which is of 2024-03-10
   0.00 is outstanding
   it is refused: beforelast,2024-03-10
-  to do: post with this day or a later one
+  to do: post it with this day or a later one
 line 5 of one-order.csv: 3,settle,13,2024-03-28,5000.00
   an accepted posting equals it, of position 25
   0.00 is outstanding
   it is refused: wrongstatus,settled
-  to do: nothing more
+  to do: pay nothing more; refer it
 line 6 of one-order.csv: 1,claim,99,2025-03-01
   policy 99 is unknown
   it is refused: unknown
-  to do: is it mistyped? is it the right folder?
+  to do: correct the number, if it is mistyped; else look for the right folder
 line 7 of one-order.csv: 4,issue,21,2035-01-01,term,30,10,1000.00,20.00
   the day is behind today, which is 2025-03-01
 """

@@ -1,7 +1,8 @@
-"""What a refusal means and what to do about it, by the kind of the refused line; docs/reference/refusals.md shows the same table.
+"""What a refusal means and what to do about it, for each kind of line; docs/reference/refusals.md shows the same table.
 
 A death or a maturity that the rules refuse for want of cover is never a reason to reinstate: a policy is put in force again
-only while the insured is alive.
+only while the insured is alive. What the advice says to post is named beside it, in steps that can be carried out: each is
+accepted then. An advice without steps is to refer the case, or that nothing is to be posted.
 """
 from __future__ import annotations
 
@@ -9,70 +10,147 @@ from typing import NamedTuple
 
 from life_tools.common.formats import KINDS, MOST_LANES, STATUSES, Wrong, demand, number_of
 
+# steps beside the kinds of line that are posted: the line itself, as it is or corrected, or posted elsewhere
+AGAIN, OTHER_NUMBER, OTHER_DAY, OTHER_AMOUNT, OTHER_BOOK = "again", "number", "day", "amount", "book"
+Steps = tuple[tuple[str, ...], ...]
+
 
 class Remedy(NamedTuple):
-    """A reason, with the status of a `wrongstatus`; the kinds of line that it is for, or none for all others; the advice."""
+    """The kinds of line that it is for; the reason, with the status of a `wrongstatus`; what it means; the advice; and what is
+    posted by it, where there are several ways one of these by how the policy stands."""
 
-    reason: str
     kinds: tuple[str, ...]
+    reason: str
     means: str
     what: str
+    steps: Steps = ()
 
 
-BENEFITS = ("claim", "mature")
-PAYING = ("premium", "alter", "paidup")
+POLICIES = ("premium", "alter", "lapse", "reinstate", "claim", "settle", "mature", "paidup")
 REFER = "don't reinstate; refer it"
-ONLY_SETTLE = "only `settle`"
-NOTHING_MORE = "nothing more"
-POSTED = "a death or a maturity is posted"
-NOT_ALLOWED = "the status doesn't allow it"
+GIVE_BACK = "give the premium back outside the book"
+REINSTATE = "if the insured is alive"
+POSTED = {"claimed": "a death is posted", "matured": "the maturity is posted"}
+IS_OVER = {"settled": "all that was insured is paid out", "expired": "the term has ended, and nothing is paid for it"}
 UNPAID = "this day's premium wasn't paid within 31 days"
-# the first that fits is told
+ENDED = "the insurance ended on this day"
+SETTLE = "`settle` what is outstanding"
+NOTHING = "post nothing: "
+MISTYPED = "correct the line's day, if it is mistyped; else"
+IN_ARREARS = "`mature` it, or `lapse` it if it is in arrears"
+
+
+def of_status(status: str) -> tuple[Remedy, ...]:
+    """The remedies of lines on a policy that is claimed, matured, settled or expired."""
+    reason, means = f"wrongstatus,{status}", {**POSTED, **IS_OVER}[status]
+    if status in POSTED:
+        return (
+            Remedy(("premium",), reason, means, f"{GIVE_BACK}; {SETTLE}", (("settle",),)),
+            Remedy(("alter", "lapse", "reinstate", "paidup"), reason, means, f"it can't be changed any more: {SETTLE}",
+                   (("settle",),)),
+            Remedy(("claim", "mature"), reason, means, f"it isn't posted twice: {SETTLE}", (("settle",),)),
+        )
+    return (
+        Remedy(("premium",), reason, means, GIVE_BACK),
+        Remedy(("alter", "lapse", "paidup"), reason, means, f"{NOTHING}there is no insurance left to change"),
+        Remedy(("reinstate",), reason, means, "issue a new policy, under another number", (("issue",),)),
+        Remedy(("claim",), reason, means, "pay nothing; refer it"),
+        Remedy(("settle",), reason, means, "pay nothing more; refer it"),
+        Remedy(("mature",), reason, means, f"{NOTHING}it is done"),
+    )
+
+
 REMEDIES = (
-    Remedy("taken", (), "the number was used once, and is never free again", "another number"),
-    Remedy("unknown", (), "no policy has the number", "is it mistyped? is it the right folder?"),
-    Remedy("beforelast", ("claim",), "the policy has a line of this later day", "send no later day before `check` says so"),
-    Remedy("beforelast", (), "the policy's last line is of this day", "post with this day or a later one"),
-    Remedy("wrongstatus,lapsed", BENEFITS, "it has lapsed: not insured then", REFER),
-    Remedy("wrongstatus,lapsed", PAYING, "it has lapsed", "`reinstate` it first, if the insured is alive"),
-    Remedy("wrongstatus,claimed", (), POSTED, ONLY_SETTLE),
-    Remedy("wrongstatus,matured", (), POSTED, ONLY_SETTLE),
-    Remedy("wrongstatus,paidup", (), "it is paid up", "`claim` or `mature`"),
-    Remedy("wrongstatus,lapsed", (), NOT_ALLOWED, NOTHING_MORE),
-    Remedy("wrongstatus,inforce", (), NOT_ALLOWED, NOTHING_MORE),
-    Remedy("wrongstatus,settled", (), NOT_ALLOWED, NOTHING_MORE),
-    Remedy("wrongstatus,expired", (), NOT_ALLOWED, NOTHING_MORE),
-    Remedy("termover", ("claim",), "the insurance ended on this day: not insured then",
-           "pay no claim; `mature` it, or `lapse` it in arrears"),
-    Remedy("termover", (), "the insurance ended on this day", "`mature` it; one in arrears can only be lapsed"),
-    Remedy("nothingdue", (), "all premiums are paid", "give a premium back outside"),
-    Remedy("tooearly", (), "the next premium is due on this day", "send it from 90 days before on"),
-    Remedy("graceover", BENEFITS, f"{UNPAID}: not insured then", REFER),
-    Remedy("graceover", (), UNPAID, "`lapse` it, then `reinstate` it for all that is missed, if the insured is alive"),
-    Remedy("notinarrears", (), "the premium of this day has its 31 days of grace", "wait until they are over"),
-    Remedy("toolate", (), "a reinstatement was possible up to this day", "a new policy, under another number"),
-    Remedy("wrongamount", (), "this is the right amount", "send it"),
-    Remedy("notareduction", (), "this is insured, and the new amount has to be lower", "a further policy for more"),
-    Remedy("notmatured", (), "the term ends on this day", "wait"),
-    Remedy("oversettled", (), "this is outstanding", "pay no more than this"),
-    Remedy("notupgraded", (), "the journal doesn't take `paidup` yet", "`upgrade` it once"),
-    Remedy("upgraded", (), "the line of this position upgraded the journal", "nothing: it is done"),
-    Remedy("full", (), "the journal takes no more, not of its own policies either; `state`, `checkpoint`, `value` and `project` "
-           "still answer", "a further book for new policies, begun in time"),
-    Remedy("ahead", (), "a valuation's position isn't there yet", "a position up to this count"),
-    Remedy("trimmed", (), "it lies before what a `trim` kept", "a later position; `sh life value` has all"),
-    Remedy("pinsfull", (), "sixteen valuations are under way", "later"),
+    Remedy(("issue",), "taken", "the number was used once, and is never free again", "issue it under another number",
+           ((OTHER_NUMBER,),)),
+    Remedy(POLICIES, "unknown", "no policy has the number",
+           "correct the number, if it is mistyped; else look for the right folder", ((OTHER_NUMBER,),)),
+    Remedy(("claim",), "beforelast", "the policy has a line of this later day",
+           "refer it, unless `check` says that it was insured and of which day to post the claim", ((OTHER_DAY,),)),
+    Remedy(tuple(kind for kind in POLICIES if kind != "claim"), "beforelast", "the policy's last line is of this day",
+           "post it with this day or a later one", ((OTHER_DAY,),)),
+    # --- a policy that has lapsed ---
+    Remedy(("premium",), "wrongstatus,lapsed", "it has lapsed",
+           f"in place of the premium `reinstate` it for all that is missed, {REINSTATE}", (("reinstate",),)),
+    Remedy(("alter",), "wrongstatus,lapsed", "it has lapsed", f"`reinstate` it first, {REINSTATE}", (("reinstate", AGAIN),)),
+    Remedy(("paidup",), "wrongstatus,lapsed", "it has lapsed", f"`reinstate` it first, {REINSTATE}", (("reinstate", AGAIN),)),
+    Remedy(("lapse",), "wrongstatus,lapsed", "it has lapsed", f"{NOTHING}it is done"),
+    Remedy(("claim", "mature"), "wrongstatus,lapsed", "it has lapsed: it wasn't insured then", REFER),
+    Remedy(("settle",), "wrongstatus,lapsed", "it has lapsed: nothing is owed", "pay nothing; refer it"),
+    # --- a policy in force, or paid up ---
+    Remedy(("reinstate",), "wrongstatus,inforce", "it hasn't lapsed",
+           f"if a premium is missed for more than 31 days, `lapse` it first, and then `reinstate` it, {REINSTATE}; else pay the "
+           "`premium`", (("lapse", AGAIN), ("premium",))),
+    *(Remedy(("settle",), f"wrongstatus,{status}", "neither a death nor a maturity is posted",
+             "post the `claim` or the `mature` first", (("claim", AGAIN), ("mature", AGAIN)))
+      for status in ("inforce", "paidup")),
+    Remedy(("premium",), "wrongstatus,paidup", "no premium is due any more", GIVE_BACK),
+    Remedy(("alter",), "wrongstatus,paidup", "what is paid up can't be altered",
+           "issue a further policy for more; for less refer it", (("issue",),)),
+    Remedy(("lapse",), "wrongstatus,paidup", "no premium is due, so none is missed", f"{NOTHING}it stays insured"),
+    Remedy(("reinstate",), "wrongstatus,paidup", "it is insured without premiums", f"{NOTHING}it needs no reinstatement"),
+    Remedy(("paidup",), "wrongstatus,paidup", "it is paid up", f"{NOTHING}it is done"),
+    *of_status("claimed"),
+    *of_status("matured"),
+    *of_status("settled"),
+    *of_status("expired"),
+    # --- the term ---
+    Remedy(("premium",), "termover", ENDED, f"{MISTYPED} {GIVE_BACK}, and {IN_ARREARS}",
+           (("mature",), ("lapse",), (OTHER_DAY,))),
+    Remedy(("alter", "paidup"), "termover", ENDED, f"{MISTYPED} {IN_ARREARS}: it can't be changed any more",
+           (("mature",), ("lapse",), (OTHER_DAY,))),
+    Remedy(("claim",), "termover", f"{ENDED}: it wasn't insured then", f"{MISTYPED} pay no claim, and {IN_ARREARS}",
+           (("mature",), ("lapse",), (OTHER_DAY,))),
+    Remedy(("reinstate",), "termover", ENDED, f"{MISTYPED} refer it, or issue a new policy",
+           (("issue",), (OTHER_DAY,))),
+    Remedy(("mature",), "notmatured", "the term ends on this day", "post it from this day on", ((OTHER_DAY,),)),
+    # --- premiums ---
+    Remedy(("premium",), "nothingdue", "all premiums are paid", GIVE_BACK),
+    Remedy(("lapse",), "nothingdue", "all premiums are paid, so none is missed", f"{NOTHING}it stays insured"),
+    Remedy(("paidup",), "nothingdue", "all premiums are paid", f"{NOTHING}it is insured in full without premiums"),
+    Remedy(("premium",), "tooearly", "the next premium is due on this day", "post it from 90 days before this day on",
+           ((OTHER_DAY,),)),
+    Remedy(("premium",), "graceover", UNPAID,
+           f"{MISTYPED} `lapse` it, and then `reinstate` it for all that is missed, {REINSTATE}",
+           (("lapse", "reinstate"), (OTHER_DAY,))),
+    Remedy(("alter", "paidup"), "graceover", UNPAID,
+           f"{MISTYPED} `lapse` it, `reinstate` it for all that is missed, {REINSTATE}, and post it again",
+           (("lapse", "reinstate", AGAIN), (OTHER_DAY,))),
+    Remedy(("claim", "mature"), "graceover", f"{UNPAID}: it wasn't insured then", REFER),
+    Remedy(("lapse",), "notinarrears", "the premium of this day has its 31 days of grace", "post it once these days are over",
+           ((OTHER_DAY,),)),
+    Remedy(("reinstate",), "toolate", "a reinstatement was possible up to this day",
+           f"{MISTYPED} issue a new policy, under another number", (("issue",), (OTHER_DAY,))),
+    # --- amounts ---
+    Remedy(("premium", "reinstate"), "wrongamount", "this is the right amount", "post it with this amount", ((OTHER_AMOUNT,),)),
+    Remedy(("alter", "paidup"), "notareduction", "this is insured, and the new amount has to be lower",
+           "post a lower amount; for more issue a further policy", ((OTHER_AMOUNT,), ("issue",))),
+    Remedy(("settle",), "oversettled", "this is outstanding", "pay no more than this", ((OTHER_AMOUNT,),)),
+    # --- the book ---
+    Remedy(("paidup",), "notupgraded", "the journal doesn't take `paidup` yet", "`upgrade` it once, and post it again",
+           (("upgrade", AGAIN),)),
+    Remedy(("upgrade",), "upgraded", "the line of this position upgraded the journal", f"{NOTHING}it is done"),
+    Remedy(("issue",), "full", "the journal takes no more", "issue it in a further book", ((OTHER_BOOK,),)),
+    Remedy((*POLICIES, "upgrade"), "full", "the journal takes no more, not of its own policies either; `state`, `checkpoint`, "
+           "`value` and `project` still answer", "refer it: the policy has to go on outside this book"),
+    # --- valuations ---
+    Remedy(("value",), "ahead", "the position isn't there yet", "ask for a position up to this count"),
+    Remedy(("value",), "trimmed", "the position lies before what a `trim` kept",
+           "ask for a later position; `life value` has all"),
+    Remedy(("value",), "pinsfull", "sixteen valuations are under way", "ask for it later"),
 )
 KIND_WORDS = (*KINDS.values(), "value")
+BY_PAIR = {(kind, remedy.reason): remedy for remedy in REMEDIES for kind in remedy.kinds}
 
 
 def remedy_of(kind: str, words: list[str]) -> Remedy:
     """The advice on a line of this kind that was refused with these words, as `graceover` and a day."""
     reason = ",".join(words[:2]) if words[:1] == ["wrongstatus"] else words[0] if words else ""
-    for remedy in REMEDIES:
-        if remedy.reason == reason and (kind in remedy.kinds or not remedy.kinds):
-            return remedy
-    raise Wrong(f"{','.join(words)} is no reason of a refusal (one of wrongstatus has {', '.join(STATUSES)} behind it)")
+    remedy = BY_PAIR.get((kind, reason))
+    if remedy is None:
+        raise Wrong(f"{','.join(words)} is no reason for which a {kind} is refused "
+                    f"(one of wrongstatus has {', '.join(STATUSES)} behind it)")
+    return remedy
 
 
 def is_refused(answer: str) -> bool:

@@ -9,7 +9,7 @@ from life_tools.rules.deaths import standing
 from life_tools.common.formats import money
 from life_tools.journal.file import gate_of
 from life_tools.rules.remedies import remedy_of
-from life_tools.rules.policies import Book, Policy, Refusal, anniversary, due_of, end_of
+from life_tools.rules.policies import GRACE, Book, Policy, Refusal, anniversary, due_of, end_of
 from life_tools.scripts.lines import Line
 
 # a posting lies at most so far from what came before it, unless it is warned of
@@ -121,4 +121,13 @@ def is_long_in_force(desk: Desk, line: Line, command: Command, policy: Policy | 
         yield f"the policy was reinstated on {day}: is it known that the insured lived then?"
 
 
-LOOKS: tuple[Look, ...] = (is_known, is_near, is_in_order, is_new, is_right_amount, is_long_in_force)
+def is_premium_owed(desk: Desk, line: Line, command: Command, policy: Policy | None) -> Iterator[str]:
+    """A death in the days of grace is insured, and the premium of these days is owed."""
+    due = due_of(policy) if policy and command.kind == "claim" and policy.status == "inforce" else None
+    if due and due <= command.on <= due + GRACE:
+        assert policy
+        yield (f"the premium of {money(policy.premium)} that is due on {due} is owed: post it before the claim, "
+               "or deduct it from the settlement")
+
+
+LOOKS: tuple[Look, ...] = (is_known, is_near, is_in_order, is_new, is_right_amount, is_long_in_force, is_premium_owed)
