@@ -17,7 +17,7 @@ reads() {
     status=$?
     [ "$status" = "$wanted_status" ] || complain "$*: status $status, wanted $wanted_status: $(tail -n 3 out remarks)"
 }
-python3 "$root/.ci/hostile/big_journals.py" policies 4000000 full.life
+python3 "$root/tests/support/big_journals.py" policies 4000000 full.life
 reads 0 20 read --verify full.life
 printf 'balance,%s,0.00\n' cash premiums incurred payable >wanted
 echo count,4000000 >>wanted
@@ -28,7 +28,7 @@ reads 0 40 read full.life
 [ "$(sed -n 4000000p out)" = 4000000,issue,4000000,2020-01-01,endowment,0,3,1000.00,400.00 ] || complain "read: $(tail -n 6 out)"
 rm out
 # a whole life of 131 premiums, paid to its end at age 131
-python3 "$root/.ci/hostile/big_journals.py" premiums 4000000 full.life
+python3 "$root/tests/support/big_journals.py" premiums 4000000 full.life
 reads 2 20 read --verify full.life
 grep -q "record 132: command 133 can't follow: termover,2151-01-01" remarks && [ "$(cat out)" = badjournal,badrecord,132 ] ||
     complain "premiums: $(cat out remarks)"

@@ -154,11 +154,11 @@ cat "$work/drawn"
 # without the program.
 longest_valuation() {
     begin_with_examples "the longest valuation"
-    python3 "$hostile/big_journals.py" greatest 1 journal.life
+    python3 "$root/tests/support/big_journals.py" greatest 1 journal.life
     "$life" value 2022-12-31 </dev/null >one.block
     python3 "$tools/life-tools" check-values journal.life basis.csv one.block >out || complain "$(cat out)"
     worth=$(sed -n 's/^row,1,//p' one.block)
-    python3 "$hostile/big_journals.py" greatest 4000000 journal.life
+    python3 "$root/tests/support/big_journals.py" greatest 4000000 journal.life
     timeout "${patience:-300}" "$life" value 2022-12-31 </dev/null >block
     [ $? = 0 ] || complain "it ends otherwise, after $(wc -l <block) lines"
     {
@@ -174,7 +174,7 @@ longest_valuation() {
 # is spared these four.
 full_journal() {
     begin "full journal"
-    python3 "$hostile/big_journals.py" policies 3999999 journal.life
+    python3 "$root/tests/support/big_journals.py" policies 3999999 journal.life
     echo "1,issue,4000001,2020-01-01,endowment,0,3,1000.00,400.00" >more.csv
     { echo "1,issue,4000000,2020-01-01,endowment,0,3,1000.00,400.00"; cat more.csv; } >two.csv
     answers 0 "1,issue,4000000,accepted,4000000

@@ -1,6 +1,6 @@
 """Journals of 4,000,000 records, put together from blocks, since spelling them one after the other takes too long.
 
-usage: python3 big_journals.py policies|greatest|alterations|premiums|settlements COUNT FILE
+usage: python3 tests/support/big_journals.py policies|greatest|alterations|premiums|settlements COUNT FILE
 
 COUNT issues of the ids from 1 on, also of the greatest amount and premium; or one issue and what else COUNT records there
 are of its policy: alterations by one cent each; premiums, which the rules refuse after 131; or a claim, and settlements of
