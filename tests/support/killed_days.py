@@ -18,7 +18,7 @@ import time
 from collections import Counter
 from dataclasses import dataclass, field
 from pathlib import Path
-from typing import Any, Callable
+from typing import Any, Callable, Sequence
 
 from life_tools.cli.entry import main
 from tests.support.desks import TODAY, Desk
@@ -54,7 +54,7 @@ def kill_before(calls: int, kill: Callable[[], None]) -> None:
     os.fsync = heard_fsync  # type: ignore[assignment]
 
 
-def start_day(desk: Desk, name: str, way: str, calls: int) -> int:
+def start_day(desk: Desk, name: str, way: str, calls: int, words: Sequence[str] = ()) -> int:
     """A `day` in a process group of its own; what it says goes to a file."""
     child = os.fork()
     if child:
@@ -75,7 +75,7 @@ def start_day(desk: Desk, name: str, way: str, calls: int) -> int:
             kill_before(calls, lambda: os.killpg(0, signal.SIGKILL))
         elif way == "tool":
             kill_before(calls, lambda: os.kill(os.getpid(), signal.SIGKILL))
-        status = main(["day", "--today", TODAY])
+        status = main(["day", "--today", TODAY, *words])
         sys.stdout.flush()
         sys.stderr.flush()
     finally:
@@ -155,13 +155,20 @@ class Trial:
         begun = []
         for nth in range(self.draw.choice([1, 1, 1, 2])):
             way = self.draw.choice(WAYS)
-            begun.append((start_day(self.desk, f"said-{nth}", way, self.draw.randint(1, MOST_CALLS)), way))
+            begun.append((start_day(self.desk, f"said-{nth}", way, self.draw.randint(1, MOST_CALLS), self.words()), way))
             self.ways[way] += 1
         if self.draw.random() < 0.3:
             time.sleep(self.draw.uniform(0, 0.3))
             self.hand_in()
         for child, way in begun:
             self.end(child, way)
+
+    def words(self) -> list[str]:
+        """What a `day` is asked for: mostly the inbox, and sometimes to release or discard the first rows that are held."""
+        held = sorted(path.parent.name for path in self.desk.folder.path.glob("log/*/held.csv"))
+        if not held or self.draw.random() < 0.8:
+            return []
+        return [self.draw.choice(["--release", "--discard"]), held[0], "--by", "anna"]
 
     def end(self, child: int, way: str) -> None:
         """Kills a `day` as was drawn, or waits until it has ended, and counts it where it was killed."""
@@ -203,14 +210,17 @@ class Trial:
         self.judge_files(entries)
         for entry in entries:
             judge_rows(entry)
+        judge_releases({path.parent.name: json.loads(path.read_text())
+                        for path in self.desk.folder.path.glob("log/*/entry.json")})
         self.judge_postings(entries)
 
     def judge_files(self, entries: list[dict[str, Any]]) -> None:
-        """Each file that was handed in lies in one entry, and nothing else does."""
-        found = Counter(hashlib.sha256(path.read_bytes()).hexdigest()
-                        for path in self.desk.folder.path.glob("log/*/handed-in.csv"))
+        """Each file that was handed in lies in one entry, and nothing else does but the rows that were released."""
+        found = Counter(entry["file"]["sha256"] for entry in entries if entry["from"] is None)
+        lies = Counter(hashlib.sha256(path.read_bytes()).hexdigest()
+                       for path in self.desk.folder.path.glob("log/*/handed-in.csv"))
         assert found == self.handed_in, (found - self.handed_in, self.handed_in - found)
-        assert self.desk.inbox == [] and len(entries) == sum(self.handed_in.values())
+        assert lies == Counter(entry["file"]["sha256"] for entry in entries) and self.desk.inbox == []
         assert not [path for path in self.desk.folder.path.glob("log/*") if not (path / "entry.json").exists()
                     and path.name not in ("runs", ".lock")]
 
@@ -219,7 +229,10 @@ class Trial:
         records = self.desk.records()
         logged = self.desk.log()
         assert [int(row["position"]) for row in logged] == list(range(1, len(records) + 1))
-        assert max(Counter(records).values()) == 1, Counter(records).most_common(3)
+        released = Counter(held["text"].partition(",")[2].rstrip() for entry in entries for held in entry["held"]
+                           if held["state"] == "released")
+        doubled = {record: count for record, count in Counter(records).items() if count > 1 + released[record]}
+        assert not doubled, doubled
         positions = Counter(position for entry in entries for _, position in entry["accepted"])
         assert positions == Counter(range(1, len(records) + 1))
         issues = {row.partition(",")[2] for data in self.files if b"02-30" not in data
@@ -233,3 +246,12 @@ def judge_rows(entry: dict[str, Any]) -> None:
     rows += [held["row"] for held in entry["held"]]
     assert sorted(rows) == list(range(1, entry["rows"] + 1)), entry
     assert entry["state"] == "done" and entry["lost"] == []
+
+
+def judge_releases(entries: dict[str, dict[str, Any]]) -> None:
+    """A row is released by one entry at most, which has it, and both say so."""
+    of_releases = Counter((entry["from"]["entry"], row) for entry in entries.values() if entry["from"]
+                          for row in entry["from"]["rows"])
+    of_sources = Counter((name, held["row"]) for name, entry in entries.items() for held in entry["held"]
+                         if held["state"] == "released")
+    assert of_releases == of_sources and max(of_sources.values(), default=1) == 1, (of_releases, of_sources)

@@ -6,6 +6,7 @@ import os
 import signal
 import subprocess
 import sys
+import tempfile
 import time
 from pathlib import Path
 
@@ -15,6 +16,7 @@ from life_tools.desk.claiming import claimed
 from life_tools.desk.entries import Log
 from tests.support.desks import TODAY, Desk
 from tests.support.folders import Folder
+from tests.support.missing import lacks
 from tests.support.program import ROOT
 
 ISSUE = "1,issue,7001,2024-05-01,endowment,0,3,1000.00,400.00"
@@ -110,21 +112,18 @@ def test_what_is_no_script_stays(begun: Desk) -> None:
     assert begun.inbox == ["empty.csv", "folder.csv", "link.csv", "pipe.csv"]
 
 
-@pytest.mark.root
 def test_a_file_of_another_file_system_is_copied_compared_and_removed(begun: Desk) -> None:
-    """The inbox is a file system of its own, so the file can't be renamed into log/."""
-    inbox = begun.folder.path / "inbox"
-    mounted = subprocess.run(["mount", "-t", "tmpfs", "none", str(inbox)], capture_output=True, check=False)
-    if mounted.returncode:
-        pytest.skip("no file system can be mounted here")
-    try:
+    """The inbox lies in memory, so the file can't be renamed into log/."""
+    with tempfile.TemporaryDirectory(dir="/dev/shm") as place:
+        if os.stat(place).st_dev == begun.folder.path.stat().st_dev:
+            lacks("the folder of the test lies in memory, too")
+        inbox = begun.folder.path / "inbox"
+        inbox.rmdir()
+        inbox.symlink_to(place)
         begun.hand_in("a.csv", "1,settle,7001,2024-06-01,1.00\n")
         begun.day()
-        assert os.listdir(inbox) == []
-        assert (begun.entry_folder(2) / "handed-in.csv").read_text() == "1,settle,7001,2024-06-01,1.00\n"
-    finally:
-        subprocess.run(["umount", str(inbox)], check=True)
-    assert begun.count() == 4
+        assert os.listdir(place) == []
+    assert (begun.entry_folder(2) / "handed-in.csv").read_text() == "1,settle,7001,2024-06-01,1.00\n" and begun.count() == 4
 
 
 def test_a_bad_file_is_refused_whole_and_nothing_of_it_is_posted(begun: Desk) -> None:
@@ -219,6 +218,16 @@ def test_the_band_goes_by_the_net_premium(begun: Desk) -> None:
     assert "7202,2024-05-01,endowment,0,3,1000.00,190.83: held: its premium 190.83 lies outside 0.5 to 4 times the net premium " \
         "381.68 of basis.csv" in ended.err
     assert ended.out.endswith("-a,1,0,1,0\n")
+
+
+def test_the_limits_themselves_are_allowed(begun: Desk) -> None:
+    """400 days before 2024-06-03 is 2023-04-30; today's issue is no later one; a premium as high as the amount is not below."""
+    row = "1,issue,{},{},endowment,0,3,1000.00,{}\n"
+    begun.hand_in("a.csv", row.format(1, "2023-04-30", "400.00") + row.format(2, "2023-04-29", "400.00")
+                  + row.format(3, TODAY, "999.99") + row.format(4, TODAY, "1000.00"))
+    ended = begun.day(status=1)
+    assert [row["policy"] for row in begun.log()][3:] == ["1", "3"] and ended.out.endswith("-a,2,0,2,0\n")
+    assert "its day is 401 days before today" in ended.err
 
 
 def test_desk_toml_sets_the_limits(begun: Desk) -> None:

@@ -139,6 +139,19 @@ def test_a_released_row_that_equals_another_is_found_again(desk: Desk) -> None:
     assert desk.count() == ROWS + 1 + 61 and len(desk.log("--policy", "1")) == 62
 
 
+def test_a_row_is_not_held_with_a_later_one_of_its_policy(desk: Desk) -> None:
+    """The file's last row equals its 100th, and is held before the run that is killed; the 100th is not held after it."""
+    row = "1,issue,{},2024-05-01,whole,40,0,1000.00,40.00\n"
+    desk.hand_in("many.csv", "".join(row.format(number) for number in range(1, ROWS + 1)) + row.format(100))
+    child = start_day(desk, "said", "none", 0)
+    until_posted(desk, 10)
+    kill(child)
+    time.sleep(0.2)
+    ended = desk.day(status=1)
+    assert ended.out.endswith(f"-many,{ROWS},0,1,0\n") and "it equals line 100 of inbox/many.csv" in ended.err
+    assert desk.count() == ROWS + 1
+
+
 # --- claims ---
 
 def test_a_claim_that_was_interrupted_before_the_rename_is_made_again(desk: Desk) -> None:

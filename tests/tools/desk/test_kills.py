@@ -4,22 +4,37 @@ from __future__ import annotations
 import hashlib
 import os
 import random
+import tempfile
+from pathlib import Path
+from typing import Iterator
 
 import pytest
 
 from tests.support.desks import Desk
 from tests.support.folders import Folder
 from tests.support.killed_days import Trial
+from tests.support.missing import lacks
 
 # so many kills; another number may be asked for, as for a long trial by hand
 SOME, MANY = 20, int(os.environ.get("LIFE_TRIAL_KILLS", "120"))
 SEED = int(os.environ.get("LIFE_TRIAL_SEED", "70"))
+FEW = 12
 JUDGED_EACH = 10
+
+
+@pytest.fixture
+def memory(folder: Folder) -> Iterator[Path]:
+    """A folder on another file system than the book's."""
+    with tempfile.TemporaryDirectory(dir="/dev/shm") as place:
+        if os.stat(place).st_dev == folder.path.stat().st_dev:
+            lacks("the folder of the test lies in memory, too")
+        yield Path(place)
 
 
 def killed(folder: Folder, seed: int, kills: int) -> Trial:
     """A trial of so many kills, judged again and again."""
     trial = Trial(Desk(folder), random.Random(seed))
+    trial.desk.folder.path.joinpath("inbox").mkdir(exist_ok=True)
     trial.number = 1
     first = b"1,issue,1,2024-05-01,whole,40,0,1000.00,40.00\n"
     trial.desk.hand_in("first.csv", first)
@@ -38,6 +53,12 @@ def killed(folder: Folder, seed: int, kills: int) -> Trial:
 
 def test_killed_days_lose_nothing_and_double_nothing(folder: Folder) -> None:
     killed(folder, SEED, SOME)
+
+
+def test_an_inbox_on_another_file_system_loses_nothing(folder: Folder, memory: Path) -> None:
+    """Each claim is a copy, which may be cut anywhere."""
+    folder.path.joinpath("inbox").symlink_to(memory)
+    killed(folder, SEED + 2, FEW)
 
 
 @pytest.mark.slow

@@ -60,10 +60,8 @@ def found(lines: list[Line], played: Played, text: str, before: int) -> Reckoned
 
 @settings(max_examples=300)
 @given(runs(), st.data())
-def test_each_accepted_row_is_found_wherever_a_transcript_ends(run: tuple[list[Line], Played, int],
-                                                                data: st.DataObject) -> None:
-    """Also where a line is cut, and where nothing was printed; and what is left goes on where the lane's last accepted or
-    printed row stands."""
+def test_each_accepted_row_is_found(run: tuple[list[Line], Played, int], data: st.DataObject) -> None:
+    """Wherever the transcript ends, in a line or before the first one; and what is left of a lane stands at its end."""
     lines, played, before = run
     text = "".join(f"{line}\n" for line in played.text)
     cut = text[:data.draw(st.integers(0, len(text)))]

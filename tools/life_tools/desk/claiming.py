@@ -253,7 +253,7 @@ def requeued(entry: Entry, log: Log) -> Entry:
     data, size = bytes_of(path), seen_bytes(entry)
     if len(data) <= size or not data.startswith(entry.handed_in()):
         raise Wrong(f"{path} was changed after it was claimed and read: compare it with the SHA-256 in {entry.shown}/entry.json")
-    record = {**new_record(entry.file, os.stat(path)), "added_to": entry.name}
+    record = {**new_record(entry.record["file"]["name"], os.stat(path)), "added_to": entry.name}
     made = Entry(log.new_folder(now()[:10], f"added-to-{entry.number}"), record)
     made.record["file"]["path"] = made.path("added")
     made.save()

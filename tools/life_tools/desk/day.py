@@ -13,9 +13,9 @@ from life_tools.desk.entries import BEGUN, ENDED, FULL_ROWS, OPEN, REMARKS, TRAN
 from life_tools.desk.holding import Holder, waiting_in
 from life_tools.desk.plausibility import NetPremiums
 from life_tools.desk.reckoning import Reckoned, commands_between, reckoned
-from life_tools.desk.records import Record, now, write_safely
+from life_tools.desk.records import Record, now, shown, write_safely
 from life_tools.desk.releases import mark_released
-from life_tools.desk.reporting import held_text, print_entries, refused_text, shown
+from life_tools.desk.reporting import held_text, print_entries, refused_text
 from life_tools.desk.running import (REFUSED_STATUSES, Program, chosen, count_of, new_run, refused_rows, rows_of, run_when_free,
                                      script_of)
 from life_tools.desk.settings import Settings
@@ -128,7 +128,7 @@ class Day:
             try:
                 kept = finish_claims([self.entries.get(entry.name, entry)])
             except Left as left:
-                self.say(f"{shown(entry.file)} {left}")
+                self.say(f"{entry.file} {left}")
                 continue
             for each in kept:
                 self.entries[each.name] = each
@@ -276,7 +276,7 @@ class Day:
         for entry in entries:
             if entry not in worked and entry.held:
                 since = entry.record["times"]["claimed"][:10]
-                self.say(f"{entry.shown}: {len(entry.held)} rows of {shown(entry.file)} wait for a person since {since}: "
+                self.say(f"{entry.shown}: {len(entry.held)} rows of {entry.file} wait for a person since {since}: "
                          f"`life-tools day --release {entry.number}` posts them, --discard puts them away")
         self.tell_room()
 

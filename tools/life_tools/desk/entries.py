@@ -22,7 +22,7 @@ from dataclasses import dataclass, field
 from typing import Iterator
 
 from life_tools.common.formats import Wrong, bytes_of
-from life_tools.desk.records import Record, read_record, sync_folder, write_record, write_safely
+from life_tools.desk.records import Record, read_record, shown, sync_folder, write_record, write_safely
 from life_tools.scripts.lines import Line, lines_in
 
 LOG, RUNS, LOCK = "log", "runs", ".lock"
@@ -59,8 +59,8 @@ class Entry:
 
     @property
     def file(self) -> str:
-        """The name of the file that was handed in, as it was given."""
-        return str(self.record["file"]["name"])
+        """The name of the file that was handed in, as it is shown: on one line, with control bytes escaped."""
+        return shown(self.record["file"]["name"])
 
     def path(self, name: str) -> str:
         return os.path.join(self.folder, name)

@@ -6,8 +6,7 @@ from dataclasses import dataclass
 from typing import Iterable, Iterator
 
 from life_tools.desk.entries import Entry, Log
-from life_tools.desk.records import Record
-from life_tools.desk.reporting import shown
+from life_tools.desk.records import Record, shown
 from life_tools.journal.blocks import prefix_at
 from life_tools.journal.file import gate_of
 from life_tools.rules.commands import Command, body_of, command_in, words_of
@@ -46,7 +45,7 @@ class Posting:
         record, origin = self.entry.record, self.entry.record["from"] or {}
         command = self.command
         released = [shown(origin.get(name) or "") for name in ("by", "because")]
-        return [self.position, command.kind, command.number or "", command.day or "", shown(record["file"]["name"]),
+        return [self.position, command.kind, command.number or "", command.day or "", self.entry.file,
                 self.line_handed_in, record["file"]["owner"], record["caller"]["login"], record["caller"]["host"],
                 self.run["begun"], *released, self.entry.shown]
 

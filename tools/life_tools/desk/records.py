@@ -7,6 +7,7 @@ import os
 from typing import Any
 
 from life_tools.common.formats import Wrong, bytes_of
+from life_tools.common.streams import visible
 
 Record = dict[str, Any]
 FORMAT = 1
@@ -57,3 +58,8 @@ def now() -> str:
 
 def at_moment(seconds: float) -> str:
     return datetime.datetime.fromtimestamp(seconds).astimezone().isoformat(timespec="seconds")
+
+
+def shown(text: str) -> str:
+    """A text of a stranger on one line, with control bytes escaped."""
+    return visible(text).replace("\n", "\\x0a")

@@ -6,26 +6,20 @@ from typing import Iterable
 
 from life_tools.common.cells import write_rows
 from life_tools.common.formats import Wrong
-from life_tools.common.streams import visible
 from life_tools.desk.entries import DISCARDED, Entry
 from life_tools.desk.reckoning import NOT_PRINTED
-from life_tools.desk.records import Record
+from life_tools.desk.records import Record, shown
 from life_tools.rules.remedies import remedy_of
 from life_tools.scripts.lines import Line
 
 HEAD = ["file", "entry", "accepted", "refused", "held", "left"]
 
 
-def shown(text: str) -> str:
-    """A text of a stranger on one line, with control bytes escaped."""
-    return visible(text).replace("\n", "\\x0a")
-
-
 def row_of(entry: Entry) -> list[object]:
     """An entry as a row: its file, its folder, and how many of its rows are accepted, refused, held and left."""
     record = entry.record
     refused = "whole" if record["refused_whole"] else len(record["refused"])
-    return [shown(entry.file), entry.shown, len(record["accepted"]), refused, len(entry.held), len(entry.left)]
+    return [entry.file, entry.shown, len(record["accepted"]), refused, len(entry.held), len(entry.left)]
 
 
 def print_entries(entries: Iterable[Entry]) -> None:
@@ -37,7 +31,7 @@ def print_entries(entries: Iterable[Entry]) -> None:
 
 
 def refused_text(entry: Entry, line: Line, words: str) -> str:
-    start = f"{shown(entry.file)}, line {line.row.line}: {shown(line.row.text)}: refused"
+    start = f"{entry.file}, line {line.row.line}: {shown(line.row.text)}: refused"
     if words == NOT_PRINTED:
         return f"{start}, and the run was interrupted before it printed why: `life-tools check` shows it"
     try:
@@ -48,7 +42,7 @@ def refused_text(entry: Entry, line: Line, words: str) -> str:
 
 
 def held_text(entry: Entry, held: Record) -> str:
-    return f"{shown(entry.file)}, line {held['line']}: {shown(held['text'])}: held: {held['why']}"
+    return f"{entry.file}, line {held['line']}: {shown(held['text'])}: held: {held['why']}"
 
 
 def settled_text(held: Record) -> str:

@@ -63,7 +63,9 @@ def chosen(entries: Sequence[Entry]) -> list[Entry]:
         lines = entry.left
         keys, bytes_of_it = keys_of(lines), sum(len(line.row.text) + 1 for line in lines)
         fits = not keys & taken and len(found) < MOST_LANES and size + bytes_of_it <= MOST_SCRIPT_BYTES
-        if found and not (fits and not is_alone(lines)):
+        if found and is_alone(lines):
+            break
+        if found and not fits:
             taken |= keys
             continue
         found.append(entry)
