@@ -1,23 +1,26 @@
-"""Takes clerks' files from the inbox, posts them, and keeps in log/ what came of each row.
+"""Takes clerks' files from the inbox, posts them, and keeps what came of each.
 
     life-tools day                          posts inbox/*.csv
     life-tools day --new                    the same, and begins the book
-    life-tools day --status                 only reports what is unfinished or held
+    life-tools day --status                 reports what is unfinished or held
     life-tools day --release 12 --why TEXT  posts the held rows of entry 12
     life-tools day --discard 12 --why TEXT  puts them away for good
 
-Each file is first moved into a folder of log/, its entry, and only that file is read. A file that
-was changed less than two seconds ago stays for the next run. Up to eight files that share no
-policy are posted as the eight lanes of one run. What an interrupted `day` left is finished first.
+Each file is first moved into a folder of log/, its entry, and only that file is
+read. A file that was changed less than two seconds ago stays for the next run.
+Up to eight files that share no policy are posted as the eight lanes of one run.
+What an interrupted `day` left is finished first.
 
-Some rows are held until a person has looked at them: one that equals an accepted posting, an
-issue that is not plausible (desk.toml sets what is), a number that is in use, a day that hasn't
-come or is far off; and all later rows of their policies.
+Some rows are held until a person has looked at them: one that equals an
+accepted posting, an issue that is not plausible (desk.toml sets what is), a
+number that is in use, a day that hasn't come or is far off; and all later rows
+of their policies.
 
-The book is verified before each run, and a damaged one is never written to. Standard output has a
-row for each file: file,entry,accepted,refused,held,left. The status is 0 where all rows were
-accepted; 1 where a row was refused, held or left, or anything else is reported; 2 where it could
-not be done; 130 where a signal stopped it.
+The book is verified before each run, and a damaged one is never written to.
+Standard output has a row for each file: file,entry,accepted,refused,held,left.
+The status is 0 where all rows were accepted; 1 where a row was refused, held or
+left, or anything else is reported; 2 where it could not be done; 130 where a
+signal stopped it.
 """
 from __future__ import annotations
 

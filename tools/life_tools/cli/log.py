@@ -1,17 +1,19 @@
-"""Who posted what, when, from which file, and who released it, by the entries that `day` keeps in log/.
+"""Who posted what, when, from which file, and who released it: what `day` kept.
 
     life-tools log --position 9          the posting of position 9
     life-tools log --policy 7001         all postings of policy 7001
     life-tools log --by anna             what anna handed in, posted or released
     life-tools log --day 2026-12-01      what was posted on that day
 
-Without an option it lists all postings. Each one is a row of CSV on standard output: position,
-kind, policy, day, the file and its line, the file's owner, who posted it, on which machine and
-when, who released it and why, and the entry in log/. Names are as the system or the person gave
-them: whoever posts as another user is noted as that user.
+Without an option it lists all postings. Each one is a row of CSV on standard
+output: position, kind, policy, day, the file and its line, the file's owner,
+who posted it, on which machine and when, who released it and why, and the
+entry in log/. Names are as the system or the person gave them: whoever posts as
+another user is noted as that user.
 
-Each posting is compared with the journal. The status is 1 where the journal differs, or has a
-posting that the log doesn't name, as of a run of `life run` by hand; 2 where there is no log.
+Each posting is compared with the journal. The status is 1 where the journal
+differs, or has a posting that the log doesn't name, such as that of a `life
+run` by hand; 2 where there is no log.
 """
 from __future__ import annotations
 

@@ -25,6 +25,9 @@ class NetPremiums:
         self.rows: list[BasisRow] = []
         # why no premium is compared, where none is
         self.missing: str | None = None
+        if not os.path.exists(os.path.join(folder, name)):
+            self.missing = f"there is no {name}"
+            return
         try:
             self.rows = read_basis(os.path.join(folder, name))
         except Wrong as wrong:
