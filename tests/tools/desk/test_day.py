@@ -396,7 +396,7 @@ def test_a_signal_ends_a_waiting_day_at_once(begun: Desk, number: signal.Signals
     begun.hand_in("a.csv", "1,settle,7001,2024-06-01,1.00\n")
     with open(begun.folder.journal, "rb") as journal:
         fcntl.flock(journal, fcntl.LOCK_EX)
-        with started(begun) as ran:
+        with started(begun, "--wait", "20") as ran:
             says(ran, "day: waiting: ./journal.life is in use by process")
             sent = time.monotonic()
             ran.send_signal(number)
