@@ -4,16 +4,16 @@
 
 if ! has_dask; then
     skip_cluster
-    refuses "apt-get install python3-distributed" books.csv value 2010-12-31 --scheduler tcp://127.0.0.1:1
+    refuses "apt-get install python3-distributed" books.csv value 2010-12-31 --totals --scheduler tcp://127.0.0.1:1
 else
     go_on "a cluster on the loopback"
-    refuses "there is no scheduler at tcp://127.0.0.1:1" books.csv value 2010-12-31 --scheduler tcp://127.0.0.1:1
+    refuses "there is no scheduler at tcp://127.0.0.1:1" books.csv value 2010-12-31 --totals --scheduler tcp://127.0.0.1:1
     # a program that takes its time, so that a worker can be killed in the midst
     printf '#!/bin/sh\ntouch "%s/begun.$$"\nsleep 2\nexec "%s" "$@"\n' "$PWD" "$program" >slow && chmod +x slow
     begin_cluster
     books books.csv value 2010-12-31 --totals || complain "status $?: $(cat remarks)"
     mv out wanted
-    books books.csv value 2010-12-31 --scheduler "$address" && cmp -s wanted out || complain "on the cluster: $(cat out remarks)"
+    books books.csv value 2010-12-31 --totals --scheduler "$address" && cmp -s wanted out || complain "on the cluster: $(cat out remarks)"
     books books.csv value 2010-12-31 --parts far --send --scheduler "$address" && cmp -s wanted out || complain "sent: $(cat out remarks)"
     for book in book1 book2 book3; do cmp -s parts/$book.csv far/$book.csv || complain "another part of $book"; done
     refuses "not on a cluster" books.csv checkpoint --scheduler "$address"
@@ -25,7 +25,7 @@ else
     sed 's/process [0-9]*/process/' out | cmp -s - held-here || complain "a held book on the cluster: $(cat out) and here $(cat held-here)"
     let_go
     head -c 100 aside.life >book2/journal.life
-    ends 5 "^tried once more: book2$" books.csv value 2010-12-31 --scheduler "$address"
+    ends 5 "^tried once more: book2$" books.csv value 2010-12-31 --totals --scheduler "$address"
     grep -q '^book2,failed,5,badjournal,badrecord,1$' out && grep -q '^all,total,.*,2,3$' out || complain "$(cat out remarks)"
     # a gate that has turned, of a book that a worker sees and of one that it is sent: record 100's, and the last one
     for how in "" --send; do
@@ -46,7 +46,7 @@ else
     go_on "a worker that is killed in the midst"
     LIFE_PROGRAM=$PWD/slow
     rm -f begun.*
-    timeout 120 python3 "$tools/life-tools" books books.csv value 2010-12-31 --scheduler "$address" >out 2>remarks &
+    timeout 120 python3 "$tools/life-tools" books books.csv value 2010-12-31 --totals --scheduler "$address" >out 2>remarks &
     run=$!
     wait_for 'ls begun.* >/dev/null 2>&1' || complain "nothing was begun"
     kill -9 "$worker1"
@@ -55,13 +55,13 @@ else
     go_on "no worker left, and then one that comes"
     rm -f begun.*
     kill -9 "$worker2"
-    timeout 240 python3 "$tools/life-tools" books books.csv value 2010-12-31 --scheduler "$address" >out 2>remarks &
+    timeout 240 python3 "$tools/life-tools" books books.csv value 2010-12-31 --totals --scheduler "$address" >out 2>remarks &
     run=$!
     wait_for 'grep -q "has no workers" remarks || ! kill -0 "$run" 2>/dev/null'
     wait "$run" && complain "books began without a worker"
     begin_worker 2
     has_workers 1
-    timeout 240 python3 "$tools/life-tools" books books.csv value 2010-12-31 --scheduler "$address" >out 2>remarks &
+    timeout 240 python3 "$tools/life-tools" books books.csv value 2010-12-31 --totals --scheduler "$address" >out 2>remarks &
     run=$!
     wait_for 'ls begun.* >/dev/null 2>&1' || complain "nothing was begun"
     kill -9 "$worker2"
@@ -72,7 +72,7 @@ else
 
     go_on "a scheduler that goes away"
     rm -f begun.*
-    timeout 120 python3 "$tools/life-tools" books books.csv value 2010-12-31 --scheduler "$address" >out 2>remarks &
+    timeout 120 python3 "$tools/life-tools" books books.csv value 2010-12-31 --totals --scheduler "$address" >out 2>remarks &
     run=$!
     wait_for 'ls begun.* >/dev/null 2>&1' || complain "nothing was begun"
     end_cluster "$scheduler"

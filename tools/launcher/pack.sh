@@ -13,6 +13,7 @@ pack_release() {
     for each in python3 git dpkg-deb; do
         command -v "$each" >/dev/null || give_up "nothing was packed: it needs $each"
     done
+    claimed=$(python3 "$root/tools/packing/claimed_logic.py" --check 2>&1) || give_up "nothing was packed: $claimed"
     seconds=$(git -C "$root" log -1 --format=%ct 2>/dev/null) || give_up "nothing was packed: this is no clone"
     maintainer=$(git -C "$root" log -1 --format='%an <%ae>')
     changed=$(uncommitted)

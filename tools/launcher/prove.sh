@@ -49,6 +49,8 @@ prove() {
     rm -f "$log"
     tell "the program is proved and built, after $(time_since "$started")"
     tell_no_more
+    # the pages claim the logic of the proof
+    python3 "$root/tools/packing/claimed_logic.py" --check || say "python3 tools/packing/claimed_logic.py writes it into the pages"
     exit 0
 }
 
