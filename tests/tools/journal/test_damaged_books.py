@@ -1,6 +1,7 @@
 """A tool that reads a journal shows nothing of a damaged one: it ends with 1 and says what is wrong."""
 from __future__ import annotations
 
+import shutil
 import subprocess
 from pathlib import Path
 
@@ -8,6 +9,7 @@ import pytest
 
 from tests.support.folders import Folder
 from tests.support.program import ROOT
+from tests.support.windows import Window
 
 # by FORMATS: 17 bytes lie before the first record, and 65 are a record
 FIRST, RECORD = 17, 65
@@ -53,6 +55,16 @@ def test_letters_of_a_sample_of_a_damaged_book(small_office: Folder) -> None:
     damage(small_office.journal, 5)
     ended = small_office.tools("audit", "letters", "sample")
     assert (ended.status, ended.out) == (1, "") and DAMAGED in ended.err, ended
+
+
+@pytest.mark.needs("python:flask")
+def test_the_window_shows_nothing_of_a_damaged_book(damaged: Folder) -> None:
+    book = damaged.below("book")
+    for name in ("journal.life", "basis.csv", "q.xml", "g.xml"):
+        shutil.copy(damaged.path / name, book.path)
+    with Window(ROOT / "tools" / "life-tools", book.path, env={"LIFE_PROGRAM": str(book.program.path)}) as window:
+        page = window.get("/")
+        assert DAMAGED in page.text and "7001" not in page.text, page.text
 
 
 def test_verify_names_what_it_finds(small_office: Folder) -> None:

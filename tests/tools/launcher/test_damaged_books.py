@@ -2,7 +2,9 @@
 behind that, unless the caller accepts the loss; what only reads is warned of."""
 from __future__ import annotations
 
+import json
 import os
+import shutil
 from pathlib import Path
 
 import pytest
@@ -59,6 +61,10 @@ def test_a_count_that_a_checkpoint_or_a_log_noted(small_office: Folder, life: Ca
     done = ran([*life.words, "run"], small_office.path, ISSUE)
     assert done.status == 67 and f"had {COMMANDS} by checkpoint.life" in done.err, done
     os.remove(small_office.path / "checkpoint.life")
+    small_office.write("log/runs/000001/run.json", json.dumps({"before": 0, "after": COMMANDS}))
+    done = ran([*life.words, "run"], small_office.path, ISSUE)
+    assert done.status == 67 and f"had {COMMANDS} by " in done.err and "log" in done.err, done
+    shutil.rmtree(small_office.path / "log")
     done = ran([*life.words, "run"], small_office.path, ISSUE)
     assert done.status == 0 and "undecided" in done.err, done
 

@@ -23,6 +23,7 @@ from life_tools.journal.file import EMPTY, count_of, gate_of
 from life_tools.journal.policy_columns import Policies
 from life_tools.journal.record_columns import copy_prefix, prefix_count
 from life_tools.reports.provenance import AT_ONCE, prefix_sum, shown
+from life_tools.journal.wholeness import demand_undamaged
 from life_tools.window import tables
 from life_tools.window.history import NAMES, History, history_of
 from life_tools.window.jobs import Job, Jobs
@@ -175,6 +176,7 @@ class BookCopy:
     def take_copy(self) -> None:
         """Copies the prefix of the journal, as far as it goes now, and the basis."""
         demand(os.path.isfile(self.book.journal), f"{self.book.journal}: No such file or directory")
+        demand_undamaged(self.book.journal)
         new = os.path.join(self.folder, "new")
         copy_prefix(self.book.journal, None, new)
         if prefix_count(new) is None:
