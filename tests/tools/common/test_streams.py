@@ -12,7 +12,6 @@ from pathlib import Path
 
 import pytest
 
-from life_tools.common.streams import visible
 from tests.support.folders import Folder
 from tests.support.program import ROOT
 
@@ -136,4 +135,6 @@ def test_a_file_is_written_what_it_was(office: Folder) -> None:
 
 
 def test_what_is_visible() -> None:
+    from life_tools.common.streams import visible
+
     assert visible("a\tb\nc\x1b[1m\r\x7f\x9b\u202e\udcff\u00e9") == "a\tb\nc\\x1b[1m\\x0d\\x7f\\x9b\\u202e\\xff\u00e9"

@@ -208,7 +208,7 @@ class BookCopy:
         """How many postings stand behind the newest position in the journal now."""
         try:
             count = prefix_count(self.book.journal)
-        except OSError:
+        except (Wrong, OSError):
             return 0
         return max((count or 0) - self.newest, 0)
 

@@ -130,6 +130,6 @@ def backup_at(path: str, journal: str, newest: int) -> Backup | None:
         made = datetime.datetime.fromtimestamp(os.path.getmtime(path))
         count = prefix_count(path)
         is_front = count is not None and count <= newest and prefix_sum(path, count) == prefix_sum(journal, count)
-    except OSError:
+    except (Wrong, OSError):
         return None
     return Backup(shown(path), f"{made:%Y-%m-%d %H:%M}", count or 0, is_front)
