@@ -86,7 +86,7 @@ def lived(seed: int, policies: int, times: Times = Times()) -> list[Command]:
 
 def lived_by(draw: random.Random, policies: int, times: Times = Times()) -> list[Command]:
     """The commands of a book, sorted by day, with an upgrade in the midst."""
-    numbers = draw.sample(range(1, 50 * policies), policies)
+    numbers = draw.sample(range(1, 50 * policies), policies) if policies else []
     commands = [command for number in numbers for command in life_of(draw, drawn_issue(draw, number, times), times)]
     commands.sort(key=lambda command: str(command.day))
     place = next((place for place, it in enumerate(commands) if it.day and it.day >= times.upgraded), len(commands))

@@ -144,11 +144,12 @@ class Fields:
         return value
 
     def cents(self, field: int) -> Cents:
-        """Amounts of digits, a point and two digits, perhaps with a sign."""
+        """Amounts of digits without a leading zero, a point and two digits, perhaps with a sign."""
         of = self.field(field)
         below = self.text[of.begins] == MINUS
         of = between(of.begins + below, of.ends) if below.any() else of
         self.demand_length(of, 4, 2 * WORD)
+        self.wrong((self.text[of.begins] != ZERO) | (of.length == 4))
         last = self.words[of.ends - WORD]
         self.wrong(last >> np.uint64(40) & np.uint64(0xff) == POINT)
         # what stands before the point moves into its place

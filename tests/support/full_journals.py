@@ -1,0 +1,76 @@
+"""Journals that are full, or nearly so, spelled without the tools' code."""
+from __future__ import annotations
+
+import datetime
+import os
+from pathlib import Path
+
+HEADER = b"\x01LIFEJRNL\x00\x01\x00\x40\x00\x00\x00\x00"
+EPOCH = datetime.date(1970, 1, 1)
+MOST, OLD, PREMIUMS, LAST_YEAR = 4_000_000, 32_000, 111, 401_000
+RECORD = 65
+WHOLE, TERM, ENDOWMENT = bytes([1, 2, 20, 0]), bytes([1, 1, 30, 10]), bytes([1, 3, 0, 3])
+PREMIUM = bytes([2, 0, 0, 0])
+
+
+def days_of(day: datetime.date) -> bytes:
+    return (day - EPOCH).days.to_bytes(4, "big", signed=True)
+
+
+def records(kind: bytes, numbers: list[bytes], day: datetime.date, amount: int, premium: int) -> bytes:
+    """A record of each number, all of one day."""
+    front = b"\x01" + kind
+    rest = days_of(day) + amount.to_bytes(8, "big") + premium.to_bytes(8, "big") + bytes(36)
+    return b"".join(front + number + rest for number in numbers)
+
+
+def fill(out: Path, today: datetime.date) -> None:
+    """Adds what a nearly full journal lacks, as issues of a day."""
+    with open(out, "r+b") as file:
+        count = (file.seek(0, os.SEEK_END) - len(HEADER)) // RECORD
+        file.seek(len(HEADER) + count * RECORD)
+        # numbers are given in order, one for each record that is no premium
+        first = count - OLD * PREMIUMS + 1
+        numbers = [number.to_bytes(4, "big") for number in range(first, first + MOST - count)]
+        file.write(records(TERM, numbers, today, 100_000, 1_000) + b"\x00")
+
+
+def write_nearly_full(out: Path, left: int, today: datetime.date) -> None:
+    """A journal with so many commands left. 32,000 whole lives from the age 20, issued in 1900, have paid all their 111
+    premiums, and their cover has ended. Then policies were issued three years before a day, one is dated 2081, and 401,000
+    were issued on the days of the year up to it."""
+    begun = OLD * (PREMIUMS + 1)
+    rest = [number.to_bytes(4, "big") for number in range(OLD + 1, OLD + 1 + MOST - left - begun)]
+    before, last = rest[:-LAST_YEAR - 1], rest[-LAST_YEAR:]
+    old = [number.to_bytes(4, "big") for number in range(1, OLD + 1)]
+    with open(out, "wb") as file:
+        file.write(HEADER + records(WHOLE, old, datetime.date(1900, 6, 1), 100_000, 1_000))
+        for year in range(1900, 1900 + PREMIUMS):
+            file.write(records(PREMIUM, old, datetime.date(year, 6, 1), 1_000, 0))
+        file.write(records(TERM, before, today - datetime.timedelta(3 * 365), 100_000, 1_000))
+        file.write(records(TERM, rest[len(before):len(before) + 1], datetime.date(2081, 6, 1), 100_000, 1_000))
+        for day in range(365):
+            file.write(records(TERM, last[day::365], today - datetime.timedelta(364 - day), 100_000, 1_000))
+        file.write(b"\x00")
+
+
+def write_policies(out: Path, count: int) -> None:
+    """So many issues of one day, numbered from 1 on."""
+    day = datetime.date(2020, 1, 1)
+    with open(out, "wb") as file:
+        file.write(HEADER)
+        for begin in range(1, count + 1, 1 << 17):
+            numbers = [number.to_bytes(4, "big") for number in range(begin, min(begin + (1 << 17), count + 1))]
+            file.write(records(ENDOWMENT, numbers, day, 100_000, 40_000))
+        file.write(b"\x00")
+
+
+def write_premiums(out: Path, count: int) -> None:
+    """A whole life from the age 0 that pays its 131 premiums, and further ones on the day on which its cover ends."""
+    day, number = datetime.date(2020, 1, 1), [(1).to_bytes(4, "big")]
+    end = day.replace(year=2151)
+    with open(out, "wb") as file:
+        file.write(HEADER + records(bytes([1, 2, 0, 0]), number, day, 100_000, 40_000))
+        for year in range(2020, 2151):
+            file.write(records(PREMIUM, number, day.replace(year=year), 40_000, 0))
+        file.write(records(PREMIUM, number, end, 40_000, 0) * (count - 132) + b"\x00")
