@@ -29,8 +29,8 @@ def paged(asked: Asked, count: int) -> tuple[int, int, slice]:
 
 def group(book: View, asked: Asked) -> Answer:
     """The policies of a group, each with its printed row; in all as much as the group's cells show."""
-    it = asked_valuation(book, asked, "by", "group", "page")
     key = asked.one_of("by", KEYS, "plan")
+    it = asked_valuation(book, asked, "by", "group", "page")
     name = tuple(asked.text("group").split(","))
     if name not in it.groups[key]:
         raise BadRequest(f"group: {shown(asked.text('group'))} is no group by {KEY_WORDS[key]} of this valuation")
@@ -68,14 +68,12 @@ def group_total(it: Valuation, places: Array, amount: int) -> list[Cell]:
 
 def moved(book: View, asked: Asked) -> Answer:
     """The policies of a line of a movement, with their parts, as `movement --policies` writes them."""
+    line = asked.one_of("line", LINES)
     run, words = asked_movement(book, asked, "line", "page")
-    line = asked.text("line")
     with open(run.file("policies.csv"), encoding="utf-8", newline="") as file:
         rows = csv.reader(file)
         columns = parts_of(next(rows), line)
         found = [(row[0], row[columns[0]], row[columns[1]]) for row in rows if is_of(row, line, columns)]
-    if not found and line not in LINES:
-        raise BadRequest(f"line: {shown(line)} is no line of a movement with policies")
     page, pages, some = paged(asked, len(found))
     told: dict[str, object] = dict(zip(MOVEMENT_WORDS[1:], words))
     shown_rows = [[policy_cell(book, int(number)), Cell(apart(lower)), Cell(apart(upper))]
