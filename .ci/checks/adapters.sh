@@ -75,9 +75,9 @@ refused_with end "^FAILED .*test_both_ends_are_dropped_before_anything_is_read\[
 refused_with kept "^FAILED .*test_after_a_failed_sync_all_is_dropped\[of its commit byte" $dropped
 # the same two over a medium that fails, where one can be had
 failing=tests/program/test_failed_sync.py
-passes $failing -k failed-ext4
+passes $failing -k "hears and ext4"
 if ! grep -q skipped said; then
-    refused_with undropped "^FAILED .*killed after the sync failed-ext4" $failing -k failed-ext4
+    refused_with undropped "^FAILED .*another program hears of it-ext4" $failing -k "hears and ext4"
     refused_with kept "^FAILED .*test_the_middle_of_a_file" $failing -k middle --slow
 fi
 

@@ -6,6 +6,7 @@ that closes a checkpoint, and compares what each later run answers with a copy o
 """
 from __future__ import annotations
 
+import os
 import re
 from pathlib import Path
 from typing import Iterator, NamedTuple
@@ -29,8 +30,8 @@ PAGE = 4096
 LONG = 100_000
 DAY = day_in("2020-01-01")
 FIRST = 2001
-LASTS, PASSES, KILLED_BEFORE, KILLED_AFTER = COURSES = (
-    "the failure lasts", "the failure passes", "killed before the sync", "killed after the sync failed")
+LASTS, PASSES, KILLED, HEARD = COURSES = (
+    "the failure lasts", "the failure passes", "killed before the sync", "killed, and another program hears of it")
 LATER = (["state", str(FIRST)], ["state"], ["state", str(FIRST)], ["run"], ["state", str(FIRST)], ["run"], ["state"], ["run"])
 
 
@@ -66,23 +67,27 @@ def on_each() -> pytest.MarkDecorator:
     return pytest.mark.parametrize("medium", SYSTEMS, ids=[system.name for system in SYSTEMS], indirect=True)
 
 
-def stopped(program: Program, medium: Medium, folder: Path, words: list[str], script: str, n: int,
-            is_killed: bool = False) -> StoppedRun:
+def stopped(program: Program, medium: Medium, folder: Path, words: list[str], script: str, n: int) -> StoppedRun:
     (folder / "script").write_text(script)
     (folder / "calls").unlink(missing_ok=True)
-    return StoppedRun([*program.words, *words], medium.files, folder / "calls", folder / "script", n, is_killed)
+    return StoppedRun([*program.words, *words], medium.files, folder / "calls", folder / "script", n)
 
 
 def fail_at_the_commit_byte(program: Program, medium: Medium, folder: Path, course: str) -> None:
-    """A posting whose commit byte is written and not synced: the medium fails from then on."""
-    run = stopped(program, medium, folder, ["run"], issue(FIRST), 2, course == KILLED_AFTER)
+    """A posting whose commit byte is written and not synced: the medium fails from then on. The system tells of a failure once;
+    where another program syncs the file first, no later run hears of it."""
+    run = stopped(program, medium, folder, ["run"], issue(FIRST), 2)
     medium.fail()
-    if course == KILLED_BEFORE:
+    if course == KILLED:
         run.kill()
         assert not medium.write_back(), "the medium didn't fail"
+    elif course == HEARD:
+        run.kill()
+        with pytest.raises(OSError), open(medium.files / "journal.life", "rb") as file:
+            os.fsync(file.fileno())
     else:
         status, out = run.go_on()
-        assert course == KILLED_AFTER and status < 0 or (status, out.splitlines()[0]) == (8, f"1,issue,{FIRST},fault")
+        assert (status, out.splitlines()[0]) == (8, f"1,issue,{FIRST},fault")
     if course != LASTS:
         medium.heal()
 

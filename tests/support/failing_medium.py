@@ -149,13 +149,10 @@ class Medium:
 
 
 class StoppedRun:
-    """A run of the program that strace stops after its n-th write to a file. After a sync that fails it is perhaps killed before
-    it does anything more."""
+    """A run of the program that strace stops after its n-th write to a file."""
 
-    def __init__(self, words: list[str], folder: Path, log: Path, script: Path, n: int, is_killed: bool = False) -> None:
-        stop = ["-e", "trace=pwrite64,fadvise64", "-e", f"inject=pwrite64:signal=SIGSTOP:when={n}"]
-        # the first two calls are those of the opening
-        stop += ["-e", "inject=fadvise64:signal=SIGKILL:when=3"] if is_killed else []
+    def __init__(self, words: list[str], folder: Path, log: Path, script: Path, n: int) -> None:
+        stop = ["-e", "trace=pwrite64", "-e", f"inject=pwrite64:signal=SIGSTOP:when={n}"]
         with open(script, "rb") as given:
             self.traced = subprocess.Popen(["strace", "-f", "-qq", "-o", str(log), *stop, *words], cwd=folder, stdin=given,
                                            stdout=subprocess.PIPE, stderr=subprocess.PIPE, text=True)

@@ -35,6 +35,7 @@ exec python3 "$here/../share/life/life-tools.py" "$@"
 """
 # what begins the program: the parts of the launcher that it shares with the clone's, as tools/launcher/install.sh does
 PARTS = "tools/installed/parts"
+UNITS = ("life-backup@.service", "life-backup@.timer")
 
 
 @dataclass
@@ -133,6 +134,12 @@ def lay_manuals(release: Release, top: str) -> None:
         link(f"{completions}/{name}", "life")
 
 
+def lay_units(release: Release, top: str) -> None:
+    """Units of systemd for the owner of a book, who enables them for its folder."""
+    for name in UNITS:
+        write(f"{top}/lib/systemd/user/{name}", text_of(release, "tools", "installed", name))
+
+
 def lay_documents(release: Release, top: str) -> None:
     folder = f"{top}/share/doc/{NAME}"
     write_site(release, f"{folder}/html")
@@ -161,5 +168,5 @@ def lay(release: Release, top: str) -> None:
     """All files of a release below a folder that isn't there yet."""
     shutil.rmtree(top, ignore_errors=True)
     os.makedirs(top)
-    for part in (lay_programs, lay_tools, lay_manuals, lay_documents):
+    for part in (lay_programs, lay_tools, lay_manuals, lay_units, lay_documents):
         part(release, top)

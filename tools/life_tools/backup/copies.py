@@ -27,6 +27,7 @@ from life_tools.journal.seals import Seal, Sealed, newest_of, seal_at, text_of
 
 PREFIX, SEAL, FILES, LOCK = "journal.prefix", "backup.seal", "files", ".lock"
 AT_ONCE = 1 << 20
+RECORDS_AT_ONCE = 1 << 16
 
 
 class Differs(Wrong):
@@ -108,9 +109,11 @@ def append(copy: BinaryIO, journal: BinaryIO, start: int, end: int) -> None:
 
 def newest_day(journal: BinaryIO, before: Seal | None, safe: Safe, path: str) -> datetime.date | None:
     """The latest day of the copied postings."""
-    start = before.position if before else 0
-    added = EMPTY[:FIRST_GATE] + b"".join(pieces(journal, gate_of(start), safe.size))
-    days = [before.day if before else None, newest_of(Columns(added, safe.count - start).days(), path)]
+    days = [before.day if before else None]
+    for start in range(before.position if before else 0, safe.count, RECORDS_AT_ONCE):
+        end = min(start + RECORDS_AT_ONCE, safe.count)
+        part = EMPTY[:FIRST_GATE] + b"".join(pieces(journal, gate_of(start), gate_of(end)))
+        days.append(newest_of(Columns(part, end - start).days(), path))
     return max((day for day in days if day), default=None)
 
 
