@@ -20,7 +20,7 @@ from life_tools.cli.due import Items
 from life_tools.cli.movement import Books, Moment, moved_in
 from life_tools.cli.report import read_both
 from life_tools.audit.flags import flags_of
-from life_tools.common.formats import Wrong, day_in, demand
+from life_tools.common.formats import Wrong, day_in, demand, opened
 from life_tools.valuations.groups import Groups, Joined, Sums, demand_whole, grouped, whole
 from life_tools.audit.letters import letters_of
 from life_tools.audit.listed_samples import with_bases
@@ -107,7 +107,7 @@ class MovedBook:
 def without_name(path: str, name: str) -> Iterator[bytes]:
     """The text of a part without the book's name before each line."""
     front = name.encode() + b","
-    with open(path, "rb") as file:
+    with opened(path) as file:
         while lines := file.readlines(AT_ONCE):
             demand(all(line.startswith(front) for line in lines), f"{path} has a line that isn't of {name}")
             yield b"".join(line[len(front):] for line in lines)

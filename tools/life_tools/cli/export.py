@@ -15,6 +15,7 @@ files NAME.pkl in a new folder, for pandas.read_pickle.
 from __future__ import annotations
 
 import argparse
+import io
 import itertools
 import os
 import shutil
@@ -25,7 +26,7 @@ from typing import Iterable, Iterator
 
 from life_tools.journal.columns import Columns, columns_at
 from life_tools.reports.export_tables import BOOKING, COMMAND, POLICY, booking_rows, command_rows, policy_rows
-from life_tools.common.formats import Wrong, demand
+from life_tools.common.formats import Wrong, demand, opened
 from life_tools.common.packages import package
 from life_tools.common.progress import Progress
 from life_tools.journal.record_texts import HELD, TEXTS, lines_of
@@ -66,7 +67,7 @@ def write_lines(options: argparse.Namespace) -> None:
 
 def printed_lines(path: str) -> Iterator[str]:
     try:
-        with open(path, encoding="utf-8", errors="surrogateescape") as file:
+        with io.TextIOWrapper(opened(path), encoding="utf-8", errors="surrogateescape") as file:
             yield from file
     except OSError as error:
         raise Wrong(f"{path}: {error.strerror}") from error

@@ -6,7 +6,7 @@ import hashlib
 import os
 
 from life_tools.journal.copied_folder import JOURNAL
-from life_tools.common.formats import Wrong, demand
+from life_tools.common.formats import Wrong, demand, opened
 from life_tools.journal.file import gate_of
 from life_tools.common.program import UNPROVED, program_asked
 
@@ -17,7 +17,7 @@ def sum_of_file(path: str, most: int | None = None) -> str:
     """The SHA-256 of a file, or of its first bytes."""
     found, left = hashlib.sha256(), os.path.getsize(path) if most is None else most
     try:
-        with open(path, "rb") as file:
+        with opened(path) as file:
             while left:
                 part = file.read(min(left, AT_ONCE))
                 demand(part, f"{path} became shorter")

@@ -14,7 +14,8 @@ from fractions import Fraction
 from typing import Union
 from xml.parsers import expat
 
-from life_tools.common.formats import MOST_BASIS_BYTES, MOST_BASIS_ROWS, MOST_POINTS, Row, Wrong, day_of, number_of, rows_in
+from life_tools.common.formats import (MOST_BASIS_BYTES, MOST_BASIS_ROWS, MOST_POINTS, Row, Wrong, day_of, number_of, opened,
+                                       rows_in)
 
 MOST_AGE = 130
 MOST_DEPTH = 64
@@ -369,7 +370,7 @@ def file_in(folder: str, name: str, place: int) -> bytes:
     if not os.path.lexists(path):
         raise BadBasis(name, place, "absent")
     try:
-        with open(path, "rb") as file:
+        with opened(path) as file:
             data = file.read(MOST_BASIS_BYTES + 1)
     except OSError as error:
         raise Wrong(f"{path}: {error.strerror}") from error
