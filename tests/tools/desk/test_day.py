@@ -386,9 +386,10 @@ def started(desk: Desk, *words: str) -> subprocess.Popen[str]:
 
 
 def says(ran: subprocess.Popen[str], wanted: str) -> None:
+    """Reads what it says up to a line with these words."""
     assert ran.stderr
-    line = ran.stderr.readline()
-    assert wanted in line, line
+    lines = iter(ran.stderr.readline, "")
+    assert any(wanted in line for line in lines)
 
 
 @pytest.mark.parametrize("number", [signal.SIGTERM, signal.SIGINT, signal.SIGHUP])

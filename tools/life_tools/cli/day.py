@@ -69,8 +69,8 @@ def arguments(parser: argparse.ArgumentParser) -> None:
 
 
 def files_in(options: argparse.Namespace) -> list[str]:
+    """The files that are given, or those that lie in the inbox by now."""
     if options.files:
-        demand(not (options.status or options.release or options.discard), "files are posted by `life-tools day FILES` alone")
         return list(dict.fromkeys(options.files))
     if options.release or options.discard or options.restored:
         return []
@@ -80,6 +80,7 @@ def files_in(options: argparse.Namespace) -> list[str]:
 
 def demand_right(options: argparse.Namespace) -> None:
     is_judged = options.release or options.discard
+    demand(not options.files or not (options.status or is_judged), "files are posted by `life-tools day FILES` alone")
     is_free = not (options.by or options.why or options.line)
     demand(is_judged or is_free, "--by, --why and --line belong to --release or --discard")
 
@@ -112,10 +113,9 @@ def judge(options: argparse.Namespace, log: Log, asked: Asked) -> int | None:
     return None
 
 
-def worked(options: argparse.Namespace, files: list[str], stop: Stopping) -> int:
-    asked = Asked(options.folder, files, options.new, day_in(options.today) if options.today else datetime.date.today(),
-                  settings_of(options.folder))
+def worked(options: argparse.Namespace, stop: Stopping) -> int:
     log, patience = Log(options.folder), patience_in(options)
+    today, settings = day_in(options.today) if options.today else datetime.date.today(), settings_of(options.folder)
     demand(os.path.isdir(options.folder), f"{options.folder} is not a folder")
     is_book = os.path.lexists(os.path.join(options.folder, JOURNAL)) or os.path.isdir(log.path) or options.new
     demand(is_book, f"there is no journal.life in {os.path.abspath(options.folder)}: `life-tools day --new` begins a book")
@@ -124,6 +124,8 @@ def worked(options: argparse.Namespace, files: list[str], stop: Stopping) -> int
         sync_folder(options.folder)
     lock = lock_log(os.path.join(log.path, LOCK), patience)
     try:
+        # what was handed in while another `day` was waited for is taken, too
+        asked = Asked(options.folder, files_in(options), options.new, today, settings)
         day = Day(asked, program_for(options.folder, options.basis, options.life, lock), patience, stop)
         status = judge(options, log, asked)
         return day.work() if status is None else status
@@ -133,13 +135,12 @@ def worked(options: argparse.Namespace, files: list[str], stop: Stopping) -> int
 
 def run(options: argparse.Namespace) -> int:
     demand_right(options)
-    files = files_in(options)
     if options.status:
         return report(Log(options.folder), os.path.join(options.folder, JOURNAL))
     stay()
     with stopping() as stop:
         try:
-            status = worked(options, files, stop)
+            status = worked(options, stop)
         except Stopped:
             remark("day: stopped by a signal; nothing was posted since the last line above, and the next `day` goes on")
             return STOPPED

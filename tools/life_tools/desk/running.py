@@ -169,10 +169,11 @@ def program_for(folder: str, basis: str, life: str | None, lock: int) -> Program
 
 def run_when_free(program: Program, run: Run, journal: str, patience: Patience, stop: Stopping) -> int:
     """Runs the program, and again where another run had the journal: then it posted nothing."""
-    unseen = 0
+    unseen, until = 0, time.monotonic() + patience.seconds
     while True:
         status = program.run(run, stop)
-        if stop.caught or patience.is_over or not (status == DISK_FAULT and run.transcript() == "diskfault\n"):
+        is_over = stop.caught or time.monotonic() >= until
+        if is_over or status != DISK_FAULT or run.transcript() != "diskfault\n":
             return status
         # who had it may be gone by now; a disk that failed has no holder either, and is not tried for long
         unseen = 0 if holder_of(journal) else unseen + 1

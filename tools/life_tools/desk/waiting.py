@@ -13,20 +13,17 @@ LOOK_EVERY = 0.2
 
 
 class Patience:
-    """So many seconds in all, whatever is waited for."""
+    """So many seconds for each wait."""
 
     def __init__(self, seconds: float) -> None:
-        self.seconds, self.until = seconds, time.monotonic() + seconds
+        self.seconds = seconds
         self.told: str | None = None
-
-    @property
-    def is_over(self) -> bool:
-        return time.monotonic() >= self.until
 
     def wait(self, why: Callable[[], str | None]) -> str | None:
         """Waits until nothing is in the way; returns what still is at the end of the time."""
+        until = time.monotonic() + self.seconds
         while found := why():
-            if self.is_over:
+            if time.monotonic() >= until:
                 return found
             if found != self.told:
                 remark(f"day: waiting: {found}")
