@@ -281,6 +281,6 @@ for seed in 1 2 3; do
 done
 
 # killed at random moments
-python3 "$root/bench/kill_checkpoints.py" "$program" "$slow/killed" 24 1 >"$work/kills" 2>&1 || complain "$(cat "$work/kills")"
+python3 "$root/tests/program/kills/checkpoints.py" "$program" "$slow/killed" 24 1 >"$work/kills" 2>&1 || complain "$(cat "$work/kills")"
 
 end "a checkpoint changes no byte of what is written, and each fault of it has its answer"

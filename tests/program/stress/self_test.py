@@ -1,6 +1,6 @@
 """The checker of transcripts has to refuse: right transcripts of an office of its own, with one thing changed.
 
-usage: python3 self_test.py ROOT FOLDER
+usage: python3 -m tests.program.stress.self_test ROOT FOLDER
 """
 from __future__ import annotations
 
@@ -12,15 +12,14 @@ import sys
 from collections.abc import Callable, Iterator
 from typing import Any
 
-sys.path.insert(0, os.path.join(os.path.dirname(os.path.abspath(__file__)), "..", ".."))
 
-from tests.support.drawn_scripts import Office, draws, folder_for, make_script  # noqa: E402
-from life_tools.scripts.transcript_check import check  # noqa: E402
-from life_tools.common.formats import Wrong, money  # noqa: E402
-from life_tools.journal.file import file_of, read_journal  # noqa: E402
-from life_tools.rules.policies import Book  # noqa: E402
-from life_tools.tables.basis import read_basis  # noqa: E402
-from life_tools.reserves.exact import Known  # noqa: E402
+from tests.support.drawn_scripts import Office, draws, folder_for, make_script
+from life_tools.scripts.transcript_check import check
+from life_tools.common.formats import Wrong, money
+from life_tools.journal.file import file_of, read_journal
+from life_tools.rules.policies import Book
+from life_tools.tables.basis import read_basis
+from life_tools.reserves.exact import Known
 
 SCRIPTS = 4
 PLACES = 6

@@ -1,6 +1,6 @@
 """The program under falling limits of its address space, from ample to none.
 
-usage: python3 memory.py PROGRAM FOLDER SEED
+usage: python3 -m tests.program.faults.memory PROGRAM FOLDER SEED
 
 The answer has to be that of a run which may want memory. In two cases the system ends the program, which then can say
 nothing, as docs/reference/statuses.md tells: below some limit it can't be loaded; and where memory ends just where the stack of the
@@ -17,11 +17,11 @@ import sys
 from concurrent.futures import ThreadPoolExecutor
 from typing import Any
 
-from judge import judge_lacking, reason
-from lacking import Lacking, Mode
+from tests.program.faults.judge import judge_lacking, reason
+from tests.program.faults.lacking import Lacking, Mode
 from life_tools.journal.file import file_of
-from runs import Desk, is_preview, read_bytes
-from scenes import eight_clerks, many_policies
+from tests.program.faults.runs import Desk, is_preview, read_bytes
+from tests.program.faults.scenes import eight_clerks, many_policies
 from life_tools.common.formats import Wrong, demand
 
 AT_ONCE = 2

@@ -3,7 +3,7 @@ from __future__ import annotations
 
 from dataclasses import dataclass
 
-from runs import JOURNAL, KEPT  # noqa: F401: it also puts tools/ on the path
+from tests.program.faults.runs import JOURNAL, KEPT  # noqa: F401: it also puts tools/ on the path
 from life_tools.journal.checkpoints import bytes_of_checkpoint, checkpoint_of
 from life_tools.rules.commands import Command
 from life_tools.common.formats import day_in

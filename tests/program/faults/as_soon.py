@@ -3,7 +3,7 @@ record is safe: the program is run with each sync held back, and the moments at 
 those of its syncs. No sync is behind the last line; that is read before the watchers' lines are written, for which the
 program waits until the thread has ended that writes for the clerks, and that end is held back.
 
-usage: python3 as_soon.py PROGRAM FOLDER [--held-back | --clerk N]
+usage: python3 -m tests.program.faults.as_soon PROGRAM FOLDER [--held-back | --clerk N]
 
 The program is first run so, and then behind a command that holds back what it writes, and behind one that holds back the
 last line alone, which both have to be found; with --held-back only this is done. With a clerk's number he posts in the
@@ -15,7 +15,7 @@ import sys
 import time
 from pathlib import Path
 
-from runs import is_preview
+from tests.program.faults.runs import is_preview
 
 POSTINGS = 6
 # a preview is slow

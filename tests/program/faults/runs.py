@@ -9,11 +9,10 @@ import subprocess
 import sys
 from dataclasses import dataclass
 
-sys.path.insert(0, os.path.join(os.path.dirname(os.path.abspath(__file__)), "..", "..", "tools"))
-from life_tools.common.formats import demand  # noqa: E402
-from life_tools.journal.file import read_journal  # noqa: E402
+from life_tools.common.formats import demand
+from life_tools.journal.file import read_journal
 
-ROOT = os.path.join(os.path.dirname(os.path.abspath(__file__)), "..", "..")
+ROOT = os.path.join(os.path.dirname(os.path.abspath(__file__)), "..", "..", "..")
 JOURNAL = "journal.life"
 KEPT = "checkpoint.life"
 LONGEST_SECONDS = 60

@@ -1,7 +1,7 @@
 #!/usr/bin/env python3
 """Kills runs of eight clerks at random moments, and looks at the file that is left each time.
 
-usage: python3 bench/kill_lanes.py ROUNDS FOLDER    (python3 and its standard library; the program has to be built)
+usage: python3 tests/program/kills/eight_clerks.py ROUNDS FOLDER    (python3 and its standard library; the program has to be built)
 
 All records from before have to be there, and of each clerk's postings the first so many, in order, once each. Then the
 program has to open the file to just these records. The same file goes on from round to round.
@@ -15,8 +15,8 @@ import sys
 import time
 from typing import Any
 
-HERE = os.path.dirname(os.path.abspath(__file__))
-PROGRAM = os.environ.get("LIFE_PROGRAM") or os.path.join(HERE, "../crates/life_cli/out/life_cli")
+ROOT = os.path.join(os.path.dirname(os.path.abspath(__file__)), "..", "..", "..")
+PROGRAM = os.environ.get("LIFE_PROGRAM") or os.path.join(ROOT, "crates/life_cli/out/life_cli")
 CLERKS, POSTINGS_EACH, LONGEST_SECONDS = 8, 400, 0.9
 
 
@@ -36,7 +36,7 @@ def policies_of(journal: str) -> list[Any]:
 
 def need(right: bool, message: str) -> None:
     if not right:
-        sys.exit("kill_lanes: " + message)
+        sys.exit("eight_clerks: " + message)
 
 
 def kill_one(folder: str, first: int) -> tuple[list[list[int]], bytes]:

@@ -8,10 +8,10 @@ from __future__ import annotations
 import os
 from dataclasses import dataclass
 
-from judge import demand_file, follow, judge_early_end, judge_front, judge_lacking
+from tests.program.faults.judge import demand_file, follow, judge_early_end, judge_front, judge_lacking
 from life_tools.reserves.exact import Known
 from life_tools.tables.basis import read_basis
-from runs import Desk, Ended
+from tests.program.faults.runs import Desk, Ended
 from life_tools.common.formats import demand
 
 

@@ -2,7 +2,7 @@
 """Kills `life checkpoint`, and `life run` beside a checkpoint, with SIGKILL at random moments, and judges each time that
 `state` writes what it writes without the checkpoint, and that the file holds no checkpoint or one of the journal's front.
 
-usage: python3 bench/kill_checkpoints.py PROGRAM FOLDER KILLS SEED     (python3 and its standard library)
+usage: python3 tests/program/kills/checkpoints.py PROGRAM FOLDER KILLS SEED     (python3 and its standard library)
 
 FOLDER is made, and is left as it is. The seed fixes what is drawn, not where a kill falls.
 """
@@ -17,7 +17,7 @@ import sys
 import time
 from typing import Any
 
-sys.path.insert(0, os.path.join(os.path.dirname(os.path.dirname(os.path.abspath(__file__))), "tools"))
+sys.path.insert(0, os.path.join(os.path.dirname(os.path.abspath(__file__)), "..", "..", "..", "tools"))
 
 from life_tools.journal.checkpoints import checkpoint_in, checkpoint_of  # noqa: E402
 from life_tools.common.formats import Wrong, demand  # noqa: E402
@@ -114,7 +114,7 @@ def main() -> None:
         try:
             office.judge()
         except Wrong as wrong:
-            sys.exit(f"kill_checkpoints: round {number} of seed {seed}: {wrong}; the files are kept in {folder}")
+            sys.exit(f"checkpoints: round {number} of seed {seed}: {wrong}; the files are kept in {folder}")
     demand(killed >= kills // 8, f"of {kills} rounds {killed} were killed before their end")
     print(f"{killed} of {kills} killed; left: {office.kinds}")
 

@@ -2,7 +2,7 @@
 """Kills `life run` with SIGKILL at random moments of runs over a real file, and judges each time that the program
 reopens to exactly the records whose gates stood open in the file that the killed run left.
 
-usage: python3 bench/kill_runs.py [KILLS] [--folder FOLDER] [--seed SEED]     (python3 and its standard library)
+usage: python3 tests/program/kills/one_clerk.py [KILLS] [--folder FOLDER] [--seed SEED]     (python3 and its standard library)
 
 A third of the kills falls on fresh folders, in or near the creation of the journal; the rest on a journal that earlier
 kills left. The seed fixes what is drawn, not where a kill falls. The files lie in a temporary folder made in FOLDER,
@@ -21,7 +21,7 @@ import sys
 import tempfile
 import time
 
-ROOT = os.path.dirname(os.path.dirname(os.path.abspath(__file__)))
+ROOT = os.path.join(os.path.dirname(os.path.abspath(__file__)), "..", "..", "..")
 PROGRAM = os.environ.get("LIFE_PROGRAM") or os.path.join(ROOT, "crates", "life_cli", "out", "life_cli")
 JOURNAL = "journal.life"
 HEADER = b"LIFEJRNL" + bytes([0, 1, 0, 64, 0, 0, 0, 0])
@@ -261,7 +261,7 @@ def run_rounds(trial: Trial, kills: int, seed: int) -> bool:
             trial.round(random.Random("%d/%d" % (seed, number)))
             need(trial.late <= 100 + 3 * kills, "most runs end before their kill")
         except Wrong as wrong:
-            print("kill_runs: round %d of seed %d: %s; the files are kept in %s"
+            print("one_clerk: round %d of seed %d: %s; the files are kept in %s"
                   % (number, seed, wrong, trial.folder), file=sys.stderr)
             return False
     return True
@@ -277,9 +277,9 @@ def main() -> int:
         words.error("there must be a kill")
     seed = random.SystemRandom().randrange(10 ** 6) if given.seed is None else given.seed
     if not os.path.exists(PROGRAM):
-        print(f"kill_runs: there is no program {PROGRAM}: sh life prove builds it", file=sys.stderr)
+        print(f"one_clerk: there is no program {PROGRAM}: sh life prove builds it", file=sys.stderr)
         return 2
-    folder = tempfile.mkdtemp(prefix="kill_runs.", dir=given.folder)
+    folder = tempfile.mkdtemp(prefix="kills.", dir=given.folder)
     trial = Trial(os.path.abspath(folder))
     if not run_rounds(trial, given.kills, seed):
         return 1

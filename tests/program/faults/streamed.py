@@ -1,6 +1,6 @@
 """A transcript that is seen while the run goes on.
 
-usage: python3 streamed.py PROGRAM FOLDER SEED KILLS
+usage: python3 -m tests.program.faults.streamed PROGRAM FOLDER SEED KILLS
 
 Each line comes as soon as its place is settled; a reader that stops, or that leaves, holds up no posting; what a killed run
 has printed is a front that its journal bears out; and at no moment of a run of eight clerks are more accepted lines written
@@ -16,11 +16,11 @@ import sys
 import time
 from typing import Any
 
-from judge import judge_front, judge_transcript, judge_unanswered
+from tests.program.faults.judge import judge_front, judge_transcript, judge_unanswered
 from life_tools.journal.file import file_of
 from life_tools.tables.basis import BasisRow, read_basis
-from runs import Desk, Ended, default_signals
-from scenes import eight_clerks, many_policies
+from tests.program.faults.runs import Desk, Ended, default_signals
+from tests.program.faults.scenes import eight_clerks, many_policies
 from life_tools.common.formats import demand
 from life_tools.reserves.exact import Known
 
@@ -143,4 +143,5 @@ def main() -> None:
           "no line is written before its record is safe")
 
 
-main()
+if __name__ == "__main__":
+    main()

@@ -1,6 +1,6 @@
 """Stops: signals at random moments of runs and of openings, and an output that is closed before the text ends.
 
-usage: python3 stops.py PROGRAM FOLDER QUICK SEED
+usage: python3 -m tests.program.faults.stops PROGRAM FOLDER QUICK SEED
 
 In half of the runs the journal lies in FOLDER, on a real disk, where most of the time is a sync's; in the others in QUICK,
 a disk in memory. `.ci/checks/kills.sh` kills runs that have no valuations; here two are under way.
@@ -15,10 +15,10 @@ import sys
 import time
 from typing import Any
 
-from judge import judge_front, judge_transcript, judge_unanswered, reason
+from tests.program.faults.judge import judge_front, judge_transcript, judge_unanswered, reason
 from life_tools.journal.file import file_of
-from runs import Desk, Ended, default_signals
-from scenes import eight_clerks, many_policies
+from tests.program.faults.runs import Desk, Ended, default_signals
+from tests.program.faults.scenes import eight_clerks, many_policies
 from life_tools.tables.basis import read_basis
 from life_tools.common.formats import Wrong, demand
 from life_tools.reserves.exact import Known

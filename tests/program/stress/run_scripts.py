@@ -1,6 +1,6 @@
 """Runs the program on random scripts of eight clerks, and checks what it prints and leaves.
 
-usage: python3 run_scripts.py PROGRAM ROOT FOLDER QUICK SCRIPTS [FIRST_SEED]
+usage: python3 -m tests.program.stress.run_scripts PROGRAM ROOT FOLDER QUICK SCRIPTS [FIRST_SEED]
 
 Two scripts run in each new folder, the second on the journal of the first, and what they leave is valued by each measure;
 in one of four the first has a book of many policies, so that a valuation takes several reads and others post and trim
@@ -17,15 +17,14 @@ import subprocess
 import sys
 from typing import Any
 
-sys.path.insert(0, os.path.join(os.path.dirname(os.path.abspath(__file__)), "..", ".."))
 
-from tests.support.drawn_scripts import draws, folder_for, make_book, make_script, value_words, valued_on  # noqa: E402
-from life_tools.scripts.transcript_check import check  # noqa: E402
-from life_tools.reserves.valuation_check import check_block  # noqa: E402
-from life_tools.common.formats import MEASURES, Wrong, printed_rows  # noqa: E402
-from life_tools.journal.file import file_of, read_journal  # noqa: E402
-from life_tools.tables.basis import BasisRow, read_basis  # noqa: E402
-from life_tools.reserves.exact import Known  # noqa: E402
+from tests.support.drawn_scripts import draws, folder_for, make_book, make_script, value_words, valued_on
+from life_tools.scripts.transcript_check import check
+from life_tools.reserves.valuation_check import check_block
+from life_tools.common.formats import MEASURES, Wrong, printed_rows
+from life_tools.journal.file import file_of, read_journal
+from life_tools.tables.basis import BasisRow, read_basis
+from life_tools.reserves.exact import Known
 
 # all but `full`
 REASONS = 16

@@ -1,6 +1,6 @@
 """Drawn scripts of eight clerks in which a call of the journal fails, or two in a row, or that are killed.
 
-usage: python3 drawn.py PROGRAM FOLDER SEED
+usage: python3 -m tests.program.faults.drawn PROGRAM FOLDER SEED
 
 Each failing call is one of a posting's, drawn among all that an undisturbed run of the same script makes, or one of the
 opening's; strace counts the calls of each thread by itself. Just as many lines as calls failed are answered `fault`, or
@@ -15,15 +15,14 @@ import sys
 from concurrent.futures import ThreadPoolExecutor
 from typing import Any
 
-from judge import demand_faults, judge_early_end, judge_transcript, reason
+from tests.program.faults.judge import demand_faults, judge_early_end, judge_transcript, reason
 from life_tools.journal.file import file_of, read_journal
-from runs import JOURNAL, ROOT, Desk, read_bytes
+from tests.program.faults.runs import JOURNAL, ROOT, Desk, read_bytes
 from life_tools.tables.basis import read_basis
 
-sys.path.insert(0, ROOT)
-from tests.support.drawn_scripts import draws, make_book, make_script  # noqa: E402
-from life_tools.common.formats import Wrong, demand  # noqa: E402
-from life_tools.reserves.exact import Known  # noqa: E402
+from tests.support.drawn_scripts import draws, make_book, make_script
+from life_tools.common.formats import Wrong, demand
+from life_tools.reserves.exact import Known
 
 AT_ONCE = 2
 SCRIPTS, FAULTS_EACH = 4, 10

@@ -1,6 +1,6 @@
 """Runs whose journal is taken away: removed, renamed, replaced by another file, or cut, while strace holds up a call.
 
-usage: python3 taken.py PROGRAM FOLDER [DEED KIND K | link]     with a deed and a call, or a link: just this one
+usage: python3 -m tests.program.faults.taken PROGRAM FOLDER [DEED KIND K | link]     with a deed and a call, or a link: just this one
 
 From then on no line may be answered `accepted`, and the status is 8. What was accepted before is in the file that was taken
 away; the file that took its place isn't touched. Where the name is a symbolic link, it is so of the file to which it leads,
@@ -15,10 +15,10 @@ import sys
 import time
 from typing import Any
 
-from judge import commands_in, demand_file, follow, reason
+from tests.program.faults.judge import commands_in, demand_file, follow, reason
 from life_tools.journal.file import RECORD_SIZE, file_of, read_journal
-from runs import JOURNAL, Desk, is_preview, read_bytes, write_bytes
-from scenes import ONE_CLERK, book_before
+from tests.program.faults.runs import JOURNAL, Desk, is_preview, read_bytes, write_bytes
+from tests.program.faults.scenes import ONE_CLERK, book_before
 from life_tools.tables.basis import BasisRow, read_basis
 from life_tools.common.formats import Wrong, demand
 

@@ -1,13 +1,13 @@
-"""Judges the records that strace made of small runs, in the folder where they lie: judge.py [fresh].
+"""Judges the records that strace made of small runs: calls on the folder, the two files and the output.
 
-Each is a list of calls on the folder, the two files and the output, with what it wrote and where. With `fresh` the first
-run's alone is there.
+Each is a list of such calls with what was written and where, and has to be just what the journal and its checkpoint allow, in
+order and number. A line that tells of a posting may not be written before its record is safe.
 """
 from __future__ import annotations
 
 import re
-import sys
 from collections.abc import Iterator
+from pathlib import Path
 from typing import Any
 
 
@@ -15,16 +15,16 @@ def part(pattern: str, text: str) -> tuple[str, ...]:
     """The groups of a pattern that has to be in a text."""
     found = re.search(pattern, text)
     if not found:
-        sys.exit(f"calls: a call that isn't read: {text}")
+        raise AssertionError(f"a call that isn't read: {text}")
     return found.groups("")
 
 
-def whole(name: str) -> Iterator[Any]:
+def whole(record: Path) -> Iterator[Any]:
     """The calls of a record. One in which another thread's stands counts where it ends, but a write to the output where it
     begins."""
     begun = {}
-    for line in open(name):
-        thread, call = line.rstrip("\n").split(None, 1)
+    for line in record.read_text(encoding="ascii").splitlines():
+        thread, call = line.split(None, 1)
         if call.endswith(" <unfinished ...>"):
             begun[thread] = call.removesuffix(" <unfinished ...>")
             if begun[thread].startswith("write(1,"):
@@ -38,10 +38,10 @@ def whole(name: str) -> Iterator[Any]:
         yield f"{thread} {call}"
 
 
-def calls(name: str) -> Any:
+def calls(record: Path) -> Any:
     """The calls on the folder, the two files and the output, each with what it wrote and where."""
     roles, found = {}, []
-    for line in whole(name):
+    for line in whole(record):
         call = re.match(r"\d+ +(\w+)\((.*)\) += (-?\d+)", line)
         if not call:
             continue
@@ -60,7 +60,7 @@ def calls(name: str) -> Any:
             text, size, at = part(r'"((?:\\x[0-9a-f]{2})*)"(?:\.\.\.)?, (\d+), (\d+)$', args)
             written = bytes.fromhex(text.replace("\\x", ""))
             if result != int(size):
-                sys.exit(f"calls: a short write: {line}")
+                raise AssertionError(f"a short write: {line}")
             found.append(f"write {role} {at} {written.hex()}")
         elif word == "fadvise64":
             at, many = part(r"\d+, (\d+), (\d+), POSIX_FADV_DONTNEED$", args)
@@ -88,58 +88,51 @@ OPENED = opened("journal")
 ENDED = ["write output", "close journal"] + ["close folder"] * 3
 BOTH = HELD + OPENED + opened("checkpoint")
 BOTH_ENDED = ["write output", "close journal", "close checkpoint"] + ["close folder"] * 3
-bytes_kept = open("journal.life", "rb").read()
-created = []
-for at, written in ((0, b"\0"), (1, b"LIFEJRNL\0\1\0\x40\0\0\0\0\0"), (0, b"\1")):
-    created += [f"write journal {at} {written.hex()}", "fsync journal"]
-posted = []
-for n in range(3):
-    body = bytes_kept[18 + 65 * n:82 + 65 * n]
-    posted += [f"write journal {18 + 65 * n} {body.hex()}00", "fsync journal", f"write journal {17 + 65 * n} 01", "fsync journal"]
 
 
-def judge(name: str, wanted: Any) -> None:
-    compare(name, ["write output" if call.startswith("write output ") else call for call in calls(name)], wanted)
+def creation() -> list[str]:
+    """The three writes by which a journal is created, each synced before the next."""
+    writes = ((0, b"\0"), (1, b"LIFEJRNL\0\1\0\x40\0\0\0\0\0"), (0, b"\1"))
+    return [call for at, written in writes for call in (f"write journal {at} {written.hex()}", "fsync journal")]
 
 
-def judge_run(name: str, wanted: Any, accepted: Any) -> None:
-    """A run writes its lines while it goes on, but none that tells of a posting before its gate is safe."""
-    made = calls(name)
+def postings(journal: bytes, count: int) -> list[str]:
+    """Of each record the body and a closed commit byte behind it, then its own commit byte, each synced."""
+    found = []
+    for at in range(17, 17 + 65 * count, 65):
+        found += [f"write journal {at + 1} {journal[at + 1:at + 65].hex()}00", "fsync journal", f"write journal {at} 01",
+                  "fsync journal"]
+    return found
+
+
+def saving(kept: bytes) -> list[str]:
+    """The commit byte is closed, all else is written, the commit byte is opened, each safe before the next."""
+    return ["write checkpoint 0 00", "fsync checkpoint", f"write checkpoint 1 {kept[1:64].hex()}",
+            f"write checkpoint 64 {kept[64:].hex()}", "fsync checkpoint", "write checkpoint 0 01", "fsync checkpoint"]
+
+
+def judge(record: Path, wanted: list[str]) -> None:
+    compare(["write output" if call.startswith("write output ") else call for call in calls(record)], wanted)
+
+
+def judge_run(record: Path, wanted: list[str], accepted: int) -> None:
+    """A run writes its lines while it goes on, but none that tells of a posting before its commit byte is safe."""
+    made = calls(record)
     told = safe = gate = 0
     for place, call in enumerate(made):
         if call.startswith("write output "):
             told += int(call.split()[2])
-            if told > safe:
-                sys.exit(f"calls: the {name} run, call {place}: {told} accepted postings are told, and {safe} are safe")
+            assert told <= safe, f"call {place}: {told} accepted postings are told, and {safe} are safe"
         elif call.startswith("write journal "):
             gate = bool(re.fullmatch(r"write journal \d\d+ 01", call))
         elif call == "fsync journal":
             safe, gate = safe + gate, 0
-    if told != accepted:
-        sys.exit(f"calls: the {name} run tells of {told} accepted postings")
-    compare(name, [call for call in made if not call.startswith("write output ")],
+    assert told == accepted, f"the run tells of {told} accepted postings"
+    compare([call for call in made if not call.startswith("write output ")],
             [call for call in wanted if call != "write output"])
 
 
-def compare(name: str, made: Any, wanted: Any) -> None:
+def compare(made: list[str], wanted: list[str]) -> None:
     if made != wanted:
         place = next((i for i, (a, b) in enumerate(zip(made, wanted)) if a != b), min(len(made), len(wanted)))
-        sys.exit(f"calls: the {name} run, call {place}: made {made[place:place + 3]}, wanted {wanted[place:place + 3]}")
-
-
-judge_run("fresh", HELD + OPENED + created + posted + ENDED, 3)
-if sys.argv[1:] == ["fresh"]:
-    sys.exit(0)
-judge_run("again", HELD + OPENED + ENDED, 0)
-# the gate is closed, all else is written, the gate is opened, each safe before the next; of an empty file and of a checkpoint
-kept = open("checkpoint.life", "rb").read()
-saved = ["write checkpoint 0 00", "fsync checkpoint", f"write checkpoint 1 {kept[1:64].hex()}",
-         f"write checkpoint 64 {kept[64:].hex()}", "fsync checkpoint", "write checkpoint 0 01", "fsync checkpoint"]
-judge("kept", BOTH + saved + BOTH_ENDED)
-judge("replaced", BOTH + saved + BOTH_ENDED)
-for name in ("unkept", "stated"):
-    judge(name, BOTH + BOTH_ENDED)
-judge_run("beside", HELD + OPENED + ENDED, 0)
-# what can't be written is opened to be read, where it is there
-judge("archived", HELD + ["refused journal"] + OPENED + ["refused checkpoint"] * 2 + ENDED)
-judge_run("unposted", HELD + ["refused journal"] + OPENED + ENDED, 0)
+        raise AssertionError(f"call {place}: made {made[place:place + 3]}, wanted {wanted[place:place + 3]}")

@@ -1,6 +1,6 @@
 """The program with one request for memory refused, each of its requests in a run of its own.
 
-usage: python3 refused.py PROGRAM FOLDER LIBRARY    (LIBRARY is refuse_nth.c, built)
+usage: python3 -m tests.program.faults.refused PROGRAM FOLDER LIBRARY    (LIBRARY is refuse_nth.c, built)
 
 All other memory is given. So one line at most is answered `nomemory`, and where the text is cut all lines were served.
 Where several threads run, one run may ask less often than another; what comes to no refusal has to be the right text.
@@ -16,11 +16,11 @@ import struct
 import sys
 from concurrent.futures import ThreadPoolExecutor
 
-from judge import judge_unanswered, reason
-from lacking import Lacking, Mode
+from tests.program.faults.judge import judge_unanswered, reason
+from tests.program.faults.lacking import Lacking, Mode
 from life_tools.journal.checkpoints import bytes_of_checkpoint, checkpoint_of
 from life_tools.journal.file import read_journal
-from runs import ROOT, Desk, Ended, is_preview, read_bytes, write_bytes
+from tests.program.faults.runs import ROOT, Desk, Ended, is_preview, read_bytes, write_bytes
 from life_tools.common.formats import Wrong, demand
 
 AT_ONCE = 4

@@ -11,16 +11,15 @@ import re
 import sys
 from typing import Any
 
-sys.path.insert(0, os.path.join(os.path.dirname(os.path.abspath(__file__)), "..", "..", "tools"))
-from life_tools.scripts.transcript_check import Run, answers_in, is_block  # noqa: E402
-from life_tools.rules.commands import Command, words_of  # noqa: E402
-from life_tools.common.formats import Wrong, demand  # noqa: E402
-from life_tools.journal.file import read_journal  # noqa: E402
-from life_tools.rules.policies import Book, Refusal  # noqa: E402
-from life_tools.scripts.lines import Line, lanes_of, lines_in  # noqa: E402
-from life_tools.reserves.exact import Known  # noqa: E402
-from life_tools.tables.basis import BasisRow  # noqa: E402
-from runs import Ended  # noqa: E402
+from life_tools.scripts.transcript_check import Run, answers_in, is_block
+from life_tools.rules.commands import Command, words_of
+from life_tools.common.formats import Wrong, demand
+from life_tools.journal.file import read_journal
+from life_tools.rules.policies import Book, Refusal
+from life_tools.scripts.lines import Line, lanes_of, lines_in
+from life_tools.reserves.exact import Known
+from life_tools.tables.basis import BasisRow
+from tests.program.faults.runs import Ended
 
 # the last line of a run that ends before its lanes begin
 LAST_LINES = {6: "readfault\n", 8: "diskfault\n", 9: "nomemory\n"}

@@ -1,6 +1,6 @@
 """The judge has to refuse: runs in which a call failed, with one thing changed in what they answered or left.
 
-usage: python3 self_test.py PROGRAM FOLDER
+usage: python3 -m tests.program.faults.self_test PROGRAM FOLDER
 """
 from __future__ import annotations
 
@@ -11,12 +11,12 @@ from dataclasses import replace
 from functools import partial
 from typing import Any
 
-from judge import demand_faults, judge_early_end, judge_lacking, judge_transcript, judge_unanswered
-from lacking import Mode
+from tests.program.faults.judge import demand_faults, judge_early_end, judge_lacking, judge_transcript, judge_unanswered
+from tests.program.faults.lacking import Mode
 from life_tools.journal.file import RECORD_SIZE, file_of, read_journal
-from refused import Refused
-from runs import JOURNAL, Desk, Ended, read_bytes
-from scenes import ONE_CLERK, TWO_CLERKS, book_before
+from tests.program.faults.refused import Refused
+from tests.program.faults.runs import JOURNAL, Desk, Ended, read_bytes
+from tests.program.faults.scenes import ONE_CLERK, TWO_CLERKS, book_before
 from life_tools.tables.basis import read_basis
 from life_tools.common.formats import Wrong, demand
 

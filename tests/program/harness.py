@@ -1,0 +1,33 @@
+"""Programs of the suite that try many runs by themselves, such as kills at random moments, each run as a process of its own."""
+from __future__ import annotations
+
+import os
+import shutil
+import subprocess
+import sys
+import tempfile
+from collections.abc import Iterator
+from contextlib import contextmanager
+from pathlib import Path
+
+from tests.support.program import ROOT, Program
+
+
+def passes(program: Program, module: str, *words: str | Path, seconds: int = 1200) -> str:
+    """What tests.program.MODULE prints with these words, which has to end with status 0."""
+    env = {**os.environ, "PYTHONPATH": f"{ROOT}:{ROOT / 'tools'}", "LIFE_PROGRAM": str(program.path)}
+    ran = subprocess.run([sys.executable, "-m", f"tests.program.{module}", *map(str, words)], cwd=ROOT, env=env,
+                         capture_output=True, text=True, timeout=seconds, check=False)
+    assert ran.returncode == 0, (ran.stdout + ran.stderr)[-3000:]
+    return ran.stdout
+
+
+@contextmanager
+def in_memory(beside: Path) -> Iterator[Path]:
+    """A folder in memory, where the machine has one, so that nothing waits for a disk."""
+    shared = Path("/dev/shm")
+    made = Path(tempfile.mkdtemp(dir=shared if os.access(shared, os.W_OK) else beside))
+    try:
+        yield made
+    finally:
+        shutil.rmtree(made, ignore_errors=True)
