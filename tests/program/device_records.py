@@ -1,12 +1,7 @@
-"""Judges records of strace: what passed through the program's devices, by the disk model and the files beside it.
-
-    records.py RECORD..     beside each RECORD: RECORD.before (the journal before the run, if there was one),
-                            RECORD.after, RECORD.out; the folder has the script and the files of the basis
-"""
+"""Judges records of strace: what passed through the program's devices, by the disk model and the files beside it."""
 from __future__ import annotations
 
 import re
-import sys
 from dataclasses import dataclass
 from pathlib import Path
 from typing import Iterator
@@ -106,7 +101,8 @@ def given(calls: list[Call], name: str) -> bytes:
     return b"".join(call.data for call in reads)
 
 
-def judge(calls: list[Call], before: bytes, after: bytes, printed: bytes, reads_script: bool) -> None:
+def judge(calls: list[Call], before: bytes, after: bytes, printed: bytes, folder: Path, script: bytes | None) -> None:
+    """Of a run in this folder, with this script where it reads one."""
 
     def of(file: str) -> list[Call]:
         return [call for call in calls if call.file == file]
@@ -116,10 +112,10 @@ def judge(calls: list[Call], before: bytes, after: bytes, printed: bytes, reads_
     taken = b"".join(call.data[:call.answer] for call in of("output") if call.word == "write")
     if taken != printed:
         raise Wrong("the output took other bytes than were printed")
-    if reads_script and given(of("input"), "the input") != Path("script").read_bytes():
+    if script is not None and given(of("input"), "the input") != script:
         raise Wrong("the input gave other bytes than the script's")
     for name in sorted({call.file for call in calls if call.file.endswith((".csv", ".xml"))}):
-        if given(of(name), name) != Path(name).read_bytes():
+        if given(of(name), name) != (folder / name).read_bytes():
             raise Wrong(f"the folder gave other bytes than those of {name}")
 
 
@@ -144,31 +140,3 @@ def changed(calls: list[Call]) -> list[list[Call]]:
             failed = Call(call.word, call.file, b"", 0, 0, -1)
             other.append(calls[:at] + [failed] + calls[at:])
     return other
-
-
-def main(records: list[str]) -> int:
-    refused = 0
-    for name in records:
-        before = Path(f"{name}.before")
-        ends = (before.read_bytes() if before.exists() else b"", Path(f"{name}.after").read_bytes(),
-                Path(f"{name}.out").read_bytes())
-        reads_script = name in ("created", "again")
-        calls = calls_of(Path(name))
-        try:
-            judge(calls, *ends, reads_script)
-        except Wrong as wrong:
-            print(f"records: {name}: {wrong}", file=sys.stderr)
-            return 1
-        for lie in changed(calls):
-            try:
-                judge(lie, *ends, reads_script)
-            except Wrong:
-                refused += 1
-                continue
-            print(f"records: {name}: a changed record passes", file=sys.stderr)
-            return 1
-    return 0 if refused > 20 else 1
-
-
-if __name__ == "__main__":
-    sys.exit(main(sys.argv[1:]))
