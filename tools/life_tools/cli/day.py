@@ -31,13 +31,14 @@ import os
 
 from life_tools.common.formats import Wrong, day_in, demand, number_of, remark
 from life_tools.common.packages import stay
+from life_tools.common.program import program_asked
 from life_tools.desk.claiming import login
 from life_tools.desk.day import Asked, Day
 from life_tools.desk.entries import LOCK, Log
 from life_tools.desk.records import sync_folder
 from life_tools.desk.releases import discarded, released
 from life_tools.desk.restoring import restored
-from life_tools.desk.running import program_for
+from life_tools.desk.running import Program
 from life_tools.desk.settings import settings_of
 from life_tools.desk.status import report
 from life_tools.desk.stopping import Stopped, Stopping, stopping
@@ -126,7 +127,7 @@ def worked(options: argparse.Namespace, stop: Stopping) -> int:
     try:
         # what was handed in while another `day` was waited for is taken, too
         asked = Asked(options.folder, files_in(options), options.new, today, settings)
-        day = Day(asked, program_for(options.folder, options.basis, options.life, lock), patience, stop)
+        day = Day(asked, Program(program_asked(options.life), options.folder, options.basis, lock), patience, stop)
         status = judge(options, log, asked)
         return day.work() if status is None else status
     finally:

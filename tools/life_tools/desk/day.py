@@ -189,7 +189,7 @@ class Day:
         if not self.is_whole():
             return False
         with self.stop.posting():
-            run = new_run(self.log, batch, count_of(self.journal), self.program.file)
+            run = new_run(self.log, batch, count_of(self.journal), self.program.asked)
             self.tell_lanes(run, batch)
             status = run_when_free(self.program, run, self.journal, self.patience, self.stop)
             if status in REFUSED_STATUSES:

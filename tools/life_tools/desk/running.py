@@ -15,7 +15,7 @@ from typing import Iterable, Sequence
 
 from life_tools.common.formats import MOST_LANES, MOST_SCRIPT_BYTES, Wrong
 from life_tools.common.locks import holder_of
-from life_tools.common.program import life_command, program_file
+from life_tools.common.program import Program as Asked
 from life_tools.desk.claiming import caller, sum_of
 from life_tools.desk.entries import BEGUN, REMARKS, RUN, SCRIPT, TRANSCRIPT, Entry, Log, Run
 from life_tools.desk.records import now, sync_folder, write_record, write_safely
@@ -94,7 +94,7 @@ def count_of(journal: str) -> int:
     return shape_at(journal).count if os.path.exists(journal) else 0
 
 
-def new_run(log: Log, entries: Sequence[Entry], before: int, program: str) -> Run:
+def new_run(log: Log, entries: Sequence[Entry], before: int, program: Asked) -> Run:
     """The record of a run with its script: both are there, or neither."""
     numbers = log.run_numbers()
     number = numbers[-1] + 1 if numbers else 1
@@ -108,7 +108,8 @@ def new_run(log: Log, entries: Sequence[Entry], before: int, program: str) -> Ru
               "caller": caller(),
               "lanes": [{"lane": lane, "entry": entry.name, "rows": [line.row.number for line in lines]}
                         for lane, entry, lines in lanes],
-              "sha256": {"script": hashlib.sha256(script).hexdigest(), "program": sum_of(program), "tools": tools_sum()}}
+              "sha256": {"script": hashlib.sha256(script).hexdigest(), "program": program.sum, "tools": tools_sum()},
+              "unproved": program.why or None}
     write_record(os.path.join(part, RUN), record)
     folder = os.path.join(log.runs, f"{number:06}")
     os.rename(part, folder)
@@ -135,17 +136,16 @@ def script_of(run: Run) -> list[Line]:
 
 @dataclass(frozen=True)
 class Program:
-    """How the program is started: its words, its folder, the basis file, and the lock that it keeps."""
+    """How the program is started: which one, its folder, the basis file, and the lock that it keeps."""
 
-    words: list[str]
-    file: str
+    asked: Asked
     folder: str
     basis: str
     lock: int
 
     def run(self, run: Run, stop: Stopping) -> int:
         """Runs the script; the status, or minus the signal that ended the program."""
-        words = [*self.words, "run", *(["--basis", self.basis] if self.basis != "basis.csv" else [])]
+        words = [*self.asked.words, "run", *(["--basis", self.basis] if self.basis != "basis.csv" else [])]
         with open(run.path(SCRIPT), "rb") as script, open(run.path(TRANSCRIPT), "wb") as text, \
                 open(run.path(REMARKS), "wb") as remarks:
             try:
@@ -160,11 +160,6 @@ class Program:
             os.fsync(text.fileno())
         sync_folder(run.folder)
         return status
-
-
-def program_for(folder: str, basis: str, life: str | None, lock: int) -> Program:
-    words = life_command(life)
-    return Program(words, words[0] if len(words) == 1 else program_file(), folder, basis, lock)
 
 
 def run_when_free(program: Program, run: Run, journal: str, patience: Patience, stop: Stopping) -> int:
