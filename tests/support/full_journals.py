@@ -9,7 +9,7 @@ HEADER = b"\x01LIFEJRNL\x00\x01\x00\x40\x00\x00\x00\x00"
 EPOCH = datetime.date(1970, 1, 1)
 MOST, OLD, PREMIUMS, LAST_YEAR = 4_000_000, 32_000, 111, 401_000
 RECORD = 65
-WHOLE, TERM, ENDOWMENT = bytes([1, 2, 20, 0]), bytes([1, 1, 30, 10]), bytes([1, 3, 0, 3])
+WHOLE, TERM = bytes([1, 2, 20, 0]), bytes([1, 1, 30, 10])
 PREMIUM = bytes([2, 0, 0, 0])
 
 
@@ -52,25 +52,3 @@ def write_nearly_full(out: Path, left: int, today: datetime.date) -> None:
         for day in range(365):
             file.write(records(TERM, last[day::365], today - datetime.timedelta(364 - day), 100_000, 1_000))
         file.write(b"\x00")
-
-
-def write_policies(out: Path, count: int) -> None:
-    """So many issues of one day, numbered from 1 on."""
-    day = datetime.date(2020, 1, 1)
-    with open(out, "wb") as file:
-        file.write(HEADER)
-        for begin in range(1, count + 1, 1 << 17):
-            numbers = [number.to_bytes(4, "big") for number in range(begin, min(begin + (1 << 17), count + 1))]
-            file.write(records(ENDOWMENT, numbers, day, 100_000, 40_000))
-        file.write(b"\x00")
-
-
-def write_premiums(out: Path, count: int) -> None:
-    """A whole life from the age 0 that pays its 131 premiums, and further ones on the day on which its cover ends."""
-    day, number = datetime.date(2020, 1, 1), [(1).to_bytes(4, "big")]
-    end = day.replace(year=2151)
-    with open(out, "wb") as file:
-        file.write(HEADER + records(bytes([1, 2, 0, 0]), number, day, 100_000, 40_000))
-        for year in range(2020, 2151):
-            file.write(records(PREMIUM, number, day.replace(year=year), 40_000, 0))
-        file.write(records(PREMIUM, number, end, 40_000, 0) * (count - 132) + b"\x00")

@@ -24,8 +24,8 @@ from life_tools.journal.file import RECORD_SIZE, Journal, file_of, gate_of, read
 from life_tools.journal.record_texts import lines_of, plain_template, transactions_of
 from life_tools.rules.commands import CODES, Command, words_of
 from life_tools.rules.policies import ACCOUNTS, Book, bookings
+from tests.support.big_journals import write
 from tests.support.drawn_scripts import make_book, make_script
-from tests.support.full_journals import write_policies, write_premiums
 from tests.support.lived_books import lived
 from tests.support.program import ROOT
 
@@ -226,7 +226,7 @@ def within(seconds: int, folder: Path, *words: str) -> subprocess.CompletedProce
 
 @pytest.mark.slow
 def test_4000000_issues(tmp_path: Path) -> None:
-    write_policies(tmp_path / "full.life", 4000000)
+    write("policies", 4000000, str(tmp_path / "full.life"))
     verified = within(20, tmp_path, "read", "--verify", "full.life")
     balances = "".join(f"balance,{name},0.00\n" for name in ("cash", "premiums", "incurred", "payable"))
     assert (verified.returncode, verified.stdout) == (0, f"{balances}count,4000000\n"), verified.stderr
@@ -238,7 +238,7 @@ def test_4000000_issues(tmp_path: Path) -> None:
 @pytest.mark.slow
 def test_4000000_premiums_of_which_few_can_follow(tmp_path: Path) -> None:
     """A whole life of 131 premiums, paid to its end at age 131."""
-    write_premiums(tmp_path / "full.life", 4000000)
+    write("premiums", 4000000, str(tmp_path / "full.life"))
     verified = within(20, tmp_path, "read", "--verify", "full.life")
     assert (verified.returncode, verified.stdout) == (2, "badjournal,badrecord,132\n")
     assert "record 132: command 133 can't follow: termover,2151-01-01" in verified.stderr
