@@ -112,11 +112,10 @@ def premium_timeline() -> Picture:
     made.box(30, 170, 380, 40, "insured: a claim is accepted, in the days of grace too", "strong")
     made.box(414, 170, 132, 40, "in arrears:\nonly lapse is taken", "bad")
     made.box(550, 170, 260, 40, "lapsed: reinstate pays\nall premiums that were missed", "warn")
-    made.text(30, 245, "A claim for a death after the days of grace is refused (graceover, or wrongstatus,lapsed). After the third",
-              sort="quiet")
-    made.text(30, 263, "anniversary of the unpaid due day a reinstatement is refused (toolate). The days shown are those of a policy",
-              sort="quiet")
-    made.text(30, 281, "issued on 2020-01-01 whose second premium is unpaid.", sort="quiet")
+    for place, words in ((245, "A claim for a death after the days of grace is refused (graceover, or wrongstatus,lapsed). After"),
+                         (263, "the third anniversary of the unpaid due day a reinstatement is refused (toolate). The days shown"),
+                         (281, "are those of a policy issued on 2020-01-01 whose second premium is unpaid.")):
+        made.text(30, place, words, sort="quiet")
     return made
 
 
@@ -131,7 +130,8 @@ def journal_bytes() -> Picture:
         made.box(x, 36, width, 34, words, sort)
         made.text(x + width / 2, 86, below, "middle", "quiet", 11)
         x += width
-    made.text(20, 112, "Blue: commit bytes that are 1. The first commit byte that is not 1 (grey) ends the journal.", sort="quiet")
+    made.text(20, 112, "Blue: commit bytes that are 1. The first commit byte that is not 1 (grey) ends the journal.",
+              sort="quiet")
     made.text(20, 146, "Posting one more command", sort="bold", size=13)
     steps = (("1  write the body at 148 to 211\nand a commit byte 0 at 212", "what is written may be there or not;\n"
               "byte 147 is 0, so the record is not there", "end"),
@@ -171,8 +171,8 @@ def lock_turn() -> Picture:
     for x, words in ((220, "take: 0 becomes 1"), (440, "give: 1 becomes 0"), (730, "give")):
         made.line([(x, 46), (x, 284)], "thin")
         made.text(x, 40, words, "middle", "quiet", 11)
-    made.text(20, 312, "Only the caller that made the lock word 1 has the value. Its turn enters the history when it gives the value back.",
-              sort="quiet")
+    made.text(20, 312, "Only the caller that made the lock word 1 has the value. Its turn enters the history when it gives the "
+              "value back.", sort="quiet")
     return made
 
 
@@ -187,23 +187,24 @@ def layers() -> Picture:
         elif crate and found:
             found[-1][1].append(crate[1])
     rows: list[tuple[str, list[list[str]]]] = []
-    for heading, crates in found:
-        chunks, width = [[]], 0  # type: tuple[list[list[str]], int]
-        for crate in crates:
-            wide = 16 + 7 * len(crate) + 8
+    for title, names in found:
+        cut: list[list[str]] = [[]]
+        width = 0
+        for name in names:
+            wide = 16 + 7 * len(name) + 8
             if width + wide > 620:
-                chunks.append([])
+                cut.append([])
                 width = 0
-            chunks[-1].append(crate)
+            cut[-1].append(name)
             width += wide
-        rows.append((heading, chunks))
+        rows.append((title, cut))
     height = 44 + sum(34 * len(chunks) + 12 for _, chunks in rows)
     made = Picture(900, height, "The layers of crates")
     y: float = 10
-    for heading, chunks in reversed(rows):
+    for title, chunks in reversed(rows):
         tall = 34 * len(chunks) + 4
         made.parts.append(f'<rect class="thin" x="8" y="{y:g}" width="884" height="{tall}" rx="4"/>')
-        words, lines = heading.split(), [""]
+        words, lines = title.split(), [""]
         for word in words:
             if len(lines[-1]) + len(word) > 30:
                 lines.append("")
@@ -212,9 +213,9 @@ def layers() -> Picture:
             made.text(20, y + tall / 2 + 4 + 14 * (number - (len(lines) - 1) / 2), row.strip(), sort="bold", size=11)
         for number, chunk in enumerate(chunks):
             x = 250.0
-            for crate in chunk:
-                wide = 16 + 7 * len(crate)
-                made.box(x, y + 4 + 34 * number, wide, 26, crate, "end" if heading.startswith(("13", "14")) else "")
+            for name in chunk:
+                wide = 16 + 7 * len(name)
+                made.box(x, y + 4 + 34 * number, wide, 26, name, "end" if title.startswith(("13", "14")) else "")
                 x += wide + 8
         y += tall + 8
     made.text(20, y + 14, "A crate may use crates of the layers below its own. Grey: crates of tests.", sort="quiet")
@@ -236,8 +237,8 @@ def position_and_day() -> Picture:
     for x, words in ((20, "life value 2022-12-31 --at 11"), (460, "life value 2022-12-31")):
         made.box(x, 176, 420, 28, words, "strong")
     made.box(20, 210, 420, 44, "the year-end: four policies, 4590.19 to 4590.22", "good")
-    made.box(460, 210, 420, 44, "no year-end: the policies as they stand in 2024, at the age\nthat they had in 2022: 1461.02 to 1461.04",
-             "warn")
+    made.box(460, 210, 420, 44, "no year-end: the policies as they stand in 2024, at the age\n"
+             "that they had in 2022: 1461.02 to 1461.04", "warn")
     made.text(20, 282, "The position says which postings count. The day says only how old the policies are.", sort="quiet")
     return made
 
@@ -289,11 +290,11 @@ def reserve_over_years() -> Picture:
     x, y = points[chosen]
     made.parts.append(f'<circle class="main" cx="{x:.2f}" cy="{y:.2f}" r="6"/>')
     made.line([(x + 7, y), (600, y)], "thin")
-    cents = reserves[chosen] * 100
-    low = cents.numerator // cents.denominator
+    exact = reserves[chosen] * 100
+    low = exact.numerator // exact.denominator
     made.text(610, 60, "year 12, looked at closely", sort="bold")
     top, step = 110.0, 90.0
-    part = float(cents - low)
+    part = float(exact - low)
     for place, words, sort in ((top, f"upper bound {(low + 1) / 100:.2f}", "high"),
                                (top + step * (1 - part), f"exact reserve {float(reserves[chosen]):.5f}..", "main"),
                                (top + step, f"lower bound {low / 100:.2f}", "low")):

@@ -14,10 +14,10 @@ from tests.pages.blocks import commands_in, run_page
 from tests.pages.links import wrong_links
 
 TOP = pathlib.Path(__file__).resolve().parents[2]
-PAGES = sorted(str(page.relative_to(TOP)) for page in [*TOP.glob("*.md"), *(TOP / "docs").rglob("*.md"), TOP / "tools/README.md"])
+PAGES = sorted(str(page.relative_to(TOP)) for page in [*TOP.glob("*.md"), TOP / "tools/README.md", *(TOP / "docs").rglob("*.md")])
 # what people read beside the pages: help texts and messages
-MESSAGES = sorted(str(file.relative_to(TOP)) for pattern in ("tools/launcher/*.sh", "tools/life_tools/**/*.py", "tools/installed/*")
-                  for file in TOP.glob(pattern))
+MESSAGES = sorted(str(file.relative_to(TOP)) for file in [*TOP.glob("tools/launcher/*.sh"), *TOP.glob("tools/installed/*"),
+                                                          *TOP.glob("tools/life_tools/**/*.py")])
 
 
 def program() -> str:
@@ -43,8 +43,7 @@ def test_commands_print_what_the_page_shows(page: str, tmp_path: pathlib.Path) -
 def test_the_site_builds_and_every_link_leads_somewhere(tmp_path: pathlib.Path) -> None:
     """Of the whole site, the pages of clauses included; it is built from a copy, so nothing of the clone is written."""
     copy = tmp_path / "clone"
-    files = subprocess.run(["git", "ls-files", "-z", "docs", "tools", "crates", "crates.txt", "examples", ".ci", "mkdocs.yml", "*.md",
-                            "life"], cwd=TOP, stdout=subprocess.PIPE, check=True).stdout.decode().split("\0")
+    files = subprocess.run(["git", "ls-files", "-z"], cwd=TOP, stdout=subprocess.PIPE, check=True).stdout.decode().split("\0")
     for name in filter(None, files):
         (copy / name).parent.mkdir(parents=True, exist_ok=True)
         shutil.copy2(TOP / name, copy / name)
@@ -67,7 +66,8 @@ def test_the_diagrams_are_those_of_their_sources(tmp_path: pathlib.Path) -> None
 
 
 def test_every_picture_says_what_it_shows() -> None:
-    bare = [f"{page}: {found}" for page in PAGES for found in re.findall(r"!\[([^\]]{0,20})\]\(", (TOP / page).read_text("utf-8"))]
+    bare = [f"{page}: {found}" for page in PAGES
+            for found in re.findall(r"!\[([^\]]{0,20})\]\(", (TOP / page).read_text("utf-8"))]
     assert not bare, bare
 
 
@@ -95,7 +95,8 @@ def test_the_reference_has_every_word_that_the_program_prints() -> None:
     assert not words - known, f"docs/reference does not have {sorted(words - known)}"
 
 
-NAMED_IN = ["docs/development/architecture.md", "docs/development/changing.md", "docs/proof/review.md", "docs/reference/limits.md"]
+NAMED_IN = ["docs/development/architecture.md", "docs/development/changing.md", "docs/proof/review.md",
+            "docs/reference/limits.md"]
 
 
 @pytest.mark.parametrize("page", NAMED_IN)

@@ -56,7 +56,7 @@ def refusals() -> str:
 
 def layers() -> str:
     """The crates under the headings of crates.txt, each with the first sentence of its own description."""
-    from clause_pages import head_of_crate
+    from clause_pages import head_of_crate  # type: ignore[import]
     parts = []
     for line in (TOP / "crates.txt").read_text(encoding="utf-8").splitlines():
         heading = re.match(r"# (\d+\. .*)", line)
@@ -90,20 +90,22 @@ def clauses() -> str:
 
 # what is read and not proved: functions of a file (none: the whole file), what a reader looks at, what tries it
 READ: tuple[tuple[str, str, str, str], ...] = (
-    ("life_cli/src/main.rt", "main words_of hold_descriptors", "the arguments are the system's; it ends as `leave` says, or prints "
-     "`nomemory` if there are no arguments for want of memory; no file takes the place of a closed stream", "cases, descriptors"),
+    ("life_cli/src/main.rt", "main words_of hold_descriptors", "the arguments are the system's; it ends as `leave` says, or "
+     "prints `nomemory` if there are no arguments for want of memory; no file takes the place of a closed stream",
+     "cases, descriptors"),
     ("life_cli/src/shipped.rt", "leave", "the files stay open and locked until it has ended", "two runs at once"),
     ("life_cli/src/devices.rt", "devices_of", "the devices are standard input, standard output, the folder and its two files",
      "recorded system calls"),
-    ("outside_io/src/real_streams.rt", "read give_some write take_some", "what is noted has passed, and in that call; the moment is "
-     "noted in the call in which the bytes are handed on", "recorded system calls, early lines"),
+    ("outside_io/src/real_streams.rt", "read give_some write take_some", "what is noted has passed, and in that call; the "
+     "moment is noted in the call in which the bytes are handed on", "recorded system calls, early lines"),
     ("outside_io/src/moments.rt", "start of later", "a moment has no other maker", "none"),
     ("outside_io/src/folder_shelf.rt", "fetch read_file open_file", "the answer is the system's, for that name",
      "recorded system calls"),
     ("outside_io/src/noted_file.rt", "", "each note stands beside the call that was made, with its answer",
      "recorded system calls, failing calls"),
     ("outside_io/src/held_file.rt", "", "the calls, the lock, the folder's sync, whether the file is still "
-     "there, and that the system's copies of the file are dropped: of both ends after the first sync, of all of it after a failed one",
+     "there, and that the system's copies of the file are dropped: of both ends after the first sync, of all of it after a "
+     "failed one",
      "two runs at once, failing calls, archives, dropped copies, failed syncs"),
     ("lane_runner/src/answering.rt", "hand_over answer_lane", "the writer's bell is rung; the tests' stop (`Gate::at`) is called "
      "with 0", "all orders of the steps, early lines"),

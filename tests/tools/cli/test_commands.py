@@ -16,7 +16,7 @@ from tests.support.program import ROOT
 from tests.support.tools import run_tool
 
 TOOLS = str(ROOT / "tools" / "life-tools")
-README = (ROOT / "tools" / "README.md").read_text(encoding="utf-8")
+REFERENCE = (ROOT / "docs" / "reference" / "tools.md").read_text(encoding="utf-8")
 
 
 @pytest.mark.parametrize("name", ENTRIES)
@@ -24,6 +24,20 @@ def test_help(name: str, tmp_path: Path) -> None:
     ended = run_tool([name, "--help"], tmp_path, {"COLUMNS": "80"})
     assert ended.status == 0 and ended.out.startswith(f"usage: life-tools {name} ") and not ended.err
     assert len(ended.out.split("\n\n")) >= 3, "it says nothing but its usage"
+    assert re.search(rf"^(?:    |Example: )life-tools {name}\b", ended.out, re.M), "it has no example"
+    assert max(map(len, ended.out.split("\n\n", 1)[1].splitlines())) <= 80
+
+
+@pytest.mark.parametrize("command", ["value", "report", "sample", "split"])
+def test_help_of_one_command_of_books(command: str, tmp_path: Path) -> None:
+    """It has the options that belong to the command, and no other's."""
+    words = ["books", "split", "--help"] if command == "split" else ["books", "books.csv", command, "--help"]
+    ended = run_tool(words, tmp_path, {"COLUMNS": "80"})
+    own = {"value": "--totals", "report": "--by", "sample": "--seed", "split": "--classes"}[command]
+    others = {"value": "--seed", "report": "--totals", "sample": "--workers", "split": "--seed"}[command]
+    assert ended.status == 0 and "Example: life-tools books " in ended.out
+    assert re.search(rf"^  {own}\b", ended.out, re.M) and not re.search(rf"^  {others}\b", ended.out, re.M)
+    assert max(map(len, ended.out.splitlines())) <= 80
 
 
 @pytest.mark.parametrize("name", ENTRIES)
@@ -38,8 +52,8 @@ def test_an_unknown_name(tmp_path: Path) -> None:
 
 
 @pytest.mark.parametrize("name", ENTRIES)
-def test_the_table_of_the_readme_has_it(name: str) -> None:
-    assert re.search(rf"^\|.*`{name}\b", README, re.M)
+def test_the_reference_has_it(name: str) -> None:
+    assert re.search(rf"^### {name}$", REFERENCE, re.M)
 
 
 @pytest.mark.parametrize("name", ["position-on", "movement", "statement", "report"])

@@ -1,11 +1,13 @@
-"""What `life` prints of the book as it stood after its first POSITION postings: `state`, `value` or `project`.
+"""Prints what `life` prints of the book as it stood after its first POSITION
+postings: its state, a valuation or a projection.
 
-    at 11 state
-    at 11 state 7001
-    at 11 value 2022-12-31 --mean
+    life-tools at 11 state
+    life-tools at 11 state 7001
+    life-tools at 11 value 2022-12-31 --mean
 
-The program runs on the front of a copy of the journal, which ends there, so what it prints is proved as ever; nothing is
-posted. Options of these tools stand in front of POSITION. The status is 2 where the program didn't end with 0.
+The program runs on a copy of the journal that ends at this position; nothing
+is posted. Options of this tool stand before POSITION. The status is 0, or 2
+if the program did not end with 0.
 """
 from __future__ import annotations
 

@@ -1,11 +1,17 @@
-"""What an auditor looks at: postings that are rare or doubtful, a sample of the policies, papers and letters on it.
+"""What an auditor looks at: doubtful postings, a sample of the policies, and
+papers and letters on it.
 
-    audit flags [--after P0] [--at P]             postings for people to look at, as CSV
-    audit sample N --seed S --on DAY > SAMPLE     a monetary unit sample of a valuation's rows
-    audit papers SAMPLE --html FILE | --pdf FILE  a page to print for each policy of a sample
-    audit letters SAMPLE [--html FILE]            what a letter of confirmation says of each, as CSV or to print
+    life-tools audit flags [--after P0] [--at P]
+        postings that are rare or doubtful, for people to look at, as CSV
+    life-tools audit sample N --seed S --on DAY > SAMPLE
+        a monetary unit sample of a valuation's rows
+    life-tools audit papers SAMPLE --html FILE | --pdf FILE
+        a page to print for each policy of a sample
+    life-tools audit letters SAMPLE [--html FILE]
+        what a letter of confirmation says of each policy, as CSV or to print
 
-`audit flags --help` and so on tell the words of each.
+Example: life-tools audit sample 25 --seed 7 --on 2025-12-31 > sample
+`life-tools audit flags --help` and so on show the arguments of each.
 """
 from __future__ import annotations
 
@@ -42,12 +48,12 @@ def folder_arguments(parser: argparse.ArgumentParser) -> None:
 # --- flags ---
 
 def late_argument(parser: argparse._ActionsContainer, default: str | None) -> None:
-    parser.add_argument("--late", metavar="DAYS", default=default, help="flags: a maturity is told where it is more than so "
+    parser.add_argument("--late", metavar="DAYS", default=default, help="flags: a maturity is reported if it is more than so "
                         f"many days behind the end ({DAYS_LATE})")
 
 
 def flags_arguments(parser: argparse.ArgumentParser) -> None:
-    parser.add_argument("--after", metavar="P0", help="only postings behind this position, as that of the last year's end")
+    parser.add_argument("--after", metavar="P0", help="only postings after this position, such as that of the last year-end")
     parser.add_argument("--at", metavar="P", help="only the first P postings (all)")
     late_argument(parser, str(DAYS_LATE))
     folder_arguments(parser)

@@ -1,22 +1,25 @@
 """Copies to a second place what a book has more than its copy there.
 
-    life-tools backup /mnt/second/main              to a folder on another disk
-    life-tools backup anna@second:books/main        to another machine, by rsync over ssh
-    life-tools backup /mnt/second/main --every 60   again and again, each 60 seconds
+    life-tools backup /mnt/second/main             to a folder on another disk
+    life-tools backup anna@second:books/main       to another machine, by rsync
+    life-tools backup /mnt/second/main --every 60  again each 60 seconds
 
-The copy has the journal's postings in journal.prefix, to which is only ever added; the basis, its
-tables, desk.toml, the folder's seals and log/ in files/; and a seal of all that. `life-tools
-restore` makes a book of it. For another machine a copy is kept in .backup of the book's folder too.
+The copy has the journal's postings in journal.prefix, to which is only ever
+added; the basis, its tables, desk.toml, the folder's seals and log/ in files/;
+and a seal of all that. `life-tools restore` makes a book of it. For another
+machine a copy is kept in .backup of the book's folder too.
 
-Nothing is locked, and runs go on meanwhile. Only postings that are safe on the disk are copied; one
-that is under way is left to the next backup. The first bytes of the journal and of its copy are
-compared with the seal each time; where they differ, nothing is copied. The last lines are
+Nothing is locked, and runs go on meanwhile. Only postings that are safe on the
+disk are copied; one that is under way is left to the next backup. The first
+bytes of the journal and of its copy are compared with the seal each time; if
+they differ, nothing is copied. The last lines are
 
     count,POSTINGS IN THE COPY
     added,POSTINGS THAT WERE ADDED NOW
 
-The status is 0 where all that was safe is copied; 1 where the copy is of another book, or one of
-both was changed; 2 where it could not be done: the next backup goes on.
+The status is 0 if all that was safe is copied; 1 if the copy is of another
+book, or one of both was changed; 2 if it could not be done: the next backup
+goes on.
 """
 from __future__ import annotations
 

@@ -1,27 +1,4 @@
-"""Many books as one: LIST is a CSV with a name, a folder and the name of a basis file a row.
-
-  books LIST value ON [--mean|--deficiency] [--workers N]    a valuation of each, and its total
-  books LIST project ON YEARS [--workers N]                  a projection of each, and its total
-  books LIST state                                           the policies and balances of each, and their total
-  books LIST checkpoint                                      a checkpoint of each
-  books LIST report ON [--by KEYS].. [--rows FOLDER]         `report` of all together, with a table of the books
-  books LIST movement|statement ON1 ON2 --from LIST1 --at LIST2   `movement` and `statement` of all together
-  books LIST due DAY [--within DAYS]                         what is due in each
-  books LIST [audit] flags [--from LIST1] [--at LIST2]       `audit flags` of each
-  books LIST [audit] sample N --seed S --on DAY [--by amount]  `audit sample` of the rows of all books as one
-  books LIST [audit] papers SAMPLE --html FILE | --pdf FILE  `audit papers` of such a sample
-  books LIST [audit] letters SAMPLE                          `audit letters` of such a sample
-  books LIST position-on DAY [--last]                        the position of a day in each, for --at
-  books headroom LIST                                        how many commands are left in each, as `headroom` tells it
-  books split JOURNAL RULE.. FOLDER..                        a book divided, for each rule a new one in a new folder
-
-Each line has the book's name before it; `all` stands before the totals, which end with the number of books that they
-are of, and with how many there are. A book that fails is tried once more, and is then a line
-`NAME,failed,STATUS,LINE`; the status is then that of the first such book. A policy's number in two books gives 1, and so
-does a book that may not be whole, as `verify` tells it; one of which commands are gone has failed.
-
-`split` has the program run each part's lines into a new journal in memory, and compares states, valuations and balances
-before a folder is made. It prints the list of the new books, and how the old one is put away, which stays as it was.
+"""Works on many books as one; what each command takes is in `books_help`.
 
 On a cluster of Dask (--scheduler) each task works on a copy of the book at its position. The lines of policies stay
 where they are made, with --parts, or go.
@@ -43,7 +20,7 @@ from life_tools.books.runs import OWN, Outcome, Parts, named
 from life_tools.books.totals import total_of
 from life_tools.books.work import Asked, processors, work
 from life_tools.journal.day_columns import number_at
-from life_tools.cli import books_audit, books_own, books_split
+from life_tools.cli import books_audit, books_help, books_own, books_split
 from life_tools.cli.books_counts import run_headroom, run_position_on
 from life_tools.cli.headroom import add_arguments, wanted_of
 from life_tools.common.cells import write_csv_file
@@ -213,6 +190,7 @@ def run_program(options: argparse.Namespace, books: list[ListedBook]) -> int:
 
 
 def arguments(parser: argparse.ArgumentParser) -> None:
+    books_help.use_for(parser)
     parser.add_argument("list", metavar="LIST", help="the list of books")
     parser.add_argument("words", metavar="WORDS", nargs="+", help=" or ".join(WORDS))
     parser.add_argument("--last", action="store_true", help="position-on: the position of the last command of the day or before")
@@ -220,16 +198,16 @@ def arguments(parser: argparse.ArgumentParser) -> None:
     parser.add_argument("--mean", action="store_true", help="value by mean reserves")
     parser.add_argument("--deficiency", action="store_true", help="value with the minimum reserves")
     parser.add_argument("--workers", metavar="N", help="threads of each valuation or projection")
-    parser.add_argument("--processes", metavar="N", help="books at once on this machine, as many as processors where not told")
+    parser.add_argument("--processes", metavar="N", help="books at once on this machine (as many as processors)")
     parser.add_argument("--scheduler", metavar="ADDRESS", help="a scheduler of Dask, as tcp://HOST:PORT")
-    parser.add_argument("--wait", metavar="SECONDS", default="0", help="how long a book may be held by somebody else (0)")
-    parser.add_argument("--send", action="store_true", help="workers don't see the folders: they are sent what they need")
-    parser.add_argument("--parts", metavar="FOLDER", help="the lines of each book go to a file there, where they are made")
-    parser.add_argument("--sqlite", action="store_true", help="parts are SQLite files, and not CSV")
+    parser.add_argument("--wait", metavar="SECONDS", default="0", help="how long to wait for a book in use (0)")
+    parser.add_argument("--send", action="store_true", help="send the workers what they need, since they don't see the folders")
+    parser.add_argument("--parts", metavar="FOLDER", help="write the lines of each book to a file in this folder, on its machine")
+    parser.add_argument("--sqlite", action="store_true", help="parts as SQLite files and not as CSV")
     add_arguments(parser)
     books_split.add_arguments(parser)
     books_own.add_arguments(parser)
-    parser.add_argument("--totals", action="store_true", help="the lines of policies aren't printed")
+    parser.add_argument("--totals", action="store_true", help="leave out the lines of policies")
 
 
 def word_in(options: argparse.Namespace) -> str:

@@ -1,9 +1,12 @@
-"""A window on a book, in a web browser of this machine: it only looks, and posts nothing.
+"""Opens a window on a book in a web browser of this machine. It only looks, and
+posts nothing.
 
-    browse [--folder FOLDER | --books LIST] [--basis NAME] [--port N]
+    life-tools browse
+    life-tools browse --folder ~/books/main --port 0
 
-It prints the address to open. The journal is opened for reading alone and copied to a private folder, which goes away with
-the window; end it by Ctrl-C. It answers this machine alone: from another one come by `ssh -L`, as the page tells.
+It prints the address to open. The journal is opened for reading and copied to
+a private folder, which goes away with the window; Ctrl-C ends it. Only this
+machine can reach it; from another one come by `ssh -L`, as its page explains.
 """
 from __future__ import annotations
 

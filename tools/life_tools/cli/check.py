@@ -1,14 +1,24 @@
-"""Looks a script over before it is sent, beside a folder's journal; nothing is posted.
+"""Looks a script over before it is sent, beside a folder's journal. Nothing is
+posted.
 
-A row is told where its day is behind today, or before that of its lane's posting above; where it is more than 400 days from
-its policy's newest posting, a maturity from the end of the term, and a claim only while premiums are awaited; where its
-policy's number is unknown; where an accepted posting equals it, as where a settlement is sent twice; where its
-amount isn't the policy's premium, or more than is outstanding; where it is a claim within a year of a reinstatement; and
-where the program refuses it on a copy of the journal, with what to do. Of a claim that is refused it tells whether the policy
-was insured on the day of death: it never is a reason to reinstate.
-An issue is told where it is not plausible, by its day, or by its premium beside the net premium of the basis, as desk.toml
-sets it. The rows are looked at in the order in which that dry run answered them. The status is 1 where a row is told. The copy
-lies where that of `dry-run` does.
+    life-tools check draft.csv
+    life-tools check draft.csv --today 2024-06-03
+
+A row is reported if
+  - its day is in the future, or before that of its lane's posting above it
+  - its day is more than 400 days from its policy's newest posting (a maturity:
+    from the end of cover; a claim: only while premiums are awaited)
+  - its policy's number is unknown, or its amount is not the policy's premium,
+    or more than is outstanding
+  - an accepted posting equals it, such as a settlement that is sent twice
+  - it is a claim within a year of a reinstatement
+  - it is an issue that is not plausible by its day, or by its premium compared
+    with the net premium of the basis (desk.toml sets the limits)
+  - the program refuses it on a copy of the journal; then it says what to do
+
+For a refused claim it says whether the policy was insured on the day of death;
+a death is never a reason to reinstate. Rows are looked at in the order in
+which the copy answered them. The status is 1 if a row is reported.
 """
 from __future__ import annotations
 

@@ -1,8 +1,11 @@
-"""Works out anew, exactly, every year of a projection that `life project` printed, and compares.
+"""Works every year of a projection that `life project` printed out anew, exactly,
+and compares. It shares no code with the program.
 
-The basis file's tables are read from its folder. Each pair of bounds has to enclose what is expected, and to be as narrow
-as docs/reference/script.md says. Written from docs/reference/script.md and docs/explanation/reserves.md alone, so that the program can be checked
-without it. It ends with status 1 and says where a line isn't as it must be.
+    life-tools check-projection journal.life basis.csv PROJECTION
+
+The basis's tables are read from its folder. Each pair of bounds has to enclose
+what is expected, and to be as narrow as the reference says. The status is 1 if
+a line is wrong; the line is named.
 """
 from __future__ import annotations
 

@@ -1,15 +1,21 @@
-"""Checks what `life run` printed for the script of up to eight clerks, and what it left in the journal.
+"""Checks what `life run` printed for a script, and what it left in the journal,
+by the posting rules. It shares no code with the program.
 
-BEFORE and AFTER are journal.life before and after the run, where BEFORE may be absent; BASIS is the basis file, whose
-tables are read from its folder. Written from docs/reference/script.md and docs/reference/rules.md alone, so that the program can be
-checked without it. The lines in their order have to be one history: each clerk's rows are answered once and in order;
-a posting is accepted at the next position, or refused for the first reason that the rules have; a valuation shows the
-book at its position, with bounds around the exact values; a trim's floor is the position of a pin that may be live, or
-the count. The journal afterwards holds what was accepted, and nothing else. Runs that met a fault of the disk or found
-no memory aren't checked. It ends with status 1 and says where something isn't as it must be.
+    life-tools check-transcript SCRIPT TRANSCRIPT BEFORE AFTER BASIS
+    life-tools check-transcript day.csv day.out /dev/null journal.life b.csv
 
-Of a run that was cut, whose last lines aren't there, the lines up to the cut are checked, and it is told behind which line
-it was cut and what the journal holds beside; the status is 1.
+BEFORE and AFTER are the journal before and after the run (BEFORE may not
+exist). The lines in their order have to be one history: each lane's rows are
+answered once and in order; a posting is accepted at the next position, or
+refused for the first reason that the rules have; a valuation shows the book at
+its position, with bounds around the exact values; a trim's floor is the
+position of a pin that may be live, or the count. The journal has to hold
+exactly what was accepted.
+
+A transcript that was cut is checked up to the cut, which is reported with what
+the journal holds beyond it, and the status is 1. Runs that met a fault of the
+disk or found no memory are not checked. The status is 1 if something is wrong;
+the place is named.
 """
 from __future__ import annotations
 

@@ -1,11 +1,13 @@
-"""Works out anew, in exact fractions, every row of a valuation that `life value` printed, and compares.
+"""Works every row of a valuation that `life value` printed out anew, in exact
+fractions, and compares. It shares no code with the program.
 
-The first line names the measure: mean, deficiency, or none where the reserves are terminal. The basis file's tables are
-read from its folder. Written from docs/reference/ and from the public standards alone, so that the program can be
-checked without it. It ends with status 1 and says where a row or the total isn't as it must be.
+    life-tools check-values journal.life basis.csv VALUATION
+    life-tools check-values journal.life basis.csv SAMPLE --sample
 
-With --sample the file has the first line and any of the rows, in any order: these are checked, and the total isn't. What
-`audit sample` wrote is taken so without a word.
+The first line of the valuation names the measure. The basis's tables are read
+from its folder. With --sample the file has the first line and any of the rows,
+in any order: these are checked, and the total is not; what `audit sample`
+printed needs no option. The status is 1 if a row or the total is wrong.
 """
 from __future__ import annotations
 
@@ -25,7 +27,7 @@ def arguments(parser: argparse.ArgumentParser) -> None:
     parser.add_argument("journal", metavar="JOURNAL", help="the file, as journal.life")
     parser.add_argument("basis", metavar="BASIS", help="the basis file, as basis.csv")
     parser.add_argument("valuation", metavar="VALUATION", help="what life value printed")
-    parser.add_argument("--sample", action="store_true", help="some of the rows behind the first line are enough")
+    parser.add_argument("--sample", action="store_true", help="some of the rows after the first line are enough")
 
 
 def judge(rows: list[list[str]], policies: list[Policy], basis: list[BasisRow], measure: str) -> str:

@@ -1,11 +1,14 @@
-"""Runs a script on a copy of a folder's journal, and prints the transcript that it would have; nothing is posted.
+"""Runs a script on a copy of a folder's journal, and prints the transcript that
+it would have. Nothing is posted.
 
-The journal is copied, and the basis with its tables, into a folder of its own, where `life run` reads the script. What
-another run posts before the script is run in earnest changes what it is answered then. The status is 0 where the run
-ended well, whatever it refused, and 2 where it didn't: its own status is told on standard error.
+    life-tools dry-run draft.csv
 
-The copy lies in memory (/dev/shm), or in TMPDIR where that is set or memory has no room for it: there each posting waits for
-its syncs, and a long script takes as long as it will take in earnest on such a disk.
+What another run posts meanwhile changes what the script is answered later. The
+status is 0 if the run ended well, whatever it refused; otherwise 2, and the
+run's own status is given on standard error.
+
+The copy lies in memory (/dev/shm), or in TMPDIR if that is set or there is no
+space in memory. On a disk each posting waits for its syncs.
 """
 from __future__ import annotations
 

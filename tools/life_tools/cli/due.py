@@ -1,15 +1,20 @@
-"""What is due on a day: a list as CSV with a header row, or with --script the lines to send.
+"""What is due on a day: a list as CSV with a header row, and the sums on standard
+error; or with --script the lines to send.
+
+    life-tools due 2024-03-05
+    life-tools due 2024-03-05 --within 30 --script lapse,mature > lapses.csv
 
   premium    a premium that is due on the day, or within so many days after it
-  grace      a premium that was due before the day, and can still be paid on it
-  lapse      no premium can be paid any more: the policy is in arrears, and can be lapsed
-  mature     the insurance has ended, or ends within so many days
-  reinstate  a lapsed policy that can be put in force on the day, for the amount
+  grace      a premium that was due before, and can still be paid on the day
+  lapse      the policy is in arrears, and can be lapsed
+  mature     the cover has ended, or ends within so many days
+  reinstate  a lapsed policy that can be put in force, for the amount
   settle     what is outstanding of a claim or a maturity
 
-`day` is the day on which the premium was due, the term ends, the policy lapsed, or the last command on it was posted;
-`until` is the last day of grace, or of the right to reinstate. A policy that has a command after the days asked for is
-left out, since it takes no line of an earlier day.
+The column `day` is the day on which the premium was due, the cover ends, the
+policy lapsed, or the last command on it was posted; `until` is the last day of
+grace, or of the right to reinstate. A policy that has a command after the days
+asked for is left out, since it takes no line of an earlier day.
 """
 from __future__ import annotations
 
@@ -123,7 +128,7 @@ def kinds_in(text: str | None) -> list[str]:
 
 def arguments(parser: argparse.ArgumentParser) -> None:
     parser.add_argument("day", metavar="DAY", help="YYYY-MM-DD")
-    parser.add_argument("journal", metavar="JOURNAL", nargs="?", default="journal.life", help="else journal.life")
+    parser.add_argument("journal", metavar="JOURNAL", nargs="?", default="journal.life", help="the journal (journal.life)")
     parser.add_argument("--within", metavar="DAYS", default="0", help=f"also what falls due so many days later, 0 to {MOST_DAYS}")
     parser.add_argument("--at", metavar="P", help="of the book as its first P postings left it (all)")
     parser.add_argument("--script", metavar="KINDS", help="the lines to send, sorted by day: lapse, mature, or lapse,mature")

@@ -17,18 +17,18 @@ ENTRIES: dict[str, tuple[str, str]] = {
     "check": ("check", "look a script over before it is sent"),
     "due": ("due", "what is due on a day: premiums, lapses, maturities, reinstatements, settlements"),
     "import": ("import_book", "a CSV of another system as a script of issues and premiums"),
-    "books": ("books", "value, project, state or checkpoint of many books, with their total"),
-    "why": ("why", "one row of a valuation, worked out as a colleague reads it"),
+    "books": ("books", "many books as one: values, positions, reports, statements, division"),
+    "why": ("why", "work one row of a valuation out, as a colleague would read it"),
     "value": ("value", "a valuation, by one basis or by one for each class of lives"),
     "report": ("report", "a valuation by plan, status, issue year, age or basis row, added up exactly"),
     "movement": ("movement", "what moved between two valuations, line by line, adding up exactly"),
     "statement": ("statement", "the sheets of a statement between two moments, each adding up to what the program prints"),
-    "dry-run": ("dry_run", "run a script on a copy of the journal, and print what it would be answered"),
-    "rest": ("rest", "the rows of a script that a killed run didn't reach"),
+    "dry-run": ("dry_run", "run a script on a copy of the journal, and print its transcript"),
+    "rest": ("rest", "the rows of a script that a killed run did not reach"),
     "explain": ("explain", "explain a refusal of a script or of a basis, or what is taken of a table"),
-    "at": ("at", "what state, value or project print of the book as it stood at a position"),
+    "at": ("at", "state, value or project of the book as it stood at a position"),
     "position-on": ("position_on", "the position of a day"),
-    "verify": ("verify", "whether a journal's file is whole, by its length, a checkpoint, a log and seals"),
+    "verify": ("verify", "whether a journal's file is whole"),
     "headroom": ("headroom", "how many commands a book has left, and until when"),
     "read": ("read", "list the records of a journal"),
     "read-checkpoint": ("read_checkpoint", "print the books in a checkpoint, and compare them with a journal's"),
@@ -36,15 +36,15 @@ ENTRIES: dict[str, tuple[str, str]] = {
     "check-transcript": ("check_transcript", "judge what a run printed, and what it left in the journal"),
     "check-values": ("check_values", "work the rows of a printed valuation out anew, and compare"),
     "check-projection": ("check_projection", "work the years of a printed projection out anew, and compare"),
-    "generate": ("generate", "a drawn script, numbered from a number on"),
+    "generate": ("generate", "a drawn script, with its policies numbered from a number on"),
     "plot": ("plot", "draw printed valuations, a printed book or a printed projection"),
-    "audit": ("audit", "for an auditor: doubtful postings, a sample of the policies, papers and letters on it"),
-    "table": ("table", "a table before a book is valued by it: looked at, converted, rounded, joined"),
+    "audit": ("audit", "for auditors: doubtful postings, a sample, papers and letters"),
+    "table": ("table", "look at a table's file, or convert, round or join tables"),
     "backup": ("backup", "copy to a second place what the book has more than its copy there"),
     "restore": ("restore", "make a book of such a copy, and verify it"),
-    "seal": ("seal", "a seal of the book and its basis, to keep elsewhere; and whether they still are so"),
+    "seal": ("seal", "a seal of the book and its basis, and whether they changed since"),
     "browse": ("browse", "a window on a book, in a web browser of this machine"),
-    "version": ("version", "version and revision, and whether program and tools belong together"),
+    "version": ("version", "version, revision, and whether program and tools belong together"),
 }
 
 # those that read in bulk
@@ -54,8 +54,9 @@ BY_NUMPY = {"audit", "books", "browse", "check", "day", "due", "export", "headro
 
 def parser_of(names: Sequence[str]) -> argparse.ArgumentParser:
     """The parser of all entries; only the modules of those named are read, since some need packages of their own."""
-    parser = argparse.ArgumentParser(prog="life-tools", description="The work around `life`. Each name has --help; the status is "
-                                     "0 where all is well, 1 where something was found wrong, 2 where it can't be done.")
+    parser = argparse.ArgumentParser(prog="life-tools", description="The work around `life`. Each name has --help, with an "
+                                     "example. The status is 0 if all is well, 1 if something is reported, 2 if it could not "
+                                     "be done.")
     entries = parser.add_subparsers(dest="entry", metavar="NAME", required=True)
     for name, (module, does) in ENTRIES.items():
         entry = entries.add_parser(name, help=does, description=does, formatter_class=argparse.RawDescriptionHelpFormatter)

@@ -1,12 +1,14 @@
-"""Explains a refusal: of a line what it means and what to do, of a script or a basis the place, what was found and is wanted.
+"""Explains a refusal: of a line, what it means and what to do; of a script or a
+basis, the place, what was found there and what is expected.
 
-    explain LANE,KIND,ID,refused,REASON          a line that the rules refused, by its kind
-    explain badscript,ROW,FIELD SCRIPT           a script's first fault
-    explain badbasis,NAME,PLACE,WORD [FOLDER]    a basis file or a table; the folder (as a rule `.`) has the files
-    explain TABLE                                what is taken of a table's file, and what is passed over
+    life-tools explain 1,claim,7003,refused,graceover,2020-03-15
+    life-tools explain badscript,2,4 bad-day.csv
+    life-tools explain badbasis,t.xml,28,badrate [FOLDER]
+    life-tools explain TABLE.xml       what is taken of a table's file
 
-The answer is the line that the program printed. It ends with status 1 where a table's file isn't taken, and with 2 where
-the files don't fit the answer.
+The answer is the line that the program printed. The folder (`.`) has the
+files of the basis. The status is 1 if a table's file is refused, and 2 if the
+files do not fit the answer.
 """
 from __future__ import annotations
 

@@ -1,16 +1,23 @@
-"""The records of a journal for other programs: as CSV with a header row, as JSON lines, as a SQLite file, or for pandas.
+"""The records of a journal for other programs: as CSV with a header row, as JSON
+lines, as an SQLite file, or for pandas.
 
-A field that a command's kind doesn't hold is empty in CSV, and absent in a JSON line. Amounts are as in a script, in
-CSV and JSON as text. A SQLite file is new, with amounts in cents and days as text, and has the tables
+    life-tools export csv journal.life > commands.csv
+    life-tools export sqlite journal.life book.db --valuation december.value
+
+A field that a command does not have is empty in CSV, and absent in a JSON
+line. Amounts are as in a script. An SQLite file is new, with amounts in cents
+and days as text, and has the tables
 
   command    a row for each record
-  booking    what each books on which account
-  policy     the policies as they are now, with the end of the insurance, the day that premiums are paid to, the day of
-             the next premium and the last day of its grace; neither of the two where no premium is awaited
-  valuation  the rows of the printed valuations that are told, each of which must add up to its total
+  booking    what each record books on which account
+  policy     the policies as they are now, with the end of cover, the day that
+             premiums are paid to, and the next premium's due day and last day
+             of grace; neither of the two if no premium is awaited
+  valuation  the rows of the printed valuations that are named, each of which
+             has to add up to its total
 
-and the view `valued`, which joins each row of a valuation with its policy as it is now. For pandas the same five are
-files NAME.pkl in a new folder, for pandas.read_pickle.
+and the view `valued`, which joins each row of a valuation with its policy as
+it is now. For pandas the same five are files NAME.pkl in a new folder.
 """
 from __future__ import annotations
 
@@ -154,7 +161,7 @@ def arguments(parser: argparse.ArgumentParser) -> None:
             metavar = "DATABASE" if name == "sqlite" else "FOLDER"
             form.add_argument("made", metavar=metavar, help="what is made, which isn't there yet")
             form.add_argument("--valuation", metavar="FILE", action="append", default=[],
-                              help="printed valuations, for the table of these; it may be told several times")
+                              help="printed valuations, for their table; may be repeated")
 
 
 def run(options: argparse.Namespace) -> int:

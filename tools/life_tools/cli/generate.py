@@ -1,8 +1,8 @@
-"""A drawn script, as `life generate SEED COUNT LANES` prints it, with its policies numbered from another number on.
+"""A drawn script, as `life generate SEED COUNT LANES` prints it, with its
+policies numbered from another number on. So the drawn books of several folders
+do not share numbers.
 
-    generate SEED COUNT LANES --from 500001
-
-So the drawn books of several folders don't have the same numbers.
+    life-tools generate 1 1000 8 --from 500001 > drawn.csv
 """
 from __future__ import annotations
 

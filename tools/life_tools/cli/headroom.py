@@ -1,14 +1,22 @@
-"""How many commands a book has left, and until when: a row as CSV under a header; `books headroom LIST` tells it of many.
+"""How many commands a book has left, and until when: a row as CSV under a header.
+`life-tools books headroom LIST` prints it for many books.
 
-  commands, left         what it has, and what it still takes of 4,000,000
-  in_last_year           the commands of the 365 days up to today, by their own days, or by the counts that `day` and earlier
-                         month-ends noted, whichever are more
-  full                   the day on which it is full at that pace
-  premiums, at_end       what its policies need to their ends: premiums to come, and maturities with their settlements
-  full_without_issues    the day on which one of these finds it full, though nothing is issued any more
+    life-tools headroom
+    life-tools headroom --today 2024-12-31 --within 365
 
-The status is 1 where a book is full within so many days (two years, where --within isn't told), or has fewer commands left
-than --least. Claims, alterations and lapses come on top; a claim takes no more than the maturity that it spares.
+  commands, left       what it has, and what it still takes of 4,000,000
+  in_last_year         the commands of the 365 days up to today, by their own
+                       days, or by the counts that `day` and earlier month-ends
+                       noted, whichever are more
+  full                 the day on which it is full at that pace
+  premiums, at_end     what its policies need to their ends: premiums to come,
+                       and maturities with their settlements
+  full_without_issues  the day on which one of these finds it full, even if
+                       nothing is issued any more
+
+The status is 1 if a book is full within so many days (two years without
+--within), or has fewer commands left than --least. Claims, alterations and
+lapses come on top; a claim takes no more than the maturity that it replaces.
 """
 from __future__ import annotations
 
@@ -76,7 +84,7 @@ def add_arguments(parser: argparse.ArgumentParser) -> None:
 
 
 def arguments(parser: argparse.ArgumentParser) -> None:
-    parser.add_argument("journal", metavar="JOURNAL", nargs="?", default="journal.life", help="else journal.life")
+    parser.add_argument("journal", metavar="JOURNAL", nargs="?", default="journal.life", help="the journal (journal.life)")
     add_arguments(parser)
     parser.add_argument("--name", metavar="NAME", default="", help="the book's name in what --recorded names")
 

@@ -1,6 +1,9 @@
-"""A CSV of another system as a script of issues and premiums, sorted by day, and a list of what could not be mapped.
+"""Makes a script of issues and premiums, sorted by day, from a CSV file of
+another system, and a list of what could not be mapped.
 
-The map is a CSV of what each field is taken from:
+    life-tools import book.csv --map map.csv --script new.csv --left left.csv
+
+The map is a CSV file that says what each field is taken from:
 
 """
 from __future__ import annotations
@@ -18,11 +21,14 @@ from life_tools.common.formats import MOST_LANES, MOST_SCRIPT_BYTES, Wrong, dema
 
 assert __doc__ and foreign_books.__doc__
 __doc__ += foreign_books.__doc__.partition("\n\n")[2].partition("\n\n")[2] + """
-The file and the map are UTF-8. Each premium is of the day on which it was due, and of the present premium; a lapse is of the
-first day that takes it, and what is made paid up is so on the day of its next premium. A script with `paidup` begins with an
-upgrade. Lines of one policy are of one clerk. A script has at most 16 MiB: a longer one is written in parts, SCRIPT with -1,
--2 and so on before its ending, to be sent in this order, which is that of their names. A row that can't be mapped is left out
-whole, and stands in the file LEFT with its line and the reason.
+The file and the map are UTF-8. Each premium is of the day on which it was due,
+and of the present premium; a lapse is of the first day on which it is taken,
+and a policy is made paid up on the day of its next premium. A script with
+`paidup` begins with an upgrade. All lines of a policy are in one lane. A script
+has at most 16 MiB: a longer one is written in parts, SCRIPT with -1, -2 and so
+on before its ending, to be sent in this order. A row that cannot be mapped is
+left out as a whole, and is in the file LEFT with its line and the reason; the
+status is then 1.
 """
 
 
@@ -80,10 +86,10 @@ def arguments(parser: argparse.ArgumentParser) -> None:
     parser.add_argument("--map", metavar="MAP.csv", required=True, help="what its columns are")
     parser.add_argument("--script", metavar="SCRIPT", required=True, help="the new script")
     parser.add_argument("--left", metavar="LEFT", required=True, help="the new list of what could not be mapped")
-    parser.add_argument("--classes", metavar="CLASSES", help="the new list of the policies' classes, where the map has a class")
+    parser.add_argument("--classes", metavar="CLASSES", help="the new list of the policies' classes, if the map has a class")
     parser.add_argument("--age", choices=(NEAREST, LAST),
-                        help="the age at issue by the nearest or the last birthday, where the map has the day of birth (last)")
-    parser.add_argument("--lanes", metavar="N", default="1", help="so many clerks take the policies in turn, 1 to 8; else one")
+                        help="the age at issue by the nearest or the last birthday, if the map has the day of birth (last)")
+    parser.add_argument("--lanes", metavar="N", default="1", help="so many lanes take the policies in turn, 1 to 8 (1)")
 
 
 def run(options: argparse.Namespace) -> int:

@@ -1,13 +1,18 @@
-"""What moved between two valuations: the analysis of change, which adds up exactly in lower and in upper bounds.
+"""What moved between two valuations: the analysis of change, which adds up
+exactly in lower and in upper bounds.
 
-    movement ON1 P1 ON2 P2 [--basis B1 [B2] | --classes FILE --bases FILE1 [FILE2]] [--mean | --deficiency] [--policies FILE]
+    life-tools movement 2022-12-31 11 2024-04-30 30
+    life-tools movement 2022-12-31 11 2022-12-31 11 --basis old.csv new.csv
 
-From the opening reserve (day ON1, position P1, basis B1) by what was posted, by the time gone by, and by a change of basis
-where B2 is given, to the closing reserve (ON2, P2). Each reserve is the program's, of copies of the journal's front. What
-was posted is measured on the opening day, but for new issues, which are measured on the closing day. A policy counts on one
-line, that of its last posting that is neither a premium nor, after a claim or maturity of the period, its settlement;
-`statement` counts each posting. Beside it stand the premiums and settlements of the accounts. By --deficiency it is of the
-minimum reserves.
+It leads from the opening reserve (day ON1, position P1, basis B1) by what was
+posted, by the time gone by, and by a change of basis if B2 is given, to the
+closing reserve (ON2, P2). Each reserve is the program's. What was posted is
+measured on the opening day; new issues on the closing day. A policy counts on
+one line, that of its last posting that is neither a premium nor, after a claim
+or maturity of the period, its settlement; `statement` counts each posting. The
+premiums and settlements of the accounts stand below. With --deficiency it is
+of the minimum reserves. The status is 1 if a sum does not agree with the
+printed total; then nothing is written.
 """
 from __future__ import annotations
 

@@ -1,8 +1,12 @@
-"""Draws what the program printed as SVG, on standard output: valuations over their days, a book, or a projection by year.
+"""Draws what the program printed as SVG, on standard output: valuations over
+their days, a book, or a projection by year.
 
-What is drawn of bounds are the upper ones, which are never below the exact values. How many policies have a word in place
-of bounds is told on standard error: they are in no sum. Amounts are told in thousands from 10,000 on, and from 10 millions
-on in millions.
+    life-tools plot projection december.projection > projection.svg
+
+Of bounds the upper ones are drawn, which are never below the exact values. How
+many policies have a word in place of bounds is reported on standard error:
+they are in no sum. Amounts are shown in thousands from 10,000 on, and in
+millions from 10 millions on.
 """
 from __future__ import annotations
 

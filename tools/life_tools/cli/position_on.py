@@ -1,10 +1,17 @@
-"""The position of a day: the last one up to which every accepted command is of that day or of one before.
+"""The position of a day: the last one up to which every accepted command is of
+that day or of one before. `life value .. --at POSITION` takes it to value the
+book as it stood at the end of the day.
 
-It is what `life value .. --at POSITION` takes to value the book as it stood at the end of the day. The days of one
-policy's commands never fall, but those of different policies may stand in any order. So behind the position there may
-be commands of the day or before it, that were posted after one of a later day. The book at the position lacks them: they
-are told on standard error, and the status is 1. With --last it is the position of the last command of the day or before,
-and commands of later days that stand before it are told, with 1.
+    life-tools position-on 2022-12-31 journal.life
+
+The days of one policy's commands never fall, but those of different policies
+may stand in any order. So there may be commands of the day or before it after
+this position, which were posted later. The book at the position does not have
+them: they are listed on standard error, and the status is 1.
+
+With --last it is the position of the last command of the day or before;
+commands of later days that stand before it are listed, with status 1. For a
+month-end use the position without --last.
 """
 from __future__ import annotations
 

@@ -1,13 +1,18 @@
-"""Lists every record of a journal, and adds up the balances of the four accounts; or says why the file is no journal.
+"""Lists every record of a journal, and the balances of the four accounts; or says
+why the file is no journal.
 
-A file that the program refuses is answered with the program's own line, `badjournal,..`, and on standard error with the
-reason; the status is then 2. An unfinished creation, as a crash may leave it, is a journal without records. Each record
-is judged by the rules anew, as the program does when it opens the file.
+    life-tools read journal.life
+    life-tools read --ledger journal.life | ledger -f - balance
 
-A file of which commands are gone behind a gate that has turned, as `verify` finds it, isn't listed, and gives 1. So does
-one with bytes behind its end that may be what a crash left; it is listed.
+Each record is decided anew by the rules, as the program does when it opens the
+file; --verify decides them and prints balances and count alone. If the program
+refuses the file, its own line is printed (`badjournal,..`), the reason goes to
+standard error, and the status is 2. An unfinished creation, as a crash may
+leave it, is a journal without records.
 
---verify judges the records and prints the balances and the count alone.
+A file of which commands are gone after a damaged commit byte, as `verify`
+finds it, is not listed, and gives 1. A file with bytes after its end that may
+be what a crash left is listed, and gives 1.
 """
 from __future__ import annotations
 

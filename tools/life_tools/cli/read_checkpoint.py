@@ -1,8 +1,12 @@
-"""Prints the books in a checkpoint as `state` prints those of a journal, or says why the file is no checkpoint.
+"""Prints the books in a checkpoint as `state` prints those of a journal, or says
+why the file is no checkpoint.
 
-With a journal it also compares them with the books that the first commands of that journal leave, worked out anew by the
-rules: a checkpoint of another journal, which the program can't tell from one of this journal, is found so, with status 1.
-So is one of more commands than the journal has, which the program doesn't use.
+    life-tools read-checkpoint checkpoint.life journal.life
+
+With a journal it compares them with the books that the first commands of that
+journal leave. A checkpoint of another journal, which the program cannot
+distinguish from one of this journal, is found in this way, with status 1; so
+is one of more commands than the journal has, which the program does not use.
 """
 from __future__ import annotations
 

@@ -1,12 +1,14 @@
 """A valuation's rows joined with their policies, and added up exactly by groups.
 
-    report ON [--at P] [--by KEYS].. [--csv FILE | --xlsx FILE | --html FILE] [--mean | --deficiency]
-           [--basis NAME | --classes FILE --bases FILE]
+    life-tools report 2022-12-31 --at 11 --by plan
+    life-tools report 2022-12-31 --at 11 --by plan,status --xlsx december.xlsx
 
-KEYS is one of plan, status, issue-year, age-band, basis-row, or several with commas; each --by is a table. The rows are
-those that the program prints of a copy of the journal's front, and the policies those that it prints there. Every table
-adds up to the printed total, else nothing is written and the status is 1. Amounts insured are those in force or paid up;
-ages are those at issue. Policies issued after ON are counted where the position has them; their reserve is 0.
+A group is one or several of plan, status, issue-year, age-band and basis-row;
+each --by is a table. The rows are those that the program prints of the book at
+the position. Every table adds up to the printed total; otherwise nothing is
+written and the status is 1. Amounts insured are those in force or paid up;
+ages are those at issue. Policies issued after ON are counted if the position
+has them; their reserve is 0.
 """
 from __future__ import annotations
 

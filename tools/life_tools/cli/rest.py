@@ -1,18 +1,24 @@
-"""The rows of a script that a killed run didn't reach, as a script for the next run.
+"""The rows of a script that a killed run did not reach, as a script for the next
+run.
 
-What it had accepted stands in the journal, and a lane's rows are answered in their order. So of each lane the rows up to
-the last one that the journal shows were answered, and the rest is to be run. With --printed FILE, which holds what the
-run printed before it ended, the rows that are answered there are so for certain, and their refusals and valuations
-aren't asked for again. BEFORE says where the run began: the number of commands accepted before it (the `count` that
-`life state` printed), or a copy of the journal from before; it isn't needed where an accepted line was printed.
+    life-tools rest day.csv journal.life --printed day.transcript > rest.csv
+    life-tools rest day.csv journal.life 8002 > rest.csv
 
-Rows that were printed `refused,full` are told, with status 1; with --full they are in the rest, to be sent to a book that
-has room.
+What the run accepted is in the journal, and a lane's rows are answered in
+their order. So of each lane the rows up to the last one that the journal shows
+were answered, and the rest is to be run. --printed names what the run printed
+before it ended: the rows answered there are certain, and their refusals and
+valuations are not asked for again. BEFORE says where the run began: the number
+of commands accepted before it (the `count` of `life state`), or a copy of the
+journal from before; it is not needed if an accepted line was printed.
 
-A record doesn't say whose it is. Where equal rows stand in several lanes, the records are dealt out so that each row
-in between was refused at some moment, or asked for a value or a trim: the killed run together with the rest is then one
-run of the whole script. It ends with status 1 where no run of the script leaves this journal: another script, another
-BEFORE, another printed file, or a disk that failed in the run.
+Rows that were printed `refused,full` are reported, with status 1; with --full
+they are in the rest, to be sent to a book that is not full.
+
+If equal rows stand in several lanes, the records are dealt out so that the
+killed run together with the rest is one run of the whole script. The status is
+1 if no run of the script leaves this journal: another script, another BEFORE,
+another printed file, or a disk that failed in the run.
 """
 from __future__ import annotations
 

@@ -3,17 +3,19 @@
     life-tools restore /mnt/second/main --folder ~/books/main
     life-tools restore anna@second:books/main
 
-The folder gets journal.life, the basis and its tables, desk.toml, seals and log/; it may not have a
-journal.life, checkpoint.life or log/ yet. Only what is as it was sealed is restored. Then the book is
-verified, and the last lines are those of `life-tools verify`:
+The folder gets journal.life, the basis and its tables, desk.toml, seals and
+log/; it may not have a journal.life, checkpoint.life or log/ yet. Only what is
+as it was sealed is restored. Then the book is verified, and the last lines are
+those of `life-tools verify`:
 
     count,POSTINGS
     length,BYTES
     whole
 
-The log may know of postings that were not copied any more. Then the last line is `damaged`, and
-`life-tools day --restored` posts them anew. The status is 0 where the book is whole; 1 where anything
-is reported; 2 where it could not be done, and then there is no journal.life.
+The log may know of postings that were not copied any more. Then the last line
+is `damaged`, and `life-tools day --restored` posts them anew. The status is 0
+if the book is whole; 1 if anything is reported; 2 if it could not be done, and
+then there is no journal.life.
 """
 from __future__ import annotations
 

@@ -1,15 +1,18 @@
-"""A seal of the book as it is: its front, its basis and tables, as a few lines to keep elsewhere; and whether they still are so.
+"""Makes a seal of the book, its basis and tables: a few lines to keep elsewhere.
+With --check it says whether they are still the same.
 
-    seal [--at P] [--basis NAME]..      prints a seal of the first P postings (all where no --at is told)
-    seal --check FILE                   tells whether the folder's front, basis and tables are those of the seal
+    life-tools seal > december.seal
+    life-tools seal --check december.seal
 
-The front is the first 17 + 65 P bytes of journal.life, which no later posting changes. What its records say isn't judged:
-`life state` and `read` do that. The status is 1 where a front or a file is another one, or where postings are gone. Of a
-book of which `verify` finds postings gone no seal is made. The lines of a seal are
+The seal is of the first P postings (all without --at): of the first 17 + 65 P
+bytes of journal.life, which no later posting changes. What the records say is
+not decided; `life state` and `read` do that. The status is 1 if these bytes or
+a file are different, or if postings are gone. No seal is made of a book of
+which `verify` finds postings gone. The lines of a seal are
 
     seal,1,DAY ON WHICH IT WAS MADE
-    position,P,POSTINGS THAT THE JOURNAL HAD,LATEST DAY OF THE FRONT
-    front,BYTES,SHA-256
+    position,P,POSTINGS THAT THE JOURNAL HAD,LATEST DAY OF THE FIRST P
+    front,BYTES,SHA-256                 the journal's first bytes
     file,NAME,BYTES,SHA-256             the basis and each table that it names
     sum,SHA-256 OF THE LINES ABOVE
 """

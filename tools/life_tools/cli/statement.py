@@ -1,19 +1,18 @@
-"""The statement of a book between two moments, sheet by sheet.
-
-    statement DAY1 P1 DAY2 P2 [--mean | --terminal] [--basis B | --classes FILE --bases FILE]
-              [--csv FOLDER | --xlsx FILE | --html FILE]
-
-DAY1 and DAY2 are the days, P1 and P2 the positions at which it begins and
-ends. Every sheet adds up to what the program prints of both positions, and to
-the balances of its accounts; otherwise nothing is written, and the status
-is 1. A statement at the end of a calendar year is made by --mean, with mean
-reserves; --terminal asks for terminal reserves, which are also taken where
-neither is given. The deficiency stands beside them in either case, and is one
-of terminal reserves. In the increase in reserves a posting dated after DAY2
-counts on DAY2, and a posting dated before DAY1, of a policy that was there at
-P1, counts on DAY1.
+"""The sheets of a statement between two moments: exhibit of life insurance,
+reserves, premiums, increase in reserves, claims.
 
     life-tools statement 2022-12-31 11 2023-12-31 30 --mean --html year.html
+    life-tools statement 2022-12-31 11 2023-12-31 30 --mean --xlsx year.xlsx
+
+DAY1 and DAY2 are the days, P1 and P2 the positions at which it begins and
+ends (`position-on` finds them). Every sheet adds up to what the program prints
+of both positions, and to the balances of its accounts; otherwise nothing is
+written, and the status is 1. A statement at the end of a calendar year is made
+by --mean, with mean reserves; --terminal asks for terminal reserves, which are
+also taken if neither is given. The deficiency stands beside them in either
+case, and is one of terminal reserves. In the increase in reserves a posting
+dated after DAY2 counts on DAY2, and a posting dated before DAY1, of a policy
+that was there at P1, counts on DAY1.
 """
 from __future__ import annotations
 

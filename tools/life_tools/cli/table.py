@@ -1,12 +1,20 @@
-"""A table's file before a book is valued by it: looked at, or made into one that the program takes.
+"""Looks at a table's file before a book is valued by it, or makes one that the
+program takes.
 
-    table check FILE                     the program's own verdict; which rates they are, of whom, and what is strange
-    table convert FILE OUT               out of UTF-16, a DOCTYPE, CDATA, prefixes, long fractions, a factor, empty cells
-    table round FILE OUT                 only the rates, to nine places; else the file is the same to the byte
-    table join SELECT ULTIMATE OUT       select rates and ultimate rates of two files in one
+    life-tools table check FILE
+        the program's verdict; which rates they are, of whom, what is strange
+    life-tools table convert FILE OUT
+        out of UTF-16, a DOCTYPE, CDATA, prefixes, long fractions, a factor,
+        empty cells
+    life-tools table round FILE OUT
+        only the rates, to nine places; all else stays the same to the byte
+    life-tools table join SELECT ULTIMATE OUT
+        select rates and ultimate rates of two files in one
 
-What is written was taken by the program before. Each change is told on standard error. No rate is invented: ages in steps of
-five are refused, with the reason.
+Example: life-tools table convert fetched.xml cso.xml
+What is written was taken by the program before. Each change is reported on
+standard error. No rate is invented: ages in steps of five are refused, with
+the reason.
 """
 from __future__ import annotations
 

@@ -1,9 +1,11 @@
-"""A valuation, in which each policy's row may be by the basis of its own class.
+"""A valuation in which each policy's row may be by the basis of its own class.
 
-    value ON [--at P] [--basis NAME | --classes FILE --bases FILE] [--mean | --deficiency]
+    life-tools value 2022-12-31 --at 11
+    life-tools value 2022-12-31 --classes classes.csv --bases bases.csv
 
-It is printed as `life value` prints it. By classes the program values the book once for each basis, each policy's row is
-taken from its own class, and the last line sums these; a policy in no class is an error.
+It is printed as `life value` prints it. By classes the program values the book
+once for each basis, each policy's row is taken from its own class, and the
+last line adds these up. A policy in no class is an error, with status 2.
 """
 from __future__ import annotations
 

@@ -1,12 +1,19 @@
-"""Whether a journal's file is whole, in a second: its length beside its count, and who noted a greater count.
+"""Says in a second whether a journal's file is whole, by its length and by who
+noted a greater count.
 
-Of journal.life a checkpoint.life and a log/ of `life-tools day` in its folder are asked, of another file those that are told; and
-each seal that was kept, by which an amount that was changed is found too. What the records say isn't judged: `life state`
-does that.
+    life-tools verify
+    life-tools verify --seal december.seal
+    life-tools verify main.backup --log log
 
-The last line is `whole`, with status 0; or with 1 `damaged`, where commands are gone or can't be read; `undecided`, where
-a crash or a fault left at most 65 bytes behind the end, as would a damaged last commit byte; or `empty`, of a file of no
-bytes.
+Of journal.life the checkpoint and the log/ in its folder are asked, of another
+file those that are named; and each seal that was kept, by which a changed
+amount is found too. What the records say is not decided; `life state` does
+that.
+
+The last line is `whole`, with status 0. With status 1 it is `damaged`, if
+commands are gone or cannot be read; `undecided`, if at most 65 bytes follow
+the end, as a crash, a fault or a damaged last commit byte would leave them; or
+`empty`, for a file without a byte.
 """
 from __future__ import annotations
 
@@ -19,7 +26,7 @@ from life_tools.journal.wholeness import beside, shape_with, tell
 
 
 def arguments(parser: argparse.ArgumentParser) -> None:
-    parser.add_argument("journal", metavar="JOURNAL", nargs="?", default="journal.life", help="else journal.life")
+    parser.add_argument("journal", metavar="JOURNAL", nargs="?", default="journal.life", help="the journal (journal.life)")
     parser.add_argument("--checkpoint", metavar="FILE", help="a checkpoint that was made of it")
     parser.add_argument("--log", metavar="FOLDER", help="the log of its days")
     parser.add_argument("--seal", metavar="FILE", action="append", default=[], help="a seal that was kept; there may be several")

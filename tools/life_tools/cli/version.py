@@ -1,7 +1,10 @@
-"""Tells the version and the revision of these tools, and whether the program beside them is the one they belong to.
+"""Prints the version and the revision of these tools, and whether the program
+beside them is the one they belong to.
 
-The status is 1 where it isn't, where a clone's program isn't as new as its sources, or where LIFE_PROGRAM names another
-program than the proved one.
+    life-tools version
+
+The status is 1 if it is not, if a clone's program is not the proved one of its
+sources, or if LIFE_PROGRAM names another program than the proved one.
 """
 from __future__ import annotations
 

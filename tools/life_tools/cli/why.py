@@ -1,8 +1,11 @@
-"""One row of a valuation as a colleague reads it: the policy, the basis row, the rates, the formula with numbers in it.
+"""Works one row of a valuation out as a colleague would read it: the policy, the
+basis row, the rates, and the formula with its numbers.
 
-    why ID ON [--at P] [--basis NAME] [--mean | --deficiency] [--exact]
+    life-tools why 7001 2021-01-01 --at 3
+    life-tools why 7001 2021-01-01 --mean --exact
 
-The row that the program prints is set beside the exact result: status 1 where its bounds don't hold it.
+The row that the program prints is set beside the exact result. The status is 1
+if its bounds do not enclose the exact value.
 """
 from __future__ import annotations
 

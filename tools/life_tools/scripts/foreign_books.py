@@ -2,23 +2,30 @@
 
 A row of the map says what a field of a policy is taken from:
 
-  separator,;                  what stands between the fields of the file, where that isn't a comma; also `tab`
-  number,Policy no,P-          the column of the number, and what stands in front of the digits, if anything does
-  day,Start,DD.MM.YYYY         the column of the day of issue, and how its days are written
-  plan,Tariff                  the column of the plan; each of its words has a row of its own:
-  word,LV-W,whole              .. the word, and the plan that it is
-  age,Age                      the column of the age at issue; or
-  birth,Born,DD.MM.YYYY        .. that of the day of birth: the age is that of the last birthday, or of the nearest one (of two
-                               that are as near that of the earlier)
-  years,Term                   the column of the years, which is empty or 0 for whole life
-  amount,Sum,1.234,56          the column of the amount, and an amount as it is written there; or the word `cents`
+  separator,;            what stands between the fields of the file, if not a
+                         comma; also `tab`
+  number,Policy no,P-    the column of the number, and what precedes the
+                         digits, if anything does
+  day,Start,DD.MM.YYYY   the column of the day of issue, and how it is written
+  plan,Tariff            the column of the plan; each of its words has a row:
+  word,LV-W,whole        .. the word, and the plan that it is
+  age,Age                the column of the age at issue; or
+  birth,Born,DD.MM.YYYY  .. that of the day of birth: the age is that of the
+                         last birthday, or of the nearest one (the earlier)
+  years,Term             the column of the years, empty or 0 for whole life
+  amount,Sum,1.234,56    the column of the amount, and an amount as it is
+                         written there; or the word `cents`
   premium,Yearly premium,1.234,56
-  paid,Paid                    the column of the number of yearly premiums that were paid; or
-  paid-to,Paid to,DD.MM.YYYY   .. that of the day to which they are paid, on which the next one is due
-  status,Status                the column of the status, if there is one; each of its words has a row of its own:
-  state,L,lapsed               .. the word, and inforce, lapsed, paidup; or `left`, for a row that is to be left
-  reduced,Sum now,1.234,56     the column of the reduced amount of a policy that is paid up
-  class,Smoker                 the column of the class of lives, if there is one
+  paid,Paid              the column of the number of premiums paid; or
+  paid-to,Paid to,DD.MM.YYYY
+                         .. that of the day to which they are paid, on which
+                         the next one is due
+  status,Status          the column of the status; its words have rows:
+  state,L,lapsed         .. the word, and inforce, lapsed, paidup; or `left`,
+                         for a row that is to be left out
+  reduced,Sum now,1.234,56
+                         the column of the reduced amount of a paid-up policy
+  class,Smoker           the column of the class of lives, if there is one
 """
 from __future__ import annotations
 
