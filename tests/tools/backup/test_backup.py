@@ -215,7 +215,7 @@ def test_a_copy_of_another_book_is_refused(book: Folder, copy: Path) -> None:
     assert ended.status == 1 and "has no seal" in ended.err, ended
 
 
-@pytest.mark.parametrize("tail", [issues(7)[gate_of(5):gate_of(7) - 20], b"?" * 100], ids=["the same", "another"])
+@pytest.mark.parametrize("tail", [issues(7)[gate_of(5):gate_of(7) - 20], b"?" * 1000], ids=["the same", "another"])
 def test_what_a_killed_copier_left_is_kept_or_cut_off(tail: bytes, book: Folder, place: list[str], copy: Path) -> None:
     backed_up(book, place, 5, 5)
     with open(copy / "journal.prefix", "ab") as file:
