@@ -6,14 +6,13 @@ a line that is written before its record is safe.
 """
 from __future__ import annotations
 
-import os
-import shutil
 import subprocess
 from pathlib import Path
 
 import pytest
 
 from life_tools.journal.file import file_of
+from tests.program.archives import archive
 from tests.program.calls_judge import BOTH, BOTH_ENDED, ENDED, HELD, OPENED, creation, judge, judge_run, postings, saving
 from tests.program.faults.scenes import many_policies
 from tests.program.office import example
@@ -70,18 +69,8 @@ def test_states_and_checkpoints(posted: Folder) -> None:
 
 @pytest.mark.parametrize("words", ["state", "run"])
 def test_an_archive_that_nobody_may_write(words: str, posted: Folder) -> None:
-    """Root may write any file, so the program is run as nobody there."""
-    reader = shutil.copy(posted.program.path, posted.path.parent / "reader")
-    for path in (reader, posted.path.parent, *posted.path.parents):
-        if Path(path).is_relative_to("/tmp") and path != Path("/tmp") and os.stat(path).st_uid == os.geteuid():
-            os.chmod(path, 0o755)
-    os.chmod(posted.journal, 0o444)
-    os.chmod(posted.path, 0o555)
-    nobody = ["setpriv", "--reuid=65534", "--regid=65534", "--clear-groups"] if os.geteuid() == 0 else []
-    try:
-        made = record(posted.path, [*nobody, str(reader)], words, given=THREE if words == "run" else "")[0]
-    finally:
-        os.chmod(posted.path, 0o755)
+    with archive(posted.path, posted.program) as program:
+        made = record(posted.path, program, words, given=THREE if words == "run" else "")[0]
     if words == "run":
         judge_run(made, HELD + ["refused journal"] + OPENED + ENDED, 0)
     else:

@@ -1,15 +1,12 @@
 """Changes bodies of the program that are read and not proved, in a copy of the repository.
 
-usage: python3 changed.py COPY ASKED
-
-A changed body does what it does here, but where the folder ASKED has a file with the change's name. So one build serves
-all changes, and without such a file it does what the unchanged one does. Only a lane has no files to ask: there the bell
-isn't rung for clerk 8. It prints the changes' names.
+A changed body does what it does here, but where a folder has a file with the change's name. So one build serves all changes,
+and without such a file it does what the unchanged one does. Only a lane has no files to ask: there the bell isn't rung for
+clerk 8.
 """
 from __future__ import annotations
 
 import re
-import sys
 from pathlib import Path
 
 # By its file, what stands there once, and what comes in its place: `files?name` is whether the change `name` is asked for.
@@ -78,19 +75,15 @@ CHANGES = {
 ASKED = re.compile(r"(files|\(&rt\))\?(\w+)")
 
 
-def main() -> None:
-    copy, folder = Path(sys.argv[1]), sys.argv[2]
+def change(copy: Path, asked: Path) -> list[str]:
+    """Makes all changes in a copy of the repository, each where a file of this folder asks for it; their names."""
     names = []
     for file, bodies in CHANGES.items():
         path = copy / "crates" / file
         text = path.read_text(encoding="utf-8")
         for old, new in bodies.items():
-            if text.count(old) != 1:
-                sys.exit(f"adapters: {file} has {text.count(old)} times: {old}")
+            assert text.count(old) == 1, f"{file} has {text.count(old)} times: {old}"
             names += [found[2] for found in ASKED.finditer(new)]
-            text = text.replace(old, ASKED.sub(rf'std::fs::metadata(\1, "{folder}/\2").is_ok()', new))
+            text = text.replace(old, ASKED.sub(rf'std::fs::metadata(\1, "{asked}/\2").is_ok()', new))
         path.write_text(text, encoding="utf-8")
-    print("\n".join([*names, "bell"]))
-
-
-main()
+    return [*dict.fromkeys(names), "bell"]

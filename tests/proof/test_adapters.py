@@ -1,0 +1,116 @@
+"""What is read and not proved is held by tests: in a build without proofs each of these bodies, once it is changed, is refused by
+a test that docs/proof/trusted.md names, with the complaint that is meant; and unchanged it passes. One build serves them all."""
+from __future__ import annotations
+
+import os
+import re
+import subprocess
+import sys
+from pathlib import Path
+
+import pytest
+
+from tests.program.archives import let_all_read
+from tests.proof.adapters import CHANGES, change
+from tests.support.program import ROOT, Program
+
+pytestmark = [pytest.mark.needs("rt", "strace"), pytest.mark.alone, pytest.mark.slow, pytest.mark.timeout(1200)]
+
+CALLS = "tests/program/test_calls.py::test_a_first_run"
+DEVICES = "tests/program/test_devices.py::test_the_devices_give_and_take_what_the_program_is_told_and_prints"
+CLOSED = "tests/program/test_devices.py::test_no_file_takes_the_place_of_a_closed_stream"
+ARCHIVE = "tests/program/test_archive.py"
+COPIES = "tests/program/test_dropped_copies.py"
+# a change, the test that has to refuse it, and what that says
+BY_TESTS = [
+    ("place", CALLS, r"made \['write journal 1 00'"), ("behind", CALLS, r"wanted \['fsync journal', 'write journal 1 "),
+    ("folder", CALLS, r"wanted \['open folder', 'fsync folder'"), ("lock", CALLS, r"wanted \['lock journal "),
+    ("read", DEVICES, ""), ("longer", DEVICES, "a read of 1 bytes at 0 gave 0 others"),
+    ("cut", DEVICES, "the journal doesn't hold what was written"), ("shelf", DEVICES, ""),
+    ("status", "tests/program/test_run.py::test_a_bad_record", r"assert \(0, 'badjournal"),
+    ("descriptors", f"{CLOSED}[output-foreign-program]", ""), ("archive", ARCHIVE, ""),
+    ("undropped", COPIES, r"FAILED .*test_both_ends_are_dropped_before_anything_is_read\[18 bytes-journal"),
+    ("start", COPIES, r"FAILED .*test_both_ends_are_dropped_before_anything_is_read\[18 bytes-journal"),
+    ("end", COPIES, r"FAILED .*test_both_ends_are_dropped_before_anything_is_read\[5 MiB-journal"),
+    ("kept", COPIES, r"FAILED .*test_after_a_failed_sync_all_is_dropped\[of its commit byte"),
+]
+# the same over a part of the trials of failing calls: the module, its words, and what it says
+BY_TRIALS = [
+    ("length", "taken cut fsync 4", "cut while fsync 4 is held up: status 0, wanted 8"),
+    ("name", "taken rename fsync 5", "rename while fsync 5 is held up: status 0, wanted 8"),
+    ("link", "taken link", "over a symbolic link: synced"),
+    ("write", "calls pwrite64 4 EIO", "call 4 fails with EIO: the file afterwards: badjournal,badrecord,0"),
+    ("sync", "calls fsync 5 EIO", "call 5 fails with EIO: 0 lines are answered fault"),
+    ("again", "calls statx 1 EINTR", "call 1 fails with EINTR: clerk diskfault"),
+    ("bell", "as_soon --clerk 8", "the run doesn't return"),
+]
+
+
+@pytest.fixture(scope="module")
+def asked(tmp_path_factory: pytest.TempPathFactory) -> Path:
+    """The folder in which a change is asked for; others than its owner look into it, too."""
+    made = tmp_path_factory.mktemp("asked")
+    let_all_read(made)
+    return made
+
+
+@pytest.fixture(scope="module")
+def changed(asked: Path, tmp_path_factory: pytest.TempPathFactory) -> Path:
+    """A program with all changes, built without proofs."""
+    copy = tmp_path_factory.mktemp("copy")
+    listed = subprocess.run(["git", "ls-files", "-z"], cwd=ROOT, capture_output=True, check=True).stdout
+    subprocess.run(["xargs", "-0", "cp", "--parents", "-p", "-t", copy], cwd=ROOT, input=listed, check=True)
+    change(copy, asked)
+    made = subprocess.run(["sh", copy / "life", "try", "generate", "1", "1", "1"], cwd=copy, capture_output=True, text=True,
+                          stdin=subprocess.DEVNULL, check=False)
+    assert made.returncode == 0, made.stderr[-2000:]
+    return copy / "out" / "preview" / "life_preview"
+
+
+def by_test(program: Path, test: str) -> subprocess.CompletedProcess[str]:
+    env = {**os.environ, "LIFE_PROGRAM": str(program), "COLUMNS": "200"}
+    return subprocess.run([sys.executable, "-m", "pytest", "-q", "-n", "0", test], cwd=ROOT, env=env, capture_output=True, text=True,
+                          check=False)
+
+
+def by_trial(program: Path, folder: Path, words: str) -> subprocess.CompletedProcess[str]:
+    module, *rest = words.split()
+    env = {**os.environ, "PYTHONPATH": f"{ROOT}:{ROOT / 'tools'}"}
+    folder.mkdir()
+    return subprocess.run([sys.executable, "-m", f"tests.program.faults.{module}", program, folder, *rest], cwd=ROOT, env=env,
+                          capture_output=True, text=True, check=False)
+
+
+def test_each_change_is_tried() -> None:
+    found = {name for bodies in CHANGES.values() for new in bodies.values() for name in re.findall(r"\?(\w+)", new)}
+    assert {name for name, *_ in (*BY_TESTS, *BY_TRIALS)} == found | {"bell"}
+
+
+@pytest.mark.parametrize("test", dict.fromkeys(test for _, test, _ in BY_TESTS))
+def test_unchanged_the_test_passes(test: str, changed: Path) -> None:
+    ran = by_test(changed, test)
+    assert ran.returncode == 0, ran.stdout[-2000:]
+
+
+@pytest.mark.parametrize("name, test, says", BY_TESTS, ids=[case[0] for case in BY_TESTS])
+def test_a_changed_adapter_is_refused_by_a_test(name: str, test: str, says: str, asked: Path, changed: Path) -> None:
+    (asked / name).touch()
+    try:
+        ran = by_test(changed, test)
+    finally:
+        (asked / name).unlink()
+    assert ran.returncode == 1 and re.search(says, ran.stdout), ran.stdout[-2000:]
+
+
+@pytest.mark.parametrize("name, words, says", BY_TRIALS, ids=[case[0] for case in BY_TRIALS])
+def test_a_changed_adapter_is_refused_by_a_trial(
+        name: str, words: str, says: str, asked: Path, changed: Path, program: Program, tmp_path: Path) -> None:
+    # the bell isn't rung for clerk 8, which the program itself passes
+    unchanged = by_trial(program.path if name == "bell" else changed, tmp_path / "unchanged", words)
+    assert unchanged.returncode == 0, unchanged.stderr[-2000:]
+    (asked / name).touch()
+    try:
+        ran = by_trial(changed, tmp_path / "changed", words)
+    finally:
+        (asked / name).unlink()
+    assert ran.returncode != 0 and says in ran.stdout + ran.stderr, (ran.stdout + ran.stderr)[-2000:]
