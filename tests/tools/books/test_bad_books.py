@@ -31,11 +31,12 @@ def test_the_positions_of_the_others(three: Folder) -> None:
     assert lines[1].startswith(f"b,failed,{BAD_JOURNAL},badjournal,notajournal")
     # which can't be taken for a list of positions
     three.write("positions.csv", ended.out)
-    three.refused("books", "books.csv", "value", "2022-12-31", "--at", "positions.csv", says="line 2: .* is no name with a position")
+    three.refused("books", "books.csv", "value", "2022-12-31", "--at", "positions.csv",
+                  says="line 2: .* is no name with a position")
 
 
-@pytest.mark.parametrize("words", ["value 2022-12-31", "state", "report 2022-12-31", "due 2022-12-31", "flags", "position-on 2022-12-31",
-                                   "headroom"])
+@pytest.mark.parametrize("words", ["value 2022-12-31", "state", "report 2022-12-31", "due 2022-12-31", "flags", "headroom",
+                                   "position-on 2022-12-31"])
 def test_a_bad_book_has_one_status(three: Folder, words: str) -> None:
     ended = three.tools("books", "books.csv", *words.split())
     assert ended.status == BAD_JOURNAL, ended

@@ -70,9 +70,9 @@ def cluster(small_office: Folder) -> Iterator[Cluster]:
         yield Cluster(small_office, address, worker)
     finally:
         os.kill(worker.pid, signal.SIGCONT)
-        for each in (worker, scheduler):
-            each.kill()
-            each.wait()
+        for process in (worker, scheduler):
+            process.kill()
+            process.wait()
 
 
 @pytest.mark.alone

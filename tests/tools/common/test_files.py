@@ -2,6 +2,7 @@
 from __future__ import annotations
 
 import csv
+import importlib
 import os
 import shutil
 import stat
@@ -16,8 +17,8 @@ WRITERS = ("report 2022-12-31 --csv {}", "report 2022-12-31 --html {}", "movemen
 
 
 @pytest.mark.parametrize("words", WRITERS)
-@pytest.mark.parametrize("name", ["journal.life", "checkpoint.life", "basis.csv", "q.xml", "g.xml", "renamed.life", "other-basis.txt",
-                                  "monday.txt", "table.txt", "odd.txt"])
+@pytest.mark.parametrize("name", ["journal.life", "checkpoint.life", "basis.csv", "q.xml", "g.xml", "renamed.life",
+                                  "other-basis.txt", "monday.txt", "table.txt", "odd.txt"])
 def test_a_books_own_file_isnt_replaced(small_office: Folder, words: str, name: str) -> None:
     assert small_office.life("checkpoint").status == 0
     for of, other in (("journal.life", "renamed.life"), ("basis.csv", "other-basis.txt"), ("small-office.csv", "monday.txt"),
@@ -89,8 +90,7 @@ def test_a_books_name_is_no_formula_in_letters(small_office: Folder, tmp_path: P
 
 @pytest.mark.needs("python:openpyxl")
 def test_a_workbook_has_no_formula(small_office: Folder) -> None:
-    import openpyxl
-
+    openpyxl = importlib.import_module("openpyxl")
     words = "report 2022-12-31 --xlsx made.xlsx --title"
     assert small_office.tools(*words.split(), "=1+1\x1b[2J").status == 0
     book = openpyxl.load_workbook(small_office.path / "made.xlsx")

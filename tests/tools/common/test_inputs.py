@@ -11,10 +11,11 @@ DIGITS = "9" * 5000
 READS = (
     "check {}", "dry-run {}", "explain {}", "read {}", "verify {}", "export csv {}", "due 2022-12-31 {}", "table check {}",
     "position-on 2022-12-31 {}", "rest {} journal.life 0", "rest small-office.csv {} 0",
-    "rest small-office.csv journal.life 0 --printed {}", "seal --check {}", "plot book {}", "plot reserves {}", "check-values journal.life basis.csv {}",
-    "check-values journal.life {} valued", "export sqlite journal.life new.db --valuation {}", "books {} value 2022-12-31", "import {} --map map.csv --script s --left l",
-    "import small-office.csv --map {} --script s --left l", "read-checkpoint {}", "audit letters {}", "audit papers {} --html p.html",
-    "check-transcript {} transcript journal.life journal.life basis.csv",
+    "rest small-office.csv journal.life 0 --printed {}", "seal --check {}", "plot book {}", "plot reserves {}",
+    "check-values journal.life basis.csv {}", "check-values journal.life {} valued",
+    "export sqlite journal.life new.db --valuation {}", "books {} value 2022-12-31",
+    "import {} --map map.csv --script s --left l", "import small-office.csv --map {} --script s --left l", "read-checkpoint {}",
+    "audit letters {}", "audit papers {} --html p.html", "check-transcript {} transcript journal.life journal.life basis.csv",
     "value 2022-12-31 --classes {} --bases bases.csv",
 )
 

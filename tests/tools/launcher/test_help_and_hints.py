@@ -81,6 +81,6 @@ def test_without_a_proved_program(proved_clone: Path, tmp_path: Path) -> None:
     clone = tmp_path / "clone"
     shutil.copytree(proved_clone, clone, symlinks=True)
     os.remove(clone / "crates" / "life_cli" / "out" / "life_cli")
-    for words in ([], ["help"], ["-h"], ["stat"], ["state"], ["--wait", "5", "run"]):
-        done = ran(["sh", clone / "life", *words], tmp_path)
+    for words in ("", "help", "-h", "stat", "state", "--wait 5 run"):
+        done = ran(["sh", clone / "life", *words.split()], tmp_path)
         assert "no proved program is of these sources" in done.err and "sh life prove" in done.err, (words, done)

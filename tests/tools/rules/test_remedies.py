@@ -79,8 +79,9 @@ SCENES: dict[str, list[Scene]] = {
         Scene(FORCE, "settle,7,2020-06-01,1000.00", 0), Scene(PAID, "settle,7,2023-01-01,1000.00", 1)],
     "wrongstatus,paidup": [
         after("paidup", "settle,7,2020-07-01,300.00", 0), after("paidup", "settle,7,2023-01-01,300.00", 1),
-        *(after("paidup", line) for line in ("premium,7,2021-01-01,100.00", "alter,7,2020-07-01,200.00,10.00",
-                                             "lapse,7,2021-02-02", "reinstate,7,2021-02-02,100.00", "paidup,7,2020-07-01,200.00"))],
+        *(after("paidup", line)
+          for line in ("premium,7,2021-01-01,100.00", "alter,7,2020-07-01,200.00,10.00", "lapse,7,2021-02-02",
+                       "reinstate,7,2021-02-02,100.00", "paidup,7,2020-07-01,200.00"))],
     "termover": [
         *(Scene(PAID, line, 0) for line in (f"premium,7,{LATER},100.00", f"alter,7,{LATER},900.00,90.00", f"claim,7,{LATER}")),
         *(Scene(FORCE, line, 1) for line in (f"premium,7,{LATER},100.00", f"alter,7,{LATER},900.00,90.00", f"claim,7,{LATER}")),
