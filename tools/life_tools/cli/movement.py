@@ -18,15 +18,13 @@ from __future__ import annotations
 
 import argparse
 import os
-from itertools import chain
-from typing import Iterator, NamedTuple
+from typing import NamedTuple
 
 from life_tools.reports.movement import LINES, Cash, Changes, Moved, analysis, cash_of, changes_of, demand_booked
 from life_tools.valuations.class_bases import Bases, bases_in
 from life_tools.valuations.class_columns import valued_columns
 from life_tools.journal.copied_folder import JOURNAL
 from life_tools.cli.report import add_title
-from life_tools.common.cells import write_csv_file
 from life_tools.common.files import write_text, written_whole
 from life_tools.cli.why import measure_arguments, position_in
 from life_tools.common.formats import Wrong, day_in, demand, money, remark
@@ -35,6 +33,7 @@ from life_tools.journal.records import records_behind
 from life_tools.valuations.printed_columns import state_of
 from life_tools.valuations.printed_valuations import SHOWN
 from life_tools.reports.provenance import provenance, with_program
+from life_tools.reports.bulk_texts import COMMA, Letters
 from life_tools.reports.report_sheets import movement_sheet
 from life_tools.reports.sheet_files import write_workbook
 from life_tools.reports.sheet_pages import page
@@ -104,20 +103,27 @@ class Books:
             self.records = records_behind(os.path.join(copy.folder, JOURNAL), first, last)
 
 
-def rows_of(changes: Changes) -> Iterator[list[str]]:
-    """Each policy's part as it is written, made of so many at once."""
-    for start in range(0, len(changes), AT_ONCE):
-        some = slice(start, start + AT_ONCE)
-        parts = (changes.opening, changes.posted, changes.time, changes.basis, changes.closing)
-        amounts = (map(money, column) for part in parts for column in part[some].T.tolist())
-        names = (LINES[place] if place else "" for place in changes.line[some].tolist())
-        yield from map(list, zip(map(str, changes.number[some].tolist()), names, *amounts))
+def text_of(changes: Changes, some: slice) -> bytes:
+    """The parts of some policies as rows of CSV."""
+    letters = Letters(len(changes.number[some]))
+    letters.add_number(changes.number[some])
+    letters.add_letter(COMMA)
+    letters.add_texts(["", *LINES[1:]], changes.line[some])
+    for part in (changes.opening, changes.posted, changes.time, changes.basis, changes.closing):
+        for column in part[some].T:
+            letters.add_letter(COMMA)
+            letters.add_amount(column)
+    return letters.text()
 
 
 def write_policies(path: str, changes: Changes) -> None:
+    """Each policy's part, many at once."""
     parts = ("opening", "posted", "time", "basis", "closing")
     head = ["policy", "line", *(f"{part} {bound}" for part in parts for bound in ("lower", "upper"))]
-    write_csv_file(path, chain([head], rows_of(changes)))
+    with open(path, "wb") as file:
+        file.write(f"{','.join(head)}\n".encode("ascii"))
+        for start in range(0, len(changes), AT_ONCE):
+            file.write(text_of(changes, slice(start, start + AT_ONCE)))
 
 
 def shown(lines: list[Moved]) -> str:
