@@ -8,7 +8,7 @@ from typing import NamedTuple
 from life_tools.common.arrays import Cents, np
 from life_tools.valuations.class_bases import Bases
 from life_tools.journal.day_columns import number_at
-from life_tools.cli.report import read_both
+from life_tools.valuations.joined_rows import read_both
 from life_tools.common.formats import demand, money
 from life_tools.journal.policy_columns import CODE_OF_STATUS
 from life_tools.valuations.printed_columns import ColumnValuation, Rows, StatePolicies

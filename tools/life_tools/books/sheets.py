@@ -18,7 +18,7 @@ from life_tools.journal.day_columns import number_at
 from life_tools.audit.drawn_samples import drawable_of
 from life_tools.cli.due import Items
 from life_tools.cli.movement import Books, Moment, moved_in
-from life_tools.cli.report import read_both
+from life_tools.valuations.joined_rows import read_both
 from life_tools.audit.flags import flags_of
 from life_tools.common.formats import Wrong, day_in, demand, opened
 from life_tools.valuations.groups import Groups, Joined, Sums, demand_whole, grouped, whole

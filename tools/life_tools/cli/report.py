@@ -2,6 +2,7 @@
 
     life-tools report 2022-12-31 --at 11 --by plan
     life-tools report 2022-12-31 --at 11 --by plan,status --xlsx december.xlsx
+    life-tools report 2022-12-31 --at 11 --mean --bundle year-end.html --rows 20
 
 A group is one or several of plan, status, issue-year, age-band and basis-row;
 each --by is a table. The rows are those that the program prints of the book at
@@ -14,16 +15,20 @@ from __future__ import annotations
 
 import argparse
 import sys
+from typing import Sequence
 
 from life_tools.valuations.class_bases import Bases, basis_arguments, bases_in
-from life_tools.valuations.class_columns import basis_rows, valued_columns
 from life_tools.cli.why import measure_arguments, position_in
 from life_tools.common.formats import Wrong, day_in, demand, remark
-from life_tools.journal.at_position import book_at
-from life_tools.valuations.groups import KEYS, Groups, Joined, demand_whole, grouped, joined, whole
-from life_tools.valuations.printed_columns import ColumnValuation, state_of
+from life_tools.valuations.groups import KEYS, Groups, Sums, demand_whole, grouped, whole
+from life_tools.valuations.printed_columns import ColumnValuation
+from life_tools.valuations.joined_rows import read_both
+from life_tools.audit.drawn_samples import sample_of
+from life_tools.audit.papers import papers_of
+from life_tools.audit.samples import MEASURED, asked_in, seed_in
+from life_tools.reports.bundles import bundle
 from life_tools.reports.provenance import provenance, with_program
-from life_tools.reports.report_files import lines_of, write_csv
+from life_tools.reports.report_files import Tables, lines_of, write_csv
 from life_tools.reports.report_pages import page
 from life_tools.reports.report_sheets import sheet_of
 from life_tools.reports.sheet_files import warning_rows, write_workbook
@@ -45,6 +50,10 @@ def arguments(parser: argparse.ArgumentParser) -> None:
     files.add_argument("--csv", metavar="FILE", help="the tables as CSV")
     files.add_argument("--xlsx", metavar="FILE", help="the tables as a workbook (python3-openpyxl)")
     files.add_argument("--html", metavar="FILE", help="one page with pictures, which needs no network")
+    files.add_argument("--bundle", metavar="FILE", help="one page to hand over: the tables with charts, sampled rows worked out, "
+                       "the seal, and how to check it all")
+    parser.add_argument("--rows", metavar="N", default="10", help="bundle: how many rows are asked for (10)")
+    parser.add_argument("--seed", metavar="S", default="1", help="bundle: the seed by which they are drawn (1)")
     add_title(parser)
     measure_arguments(parser)
 
@@ -63,23 +72,36 @@ def keys_in(given: list[str] | None) -> list[list[str]]:
     return tables
 
 
-def read_both(folder: str, position: int | None, life: str | None, on: str, bases: Bases, measure: str,
-              made: ColumnValuation | None = None) -> tuple[ColumnValuation, Joined]:
-    """The valuation, and its rows with their policies, of one copy; unless it was made already, it is made."""
-    with book_at(folder, position, bases.names, life) as copy:
-        valuation = made or valued_columns(copy, on, bases, measure)
-        state = state_of(copy.streams("state"))
-        basis = basis_rows(copy.folder, bases, state.policies.number, state.policies.issued)
-    return valuation, joined(valuation, state, basis)
-
-
 def facts_of(options: argparse.Namespace, position: int) -> dict[str, str]:
     """Where a page or a workbook comes from."""
     return provenance(options.folder, position, options.title, options.life)
 
 
+def demand_bundle(options: argparse.Namespace) -> None:
+    """Demands, before anything is asked of the program, that a bundle can be made."""
+    if options.bundle:
+        asked_in(options.rows), seed_in(options.seed)
+        demand(options.measure in MEASURED, "--bundle has terminal or mean reserves, of which rows can be sampled")
+        demand(not options.classes, "--bundle is of one basis, and not of classes")
+
+
+def write_bundle(options: argparse.Namespace, valuation: ColumnValuation, total: Sums, tables: Tables, heads: Sequence[str],
+                 bases: Bases) -> None:
+    """The page to hand over, all of it of the position of the valuation."""
+    told = facts_of(options, valuation.position)
+    papers = None
+    if valuation.total[-1]:
+        drawn = sample_of(options.folder, valuation.on, asked_in(options.rows), seed_in(options.seed), "reserve", bases,
+                          valuation.position, options.measure, options.life)
+        papers = papers_of(drawn.sample, options.folder, bases, options.life, options.title)
+    title = f"{told['book']}: valuation on {valuation.on} at position {valuation.position}, {valuation.measure}"
+    text = bundle(title, told, valuation, total, tables, heads, papers, bases.names)
+    written_whole(options.bundle, lambda path: write_text(path, text))
+
+
 def run(options: argparse.Namespace) -> int:
     day_in(options.on)
+    demand_bundle(options)
     wanted = keys_in(options.by)
     bases = bases_in(options.basis, options.classes, options.bases)
     valuation, rows = read_both(options.folder, position_in(options.at), options.life, options.on, bases, options.measure)
@@ -107,6 +129,8 @@ def run(options: argparse.Namespace) -> int:
         told = facts_of(options, valuation.position)
         text = page(f"{told['book']}: {title}", told, valuation, total, tables, heads, checks)
         written_whole(options.html, lambda path: write_text(path, text))
+    elif options.bundle:
+        write_bundle(options, valuation, total, tables, heads, bases)
     else:
         print(with_program(f"{valuation.on} at position {valuation.position}, {valuation.measure}", options.life))
         for keys, groups in tables:

@@ -24,7 +24,8 @@ class Letters:
 
     def add_letter(self, letter: np.uint8, written: Array | None = None) -> None:
         """The same letter in each row, or in those of which it is told."""
-        self.add(np.full((self.rows, 1), letter, np.uint8), np.ones((self.rows, 1), bool) if written is None else written[:, None])
+        where = np.ones((self.rows, 1), bool) if written is None else written[:, None]
+        self.add(np.full((self.rows, 1), letter, np.uint8), where)
 
     def add_number(self, numbers: Array) -> None:
         self.add(*digits_of(numbers, 1))

@@ -7,7 +7,7 @@ from life_tools.common.formats import MOST_NUMBER, demand
 from life_tools.reports.report_pages import money
 from life_tools.tables.basis import NAME
 from life_tools.valuations.groups import KEYS, Sums
-from life_tools.window import charts
+from life_tools.reports import charts
 from life_tools.window.asked import Asked, BadRequest, shown
 from life_tools.window.book_copy import TakenBasis
 from life_tools.window.month_pages import KEY_WORDS, asked_valuation, other_bases

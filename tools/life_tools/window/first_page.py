@@ -5,7 +5,7 @@ from typing import NamedTuple, Sequence
 
 from life_tools.common.formats import MOST_COMMANDS
 from life_tools.reports.report_pages import money
-from life_tools.window import charts
+from life_tools.reports import charts
 from life_tools.window.asked import Asked
 from life_tools.window.due_lists import due_on
 from life_tools.window.figures import MEASURE, Figures, Totals, figures_of, told, totals_of

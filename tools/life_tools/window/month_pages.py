@@ -16,7 +16,8 @@ from life_tools.reports.report_pages import apart, money
 from life_tools.common.revisions import revision
 from life_tools.reports.sheets import BY_BOUNDS
 from life_tools.tables.basis import NAME
-from life_tools.window import charts, pictures
+from life_tools.reports import charts
+from life_tools.window import pictures
 from life_tools.window.asked import Asked, BadRequest
 from life_tools.window.downloads import csv_parts, workbook
 from life_tools.window.audit_pages import MEASURES as RESERVES, measure_on

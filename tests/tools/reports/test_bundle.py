@@ -1,0 +1,72 @@
+"""The page to hand over: its numbers are the program's, and what it says has to come out does come out."""
+from __future__ import annotations
+
+import html
+import re
+import subprocess
+
+import pytest
+
+from tests.support.folders import Folder
+
+
+@pytest.fixture
+def page(small_office: Folder) -> str:
+    small_office.printed("report", "2022-12-31", "--at", "11", "--bundle", "page.html", "--rows", "3", "--seed", "7")
+    return small_office.read("page.html")
+
+
+def text(page: str) -> str:
+    return " ".join(html.unescape(re.sub("<[^>]*>", " ", re.sub("<style>.*?</style>", " ", page, flags=re.S))).split())
+
+
+def test_it_needs_nothing_of_a_network(page: str) -> None:
+    assert not re.search(r"https?:|src=|@import|<script|<link", page)
+
+
+def test_its_totals_and_charts_are_the_programs(page: str, small_office: Folder) -> None:
+    total = small_office.printed("at", "11", "value", "2022-12-31").splitlines()[-1].split(",")
+    # by hand: 50000.00 + 9000.00 + 15000.00 + 100000.00 are insured
+    lower, upper = (f"{int(each.replace('.', '')) / 100:,.2f}" for each in total[1:3])
+    assert f"total 4 4 174,000.00 {lower} {upper} 0" in text(page)
+    charts = re.findall(r'<svg class="chart".*?</svg>', page, re.S)
+    assert len(charts) == 3
+    for chart in charts:
+        marks = re.findall("<title>[^<]*, reserve, upper bound: ([0-9,.]+)</title>", chart)
+        assert sum(int(each.replace(",", "").replace(".", "")) for each in marks) == int(total[2].replace(".", ""))
+
+
+def test_the_sampled_rows_are_worked_out(page: str) -> None:
+    """The upper bounds are 1418.86 and 2656.23, and a third of their sum is less than both: each is drawn for certain."""
+    assert "printed: 2656.22,2656.23: the same" in page and "printed: 1418.85,1418.86: the same" in page
+    assert "drawn 4,075.09 4,075.07 4,075.09" in text(page)
+
+
+def test_each_check_gives_what_it_has_to(page: str, small_office: Folder) -> None:
+    steps = [(html.unescape(command), html.unescape(wanted)) for command, wanted in
+             re.findall("<code>([^<]*)</code><br>has to give <code>([^<]*)</code>", page)]
+    assert len(steps) == 5
+    seal = html.unescape(re.search("<h2>Seal</h2>\n<pre>(.*?)</pre>", page, re.S)[1])  # type: ignore[index]
+    small_office.write("SEAL", seal)
+    for command, wanted in steps:
+        if command.startswith("head"):
+            ran = subprocess.run(["sh", "-c", command], cwd=small_office.path, capture_output=True, text=True, check=True)
+            assert ran.stdout.split()[0] == wanted
+            continue
+        printed = small_office.printed(*command.partition("|")[0].split()[1:])
+        if command.startswith("life-tools audit"):
+            small_office.write("SAMPLE", printed)
+            assert printed.splitlines()[1].startswith(wanted.partition("...")[0])
+        elif wanted != "status 0":
+            assert printed.splitlines()[-1].startswith(wanted), command
+
+
+def test_of_what_no_bundle_is_made(small_office: Folder) -> None:
+    small_office.refused("report", "2022-12-31", "--deficiency", "--bundle", "written", says="terminal or mean reserves")
+    small_office.refused("report", "2022-12-31", "--bundle", "written", "--rows", "0", says="is no number of rows")
+    small_office.refused("report", "2022-12-31", "--bundle", "written", "--html", "other", says="not allowed with")
+
+
+def test_a_book_without_reserves_has_no_sample(small_office: Folder) -> None:
+    small_office.printed("report", "2019-12-31", "--at", "11", "--bundle", "page.html")
+    assert "Every row has a reserve of 0, so none was drawn." in text(small_office.read("page.html"))
