@@ -47,7 +47,8 @@ class Letters:
     def text(self) -> bytes:
         """The rows, with a line's end each."""
         self.add_letter(LINE_END)
-        return np.concatenate(self.letters, axis=1)[np.concatenate(self.written, axis=1)].tobytes()
+        made: bytes = np.concatenate(self.letters, axis=1)[np.concatenate(self.written, axis=1)].tobytes()
+        return made
 
 
 def digits_of(numbers: Array, least: int) -> tuple[Array, Array]:

@@ -22,7 +22,8 @@ svg.chart { display: block; width: 100%; max-width: 46rem; height: auto } svg.ch
 svg.chart .left { text-anchor: end } svg.chart .middle { text-anchor: middle } svg.chart .axis { font-style: italic }
 svg.chart .grid { stroke: #e2e6ea } svg.chart .zero { stroke: #aeb7c1 }
 .legend { display: flex; flex-wrap: wrap; gap: .2rem 1rem; list-style: none; padding: 0; font-size: .85rem }
-h2 { break-after: avoid } .legend li::before { content: "\\25a0  "; color: var(--mark) } code { overflow-wrap: anywhere } li { margin: .4rem 0 }
+h2 { break-after: avoid } .legend li::before { content: "\\25a0  "; color: var(--mark) }
+code { overflow-wrap: anywhere } li { margin: .4rem 0 }
 .whole { break-inside: avoid }
 .c1 { fill: #2b6ca3; --mark: #2b6ca3 } .c2 { fill: #d08a2e; --mark: #d08a2e }
 """
