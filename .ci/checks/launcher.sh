@@ -24,7 +24,7 @@ done
 (cd "$root" && xargs cat <tools/installed/parts) >life-installed
 cp "$program" life-program
 sh life-installed help >told || complain "the installed help ended with $?"
-sed -n 's/^  sh life \([a-z]\)/  life \1/p' out | sed '/^  life \(try\|prove\|test\|install\|pack\|doc\|tools\|help \[\)/d; s/  */ /g' >wanted
+sed -n 's/^  sh life \([a-z]\)/  life \1/p' out | sed '/^  life \(try\|prove\|test\|install\|pack\|doc\|tools\|sandbox\|help \[\)/d; s/  */ /g' >wanted
 sed 's/  */ /g' told | grep '^ life ' | cmp -s - wanted || complain "the installed help tells $(cat told)"
 
 begin "nothing is proved"

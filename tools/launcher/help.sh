@@ -36,7 +36,7 @@ tell_own() {
         tools) does="Runs one of the tools beside the program; --help names them." with=" verify" ;;
         *) return 1 ;;
     esac
-    printf 'sh life %s\n\n%s\n\nExample: sh life %s\n' "$1$with" "$does" "$1${with%%[ ]\[*}"
+    printf 'sh life %s\n\n%s\n\nExample: sh life %s\n' "$1$with" "$(printf %s "$does" | fold -s -w 79)" "$1${with%%[ ]\[*}"
 }
 
 tell_help() {

@@ -13,7 +13,7 @@ from tests.support.folders import Folder
 from tests.tools.launcher.conftest import Called, on_terminal, ran
 
 COMMANDS = ("run", "state", "checkpoint", "value", "project", "generate", "load", "--wait")
-OWN = ("try", "prove", "test", "install", "pack", "doc", "tools")
+OWN = ("try", "prove", "test", "install", "pack", "doc", "tools", "sandbox")
 
 
 @pytest.mark.parametrize("command", COMMANDS)
@@ -38,6 +38,7 @@ def test_help_names_each_command(life: Called, tmp_path: Path) -> None:
 def test_the_launchers_own_commands_have_help(proved_clone: Path, command: str, tmp_path: Path) -> None:
     done = ran(["sh", proved_clone / "life", "help", command], tmp_path)
     assert done.status == 0 and f"Example: sh life {command}" in done.out, done
+    assert max(map(len, done.out.splitlines())) <= 80
 
 
 def test_life_wait_has_help(installed: Path, tmp_path: Path) -> None:

@@ -85,7 +85,8 @@ SCENES: dict[str, list[Scene]] = {
     "termover": [
         *(Scene(PAID, line, 0) for line in (f"premium,7,{LATER},100.00", f"alter,7,{LATER},900.00,90.00", f"claim,7,{LATER}")),
         *(Scene(FORCE, line, 1) for line in (f"premium,7,{LATER},100.00", f"alter,7,{LATER},900.00,90.00", f"claim,7,{LATER}")),
-        Scene(FORCE, "premium,7,2099-01-15,100.00", 2, "2021-01-15"), Scene(FORCE, "alter,7,2099-01-15,900.00,90.00", 2, "2021-01-15"),
+        Scene(FORCE, "premium,7,2099-01-15,100.00", 2, "2021-01-15"),
+        Scene(FORCE, "alter,7,2099-01-15,900.00,90.00", 2, "2021-01-15"),
         Scene(FORCE, "claim,7,2099-01-15", 2, "2021-01-15"),
         Scene(("upgrade", *PAID), f"paidup,7,{LATER},300.00", 0), Scene(("upgrade", *FORCE), f"paidup,7,{LATER},300.00", 1),
         Scene(("upgrade", *FORCE), "paidup,7,2099-01-15,300.00", 2, "2021-01-15"),
@@ -108,7 +109,7 @@ SCENES: dict[str, list[Scene]] = {
     "wrongamount": [Scene(FORCE, "premium,7,2021-01-01,99.00"), after("lapsed", "reinstate,7,2021-03-01,99.00")],
     "notareduction": [
         Scene(FORCE, "alter,7,2020-06-01,1000.00,90.00", 0), Scene(FORCE, "alter,7,2020-06-01,1000.00,90.00", 1),
-        Scene(("upgrade", *FORCE), "paidup,7,2020-06-01,1000.00", 0), Scene(("upgrade", *FORCE), "paidup,7,2020-06-01,1000.00", 1)],
+        *(Scene(("upgrade", *FORCE), "paidup,7,2020-06-01,1000.00", way) for way in (0, 1))],
     "oversettled": [after("claimed", "settle,7,2020-07-01,1000.01")],
     "notupgraded": [Scene(FORCE, "paidup,7,2020-06-01,300.00")],
     "upgraded": [Scene(("upgrade",), "upgrade")],
