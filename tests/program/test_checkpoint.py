@@ -1,0 +1,299 @@
+"""Checkpoints: bytes worked out by hand; a second file that is no checkpoint, or is held, can't be opened or fails; one that is
+older than the journal or than its upgrade; drawn books, whose every checkpoint is made anew without the program, byte by byte;
+`state`, which writes with a checkpoint what it writes without; and programs that are killed."""
+from __future__ import annotations
+
+import fcntl
+import os
+import resource
+import subprocess
+from collections.abc import Callable, Iterator
+from contextlib import contextmanager
+from pathlib import Path
+
+import pytest
+
+from life_tools.journal.checkpoints import bytes_of_checkpoint, checkpoint_of
+from life_tools.journal.file import read_journal
+from tests.program.harness import passes
+from tests.program.office import EMPTY, FIRST_BYTES, FOREIGN, NONE_WATCHED, POLICY, RECORD, told
+from tests.support.folders import Folder
+from tests.support.made_books import lay_drawn_book
+from tests.support.program import Program
+
+CLAIMED = POLICY + "1,premium,7001,2020-01-01,400.00\n1,claim,7001,2020-06-01\n1,settle,7001,2020-07-01,400.00\n"
+SETTLED = "1,settle,7001,2020-07-03,600.00\n"
+# as docs/reference/journal.md spells them by hand
+BY_HAND = bytes.fromhex(
+    "01 4c494645 4348 4b50 0001 0030 00000000 00000004 00000000 00000001"
+    "0000000000000000 ffffffffffff63c0 00000000000186a0 ffffffffffff15a0 000000"
+    "00001b59 03 00 03 01 03 000000 00004756 0000480c 00000000000186a0 0000000000009c40 000000000000ea60 00000000")
+
+
+def kept(folder: Folder) -> Path:
+    return folder.path / "checkpoint.life"
+
+
+@pytest.fixture
+def claimed(table_q: Folder) -> Folder:
+    """Four commands on a policy, and the checkpoint of them."""
+    table_q.post(CLAIMED)
+    assert told(table_q, "checkpoint") == (0, "checkpoint,4\n")
+    return table_q
+
+
+def stated_without(folder: Folder) -> tuple[int, str]:
+    """What `state` prints in a folder with the journal alone."""
+    alone = folder.below("alone")
+    alone.write("journal.life", folder.journal.read_bytes())
+    kept(alone).unlink(missing_ok=True)
+    return told(alone, "state")
+
+
+def stated_alike(folder: Folder) -> bool:
+    """Whether `state` writes what it writes without the checkpoint, and leaves that as it is."""
+    before = kept(folder).read_bytes()
+    stated = told(folder, "state")
+    return stated[0] == 0 and stated == stated_without(folder) and kept(folder).read_bytes() == before
+
+
+def is_right(folder: Folder) -> None:
+    """The checkpoint is, byte by byte, that of the journal; behind it bytes of an earlier one may stand."""
+    assert folder.printed("read-checkpoint", "checkpoint.life", "journal.life") == folder.life("state").out
+    made = bytes_of_checkpoint(checkpoint_of(read_journal(folder.journal.read_bytes()).commands))
+    assert kept(folder).read_bytes().startswith(made)
+
+
+def put(path: Path, at: int, byte: int) -> None:
+    content = bytearray(path.read_bytes())
+    content[at] = byte
+    path.write_bytes(bytes(content))
+
+
+@contextmanager
+def held(path: Path) -> Iterator[None]:
+    """Another process has this file."""
+    with open(path, "rb") as file:
+        fcntl.flock(file, fcntl.LOCK_EX)
+        yield
+
+
+def test_a_claim_and_a_settlement(claimed: Folder) -> None:
+    assert kept(claimed).read_bytes() == BY_HAND
+    is_right(claimed)
+    assert told(claimed, "run", given=SETTLED) == (0, "1,settle,7001,accepted,5\nwatcher,1,1,1\nwatcher,2,1,0\n")
+    settled = ("policy,7001,settled,endowment,0,3,1000.00,400.00,2020-01-01,1,0.00\nbalance,cash,-600.00\n"
+               "balance,premiums,-400.00\nbalance,incurred,1000.00\nbalance,payable,0.00\ncount,5\n")
+    for gate in (1, 0):
+        put(kept(claimed), 0, gate)
+        assert told(claimed, "state") == (0, settled)
+    # with the commit byte closed it isn't a checkpoint for the tool either
+    assert claimed.tools("read-checkpoint", "checkpoint.life", "journal.life").status == 2
+
+
+def test_an_empty_book(folder: Folder) -> None:
+    assert told(folder, "checkpoint") == (0, "checkpoint,0\n")
+    assert folder.journal.read_bytes() == EMPTY and kept(folder).stat().st_size == 64
+    is_right(folder)
+
+
+OTHERS = ["run", "state 7001", "value 2021-01-01", "project 2021-01-01 3", "load 1 2 1 1"]
+
+
+def test_no_other_mode_makes_one(table_q: Folder) -> None:
+    for words in [*OTHERS, "generate 1 1 1", "value 2021-01-01 --at 9", "checkpoint now", "checkpoint --at 1", "Checkpoint", "help"]:
+        table_q.life(*words.split())
+        assert not kept(table_q).exists(), words
+
+
+@pytest.mark.parametrize("words", OTHERS)
+def test_no_other_mode_touches_one(words: str, table_q: Folder) -> None:
+    """It is held meanwhile by another process: who doesn't open it doesn't meet the lock."""
+    table_q.post("")
+    file = table_q.write("checkpoint.life", os.urandom(200))
+    os.utime(file, (978307200, 978307200))
+    before = file.read_bytes(), file.stat().st_mtime_ns
+    with held(file):
+        assert table_q.life(*words.split()).status in (0, 1)
+    assert (file.read_bytes(), file.stat().st_mtime_ns) == before
+
+
+@pytest.mark.parametrize("words", [["checkpoint", "1"], ["checkpoint", "--basis", "basis.csv"], ["checkpoint", "--workers", "2"],
+                                   ["checkpoint", "state"], ["checkpoints"], ["checkpoint", ""]], ids=" ".join)
+def test_arguments_that_are_no_checkpoint(words: list[str], folder: Folder) -> None:
+    assert told(folder, *words) == (2, "usage\n")
+    assert not folder.journal.exists() and not kept(folder).exists()
+
+
+@pytest.mark.parametrize("at, byte, status", [
+    (0, 0, 2), (0, 2, 2), (8, ord("K"), 2), (12, 0o61, 2),
+    # a position above the count, and one above the most commands
+    (20, 5, 1), (17, 1, 2),
+    # an upgrade and more policies than commands, balances out of bounds, a broken policy
+    (24, 5, 2), (28, 5, 2), (29, 0o177, 2), (45, 0o200, 2), (63, 1, 2), (70, 1, 2), (71, 4, 2), (72, 1, 2), (78, 255, 2),
+    (104, 255, 2), (111, 1, 2)])
+def test_a_changed_byte_makes_it_none(at: int, byte: int, status: int, claimed: Folder) -> None:
+    put(kept(claimed), at, byte)
+    assert stated_alike(claimed)
+    assert claimed.tools("read-checkpoint", "checkpoint.life", "journal.life").status == status
+
+
+def test_a_cut_one_is_none(claimed: Folder) -> None:
+    for length in range(len(BY_HAND)):
+        kept(claimed).write_bytes(BY_HAND[:length])
+        assert stated_alike(claimed), length
+
+
+def test_a_number_that_stands_twice_makes_it_none(claimed: Folder) -> None:
+    kept(claimed).write_bytes(BY_HAND + BY_HAND[-48:])
+    put(kept(claimed), 28, 2)
+    assert stated_alike(claimed)
+    assert claimed.tools("read-checkpoint", "checkpoint.life").status == 2
+
+
+@pytest.mark.parametrize("content", [BY_HAND + b"more\n", EMPTY, b"\1LIFEJRNL" + bytes(200), Path("/bin/sh").read_bytes()],
+                         ids=["bytes behind it", "an empty journal", "another journal", "a program"])
+def test_a_foreign_file_is_none_and_is_written_over(content: bytes, claimed: Folder) -> None:
+    kept(claimed).write_bytes(content)
+    assert stated_alike(claimed)
+    assert told(claimed, "checkpoint") == (0, "checkpoint,4\n")
+    assert kept(claimed).read_bytes().startswith(BY_HAND)
+
+
+def test_one_of_another_journal_is_seen(claimed: Folder) -> None:
+    """A state that rests on it is another, so that the tests here see one."""
+    other = claimed.below("other")
+    other.post("1,issue,9,2020-01-01,term,0,3,500.00,200.00\n")
+    other.life("checkpoint")
+    kept(claimed).write_bytes(kept(other).read_bytes())
+    ended = claimed.tools("read-checkpoint", "checkpoint.life", "journal.life")
+    assert ended.status != 0 and "aren't the books of the first 1 commands" in ended.err
+    assert not stated_alike(claimed)
+    kept(claimed).unlink()
+    assert claimed.life("state").out.endswith("count,4\n")
+
+
+def test_one_that_is_older_than_an_upgrade(folder: Folder) -> None:
+    folder.post(POLICY + "1,premium,7001,2020-01-01,400.00\n")
+    folder.life("checkpoint")
+    assert "1,paidup,7001,accepted,4\n" in folder.post("1,upgrade\n1,paidup,7001,2020-12-01,300.00\n")
+    assert stated_alike(folder)
+    folder.life("checkpoint")
+    is_right(folder)
+    # the position of the upgrade
+    assert kept(folder).read_bytes()[24] == 3
+    folder.post("1,issue,7002,2021-01-01,term,0,3,500.00,200.00\n")
+    assert stated_alike(folder)
+
+
+def test_bad_records(claimed: Folder) -> None:
+    """What `state` reads again is refused as it is without a checkpoint; what lies before isn't read again, but by a run."""
+    claimed.post(SETTLED)
+    longer = claimed.journal.read_bytes()
+    put(claimed.journal, FIRST_BYTES + 4 * RECORD, 9)
+    before = claimed.journal.read_bytes()
+    for word in ("state", "checkpoint"):
+        assert told(claimed, word) == (5, "badjournal,badrecord,4\n")
+        assert claimed.journal.read_bytes() == before
+    claimed.journal.write_bytes(longer)
+    put(claimed.journal, FIRST_BYTES, 9)
+    assert claimed.life("state").status == 0
+    assert told(claimed, "run") == (5, "badjournal,badrecord,0\n")
+    claimed.journal.write_bytes(FOREIGN)
+    for word in ("state", "checkpoint"):
+        assert told(claimed, word) == (5, "badjournal,notajournal\n")
+    assert kept(claimed).read_bytes() == BY_HAND
+
+
+def folder_in_its_place(file: Path) -> None:
+    file.mkdir()
+
+
+SECONDS: dict[str, Callable[[Path], None]] = {
+    "a folder": folder_in_its_place,
+    "a link to nowhere": lambda file: file.symlink_to("nowhere/checkpoint.life"),
+    # the journal itself under the other name is locked already
+    "a hard link to the journal": lambda file: os.link(file.with_name("journal.life"), file),
+    "a link to the journal": lambda file: file.symlink_to("journal.life"),
+}
+
+
+@pytest.mark.parametrize("second", ["held", *SECONDS])
+def test_a_second_file_that_fails(second: str, claimed: Folder) -> None:
+    """These two modes end with 8, and no other does."""
+    before = claimed.journal.read_bytes()
+    if second == "held":
+        with held(kept(claimed)):
+            fails_by_the_second(claimed)
+        assert kept(claimed).read_bytes() == BY_HAND
+    else:
+        kept(claimed).unlink()
+        SECONDS[second](kept(claimed))
+        fails_by_the_second(claimed)
+    assert claimed.journal.read_bytes() == before
+
+
+def fails_by_the_second(folder: Folder) -> None:
+    for word in ("state", "checkpoint"):
+        assert told(folder, word) == (8, "diskfault\n")
+    assert told(folder, "run") == (0, NONE_WATCHED)
+    assert folder.life("state", "7001").status == 0
+
+
+def test_a_file_that_cannot_grow(claimed: Folder) -> None:
+    kept(claimed).unlink()
+    ran = subprocess.run([*claimed.program.words, "checkpoint"], cwd=claimed.path, capture_output=True, check=False,
+                         preexec_fn=lambda: resource.setrlimit(resource.RLIMIT_FSIZE, (0, 0)))
+    assert ran.returncode == 8 and kept(claimed).stat().st_size == 0
+    assert stated_alike(claimed)
+
+
+@pytest.mark.parametrize("word", ["checkpoint", "state"])
+def test_an_output_that_is_full(word: str, claimed: Folder) -> None:
+    """What was kept is kept."""
+    with open("/dev/full", "wb") as full:
+        ran = subprocess.run([*claimed.program.words, word], cwd=claimed.path, stdin=subprocess.DEVNULL, stdout=full, check=False)
+    assert ran.returncode == 7 and kept(claimed).read_bytes() == BY_HAND
+
+
+def test_a_journal_that_another_run_has(claimed: Folder) -> None:
+    kept(claimed).unlink()
+    with held(claimed.journal):
+        for word in ("state", "checkpoint"):
+            assert told(claimed, word) == (8, "diskfault\n")
+            assert not kept(claimed).exists()
+
+
+def test_closed_streams(claimed: Folder) -> None:
+    """The two files are none of them."""
+    before = claimed.journal.read_bytes()
+    words = ["sh", "-c", 'exec "$0" checkpoint <&- >&- 2>&-', str(claimed.program.path)]
+    assert subprocess.run(words, cwd=claimed.path, check=False).returncode == 7
+    assert (kept(claimed).read_bytes(), claimed.journal.read_bytes()) == (BY_HAND, before)
+    words = ["sh", "-c", 'exec "$0" state 2>&- <&-', str(claimed.program.path)]
+    assert subprocess.run(words, cwd=claimed.path, stdout=subprocess.PIPE, check=False).returncode == 0
+
+
+@pytest.mark.parametrize("seed", [1, 2, 3])
+def test_drawn_books(seed: int, folder: Folder) -> None:
+    """Policies of all plans and statuses; a checkpoint of each prefix of the book, beside all of it."""
+    lay_drawn_book(folder, seed, 300, 4)
+    before = folder.journal.read_bytes()
+    assert folder.life("checkpoint").status == 0
+    is_right(folder)
+    for part in (0, 1, 50, 299, 300, 301, 350):
+        prefix = folder.below("prefix")
+        prefix.write("journal.life", before[:17 + RECORD * part] + b"\0")
+        kept(prefix).unlink(missing_ok=True)
+        assert prefix.life("checkpoint").status == 0
+        kept(folder).write_bytes(kept(prefix).read_bytes())
+        assert stated_alike(folder), part
+        folder.life("checkpoint")
+        is_right(folder)
+    assert folder.journal.read_bytes() == before
+
+
+@pytest.mark.alone
+@pytest.mark.timeout(600)
+def test_killed_at_random_moments(program: Program, tmp_path: Path) -> None:
+    passes(program, "kills.checkpoints", program.path, tmp_path / "killed", "24", "1")
