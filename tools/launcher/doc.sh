@@ -1,4 +1,5 @@
-# The documentation as a site in out/site: the pages of docs/ by MkDocs, and the pages of all public clauses beside them.
+# The documentation as a site in out/site: the generated blocks of the pages are written anew, the pages of docs/ are built by
+# MkDocs, and the pages of all public clauses beside them.
 # What it takes of the launcher:
 : "${root:?}"
 
@@ -9,5 +10,6 @@ build_site() {
     done
     "$python" -c "import mkdocs" 2>/dev/null ||
         give_up "the site needs MkDocs: apt-get install mkdocs mkdocs-material python3-pymdownx libjs-katex graphviz"
+    "$python" "$root/tools/site/generated.py" || exit 1
     exec "$python" "$root/tools/site/build.py" "$root/out/site"
 }
