@@ -283,7 +283,7 @@ def test_rows_of_a_policy_are_released_in_their_order(begun: Desk) -> None:
     begun.folder.refused("day", "--release", "2", "--line", "2", says="an earlier row of policy 7001 is held in log/000002")
     begun.folder.refused("day", "--release", "2", "--line", "7", says="line 7 of inbox/again.csv is not held")
     begun.folder.refused("day", "--release", "9", says="there is no entry 9")
-    begun.day("--discard", "2", "--line", "1")
+    begun.day("--discard", "2", "--line", "1", status=1)
     begun.day("--release", "2", status=1)
     begun.day("--release", "3")
     assert begun.count() == 5

@@ -152,6 +152,20 @@ def test_a_row_is_not_held_with_a_later_one_of_its_policy(desk: Desk) -> None:
     assert desk.count() == ROWS + 1
 
 
+def test_an_interrupted_release_is_not_made_twice(desk: Desk) -> None:
+    """The release is on the disk, and the entry from which its rows come does not say so yet."""
+    desk.day(status=1)
+    desk.hand_in("a.csv", "1,claim,1,2024-05-20\n" + "1,settle,1,2024-05-21,1.00\n" * 2)
+    desk.day(status=1)
+    held = (desk.entry_folder(3) / "entry.json").read_text()
+    desk.day("--release", "3", "--by", "anna")
+    (desk.entry_folder(3) / "entry.json").write_text(held)
+    (desk.entry_folder(3) / "done").unlink()
+    (desk.entry_folder(4) / "done").unlink()
+    assert re.search("no row of log/000003.* is held", desk.day("--release", "3", status=2).err)
+    assert len(desk.log("--policy", "1")) == 4
+
+
 # --- claims ---
 
 def test_a_claim_that_was_interrupted_before_the_rename_is_made_again(desk: Desk) -> None:

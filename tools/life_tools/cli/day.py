@@ -28,6 +28,7 @@ import argparse
 import datetime
 import glob
 import os
+from typing import Callable
 
 from life_tools.common.formats import Wrong, day_in, demand, number_of, remark
 from life_tools.common.packages import stay
@@ -36,7 +37,7 @@ from life_tools.desk.claiming import login
 from life_tools.desk.day import Asked, Day
 from life_tools.desk.entries import LOCK, Log
 from life_tools.desk.records import sync_folder
-from life_tools.desk.releases import discarded, released
+from life_tools.desk.releases import Judgement
 from life_tools.desk.restoring import restored
 from life_tools.desk.running import Program
 from life_tools.desk.settings import settings_of
@@ -99,23 +100,20 @@ def patience_in(options: argparse.Namespace) -> Patience:
     return Patience(seconds)
 
 
-def judge(options: argparse.Namespace, log: Log, asked: Asked) -> int | None:
-    """Releases or discards; a status where nothing is left to do."""
-    name, because, lines = options.by or login(), options.why, lines_in(options)
-    if options.discard:
-        rows = discarded(log, options.discard, name, because, lines, asked.settings)
-        remark(f"day: {len(rows)} rows of {options.discard} are put away and never posted")
-        return 0
-    if options.release:
-        entry = released(log, options.release, name, because, lines, asked.settings)
-        remark(f"day: {entry.record['rows']} rows of entry {options.release} are released by {name}, as {entry.shown}")
-    if options.restored:
-        restored(log, os.path.join(options.folder, JOURNAL))
-    return None
+def judge_of(options: argparse.Namespace) -> Callable[[Day], None]:
+    """What a person says of held rows, to be taken up once all that was interrupted is finished."""
+    judgement = Judgement(options.by or login(), options.why, tuple(lines_in(options)))
+
+    def judge(day: Day) -> None:
+        if options.release:
+            day.release(options.release, judgement)
+        elif options.discard:
+            day.discard(options.discard, judgement)
+    return judge
 
 
 def worked(options: argparse.Namespace, stop: Stopping) -> int:
-    log, patience = Log(options.folder), patience_in(options)
+    log, patience, judge = Log(options.folder), patience_in(options), judge_of(options)
     today, settings = day_in(options.today) if options.today else datetime.date.today(), settings_of(options.folder)
     demand(os.path.isdir(options.folder), f"{options.folder} is not a folder")
     is_book = os.path.lexists(os.path.join(options.folder, JOURNAL)) or os.path.isdir(log.path) or options.new
@@ -128,8 +126,9 @@ def worked(options: argparse.Namespace, stop: Stopping) -> int:
         # what was handed in while another `day` was waited for is taken, too
         asked = Asked(options.folder, files_in(options), options.new, today, settings)
         day = Day(asked, Program(program_asked(options.life), options.folder, options.basis, lock), patience, stop)
-        status = judge(options, log, asked)
-        return day.work() if status is None else status
+        if options.restored:
+            restored(log, os.path.join(options.folder, JOURNAL))
+        return day.work(judge)
     finally:
         os.close(lock)
 

@@ -5,7 +5,7 @@ from __future__ import annotations
 import datetime
 import os
 from dataclasses import dataclass
-from typing import Iterable, Sequence
+from typing import Callable, Iterable, Sequence
 
 from life_tools.common.formats import MOST_COMMANDS, Wrong, demand, remark
 from life_tools.desk.claiming import Left, claimed, clear_unbegun, finish_claims, is_added_to, requeued
@@ -14,7 +14,7 @@ from life_tools.desk.holding import Holder, waiting_in
 from life_tools.desk.plausibility import NetPremiums
 from life_tools.desk.reckoning import Reckoned, commands_between, reckoned
 from life_tools.desk.records import Record, now, shown, write_safely
-from life_tools.desk.releases import mark_released
+from life_tools.desk.releases import Judgement, discarded, mark_released, released
 from life_tools.desk.reporting import held_text, print_entries, refused_text
 from life_tools.desk.running import (REFUSED_STATUSES, Program, chosen, count_of, new_run, refused_rows, rows_of, run_when_free,
                                      script_of)
@@ -61,17 +61,28 @@ class Day:
 
     # --- the whole ---
 
-    def work(self) -> int:
+    def work(self, judge: Callable[[Day], None]) -> int:
+        """Finishes what was interrupted, lets a person's judgement of held rows take effect, and posts."""
         self.demand_book()
         if not self.is_whole():
             return 1
         self.finish_runs()
         self.finish_entries()
+        judge(self)
         for path in self.asked.files:
             self.claim(path)
         self.post()
         self.report()
         return self.status
+
+    def release(self, words: str, judgement: Judgement) -> None:
+        entry = released(self.entry(self.log.named(words).name), self.log, judgement, self.asked.settings)
+        self.entries[entry.name] = entry
+        remark(f"day: {entry.record['rows']} rows of entry {words} are released by {shown(judgement.name)}, as {entry.shown}")
+
+    def discard(self, words: str, judgement: Judgement) -> None:
+        rows = discarded(self.entry(self.log.named(words).name), judgement, self.asked.settings)
+        remark(f"day: {len(rows)} rows of {words} are put away and never posted")
 
     def demand_book(self) -> None:
         """A journal is begun only where that was asked for, and never in the place of one that was there."""

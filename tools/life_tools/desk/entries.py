@@ -110,19 +110,19 @@ class Entry:
         self.write_marks()
 
     def write_marks(self) -> None:
-        """The files that follow from `entry.json`: the rows that are held, and the mark `done`."""
-        held = self.held
-        if held:
-            rows = "".join(f"{each['text']}\n" for each in held)
-            write_safely(self.path(HELD_ROWS), rows.encode("utf-8", "surrogateescape"))
-        elif os.path.exists(self.path(HELD_ROWS)):
-            os.remove(self.path(HELD_ROWS))
-        is_done = self.record["state"] == CLOSED and not held
-        if is_done and not os.path.exists(self.path(DONE)):
-            write_safely(self.path(DONE), b"")
-        elif not is_done and os.path.exists(self.path(DONE)):
-            os.remove(self.path(DONE))
-        sync_folder(self.folder)
+        """The files that follow from `entry.json`: the rows that are held, and the mark `done`. What is right stays."""
+        rows = "".join(f"{each['text']}\n" for each in self.held).encode("utf-8", "surrogateescape")
+        put(self.path(HELD_ROWS), rows or None)
+        put(self.path(DONE), b"" if self.record["state"] == CLOSED and not rows else None)
+
+
+def put(path: str, data: bytes | None) -> None:
+    """A file of these bytes, or no file; one that is so already isn't touched."""
+    if data is None and os.path.exists(path):
+        os.remove(path)
+        sync_folder(os.path.dirname(path))
+    elif data is not None and not (os.path.exists(path) and bytes_of(path) == data):
+        write_safely(path, data)
 
 
 @dataclass

@@ -2,6 +2,7 @@
 from __future__ import annotations
 
 import os
+from dataclasses import dataclass
 from typing import Callable, Iterable
 
 from life_tools.common.formats import Wrong, demand
@@ -42,22 +43,29 @@ def demand_oldest(entry: Entry, rows: list[Record], log: Log) -> None:
                         "first; nothing was done")
 
 
-def judged(name: str, because: str | None) -> Record:
-    return {"by": name, "login": login(), "because": because, "at": now()}
+@dataclass(frozen=True)
+class Judgement:
+    """What a person says of held rows: who it is, why, and the lines of the file, or none for all."""
+
+    name: str
+    because: str | None
+    lines: tuple[int, ...] = ()
+
+    def record(self) -> Record:
+        return {"by": self.name, "login": login(), "because": self.because, "at": now()}
 
 
-def released(log: Log, words: str, name: str, because: str | None, lines: Iterable[int], settings: Settings) -> Entry:
+def released(entry: Entry, log: Log, judgement: Judgement, settings: Settings) -> Entry:
     """The new entry of rows that a person releases; the entry from which they come says so."""
-    entry = log.named(words)
-    rows = chosen_rows(entry, lines)
-    demand_allowed(rows, name, settings)
+    rows = chosen_rows(entry, judgement.lines)
+    demand_allowed(rows, judgement.name, settings)
     demand_oldest(entry, rows, log)
     folder = log.new_folder(now()[:10], f"release-of-{entry.number}")
     record = {**entry.record, "state": CLAIMING, "caller": caller(),
               "times": {"claimed": now(), "checked": None, "ended": None}, "accepted": [], "refused": [], "answered": [],
               "held": [], "runs": [], "lost": [], "rows": len(rows),
               "from": {"entry": entry.name, "rows": [each["row"] for each in rows],
-                       "lines": [each["line"] for each in rows], **judged(name, because)}}
+                       "lines": [each["line"] for each in rows], **judgement.record()}}
     # nothing lies in the inbox under this name, so an interrupted release is undone
     record["file"] = {**entry.record["file"], "path": os.path.join(folder, "released")}
     made = Entry(folder, record)
@@ -65,7 +73,7 @@ def released(log: Log, words: str, name: str, because: str | None, lines: Iterab
     text = "".join(f"{each['text']}\n" for each in rows)
     write_safely(made.path(HANDED_IN), text.encode("utf-8", "surrogateescape"))
     open_entry(made)
-    mark_released(made, log.entry)
+    mark_released(made, lambda _: entry)
     return made
 
 
@@ -83,13 +91,12 @@ def mark_released(entry: Entry, entry_named: Callable[[str], Entry]) -> None:
         source.write_marks()
 
 
-def discarded(log: Log, words: str, name: str, because: str | None, lines: Iterable[int], settings: Settings) -> list[Record]:
+def discarded(entry: Entry, judgement: Judgement, settings: Settings) -> list[Record]:
     """Rows that a person puts away; they are never posted, and later rows of their policies are no more held for them."""
-    entry = log.named(words)
-    rows = chosen_rows(entry, lines)
-    demand_allowed(rows, name, settings)
+    rows = chosen_rows(entry, judgement.lines)
+    demand_allowed(rows, judgement.name, settings)
     for each in rows:
-        each.update(state=DISCARDED, **judged(name, because))
+        each.update(state=DISCARDED, **judgement.record())
     entry.save()
     entry.write_marks()
     return rows

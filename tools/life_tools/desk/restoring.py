@@ -5,7 +5,7 @@ import os
 import re
 
 from life_tools.common.formats import demand, remark
-from life_tools.desk.entries import BEGUN, DONE, OPEN, TRANSCRIPT, Entry, Log, Run
+from life_tools.desk.entries import BEGUN, DONE, OPEN, TRANSCRIPT, Entry, Log, Run, put
 from life_tools.desk.postings import Wanted, differences, found_in
 from life_tools.desk.records import now, write_safely
 from life_tools.journal.wholeness import shape_at
@@ -23,10 +23,9 @@ def reopened(entry: Entry, count: int) -> int:
         record["lost"] += [[row, position, now()] for row, position in lost]
         record["runs"] = [{**run, "after": min(run["after"], count)} for run in record["runs"] if run["before"] < count]
         record["state"] = OPEN
-        if os.path.exists(entry.path(DONE)):
-            os.remove(entry.path(DONE))
+        # the mark goes first, so that an interruption leaves an entry that is looked at
+        put(entry.path(DONE), None)
         entry.save()
-        entry.write_marks()
     return len(lost)
 
 
