@@ -33,7 +33,9 @@ def entries() -> Iterator[Any]:
 
 
 def changed_copy(entry: dict[str, str], to: Path) -> None:
-    for name in filter(lambda name: (ROOT / name).exists(), COPIED):
+    """The sources of the proved program only where they, or what is known of them, are changed."""
+    needs_sources = entry["file"].startswith(("crates", "HANDLES")) or "tests/repository" in entry["test"]
+    for name in filter(lambda name: (ROOT / name).exists(), (*COPIED, *(("crates", "HANDLES") if needs_sources else ()))):
         if (ROOT / name).is_dir():
             shutil.copytree(ROOT / name, to / name, symlinks=True, ignore=shutil.ignore_patterns("__pycache__", "out"))
         else:
