@@ -1,5 +1,7 @@
 
 # The program beside this file with these arguments, in a folder that has a book, or where one is begun.
+# What it takes of the parts before it:
+: "${program:?}" "${asked?}"
 [ -x "$program" ] || give_up "there is no program $program, so nothing was run: install life anew" 69
 if asks_help "$@"; then
     case $asked in

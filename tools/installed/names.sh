@@ -1,4 +1,5 @@
 # Where the program lies, and how it, its waiting and its tools are called.
+# shellcheck disable=SC2034 # of the parts
 here=$(readlink -f -- "$0") || exit 70
 program=$(dirname "$here")/life-program
 called=life waits=life-wait tools=life-tools

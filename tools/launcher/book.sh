@@ -33,8 +33,18 @@ demand_journal() {
 # has the journal. Where the tools can't be run the length alone is compared, which takes a minute for the largest book.
 verify_book() {
     if command -v python3 >/dev/null; then
-        run_tools verify 2>&1
-        case $? in 0 | 1) return 0 ;; 2) return 1 ;; esac
+        found=$(run_tools verify 2>&1)
+        case $? in
+            0 | 1)
+                printf '%s\n' "$found"
+                return 0
+                ;;
+            2)
+                # the program itself answers a journal that is in use or is none
+                case $found in *" is held by "* | *" is in use "* | *badjournal,*) ;; *) say "the book isn't verified: $found" ;; esac
+                return 1
+                ;;
+        esac
     fi
     verify_length
 }

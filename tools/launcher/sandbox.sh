@@ -28,5 +28,6 @@ make_sandbox() {
 # From here on the preview stands in for the proved program.
 take_preview() {
     is_newest "$preview" || build_preview
+    # shellcheck disable=SC2034 # of the caller
     program=$preview
 }

@@ -1,8 +1,10 @@
 # The help of the program's commands: all of them, and each by itself. The clone's launcher and the installed `life` share
 # this part.
-# What it takes of the caller:
+# What it takes of the caller; asks_help leaves it the command that is asked of:
 : "${called:?}" "${waits:?}"
+asked=
 
+# shellcheck disable=SC2034 # of the caller
 # whether the arguments ask for help: `help`, `--help` or `-h`, alone or with a command, in either order
 asks_help() {
     case ${1-},${2-},$# in

@@ -69,6 +69,12 @@ def test_a_count_that_a_checkpoint_or_a_log_noted(small_office: Folder, life: Ca
     assert done.status == 0 and "undecided" in done.err, done
 
 
+def test_a_book_that_cant_be_verified_is_run_and_warned_of(small_office: Folder, life: Called) -> None:
+    small_office.write("log/runs/000001/run.json", "no JSON")
+    done = ran([*life.words, "state"], small_office.path)
+    assert done.status == 0 and "the book isn't verified: " in done.err and "run.json" in done.err, done
+
+
 def test_a_whole_book_is_run_without_a_word(small_office: Folder, life: Called) -> None:
     done = ran([*life.words, "state"], small_office.path)
     assert done.status == 0 and done.err == ""

@@ -19,7 +19,7 @@ from life_tools.common.formats import Wrong, bytes_of
 from life_tools.common.program import program_asked, program_beside
 from life_tools.common.revisions import built_with, of_clone
 
-# whether a clone's program is newer than each of its sources, as its launcher decides that
+# whether a clone's program is the one that was proved from its sources, as its launcher decides that
 IS_CURRENT = 'root=$0; . "$root/tools/launcher/shared.sh"; is_current "$1"'
 
 
@@ -44,9 +44,9 @@ def tell_of_clone(clone: str) -> int:
         return 1
     print(f"sum: {hashlib.sha256(bytes_of(program)).hexdigest()}")
     if subprocess.run(["sh", "-c", IS_CURRENT, clone, program], check=False).returncode:
-        print(f"wrong: {program} is older than its sources: sh life prove")
+        print(f"wrong: {program} isn't noted as proved from these sources: sh life prove")
         return 1
-    print(f"program: {program} is as new as its sources")
+    print(f"program: {program} is the one that was proved from these sources")
     return 0
 
 
