@@ -5,12 +5,16 @@ import csv
 import io
 import json
 import os
+import signal
+import subprocess
+import sys
 import time
 from dataclasses import dataclass
 from pathlib import Path
 from typing import Any
 
 from tests.support.folders import Folder
+from tests.support.program import ROOT
 from tests.support.tools import Ended
 
 # the day by which rows are looked at
@@ -61,3 +65,14 @@ class Desk:
         """What was posted, in order: the fields behind the lane."""
         rows = csv.reader(io.StringIO(self.folder.printed("read", "journal.life")))
         return [",".join(row[1:]) for row in rows if row and row[0].isdecimal()]
+
+
+def started(desk: Desk, *words: str, ignored: int | None = None) -> subprocess.Popen[str]:
+    """A `day` that goes on meanwhile, as a process of its own, which heeds all signals but the one that is ignored."""
+    def heed() -> None:
+        for number in (signal.SIGINT, signal.SIGTERM, signal.SIGHUP):
+            signal.signal(number, signal.SIG_IGN if number == ignored else signal.SIG_DFL)
+
+    env = {**os.environ, "LIFE_PROGRAM": str(desk.folder.program.path)}
+    return subprocess.Popen([sys.executable, str(ROOT / "tools/life-tools"), "day", "--today", TODAY, *words], env=env,
+                            cwd=desk.folder.path, stdout=subprocess.PIPE, stderr=subprocess.PIPE, text=True, preexec_fn=heed)

@@ -5,7 +5,6 @@ import fcntl
 import os
 import signal
 import subprocess
-import sys
 import tempfile
 import time
 from pathlib import Path
@@ -14,10 +13,9 @@ import pytest
 
 from life_tools.desk.claiming import claimed
 from life_tools.desk.entries import Log
-from tests.support.desks import TODAY, Desk
+from tests.support.desks import TODAY, Desk, started
 from tests.support.folders import Folder
 from tests.support.missing import lacks
-from tests.support.program import ROOT
 
 ISSUE = "1,issue,7001,2024-05-01,endowment,0,3,1000.00,400.00"
 CLAIM = "1,claim,7001,2024-05-20"
@@ -378,13 +376,6 @@ def test_a_book_in_use_is_waited_for_and_given_up(begun: Desk) -> None:
     assert begun.count() == 4
 
 
-def started(desk: Desk, *words: str) -> subprocess.Popen[str]:
-    """A `day` that goes on meanwhile, as a process of its own."""
-    env = {**os.environ, "LIFE_PROGRAM": str(desk.folder.program.path)}
-    return subprocess.Popen([sys.executable, str(ROOT / "tools/life-tools"), "day", "--today", TODAY, *words], env=env,
-                            cwd=desk.folder.path, stdout=subprocess.PIPE, stderr=subprocess.PIPE, text=True)
-
-
 def says(ran: subprocess.Popen[str], wanted: str) -> None:
     """Reads what it says up to a line with these words."""
     assert ran.stderr
@@ -406,6 +397,20 @@ def test_a_signal_ends_a_waiting_day_at_once(begun: Desk, number: signal.Signals
     assert begun.count() == 3
     begun.day()
     assert begun.count() == 4
+
+
+def test_a_signal_that_is_ignored_stays_so(begun: Desk) -> None:
+    """As under `nohup`: a closed terminal doesn't end the work."""
+    begun.hand_in("a.csv", "1,settle,7001,2024-06-01,1.00\n")
+    with open(begun.folder.journal, "rb") as journal:
+        fcntl.flock(journal, fcntl.LOCK_EX)
+        with started(begun, "--wait", "20", ignored=signal.SIGHUP) as ran:
+            says(ran, "day: waiting: ./journal.life is in use by process")
+            ran.send_signal(signal.SIGHUP)
+            time.sleep(0.3)
+            fcntl.flock(journal, fcntl.LOCK_UN)
+            out, _ = ran.communicate(timeout=60)
+    assert ran.returncode == 0 and out.endswith("-a,1,0,0,0\n")
 
 
 def test_a_second_day_waits_for_the_first(begun: Desk) -> None:

@@ -5,18 +5,15 @@ import contextlib
 import os
 import re
 import signal
-import subprocess
-import sys
 import time
 
 import pytest
 
 from life_tools.desk import claiming
 from life_tools.desk.entries import Log
-from tests.support.desks import TODAY, Desk
+from tests.support.desks import Desk, started
 from tests.support.folders import Folder
 from tests.support.killed_days import start_day
-from tests.support.program import ROOT
 
 ROWS = 120
 
@@ -102,9 +99,7 @@ def test_a_program_whose_day_was_killed_is_waited_for(desk: Desk) -> None:
 
 @pytest.mark.parametrize("number", [signal.SIGTERM, signal.SIGINT])
 def test_a_signal_during_a_posting_is_noted_in_the_entry(desk: Desk, number: signal.Signals) -> None:
-    env = {**os.environ, "LIFE_PROGRAM": str(desk.folder.program.path)}
-    with subprocess.Popen([sys.executable, str(ROOT / "tools/life-tools"), "day", "--today", TODAY], env=env,
-                          cwd=desk.folder.path, stdout=subprocess.PIPE, stderr=subprocess.PIPE, text=True) as ran:
+    with started(desk) as ran:
         until_posted(desk, 20)
         ran.send_signal(number)
         out, err = ran.communicate(timeout=60)

@@ -50,9 +50,11 @@ class Stopping:
 
 @contextmanager
 def stopping() -> Iterator[Stopping]:
-    """Signals are handled so meanwhile; a lease that is asked for may bring SIGIO, which would end the tool."""
+    """Signals are handled so meanwhile, but for those that the caller ignores, as `nohup` does. A lease that is asked for may
+    bring SIGIO, which would end the tool."""
     handler = Stopping()
-    before = {number: signal.signal(number, handler.handle) for number in SIGNALS}
+    heeded = [number for number in SIGNALS if signal.getsignal(number) != signal.SIG_IGN]
+    before = {number: signal.signal(number, handler.handle) for number in heeded}
     before[signal.SIGIO] = signal.signal(signal.SIGIO, signal.SIG_IGN)
     try:
         yield handler
