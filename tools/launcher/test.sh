@@ -47,7 +47,7 @@ run_part() {
     judged=$program
     if ! is_current "$program"; then
         . "$launcher/preview.sh"
-        is_current "$preview" || build_preview
+        is_newest "$preview" || build_preview
         judged=$preview
     fi
     ends_by_signal : "the tests weren't run to their end"
