@@ -15,4 +15,4 @@ work=$(mktemp -d) || exit 2
 trap 'rm -rf "$work"' EXIT
 trap 'exit 130' INT TERM HUP
 take_real_time
-PYTHONDONTWRITEBYTECODE=1 python3 "$root/.ci/hostile/worst_cases.py" "$program" "$work" "$part" "$@"
+PYTHONDONTWRITEBYTECODE=1 python3 "$root/bench/worst_cases.py" "$program" "$work" "$part" "$@"

@@ -15,24 +15,23 @@ import zlib
 from collections.abc import Callable, Iterable
 from typing import Any
 
-ROOT = os.path.abspath(os.path.join(os.path.dirname(os.path.abspath(__file__)), "..", ".."))
-sys.path[:0] = [os.path.join(ROOT, "tools"), ROOT]
+ROOT = os.path.abspath(os.path.join(os.path.dirname(os.path.abspath(__file__)), "..", "..", ".."))
 
-from life_tools.reserves.projection_check import check_years  # noqa: E402
-from life_tools.scripts.transcript_check import asks_for_values, check  # noqa: E402
-from life_tools.reserves.valuation_check import check_block  # noqa: E402
-from life_tools.journal.checkpoints import Checkpoint, bytes_of_checkpoint, checkpoint_in, checkpoint_of  # noqa: E402
-from life_tools.common.formats import MEASURES, MOST_BASIS_BYTES, Wrong, day_in, demand, money, printed_rows  # noqa: E402
-from life_tools.journal.file import EMPTY, file_of, gate_of, read_journal  # noqa: E402
-from plain_tables import read_plain_table  # noqa: E402
-from plain_words import meaning_of  # noqa: E402
-from life_tools.reserves.projections import printed_projection  # noqa: E402
-from life_tools.rules.policies import Book, Policy, Refusal, balances_of, booking_of  # noqa: E402
-from life_tools.scripts.lines import Fault, lines_in, read_script  # noqa: E402
-from tests.support.drawn_scripts import folder_for  # noqa: E402
-from life_tools.tables.basis import BasisRow, NotXml, SelectTable, Table, read_basis, read_table  # noqa: E402
-from life_tools.rules.commands import Command  # noqa: E402
-from life_tools.reserves.exact import Known  # noqa: E402
+from life_tools.reserves.projection_check import check_years
+from life_tools.scripts.transcript_check import asks_for_values, check
+from life_tools.reserves.valuation_check import check_block
+from life_tools.journal.checkpoints import Checkpoint, bytes_of_checkpoint, checkpoint_in, checkpoint_of
+from life_tools.common.formats import MEASURES, MOST_BASIS_BYTES, Wrong, day_in, demand, money, printed_rows
+from life_tools.journal.file import EMPTY, file_of, gate_of, read_journal
+from tests.program.hostile.plain_tables import read_plain_table
+from tests.program.hostile.plain_words import meaning_of
+from life_tools.reserves.projections import printed_projection
+from life_tools.rules.policies import Book, Policy, Refusal, balances_of, booking_of
+from life_tools.scripts.lines import Fault, lines_in, read_script
+from tests.support.drawn_scripts import folder_for
+from life_tools.tables.basis import BasisRow, NotXml, SelectTable, Table, read_basis, read_table
+from life_tools.rules.commands import Command
+from life_tools.reserves.exact import Known
 
 SECONDS = 30
 # so many cases are tried whatever their time

@@ -1,7 +1,7 @@
 """Drawn scripts, words, journals, checkpoints, basis files and tables, most of them spoilt: the program has to answer each as
 docs/reference/ says, without a signal, a word on standard error, or a hang.
 
-usage: python3 fuzz.py PROGRAM FOLDER SECONDS SEED [CASE]
+usage: python3 -m tests.program.hostile.fuzz PROGRAM FOLDER SECONDS SEED [CASE]
 
 The cases of a seed are numbered from 0 on, and taken until the time is over and there were two hundred, or there were
 twelve thousand, so that the gate tries no other cases on a faster machine; with CASE just this one is tried.
@@ -12,11 +12,11 @@ import os
 import random
 import sys
 
-from changed_bytes import BASIS, SELECT, TABLE, book_of_forty, book_of_values, script_of_forty
+from tests.program.hostile.changed_bytes import BASIS, SELECT, TABLE, book_of_forty, book_of_values, script_of_forty
 from life_tools.common.formats import Wrong
 from life_tools.rules.policies import Book
 from tests.support.drawn_scripts import MIDDLE, make_script
-from trial import (ROOT, Trial, judge_basis, judge_checkpoint, judge_journal, judge_posting, judge_script, judge_table,
+from tests.program.hostile.trial import (ROOT, Trial, judge_basis, judge_checkpoint, judge_journal, judge_posting, judge_script, judge_table,
                    judge_words,
                    try_for)
 from life_tools.journal.checkpoints import bytes_of_checkpoint, checkpoint_of

@@ -1,7 +1,7 @@
 """Right files in which one byte is changed: set to 0, 1, 2, 127 or 255, or with one bit turned. Each is a case, and the
 program has to answer it as docs/reference/ says.
 
-usage: python3 changed_bytes.py PROGRAM FOLDER SECONDS PART PARTS [SEED]
+usage: python3 -m tests.program.hostile.changed_bytes PROGRAM FOLDER SECONDS PART PARTS [SEED]
 
 The files are a journal of forty records of all kinds, its script, a basis file, a table and a select table. The cases are
 taken in an order drawn by the seed, one part of so many, until the time is over and there were two hundred; where SECONDS
@@ -13,7 +13,7 @@ import os
 import random
 import sys
 
-from trial import Trial, judge_basis, judge_journal, judge_posting, judge_script, judge_table, try_for
+from tests.program.hostile.trial import Trial, judge_basis, judge_journal, judge_posting, judge_script, judge_table, try_for
 from life_tools.journal.file import file_of
 from life_tools.scripts.lines import lines_in
 from life_tools.common.formats import KINDS, Wrong, demand
