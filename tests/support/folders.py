@@ -78,6 +78,12 @@ class Folder:
         assert ended.status == status and "Traceback" not in ended.err, ended
         return ended.out
 
+    def command(self, *words: str) -> str:
+        """What another command prints here, which must end with status 0."""
+        ran = subprocess.run(words, cwd=self.path, capture_output=True, text=True, check=False)
+        assert ran.returncode == 0, (words, ran.stderr)
+        return ran.stdout
+
     def finds(self, *words: str, says: str, given: str | bytes = b"") -> Ended:
         """A tool must end with status 1 and a line on standard error that the pattern finds, without a traceback."""
         ended = self.tools(*words, given=given)

@@ -1,0 +1,95 @@
+"""`seal`: each byte of a sealed book, its basis and tables, changed is told, and nothing of what a later posting changes."""
+from __future__ import annotations
+
+from pathlib import Path
+
+import pytest
+
+from life_tools.common.formats import Wrong
+from life_tools.journal.seals import differences, seal_at, seal_in, seal_of, text_of
+from tests.support.folders import EXAMPLES, Folder
+
+POSITION = 3
+
+
+@pytest.fixture
+def few(examples_basis: Folder, monkeypatch: pytest.MonkeyPatch) -> Folder:
+    """A book of a few postings, as the folder that seals are made of."""
+    lines = (EXAMPLES / "small-office.csv").read_text(encoding="ascii").splitlines(keepends=True)
+    examples_basis.post("".join(lines[:8]))
+    monkeypatch.chdir(examples_basis.path)
+    return examples_basis
+
+
+def test_each_byte_of_the_journal(few: Folder) -> None:
+    """The commit byte, the header, each field of each record: all that stands before the commit byte behind the prefix."""
+    data, seal = few.journal.read_bytes(), seal_of(".", POSITION)
+    assert seal_in(text_of(seal)) == seal and seal.size == 17 + 65 * POSITION
+    for place in range(len(data)):
+        few.journal.write_bytes(data[:place] + bytes([data[place] ^ 1]) + data[place + 1:])
+        # behind the prefix a commit byte that is closed hides postings, and the last one that is opened has no record
+        is_commit_byte = seal.size <= place <= 17 + 65 * seal.count and (place - 17) % 65 == 0
+        assert bool(differences(seal, ".")) == (place < seal.size or is_commit_byte), place
+    for size in (0, 1, 17, seal.size - 1, seal.size):
+        few.journal.write_bytes(data[:size])
+        assert differences(seal, "."), size
+    few.journal.write_bytes(data)
+    assert differences(seal, ".") == []
+
+
+@pytest.mark.parametrize("name", ["basis.csv", "g.xml", "q.xml"])
+def test_a_file_of_the_basis(few: Folder, name: str) -> None:
+    seal, path = seal_of("."), Path(name)
+    assert [it.name for it in seal.files] == ["basis.csv", "g.xml", "q.xml"]
+    whole = path.read_bytes()
+    for other in (whole[:-1], whole + b"\n", bytes([whole[0] ^ 1]) + whole[1:]):
+        path.write_bytes(other)
+        assert len(differences(seal, ".")) == 1
+    path.unlink()
+    assert differences(seal, ".") == [f"./{name} isn't there"]
+
+
+def test_each_character_of_a_seal(few: Folder) -> None:
+    text = text_of(seal_of("."))
+    for place, character in enumerate(text):
+        for other in set("0x,\n") - {character}:
+            Path("changed").write_text(text[:place] + other + text[place + 1:], encoding="ascii")
+            with pytest.raises(Wrong, match="changed: "):
+                seal_at("changed")
+
+
+@pytest.fixture
+def office(small_office: Folder) -> Folder:
+    """The small office, sealed at position 11, and whole after a further posting."""
+    small_office.write("seal", small_office.printed("seal", "--at", "11"))
+    small_office.printed("seal", "--check", "seal")
+    small_office.post("1,premium,12,2025-02-28,310.00\n")
+    return small_office
+
+
+def test_a_book_that_has_grown(office: Folder) -> None:
+    office.printed("seal", "--check", "seal")
+    assert len(office.printed("seal", "--no-basis").splitlines()) == 4
+
+
+def test_a_book_that_has_become_shorter(office: Folder) -> None:
+    office.write("newer", office.printed("seal"))
+    office.journal.write_bytes(office.journal.read_bytes()[:732] + b"\x00")
+    office.finds("seal", "--check", "newer", says="has 733 bytes, and the front had 1837")
+    office.finds("seal", "--check", "seal", says="had 27 when it was sealed: those behind position 11 are gone")
+
+
+@pytest.mark.parametrize(("words", "says"), [
+    (["--check", "transcript"], "is no line `seal` of a seal"),
+    (["--check", "forged"], "the sum of the others"),
+    (["--check", "seal", "--at", "3"], "--check has position and files from the seal"),
+    (["--basis", "none.csv"], "badbasis,none.csv,0,absent"),
+    (["--folder", "strange"], "a record has no day of the calendar"),
+])
+def test_refused(office: Folder, words: list[str], says: str) -> None:
+    office.write("forged", office.read("seal").replace("position,11,", "position,12,"))
+    for name in ("basis.csv", "g.xml", "q.xml"):
+        office.write(f"strange/{name}", office.read(name))
+    data = office.journal.read_bytes()
+    office.write("strange/journal.life", data[:26] + b"\x7f" + data[27:])
+    office.refused("seal", *words, says=says)
