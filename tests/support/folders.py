@@ -67,10 +67,10 @@ class Folder:
         assert ran.status == 0, ran
         return ran.out
 
-    def tools(self, *words: str, given: str | bytes = b"") -> Ended:
-        """A name of life-tools with its arguments, over the program under test."""
+    def tools(self, *words: str, given: str | bytes = b"", program: Path | None = None) -> Ended:
+        """A name of life-tools with its arguments, over the program under test or over one that stands for it."""
         given = given.encode() if isinstance(given, str) else given
-        return run_tool(words, self.path, {"LIFE_PROGRAM": str(self.program.path)}, given)
+        return run_tool(words, self.path, {"LIFE_PROGRAM": str(program or self.program.path)}, given)
 
     def printed(self, *words: str, given: str | bytes = b"", status: int = 0) -> str:
         """What a tool prints that must end with this status, and without a traceback."""

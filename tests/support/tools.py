@@ -65,6 +65,8 @@ def in_child(words: Sequence[str], folder: Path, env: Mapping[str, str], files: 
         take_descriptors(*files)
         os.chdir(folder)
         os.environ.update(env)
+        # what the parent has found out of the environment
+        tempfile.tempdir = None
         sys.argv = [str(ROOT / "tools" / "life-tools"), *words]
         status = main(words)
     except SystemExit as end:

@@ -132,7 +132,7 @@ def test_a_workbook_of_the_greatest_amounts_is_read(examples_basis: Folder) -> N
 @pytest.mark.needs("python:openpyxl")
 def test_a_number_of_a_workbook_is_one(small_office: Folder) -> None:
     """With two places, under heads that stay."""
-    import openpyxl
+    import openpyxl  # type: ignore # Debian's package has no types
 
     small_office.printed(*AT, "--xlsx", "book.xlsx")
     sheet = openpyxl.load_workbook(small_office.path / "book.xlsx").worksheets[1]
@@ -203,7 +203,8 @@ def test_groups_add_up_to_the_printed_total_by_sqlite(folder: Folder) -> None:
 
 
 FIRST, LAST = datetime.date(2000, 1, 1), datetime.date(2030, 12, 31)
-PAIRS, BLOCKS = 100, 5
+PAIRS, BLOCKS = 50, 5
+MEASURES: list[list[str]] = [[], ["--mean"], ["--deficiency"]]
 
 
 def analysed(text: str) -> dict[str, list[str]]:
@@ -219,7 +220,7 @@ def test_movements_of_drawn_pairs_add_up(folder: Folder, block: int) -> None:
     for _ in range(PAIRS // BLOCKS):
         first, last = sorted(draw.randrange(count + 1) for _ in range(2))
         on1, on2 = sorted(FIRST + datetime.timedelta(draw.randrange((LAST - FIRST).days)) for _ in range(2))
-        measure = draw.choice([[], ["--mean"], ["--deficiency"]])
+        measure = draw.choice(MEASURES)
         lines = analysed(folder.printed("movement", str(on1), str(first), str(on2), str(last), *measure))
         for name, on, at in (("opening reserve", on1, first), ("closing reserve", on2, last)):
             # those of minimum reserves stand behind the others
