@@ -343,6 +343,34 @@ def test_a_refused_row_is_reported_with_its_remedy(begun: Desk) -> None:
     assert ended.out.endswith("-a,0,2,0,0\n")
 
 
+# --- a program that ends badly ---
+
+@pytest.mark.parametrize("ends, says", [
+    ("echo badscript,toolong; exit 3", "ended with status 3; 0 rows were posted, 1 are left; it printed: badscript,toolong"),
+    ("echo badjournal,badrecord,3; exit 5", "ended with status 5; 0 rows were posted, 1 are left; it printed: badjournal,"),
+    ("echo diskfault; exit 8", "ended with status 8; 0 rows were posted, 1 are left; it printed: diskfault"),
+    ("echo 1,settle,7001,fault; exit 8", "ended with status 8; 0 rows were posted, 1 are left"),
+    ("echo 1,settle,7001,nomemory; exit 9", "ended with status 9; 0 rows were posted, 1 are left"),
+    ("echo no program is proved >&2; exit 69", "ended with status 69; 0 rows were posted, 1 are left; it printed: no program"),
+    ("kill -s SEGV $$", "was ended by signal 11; 0 rows were posted, 1 are left"),
+])
+def test_what_a_bad_end_leaves_is_posted_by_the_next_day(begun: Desk, ends: str, says: str) -> None:
+    begun.folder.write("stand-in", f"#!/bin/sh\ncat >/dev/null\n{ends}\n").chmod(0o755)
+    begun.hand_in("a.csv", "1,settle,7001,2024-06-01,1.00\n")
+    ended = begun.day("--life", "stand-in", status=1)
+    assert f"run 2 {says}" in ended.err and ended.out.endswith("-a,0,0,0,1\n")
+    assert "nothing more is posted; 1 files wait in log/, and the next `day` goes on with them" in ended.err
+    assert begun.day().out.endswith("-a,1,0,0,0\n") and begun.count() == 4
+
+
+def test_a_program_that_cannot_be_run_leaves_the_file(begun: Desk) -> None:
+    begun.folder.write("stand-in", "no program")
+    begun.hand_in("a.csv", "1,settle,7001,2024-06-01,1.00\n")
+    ended = begun.day("--life", "stand-in", status=2)
+    assert "stand-in can't be run: Permission denied; the files stay in log/" in ended.err
+    assert "of its 1 rows were posted" in begun.day(status=1).err and begun.count() == 4
+
+
 # --- a damaged book, and one in use ---
 
 def test_a_damaged_book_is_never_written_to(begun: Desk) -> None:

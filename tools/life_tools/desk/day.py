@@ -180,7 +180,8 @@ class Day:
             batch = [entry for entry in batch if entry.left]
             if batch and not self.run(batch):
                 left = len(self.pending())
-                self.say(f"nothing more is posted; {left} files wait in log/, and the next `day` goes on with them")
+                if left:
+                    self.say(f"nothing more is posted; {left} files wait in log/, and the next `day` goes on with them")
                 return
 
     def hold(self, batch: Iterable[Entry]) -> None:
@@ -203,11 +204,10 @@ class Day:
             run = new_run(self.log, batch, count_of(self.journal), self.program.asked)
             self.tell_lanes(run, batch)
             status = run_when_free(self.program, run, self.journal, self.patience, self.stop)
-            if status in REFUSED_STATUSES:
-                self.refuse(run)
+            is_refused = status in REFUSED_STATUSES and self.refuse(run)
             found = self.settle(run, status)
-        is_ended = not found.left or status in REFUSED_STATUSES
-        if not is_ended or status not in (0, *REFUSED_STATUSES):
+        is_ended = not found.left or is_refused
+        if not is_ended or (status and not is_refused):
             self.tell_end(run, status, found)
         return is_ended and not self.stop.caught
 
@@ -216,14 +216,17 @@ class Day:
         if any(line.lane != lane for lane, entry in enumerate(batch, 1) for line in entry.left):
             remark(f"day: run {run.number}: {'; '.join(lanes)}: the lane field of each row is rewritten so")
 
-    def refuse(self, run: Run) -> None:
-        """Notes the rows for which the program refused the whole script; the others are posted by the next run."""
+    def refuse(self, run: Run) -> bool:
+        """Notes the rows for which the program refused the whole script, where it names such; the others are posted by the
+        next run."""
         rows, answer = rows_of(run), run.transcript().strip()
-        for row in refused_rows(script_of(run), answer):
+        refused = refused_rows(script_of(run), answer)
+        for row in refused:
             name, mine = rows[row]
             self.entry(name).record["refused"].append([mine, answer])
         for lane in run.record["lanes"]:
             self.entry(lane["entry"]).save()
+        return bool(refused)
 
     def settle(self, run: Run, status: int | None) -> Reckoned:
         """Finds out what became of each row of a run, and notes it in its entries; what is noted already stays."""
