@@ -69,6 +69,7 @@ export STAND_IN=tests
 rm -rf "$copy"/.ci/checks "$copy"/tests
 mkdir "$copy/.ci/checks" "$copy/tests"
 printf 'def test_the_wind() -> None:\n    pass\n' >"$copy/tests/test_wind.py"
+printf 'def pytest_addoption(parser):\n    parser.addoption("--slow", action="store_true")\n' >"$copy/tests/conftest.py"
 printf 'cd "%s" && : >"%s" && sleep 60 & wait\n' "$copy" "$work/noted" >"$copy/.ci/checks/program_run.sh"
 is_stopped '[ -e "$work/noted" ]' "stopped; the tests weren't run to their end" test
 printf 'echo "program_run: skipped: there is no wind"\n[ -x "$LIFE_PROGRAM" ]\n' >"$copy/.ci/checks/program_run.sh"
