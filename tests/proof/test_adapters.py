@@ -21,6 +21,9 @@ DEVICES = "tests/program/test_devices.py::test_the_devices_give_and_take_what_th
 CLOSED = "tests/program/test_devices.py::test_no_file_takes_the_place_of_a_closed_stream"
 ARCHIVE = "tests/program/test_archive.py"
 COPIES = "tests/program/test_dropped_copies.py"
+FAILING = "tests/program/test_failed_sync.py"
+HEARD = f"{FAILING}::test_later_runs_answer_what_the_medium_has[killed, and another program hears of it-ext4]"
+MIDDLE = f"{FAILING}::test_the_middle_of_a_file_overwritten_in_place_is_read_from_the_medium[ext4]"
 # a change, the test that has to refuse it, and what that says
 BY_TESTS = [
     ("place", CALLS, r"made \['write journal 1 00'"), ("behind", CALLS, r"wanted \['fsync journal', 'write journal 1 "),
@@ -33,6 +36,8 @@ BY_TESTS = [
     ("start", COPIES, r"FAILED .*test_both_ends_are_dropped_before_anything_is_read\[18 bytes-journal"),
     ("end", COPIES, r"FAILED .*test_both_ends_are_dropped_before_anything_is_read\[5 MiB-journal"),
     ("kept", COPIES, r"FAILED .*test_after_a_failed_sync_all_is_dropped\[of its commit byte"),
+    # over a medium that fails, where one can be had
+    ("undropped", HEARD, "isn't so on the medium"), ("kept", MIDDLE, ",1000.00,25.00,"),
 ]
 # the same over a part of the trials of failing calls: the module, its words, and what it says
 BY_TRIALS = [
@@ -69,8 +74,8 @@ def changed(asked: Path, tmp_path_factory: pytest.TempPathFactory) -> Path:
 
 def by_test(program: Path, test: str) -> subprocess.CompletedProcess[str]:
     env = {**os.environ, "LIFE_PROGRAM": str(program), "COLUMNS": "200"}
-    return subprocess.run([sys.executable, "-m", "pytest", "-q", "-n", "0", test], cwd=ROOT, env=env, capture_output=True, text=True,
-                          check=False)
+    words = [sys.executable, "-m", "pytest", "-q", "-n", "0", "--slow", test]
+    return subprocess.run(words, cwd=ROOT, env=env, capture_output=True, text=True, check=False)
 
 
 def by_trial(program: Path, folder: Path, words: str) -> subprocess.CompletedProcess[str]:
@@ -99,6 +104,8 @@ def test_a_changed_adapter_is_refused_by_a_test(name: str, test: str, says: str,
         ran = by_test(changed, test)
     finally:
         (asked / name).unlink()
+    if re.search(r"^1 skipped", ran.stdout, re.M):
+        pytest.skip(f"{test} is skipped")
     assert ran.returncode == 1 and re.search(says, ran.stdout), ran.stdout[-2000:]
 
 

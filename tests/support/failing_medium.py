@@ -138,6 +138,11 @@ class Medium:
         with open(self.files / name, "rb") as file:
             assert LIBC.sync_file_range(file.fileno(), ctypes.c_int64(at), ctypes.c_int64(0), SYNC_ALL) == 0
 
+    def within(self, *words: str) -> list[str]:
+        """A command that is run in the folder of the files, where these are mounted: what it finds by full paths, too."""
+        folder = str(self.mounts.folder / "files")
+        return ["nsenter", f"--target={self.mounts.held.pid}", "--mount", "sh", "-c", 'cd "$0" && exec "$@"', folder, *words]
+
     def unmount(self) -> None:
         self.mounts.unmount("files")
 

@@ -18,10 +18,11 @@ from contextlib import contextmanager
 from dataclasses import dataclass
 from typing import BinaryIO, Iterator
 
-from life_tools.backup.safe import Safe, drop_copies, safe_count
+from life_tools.backup.safe import Safe, safe_count
 from life_tools.common.formats import Wrong, opened
 from life_tools.desk.records import sync_folder, write_safely
 from life_tools.journal.file import EMPTY, FIRST_GATE, gate_of
+from life_tools.journal.medium import drop_copies
 from life_tools.journal.record_columns import Columns
 from life_tools.journal.seals import Seal, Sealed, newest_of, seal_at, text_of
 

@@ -3,24 +3,18 @@
 The program writes a posting in two steps. It writes the record and a closed commit byte after it, and syncs; then it sets the
 record's own commit byte to 1, and syncs again. So the last posting that shows may not be safe yet, and all before it are. It
 is safe, too, if a next record stands behind it already; or if no process has the journal and a sync of ours succeeds.
-
-Linux marks pages whose write to the disk failed as clean. So, as the program does, this module drops the system's copies of
-the file's ends after its sync, and counts again what the disk has.
 """
 from __future__ import annotations
 
-import os
 from dataclasses import dataclass
 from io import BufferedReader
 
-from life_tools.common.formats import Wrong, demand
+from life_tools.common.formats import demand
 from life_tools.common.locks import holder_of
 from life_tools.journal.blocks import Blocks, demanded
 from life_tools.journal.file import gate_of, is_unfinished_creation
+from life_tools.journal.medium import sync_and_drop
 from life_tools.journal.wholeness import DAMAGED, Damaged, Noted, Shape, beside, noted_by
-
-# the system keeps its copies of a file in pieces of up to so many bytes, and drops only whole ones
-LARGEST_COPY = 1 << 21
 
 
 @dataclass(frozen=True)
@@ -42,24 +36,6 @@ def counted(file: BufferedReader, path: str) -> tuple[int, int]:
     count = demanded(blocks, path)
     demand(not is_unfinished_creation(blocks.front), f"{path} has no posting yet: the program hasn't ended its creation")
     return count, blocks.length
-
-
-def drop_copies(handle: int, length: int) -> None:
-    """Has the system read a file's two ends from the disk anew."""
-    last = max(length - LARGEST_COPY, 0)
-    os.posix_fadvise(handle, 0, LARGEST_COPY, os.POSIX_FADV_DONTNEED)
-    os.posix_fadvise(handle, last - last % LARGEST_COPY, 0, os.POSIX_FADV_DONTNEED)
-
-
-def sync_and_drop(handle: int, path: str, length: int) -> None:
-    """Makes a file safe; where that fails, nothing that the system keeps of it is believed any more."""
-    try:
-        os.fsync(handle)
-    except OSError as error:
-        os.posix_fadvise(handle, 0, 0, os.POSIX_FADV_DONTNEED)
-        raise Wrong(f"{path}: the disk failed ({error.strerror}), so nothing was copied: end all programs that have the book, "
-                    "and mount the disk anew") from error
-    drop_copies(handle, length)
 
 
 def demand_undamaged(shape: Shape) -> None:

@@ -22,6 +22,7 @@ from life_tools.desk.settings import Settings
 from life_tools.desk.stopping import Stopping
 from life_tools.desk.waiting import Patience, wait_for_journal
 from life_tools.journal.copied_folder import JOURNAL
+from life_tools.journal.medium import made_safe
 from life_tools.journal.wholeness import DAMAGED, beside, log_count, shape_with
 
 # so many rows of a file are shown; the others stand in its folder
@@ -229,7 +230,10 @@ class Day:
         return bool(refused)
 
     def settle(self, run: Run, status: int | None) -> Reckoned:
-        """Finds out what became of each row of a run, and notes it in its entries; what is noted already stays."""
+        """Finds out what became of each row of a run, and notes it in its entries; what is noted already stays. The last posting
+        of a run that was killed may not be on the disk yet, and one whose sync failed may show in memory alone."""
+        if os.path.exists(self.journal):
+            made_safe(self.journal)
         before, count = run.record["before"], count_of(self.journal)
         records = commands_between(self.journal, before, count)
         found = reckoned(script_of(run), run.transcript(), records, before)
