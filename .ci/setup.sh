@@ -1,6 +1,12 @@
 #!/bin/sh
-# Installs what the checks use beside the kit and python3, by apt-get, where this is Debian and may install. A package
-# that can't be had is told in a line; the checks that need it then say that they are skipped.
+# What the suite uses beside the kit and Debian's python3: lists what is missing, asks, and installs it by apt-get.
+#
+# usage: sh .ci/setup.sh           asks before it installs
+#        sh .ci/setup.sh --yes     installs without asking, as .ci/run does where CI is set or there is no terminal
+#        sh .ci/setup.sh --list    prints what is missing, and installs nothing
+#
+# The status is 0 where nothing is missing in the end, 1 where something is, and 2 where the arguments are wrong. A test
+# that needs what is missing is skipped, and fails where CI is set.
 packages="btrfs-progs chromium chromium-driver codespell debootstrap e2fsprogs flake8 fonts-dejavu-extra gcc graphviz
 hledger hyperfine ledger libc6-dev libjs-katex libreoffice-calc lintian mkdocs mkdocs-material mypy poppler-utils
 python3-distributed python3-flask python3-hypothesis python3-matplotlib python3-numpy python3-openpyxl python3-pandas
@@ -12,19 +18,50 @@ missing() {
     done
 }
 
-# another one may be installing, and a network may hang
-apt() {
-    timeout "$1" apt-get -qq -o DPkg::Lock::Timeout=120 "$2" -y --no-install-recommends $3 </dev/null >/dev/null 2>&1
+# the missing packages, in one line, or the end with this status
+stop_if_none() {
+    wanted=$(missing | tr '\n' ' ')
+    [ -n "$wanted" ] || exit 0
 }
 
-wanted=$(missing)
-[ -n "$wanted" ] || exit 0
-if [ "$(id -u)" = 0 ] && command -v apt-get >/dev/null; then
+asks() {
+    printf 'Install %s(y/N)? ' "$wanted"
+    read -r answer || return 1
+    case $answer in y | Y | yes) ;; *) return 1 ;; esac
+}
+
+# another apt-get may be at work, and a network may hang
+apt() {
+    seconds=$1
+    shift
+    timeout "$seconds" apt-get -qq -o DPkg::Lock::Timeout=120 -y --no-install-recommends "$@" </dev/null >/dev/null 2>&1
+}
+
+install_all() {
+    if ! command -v apt-get >/dev/null || [ "$(id -u)" != 0 ]; then
+        echo "setup: apt-get and root are needed; as root: apt-get install $wanted" >&2
+        return
+    fi
     export DEBIAN_FRONTEND=noninteractive
     apt 120 update
     # one that isn't known would keep all others away
-    apt 900 install "$wanted" || for package in $wanted; do apt 300 install "$package"; done
-fi
-left=$(missing | tr '\n' ' ')
-[ -z "$left" ] || echo "setup: not installed: $left"
-exit 0
+    # shellcheck disable=SC2086
+    apt 900 install $wanted || for package in $wanted; do apt 300 install "$package"; done
+}
+
+case $*:$# in
+    :0 | --yes:1 | --list:1) ;;
+    *)
+        sed -n 's/^# \{0,1\}//; 2,6p' "$0" >&2
+        exit 2
+        ;;
+esac
+stop_if_none
+case ${1:-} in
+    --list) ;;
+    --yes) install_all ;;
+    *) asks && install_all ;;
+esac
+stop_if_none
+echo "setup: not installed: $wanted"
+exit 1

@@ -1,6 +1,6 @@
 """Twenty-four changes of what definitions mean, one at a time: a worked case has to refuse each.
 
-usage: python3 bench/changed_definitions.py [--processes N] [--logs FOLDER] [NUMBER..]
+usage: python3 tests/proof/changed_definitions.py [--processes N] [--logs FOLDER] [NUMBER..]
 
 Each change is made in a copy of the crates, and there the worked case is checked: the crates from the changed one up to
 that of the case are read as source, and all others are taken as they stand built here (run `rt check` in crates/life_app
@@ -21,7 +21,7 @@ import sys
 import tempfile
 from typing import Any
 
-TOP = os.path.realpath(os.path.join(os.path.dirname(os.path.abspath(__file__)), ".."))
+TOP = os.path.realpath(os.path.join(os.path.dirname(os.path.abspath(__file__)), "..", ".."))
 # The kit's own list of the words with which it calls its prover.
 sys.path.insert(0, os.path.dirname(os.path.realpath(shutil.which("rt") or "rt")))
 import rtlib  # type: ignore[import]  # noqa: E402
