@@ -5,7 +5,7 @@ import shutil
 
 import pytest
 
-from tests.support.folders import Folder
+from tests.support.folders import EXAMPLES, Folder
 
 # the program's own status of a file that is no journal
 BAD_JOURNAL = 5
@@ -33,6 +33,14 @@ def test_the_positions_of_the_others(three: Folder) -> None:
     three.write("positions.csv", ended.out)
     three.refused("books", "books.csv", "value", "2022-12-31", "--at", "positions.csv",
                   says="line 2: .* is no name with a position")
+
+
+def test_parts_dont_replace_a_basis(small_office: Folder) -> None:
+    """The part of a book that is named basis is basis.csv."""
+    small_office.write("books.csv", "basis,.,basis.csv\n")
+    ended = small_office.tools("books", "books.csv", "value", "2022-12-31", "--parts", ".")
+    assert ended.status == 2 and "basis.csv is a book's own file" in ended.err, ended
+    assert small_office.read("basis.csv") == (EXAMPLES / "basis.csv").read_text()
 
 
 @pytest.mark.parametrize("words", ["value 2022-12-31", "state", "report 2022-12-31", "due 2022-12-31", "flags", "headroom",

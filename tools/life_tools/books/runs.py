@@ -15,6 +15,7 @@ from typing import IO, Any, Iterator
 from life_tools.books.totals import Text, text_in
 from life_tools.valuations.class_bases import Bases, one_basis
 from life_tools.journal.copied_folder import copy_basis
+from life_tools.common.files import written_whole
 from life_tools.common.formats import Wrong, bytes_of, demand
 from life_tools.common.program import program_beside
 from life_tools.journal.record_columns import beginnings_at, copy_prefix, prefix_count, prefix_sum, places_in
@@ -187,18 +188,14 @@ def write_part(task: Task, file: IO[bytes]) -> tuple[str, str, str]:
     assert task.parts
     os.makedirs(task.parts.folder, exist_ok=True)
     path = os.path.join(task.parts.folder, f"{task.name}.{'csv' if task.parts.form == 'csv' else 'db'}")
-    new = f"{path}.{os.getpid()}.new"
-    try:
-        if task.parts.form == "csv":
-            with open(new, "wb") as out:
-                named(task.name, file, out)
-        else:
-            write_part_database(task, file, new)
-        os.replace(new, path)
-    finally:
-        if os.path.exists(new):
-            os.remove(new)
+    is_csv = task.parts.form == "csv"
+    written_whole(path, lambda part: write_named(task, file, part) if is_csv else write_part_database(task, file, part))
     return socket.gethostname(), path, sum_of(bytes_of(path))
+
+
+def write_named(task: Task, file: IO[bytes], path: str) -> None:
+    with open(path, "wb") as out:
+        named(task.name, file, out)
 
 
 def write_part_database(task: Task, file: IO[bytes], path: str) -> None:
