@@ -33,12 +33,12 @@ else
         printf '\0' | dd of=book2/journal.life bs=1 seek=$((17 + 65 * 100)) conv=notrunc 2>/dev/null
         # shellcheck disable=SC2086
         ends 1 "^tried once more: book2$" books.csv value 2010-12-31 --totals $how --scheduler "$address"
-        grep -q '^book2,failed,1,.*9100 bytes lie behind byte 6517' out && grep -q '^all,total,.*,2,3$' out || complain "$how: $(cat out remarks)"
+        grep -q '^book2,failed,1,.*9100 bytes follow byte 6517' out && grep -q '^all,total,.*,2,3$' out || complain "$how: $(cat out remarks)"
         cp aside.life book2/journal.life
         rm -f book2/checkpoint.life
         printf '\0' | dd of=book2/journal.life bs=1 seek=$((17 + 65 * 239)) conv=notrunc 2>/dev/null
         # shellcheck disable=SC2086
-        ends 1 "^book2: .*65 bytes lie behind" books.csv value 2010-12-31 --totals $how --scheduler "$address"
+        ends 1 "^book2: .*65 bytes follow byte" books.csv value 2010-12-31 --totals $how --scheduler "$address"
         grep -q '^all,total,.*,3,3$' out || complain "$how: $(cat out remarks)"
     done
     cp aside.life book2/journal.life

@@ -92,7 +92,7 @@ class Walk:
         # of policies that nobody has looked at for years it is told that they are, and nothing else
         told = office.tool("check", script, "--today", TODAY, status=1).splitlines()
         kinds = {re.sub("[0-9]+", "N", line.partition(" posting")[0]) for line in told if line.startswith("  ")}
-        need(kinds <= {"  the day is N days behind the policy's newest"}, f"check tells {kinds}")
+        need(kinds <= {"  the day is N days after the policy's newest"}, f"check tells {kinds}")
         office.tool("dry-run", script)
         need(f"{count} accepted, 0 refused" in office.remarks, f"dry-run: {office.remarks[:500]}")
 

@@ -153,7 +153,7 @@ def books(folder: Folder, full: Folder) -> Folder:
 
 def test_a_list_with_bad_books(books: Folder) -> None:
     here = os.path.realpath(books.path)
-    damaged = f"{here}/damaged/journal.life: 325 bytes lie behind byte 277, the gate of record 4, which is closed"
+    damaged = f"{here}/damaged/journal.life: 325 bytes follow byte 277, the commit byte of record 4, which isn't 1"
     with open(books.path / "held" / "journal.life", "rb") as held:
         fcntl.flock(held, fcntl.LOCK_EX)
         ended = books.tools("books", "headroom", "books.csv", "--today", "2026-11-29")

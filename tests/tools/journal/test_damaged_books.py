@@ -13,7 +13,7 @@ from tests.support.windows import Window
 
 # by FORMATS: 17 bytes lie before the first record, and 65 are a record
 FIRST, RECORD = 17, 65
-DAMAGED = "bytes lie behind byte"
+DAMAGED = "bytes follow byte"
 TOOLS = (
     "audit flags", "audit sample 3 --seed 1 --on 2022-12-31", "at 2 state", "check small-office.csv", "dry-run small-office.csv",
     "due 2022-12-31 journal.life", "export csv journal.life", "export jsonl journal.life", "export sqlite journal.life new.db",

@@ -21,7 +21,7 @@ OUT_OF_ORDER = """\
 1,settle,1,2025-05-01,60.00
 """
 LACKS = """\
-position 3 lacks commands of 2025-12-31 or before, which were posted behind a later day's: 5
+position 3 lacks commands of 2025-12-31 or before, which were posted after one of a later day: 5
   5,premium,2,2025-02-01,1.00
   6,issue,4,2025-03-01,whole,30,0,60.00,1.00
   7,premium,4,2025-03-01,1.00

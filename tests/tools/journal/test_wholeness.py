@@ -72,24 +72,24 @@ def test_a_closed_commit_byte_before_the_last(book: Folder, record: int) -> None
     # the program itself takes the journal to end there, as its format has it
     assert book.life("state").out.endswith(f"count,{record}\n")
     behind = LENGTH - 18 - 65 * record
-    is_told_damaged(book, f"{behind} bytes lie behind byte {commit_byte(record)}, the gate of record {record}, which is closed")
+    is_told_damaged(book, f"{behind} bytes follow byte {commit_byte(record)}, the commit byte of record {record}, which isn't 1")
 
 
 def test_each_value_but_1_closes(book: Folder) -> None:
     set_byte(book, commit_byte(25), 0o201)
-    is_told_damaged(book, "which is closed")
+    is_told_damaged(book, "which isn't 1")
 
 
 @pytest.mark.parametrize("words", READERS)
 def test_no_tool_reads_a_damaged_book(book: Folder, words: str) -> None:
     set_byte(book, commit_byte(25), 0)
-    book.refused(*shlex.split(words), says="which is closed", status=1)
+    book.refused(*shlex.split(words), says="which isn't 1", status=1)
 
 
 @pytest.mark.parametrize("words", ["value 2010-12-31", "project 2010-12-31 2"])
 def test_a_list_leaves_out_a_damaged_book(book: Folder, words: str) -> None:
     set_byte(book, commit_byte(25), 0)
-    rows = ends(book, 1, "which is closed", "books", "books.csv", *words.split()).out.splitlines()
+    rows = ends(book, 1, "which isn't 1", "books", "books.csv", *words.split()).out.splitlines()
     assert rows[0].startswith("main,failed,1,") and rows[1:] == ["all,nothing,0,1"], rows
 
 
@@ -104,20 +104,20 @@ def ended(book: Folder) -> Folder:
 
 
 def test_of_the_last_nobody_has_noted_anything(ended: Folder) -> None:
-    says = (f"65 bytes lie behind byte {commit_byte(39)}, the gate of record 39, as after a crash, or as a last gate that has "
-            "turned")
+    says = (f"65 bytes follow byte {commit_byte(39)}, the commit byte of record 39, as after a crash, or as with a damaged "
+            "last commit byte")
     assert ends(ended, 1, says, "verify").out == UNDECIDED
     assert ends(ended, 1, "is undecided", "read", "journal.life").out.endswith("count,39\n")
-    valued = ends(ended, 1, "^main: .*65 bytes lie behind", "books", "books.csv", "value", "2010-12-31").out
+    valued = ends(ended, 1, "^main: .*65 bytes follow byte", "books", "books.csv", "value", "2010-12-31").out
     assert re.search(r"^all,total,.*,1,1\Z", valued.rstrip("\n"), re.M)
-    assert ends(ended, 1, "65 bytes lie behind", "books", "books.csv", "position-on", "2199-12-31").out == "main,39\n"
-    headroom = ends(ended, 1, "65 bytes lie behind", "books", "headroom", "books.csv", "--today", "2020-01-01").out
+    assert ends(ended, 1, "65 bytes follow byte", "books", "books.csv", "position-on", "2199-12-31").out == "main,39\n"
+    headroom = ends(ended, 1, "65 bytes follow byte", "books", "headroom", "books.csv", "--today", "2020-01-01").out
     assert headroom.splitlines()[1].startswith("main,39,")
 
 
 def test_one_byte_more_behind_the_last_shows(ended: Folder) -> None:
     ended.journal.write_bytes(ended.journal.read_bytes() + b"x")
-    is_told_damaged(ended, "66 bytes lie behind")
+    is_told_damaged(ended, "66 bytes follow byte")
 
 
 def test_a_checkpoint_of_more_commands(book: Folder) -> None:

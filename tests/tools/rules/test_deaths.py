@@ -120,7 +120,7 @@ def deaths(folder: Folder) -> Folder:
 def to_do(folder: Folder, script: str, today: str = "2021-06-15") -> list[str]:
     """What is told to do about the rows of a script, none of which is to be sent as it is."""
     folder.write("late.csv", script)
-    told = folder.finds("check", "late.csv", "--today", today, says=f"told: {len(script.splitlines())};").out
+    told = folder.finds("check", "late.csv", "--today", today, says=f"reported: {len(script.splitlines())};").out
     return [line for line in told.splitlines() if line.startswith("  to do")]
 
 
@@ -133,7 +133,7 @@ def test_of_four_deaths_three_are_referred(deaths: Folder) -> None:
 
 def test_a_claim_on_the_day_of_a_reinstatement(deaths: Folder) -> None:
     deaths.write("other.csv", "1,claim,7404,2021-06-01\n")
-    told = deaths.finds("check", "other.csv", "--today", "2021-06-15", says="told: 1;").out
+    told = deaths.finds("check", "other.csv", "--today", "2021-06-15", says="reported: 1;").out
     assert "reinstated on 2021-06-01: is it known that the insured lived then" in told
 
 

@@ -42,11 +42,11 @@ line 6 of one-order.csv: 1,claim,99,2025-03-01
   it is refused: unknown
   to do: correct the number, if it is mistyped; else look for the right folder
 line 7 of one-order.csv: 4,issue,21,2035-01-01,term,30,10,1000.00,20.00
-  the day is behind today, which is 2025-03-01
+  the day is in the future (today is 2025-03-01): correct the date
 """
 OVERSETTLED = """\
 line 1 of wrong.csv: 5,settle,15,2025-05-04,40000.01
-  the day is 401 days behind the policy's newest posting, which is of 2024-03-29
+  the day is 401 days after the policy's newest posting, which is of 2024-03-29
   40000.00 is outstanding
   it is refused: oversettled,40000.00
   to do: pay no more than this
@@ -73,12 +73,12 @@ def office(small_office: Folder) -> Folder:
 
 def test_what_is_told_of_a_day(office: Folder) -> None:
     before = office.journal.read_bytes()
-    assert office.finds("check", "one-order.csv", "--today", "2025-03-01", says="^rows: 7, told: 5;").out == TOLD
+    assert office.finds("check", "one-order.csv", "--today", "2025-03-01", says="^rows: 7, reported: 5;").out == TOLD
     assert office.journal.read_bytes() == before
 
 
 def test_a_row_that_is_refused_in_each_order(office: Folder) -> None:
-    office.finds("check", "day.csv", "--today", "2025-03-01", says="^rows: 9, told: 6;")
+    office.finds("check", "day.csv", "--today", "2025-03-01", says="^rows: 9, reported: 6;")
 
 
 def test_nothing_is_told_of_a_right_row(office: Folder) -> None:
@@ -90,13 +90,13 @@ def test_a_claim_long_after_the_newest_posting(folder: Folder) -> None:
     """Premiums are awaited of the policy, so it can't have been without a posting for so long."""
     folder.post("1,issue,7,2024-01-01,whole,30,0,60.00,1.00\n")
     folder.write("claim.csv", "1,claim,7,2025-06-01\n")
-    told = folder.finds("check", "claim.csv", "--today", "2025-06-01", says="^rows: 1, told: 1;").out
-    assert "  the day is 517 days behind the policy's newest posting, which is of 2024-01-01" in told.splitlines()
+    told = folder.finds("check", "claim.csv", "--today", "2025-06-01", says="^rows: 1, reported: 1;").out
+    assert "  the day is 517 days after the policy's newest posting, which is of 2024-01-01" in told.splitlines()
 
 
 def test_more_than_is_outstanding(office: Folder) -> None:
     office.write("wrong.csv", "5,settle,15,2025-05-04,40000.01\n")
-    assert office.finds("check", "wrong.csv", "--today", "2025-05-04", says="^rows: 1, told: 1;").out == OVERSETTLED
+    assert office.finds("check", "wrong.csv", "--today", "2025-05-04", says="^rows: 1, reported: 1;").out == OVERSETTLED
 
 
 @pytest.fixture
@@ -113,8 +113,8 @@ def test_days_years_behind_that_are_meant(aged: Folder) -> None:
 
 def test_a_maturity_years_behind_the_end(aged: Folder) -> None:
     aged.write("late.csv", "1,mature,32,2026-07-07\n")
-    told = aged.finds("check", "late.csv", "--today", "2026-07-07", says="^rows: 1, told: 1;").out
-    assert "  the day is 401 days behind the end of the policy's term, 2025-06-01" in told.splitlines()
+    told = aged.finds("check", "late.csv", "--today", "2026-07-07", says="^rows: 1, reported: 1;").out
+    assert "  the day is 401 days after the end of the policy's term, 2025-06-01" in told.splitlines()
 
 
 def test_a_dry_run_prints_what_the_run_prints_and_posts_nothing(office: Folder) -> None:

@@ -18,10 +18,10 @@ TABLES: dict[str, tuple[str | None, list[str]]] = {
     "a rate of too many places": (RATES.format("0.0004213387291") + "</Axis></Values></Table></XTbML>",
                                   ["^line 3 of t.xml, byte 3 "]),
     "a duration 2 first": (SELECT.format(2, ""), ["^wanted: rates of each issue age by duration", "^line 3 of t.xml, byte 3 "]),
-    "no ultimate table": (SELECT.format(1, ""), ["^wanted: a second Table behind this one", "^line 2 of t.xml, byte 1 "]),
+    "no ultimate table": (SELECT.format(1, ""), ["^wanted: a second Table after this one", "^line 2 of t.xml, byte 1 "]),
     "a gap before the ultimate rates": (
         SELECT.format(1, GAP),
-        ["^wanted: an ultimate rate for the age right behind", "^line 2 of t.xml, byte 22 ",
+        ["^wanted: an ultimate rate for the age right after", "^line 2 of t.xml, byte 22 ",
          "^cure:   let the ultimate rates begin"]),
     "another document": ("<html><body>not found</body></html>", ["^wanted: the path XTbML"]),
 }

@@ -163,14 +163,14 @@ def test_issue_axes_with_their_rates_directly_in_them(folder: Folder) -> None:
 FIVES = "".join(f'<Y t="{age}">0.1</Y>' for age in range(0, 100, 5))
 # a change of the plain text, and why it can't be converted
 WRONG = {
-    "ages by fives": (r"(?s)<Axis>.*</Axis>", f"<Axis>{FIVES}</Axis>", "age 5 comes behind 0: what lies between isn't invented"),
+    "ages by fives": (r"(?s)<Axis>.*</Axis>", f"<Axis>{FIVES}</Axis>", "age 5 comes after 0: what lies between isn't invented"),
     "a hole": (r'(<Y t="40">)[^<]*', r"\1", "the rate of age 40 .* is '', which is no number"),
     "a word": (r'(<Y t="40">)[^<]*', r"\1n/a", "the rate of age 40 .* is 'n/a', which is no number"),
     "above 1": (r'(<Y t="40">)[^<]*', r"\g<1>1.5", "the rate of age 40 .* is 1.5, and rates lie from 0 to 1"),
     "below 0": (r'(<Y t="40">)[^<]*', r"\1-0.1", "which is no number"),
-    "an age twice": ('<Y t="41">', '<Y t="40">', "age 40 comes behind 40: it isn't known which is right"),
+    "an age twice": ('<Y t="41">', '<Y t="40">', "age 40 comes after 40: it isn't known which is right"),
     "an age in letters": ('<Y t="41">', '<Y t="x">', "has t='x'"),
-    "another document": ("XTbML", "html", "breaks off behind html"),
+    "another document": ("XTbML", "html", "breaks off after html"),
     "a factor of 10": ("<ScalingFactor>0<", "<ScalingFactor>10<", "--factor divide or --factor multiply"),
     "cut short": (r"(?s)</Y>\s*<Y t=\"50.*", "", "it is no XML"),
     "an entity": (r"<XTbML ", '<!DOCTYPE XTbML [<!ENTITY a "1">]><XTbML ', "it declares the entity a"),

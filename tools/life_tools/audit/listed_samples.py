@@ -52,7 +52,7 @@ def blocks_in(lines: list[str]) -> dict[str, list[str]]:
         if rest.startswith("0,value,"):
             demand(name not in blocks and name != ALL, f"the name {name} stands twice")
             blocks[name] = []
-        demand(blocks and name == next(reversed(blocks)), f"{line[:200]} isn't behind the first line of its book")
+        demand(blocks and name == next(reversed(blocks)), f"{line[:200]} does not follow the first line of its book")
         blocks[name].append(rest)
     demand(blocks, "the sample is of no book")
     return blocks

@@ -100,5 +100,5 @@ def run(options: argparse.Namespace) -> int:
             print("".join(f"  {text}\n" for text in told[line.row.number]), end="")
     sys.stdout.flush()
     rows = sum(bool(texts) for texts in told.values())
-    remark(f"rows: {len(lines)}, told: {rows}; nothing is posted")
+    remark(f"rows: {len(lines)}, reported: {rows}; nothing is posted")
     return 1 if rows else 0

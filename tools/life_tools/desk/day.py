@@ -247,7 +247,7 @@ class Day:
         run.record.update(state=ENDED, after=count, status=status, ended=at, foreign=found.foreign, stopped=self.stop.caught)
         run.save()
         if found.foreign:
-            self.say(f"{found.foreign} postings behind position {before} are not of run {run.number}: another run posted them")
+            self.say(f"{found.foreign} postings after position {before} are not of run {run.number}: another run posted them")
         return found
 
     def note(self, entry: Entry, lane: int, run: Run, found: Reckoned, rows: dict[int, int], end: Record) -> None:

@@ -35,7 +35,7 @@ class OnDay(NamedTuple):
         many = len(self.astray(is_last))
         if is_last:
             return f"position {self.last} has commands of days after {day}: {many}"
-        return f"position {self.first} lacks commands of {day} or before, which were posted behind a later day's: {many}"
+        return f"position {self.first} lacks commands of {day} or before, which were posted after one of a later day: {many}"
 
 
 def on_day(days: Union[Array, array[int]], day: int, upgrade: int = 0) -> OnDay:

@@ -181,7 +181,7 @@ def count_difference(seal: Seal, path: str) -> str | None:
         return str(bad)
     if count >= seal.count:
         return None
-    return f"{path} has {count} commands, and had {seal.count} when it was sealed: those behind position {count} are gone"
+    return f"{path} has {count} commands, and had {seal.count} when it was sealed: those after position {count} are gone"
 
 
 def file_difference(sealed: Sealed, folder: str) -> str | None:

@@ -149,7 +149,7 @@ def remedy_of(kind: str, words: list[str]) -> Remedy:
     remedy = BY_PAIR.get((kind, reason))
     if remedy is None:
         raise Wrong(f"{','.join(words)} is no reason for which a {kind} is refused "
-                    f"(one of wrongstatus has {', '.join(STATUSES)} behind it)")
+                    f"(one of wrongstatus has {', '.join(STATUSES)} after it)")
     return remedy
 
 

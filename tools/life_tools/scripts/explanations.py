@@ -16,22 +16,22 @@ BASIS_ROW = ("a row: a day 1900-01-01 to 2199-12-31, the file name of a table (1
 WANTED = {
     "notdocument": ("an XML document: this tag, comment or byte may not stand here, or the file ends too early "
                     "(no DOCTYPE, no CDATA)"),
-    "notable": "the path XTbML, Table, Values, Axis with rates Y in it; it breaks off behind this element",
+    "notable": "the path XTbML, Table, Values, Axis with rates Y in it; it breaks off after this element",
     "scaled": "rates that stand as they are: a ScalingFactor that is absent, empty, 0 or 1",
     "badage": 'an age: an attribute t with one to three digits, 0 to 130, as in <Y t="35">, or in an issue age\'s <Axis t="35">',
     "agegap": "an age that is one more than that of the Y, or of the issue age, before",
     "badduration": ("rates of each issue age by duration, from duration 0 or 1 on: a t that is one more than that of the Y "
                     "before, "
                     f"and no age above {MOST_AGE}"),
-    "noultimate": "a second Table behind this one, with the ultimate rates by age: its Values, Axis, Y",
-    "ultimategap": "an ultimate rate for the age right behind the last rate of this issue age",
+    "noultimate": "a second Table after this one, with the ultimate rates by age: its Values, Axis, Y",
+    "ultimategap": "an ultimate rate for the age right after the last rate of this issue age",
     "badrate": "a rate from 0 to 1 with at most nine places, as 0.00042 or 4.2E-4, and nothing else in the Y",
 }
 CURES = {
     "badrate": "table round rounds them to nine decimals; a spreadsheet may have written more",
     "scaled": "table convert takes the factor out of the rates",
     "badduration": "number the durations 1, 2, 3 without a gap; leave out the last issue ages where they have no select rates",
-    "noultimate": "table join puts the ultimate table of another file behind the select one",
+    "noultimate": "table join puts the ultimate table of another file after the select one",
     "ultimategap": "let the ultimate rates begin at that age, or add select rates up to their first age",
 }
 

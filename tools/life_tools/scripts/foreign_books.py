@@ -69,7 +69,7 @@ class Map:
     def take(self, fields: tuple[str, ...]) -> None:
         """Takes a row of the map."""
         what, given, form = fields[0], fields[1] if len(fields) > 1 else "", ",".join(fields[2:])
-        demand(given, f"{what} has nothing behind it")
+        demand(given, f"{what} has nothing after it")
         if what == "separator":
             self.separator = "\t" if given == "tab" else given
             demand(len(self.separator) == 1 and self.separator not in "\"\r\n", f"{given} is no separator")
@@ -94,7 +94,7 @@ class Map:
         elif what in AMOUNT_FIELDS:
             demand(form in AMOUNTS, f"an amount is written as one of {' or '.join(AMOUNTS)}, and not {form or 'nothing'}")
         elif what != "number":
-            demand(not form, f"{form} stands behind the column of {what}")
+            demand(not form, f"{form} follows the column of {what}")
 
 
 def map_at(path: str) -> Map:

@@ -41,7 +41,7 @@ def answers_in(transcript: str) -> tuple[list[Answer], list[list[str]]]:
         if line[0] == "watcher":
             watchers.append(line)
             continue
-        demand(not watchers, f"{line} stands behind a watcher's line")
+        demand(not watchers, f"{line} follows a watcher's line")
         if line[0] in ("row", "total"):
             demand(answers and not is_whole(answers[-1]), f"{line} belongs to no valuation")
             answers[-1].append(line)

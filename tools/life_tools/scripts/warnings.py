@@ -73,13 +73,13 @@ def is_near(desk: Desk, line: Line, command: Command, policy: Policy | None) -> 
     if command.day is None:
         return
     if command.day > desk.today:
-        yield f"the day is behind today, which is {desk.today}"
+        yield f"the day is in the future (today is {desk.today}): correct the date"
     if policy is None or command.kind == "issue":
         return
     before, what = came_before(command, policy)
     if abs(command.day - before) > FAR:
         days = abs((command.day - before).days)
-        yield f"the day is {days} days {'behind' if command.day > before else 'before'} {what} {before}"
+        yield f"the day is {days} days {'after' if command.day > before else 'before'} {what} {before}"
 
 
 def came_before(command: Command, policy: Policy) -> tuple[datetime.date, str]:

@@ -78,7 +78,7 @@ class Conversion:
         found = [self.label(element, what) for element in elements]
         for element, before, label in zip(elements[1:], found, found[1:]):
             why = "what lies between isn't invented" if label > before else "it isn't known which is right"
-            demand(label == before + 1, f"line {element.at}: {what} {label} comes behind {before}: {why}")
+            demand(label == before + 1, f"line {element.at}: {what} {label} comes after {before}: {why}")
         return found
 
     def without_blanks(self, axis: Element) -> list[Element]:
@@ -125,7 +125,7 @@ class Conversion:
         root, table, *_ = path
         tables = root.those("Table")
         demand(len(tables) > 1 and ultimate_rows_of(root), "it has select rates alone: table join SELECT ULTIMATE puts a file of "
-               "ultimate rates behind them")
+               "ultimate rates after them")
         axes = issue_axes_of(path)
         scale = self.scale_of(table, [row for axis in axes for row in rows_by_duration(axis)])
         for age, axis in zip(self.labelled(axes, "issue age"), axes):
@@ -182,7 +182,7 @@ def rates_in(table: AnyTable) -> list[Fraction]:
 def demand_path(root: Element, whose: str = "") -> list[Element]:
     """The elements from the root to the axis of the rates, which have to be there."""
     path, is_whole = path_of(root)
-    demand(is_whole, f"{whose}the path XTbML, Table, Values, Axis with rates Y in it breaks off behind {path[-1].name[:40]} "
+    demand(is_whole, f"{whose}the path XTbML, Table, Values, Axis with rates Y in it breaks off after {path[-1].name[:40]} "
            f"(line {path[-1].at})")
     return path
 
@@ -234,4 +234,4 @@ def joined(select: Document, ultimate: Document) -> Document:
     select.root.children.insert(select.root.children.index(first) + 1, paths[1][1])
     if further:
         changes.append(f"select: further tables are dropped: {len(further)}")
-    return Document(select.root, [*changes, "the ultimate rates stand behind the select ones"])
+    return Document(select.root, [*changes, "the ultimate rates follow the select ones"])

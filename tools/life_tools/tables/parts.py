@@ -77,7 +77,7 @@ def passed_over(path: list[Element], table: AnyTable) -> list[str]:
         found.append(f"{further} further Values or Axis")
     blank = rows_without_rate(path) if is_select else 0
     if blank:
-        found.append(f"{blank} Y without a rate behind the last duration")
+        found.append(f"{blank} Y without a rate after the last duration")
     rows = path[-1].those("Y") if not is_select else [row for axis in issue_axes_of(path) for row in durations_of(axis)]
     extra = sorted({name for row in rows for name in row.attributes} - {"t"})
     if extra:
