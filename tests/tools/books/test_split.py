@@ -347,4 +347,4 @@ def test_a_damaged_book(main: Folder) -> None:
     data = bytearray(file_of(lived(7, 60)))
     data[17 + 65 * 100] = 0
     main.write("main/journal.life", bytes(data))
-    main.refused("books", "split", "main/journal.life", *HALVES, says="bytes lie behind byte 6517", status=1)
+    main.refused("books", "split", "main/journal.life", *HALVES, says="bytes follow byte 6517", status=1)
