@@ -3,6 +3,9 @@ pub mod Parts
 pub mod CrashLaws
 pub mod FaultsTold
 pub mod TextLaws
+pub mod LineLaws
+pub mod AcceptedLines
+pub mod DurableLaws
 pub mod HeadlineLaws
 pub mod LegalityLaws
 pub mod RunLaws

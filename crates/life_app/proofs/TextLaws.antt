@@ -20,15 +20,15 @@ use Rattle.policy_types.specs.declared.command.Command.TheVariants.{Issue, Premi
 abbrev pub IsBare : List ℕ → Type 0
 IsBare field = AllByRecursion (λ b. 45 ≤ b) field
 
-abbrev is_bare : List ℕ → Bool
+abbrev pub is_bare : List ℕ → Bool
 is_bare [] = true
 is_bare (b ∷ bs) = nat_le 45 b && is_bare bs
 
-bare_by : (field : List ℕ) → is_bare field ≡ true → IsBare field
+pub bare_by : (field : List ℕ) → is_bare field ≡ true → IsBare field
 bare_by [] all = tt
 bare_by (b ∷ bs) all = let parts = and_parts (nat_le 45 b) (is_bare bs) all in (leb-true 45 b parts.0, bare_by bs parts.1)
 
-bare_both : (xs ys : List ℕ) → IsBare xs → IsBare ys → IsBare (xs ++ ys)
+pub bare_both : (xs ys : List ℕ) → IsBare xs → IsBare ys → IsBare (xs ++ ys)
 bare_both [] ys one two = two
 bare_both (x ∷ xs) ys one two = (one.0, bare_both xs ys one.1 two)
 
@@ -40,7 +40,7 @@ pub bare_number : (n : ℕ) → n < 2 ^ 64 → IsBare (decimal n)
 bare_number zero small = subst IsBare (sym (decimal_digit 0 (omega arith))) (omega arith, tt)
 bare_number (suc n) small = subst IsBare (sym (decimal-digits_of (suc n) (omega arith) small)) (bare_digits (digits_of 10 (suc n)))
 
-bare_hundredths : (n : ℕ) → IsBare (hundredths_text n)
+pub bare_hundredths : (n : ℕ) → IsBare (hundredths_text n)
 bare_hundredths n = (omega arith, (omega arith, (omega arith, tt)))
 
 bare_cents : (n : ℕ) → n < 2 ^ 64 → IsBare (cents_text n)
@@ -56,7 +56,7 @@ bare_date date = bare_both (two_digits (date.year / 100) ++ two_digits (date.yea
     (bare_both (two_digits (date.year / 100)) (two_digits (date.year % 100)) (bare_two _) (bare_two _)) (omega arith, bare_two date.month))
     (omega arith, bare_two date.day)
 
-bare_day : (day : ℤ) → IsBare (day_text day)
+pub bare_day : (day : ℤ) → IsBare (day_text day)
 unfolding day_text
 bare_day day = bare_date (date_of day)
 
@@ -71,7 +71,7 @@ tail : List ℕ → List ℕ
 tail [] = []
 tail (byte ∷ more) = more
 
-heads : (c d : ℕ) (xs ys : List ℕ) → c ∷ xs ≡ d ∷ ys → c ≡ d
+pub heads : (c d : ℕ) (xs ys : List ℕ) → c ∷ xs ≡ d ∷ ys → c ≡ d
 heads c d xs ys same = ap (λ (l : List ℕ). get_or l 0 0) same
 
 tails : (c d : ℕ) (xs ys : List ℕ) → c ∷ xs ≡ d ∷ ys → xs ≡ ys
@@ -130,7 +130,7 @@ same_line a b fs gs x y first other one two same =
 
 -- ---- the row of a policy
 
-bare_status : (status : Status) → IsBare (status_word status)
+pub bare_status : (status : Status) → IsBare (status_word status)
 bare_status InForce = bare_by (codes "inforce") refl
 bare_status Lapsed = bare_by (codes "lapsed") refl
 bare_status Claimed = bare_by (codes "claimed") refl
@@ -268,7 +268,7 @@ rows_told clerk other on day position place rows others small_clerk small_other 
 
 -- ---- the line of a posting
 
-bare_kind : (command : Command) → IsBare (kind_word command)
+pub bare_kind : (command : Command) → IsBare (kind_word command)
 bare_kind (Issue id day plan age years amount premium) = bare_by (codes "issue") refl
 bare_kind (Premium id day amount) = bare_by (codes "premium") refl
 bare_kind (Alter id day amount premium) = bare_by (codes "alter") refl

@@ -9,6 +9,7 @@ pub mod Texts
 pub mod TableReserves
 pub mod Headline
 pub mod Legality
+pub mod Durable
 pub mod Runs
 pub mod KeptRuns
 pub mod Worked

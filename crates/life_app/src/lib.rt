@@ -1,6 +1,7 @@
 //! The program whole: what its words ask for, over any devices.
 #![tactic(auto)]
 
+mod durable;
 mod kept;
 mod laws;
 mod legality;
@@ -10,6 +11,7 @@ mod promise;
 pub mod worked;
 pub mod worked_run;
 
+pub use durable::told_stays;
 pub use kept::{EndedKept, life_kept};
 pub use laws::{
     crashes_of_a_run, crashes_of_an_opening, runs_after_a_crash, runs_in_a_row, runs_over_both,
