@@ -72,7 +72,7 @@ bare_money n = bare_both (decimal (n / 100)) (hundredths_text (n % 100)) (bare_a
 abbrev pub content_of : List ℕ → List (List ℕ) → List ℕ
 content_of first fields = first ++ behind_commas fields
 
-feedless : (bytes : List ℕ) → IsBare bytes → IsFree bytes
+pub feedless : (bytes : List ℕ) → IsBare bytes → IsFree bytes
 feedless [] bare = tt
 feedless (b ∷ bytes) bare = ((λ feed. omega (arith, feed, bare.0)), feedless bytes bare.1)
 

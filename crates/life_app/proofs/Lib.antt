@@ -6,6 +6,7 @@ pub mod TextLaws
 pub mod LineLaws
 pub mod AcceptedLines
 pub mod DurableLaws
+pub mod ToldStays
 pub mod HeadlineLaws
 pub mod LegalityLaws
 pub mod RunLaws

@@ -2,7 +2,7 @@
 
 ghost use Rattle.life_app.specs.WorkedRun.Calls.{HonestCalls, ReadsByHand};
 ghost use Rattle.life_app.specs.WorkedRun.Runs.{CrashesByHand, FoundByHand, ImagesByHand, LeftByHand, OpenedByHand, RanByHand, RowByHand};
-ghost use Rattle.life_app.specs.WorkedRun.Promise.{GivenByHand, HeadlineByHand, ObeyedByHand, PromisedByHand, ToldOnceSafe};
+ghost use Rattle.life_app.specs.WorkedRun.Promise.{DurableByHand, GivenByHand, HeadlineByHand, LineByHand, ObeyedByHand, PromisedByHand, ToldOnceSafe};
 ghost use Rattle.life_app.specs.WorkedRun.Due.{BasisByHand, DueByHand, DueOfTheRun, NeedsByHand};
 ghost use Rattle.life_app.specs.WorkedRun.Both.{DueOfBothByHand, DueOfTheSaving, LeftOfTwoByHand, OtherwiseByHand, PartsOfTwoByHand, RowOfTwoByHand, SavedByHand, StatedByHand, TrustedByHand};
 ghost use Rattle.life_app.specs.WorkedRun.Lanes.{LeftLanes, LegalLanes, PromisedLanes, ReopenedLanes};
@@ -32,13 +32,15 @@ pub fn runs_by_hand()
     ensures left { LeftByHand }
 {}
 
-/// The script of the third posting is run as is promised, and its line is told once safe.
+/// The script of the third posting is run as is promised, and its line is told once safe, and durable.
 pub fn promise_by_hand()
     ensures given { GivenByHand }
     ensures obeyed { ObeyedByHand }
     ensures headline { HeadlineByHand }
     ensures promised { PromisedByHand }
     ensures safe { ToldOnceSafe }
+    ensures line { LineByHand }
+    ensures durable { DurableByHand }
 {}
 
 /// Each mode has what it needs, or lacks it, and so some ending is due.

@@ -1,7 +1,9 @@
 // All of the program but what the system hands it, on the devices that it is shipped with. Of the system it has threads and
 // waiting, and these devices: no way leads to another.
-ghost use Rattle.std.specs.Prelude.{◌≡◌, Some, None, [], codes, map, string_bytes, IsSome};
+ghost use Rattle.std.specs.Prelude.{◌≡◌, ◌≢◌, ℕ, Some, None, List, [], ◌∷◌, codes, map, string_bytes, IsSome};
 ghost use Rattle.std.specs.Process.{exit_status};
+ghost use Rattle.life_app.specs.Durable.{IsDurable, Spells};
+ghost use Rattle.life_args.specs.Words.{IsRun};
 ghost use Rattle.life_cli.specs.Names.{between, input_between, shelf_between};
 ghost use Rattle.program_endings.specs.Writing.{WroteLine};
 ghost use Rattle.life_cli.specs.ShippedRun.{IsShipped};
@@ -56,6 +58,12 @@ pub fn run_shipped<R: Threads + Wait + Sync, F: FoundFile, C: FoundFile>(
         devices.output result.output)
         (shelf_between (⟦<Folder as Shelf>⟧.faults) (⟦<Folder as Shelf>⟧.agrees) devices.shelf result.shelf)
         (result.input ≡ devices.input) (result.shelf ≡ devices.shelf) result.status }
+    // What a run tells to be accepted stays. Where the output has the line `LANE,KIND,ID,accepted,K`, whatever a crash leaves
+    // from the moment on by which that line was handed over is the journal of at least K commands, of which the K-th is of that
+    // kind and number. Of no run with status 4: its output is one line, which names a file.
+    ensures durable { (name : List ℕ) (options : List (List ℕ)) → map string_bytes words.now ≡ codes "run" ∷ options
+        → IsRun options name → result.status ≢ 4 → ⟦<JournalDisk<F> as Disk>⟧.honest result.disk
+        → IsDurable ⟦<JournalDisk<F> as Disk>⟧ Spells result.disk (⟦<OutputOf<F> as Sink>⟧.pieces result.output) }
     // So the devices tell it of their start: the two files read as they were found, and nothing had passed or failed.
     ensures first { (⟦<JournalDisk<F> as Disk>⟧.reads devices.disk ≡ F.bytes) × (⟦<JournalDisk<F> as Disk>⟧.clock devices.disk ≡ 0)
         × (⟦<JournalDisk<F> as Disk>⟧.faults devices.disk ≡ 0) }

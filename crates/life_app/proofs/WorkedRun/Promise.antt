@@ -1,5 +1,5 @@
 -- The worked run is as the headline says.
-use Rattle.life_app.proofs.Names.{◌≡◌, ◌+◌, ◌++◌, ℕ, List, [], ◌∷◌, length, arith, refl, ap, sym, subst, inl, inr, lit≤, lit<, codes, Option, None, digits, IsDistinct, flat_map, date_of, month_of, days_before_year, days_of_months, day_text, Reads, Accepted, Run, Command, accepted_of, Opens, hand_issue, hand_premium, premium_turn, valid_premium, Ending, Done, BadScript, BadBasis, BadJournal, ReadFault, DiskFault, NoMemory, status_of, Input, Shelving, Stream, IsWholeInput, IsRunOf, EndsLanes, EndsRead, EndsRun, posting_text, reports_text, reports_of, IsPromised, IsUnrun, Does, Obeys, table_reserves, run_wording, AskForRun, CalledDisk, called, cut_disk, cut_file, last_disk, untorn, second_turns, GivenByHand, HeadlineByHand, ObeyedByHand, PromisedByHand, ToldOnceSafe, given_script, output_of, premium_lanes, premium_line, premium_script, premium_text, shelf_that_told, two_auditors, TakenPiece, spelling_of, ◌<◌, file_reads, reopening, stages, opens_to_one, EndsUnread, EndsNoBasis, EndsNoOffice}
+use Rattle.life_app.proofs.Names.{◌≡◌, ◌+◌, ◌++◌, ℕ, List, [], ◌∷◌, length, arith, refl, ap, sym, subst, inl, inr, lit≤, lit<, codes, Option, None, digits, IsDistinct, flat_map, date_of, month_of, days_before_year, days_of_months, day_text, Reads, Accepted, Run, Command, accepted_of, Opens, hand_issue, hand_premium, premium_turn, valid_premium, Ending, Done, BadScript, BadBasis, BadJournal, ReadFault, DiskFault, NoMemory, status_of, Input, Shelving, Stream, IsWholeInput, IsRunOf, EndsLanes, EndsRead, EndsRun, posting_text, reports_text, reports_of, IsPromised, IsUnrun, Does, Obeys, table_reserves, run_wording, AskForRun, CalledDisk, called, cut_disk, cut_file, last_disk, untorn, second_turns, GivenByHand, HeadlineByHand, ObeyedByHand, PromisedByHand, ToldOnceSafe, given_script, output_of, premium_lanes, premium_line, premium_script, premium_text, shelf_that_told, two_auditors, TakenPiece, spelling_of, ◌<◌, append-nil, get_or, length-append, length-map, map, IsJournal, file_reads, reopening, stages, opens_to_one, EndsUnread, EndsNoBasis, EndsNoOffice}
 use Rattle.std.specs.Prelude.{take}
 use Rattle.csv.proofs.OnLiterals.{csv_on_literals}
 use Rattle.command_csv.proofs.WorkedScripts.{says_one}
@@ -7,7 +7,12 @@ use Rattle.policy_types.specs.declared.script.Line.TheVariants.{Post}
 use Rattle.lane_runner.specs.AnsweredLines.{AnsweredLine, AreLinesOf}
 use Rattle.policy_machine.specs.Merge.{IsMerge, Placed}
 use Rattle.script_run.specs.Shown.{AreSafeWhenShown}
+use Rattle.life_app.specs.Durable.{HasLine, OpensWith, Spells, accepted_line}
+use Rattle.life_app.proofs.AcceptedLines.{HasLines, accepted_content, accepted_is, free_accepted, none_there}
+use Rattle.life_app.proofs.DurableLaws.{there_in}
 use Rattle.life_app.proofs.HeadlineLaws.{by_script, headline}
+use Rattle.life_app.proofs.ToldStays.{free_by, promised_durable}
+use Rattle.life_app.specs.WorkedRun.Promise.{DurableByHand, LineByHand}
 use Rattle.life_app.proofs.WorkedRun.Calls.{is_still, looks_safe}
 use Rattle.life_app.proofs.WorkedRun.First.{cut, honest_last, journal_of_issue, premium_size}
 use Rattle.life_app.proofs.WorkedRun.Row.{both_now, facts, legal_second, second_left}
@@ -214,3 +219,63 @@ promised_by_hand = (promised, not_unrun)
 pub told_once_safe : ToldOnceSafe
 unfolding told digits only_piece
 told_once_safe = (shown, lit< tt, too_soon)
+
+-- ---- the line, and that it is durable
+
+has_line : HasLine premium_text (accepted_line 1 hand_premium 2)
+unfolding digits
+has_line = ([], (codes "watcher,1,1,1" ++ 10 ∷ codes "watcher,2,1,40000" ++ 10 ∷ [], refl, inl refl))
+
+other_lines : HasLines premium_text (accepted_content 1 hand_premium 3) ⊥
+unfolding digits
+other_lines = record {
+  lines = codes "1,premium,7001,accepted,2" ∷ codes "watcher,1,1,1" ∷ codes "watcher,2,1,40000" ∷ [];
+  free = (
+    free_by (codes "1,premium,7001,accepted,2") refl,
+    (free_by (codes "watcher,1,1,1") refl, (free_by (codes "watcher,2,1,40000") refl, tt)),
+  );
+  are = refl;
+  only = (
+    (λ same. let last = ap (λ (bytes : List ℕ). get_or bytes 24 0) same in omega (arith, last)),
+    (
+      (λ same. let first = ap (λ (bytes : List ℕ). get_or bytes 0 0) same in omega (arith, first)),
+      ((λ same. let first = ap (λ (bytes : List ℕ). get_or bytes 0 0) same in omega (arith, first)), tt),
+    ),
+  );
+}
+
+by_moment : ℕ → TakenPiece
+by_moment moment = record { bytes = premium_text; since = moment }
+
+has_no_other : HasLine premium_text (accepted_line 1 hand_premium 3) → ⊥
+unfolding by_moment
+has_no_other has =
+    let there = there_in premium_text (by_moment 0 ∷ []) [] [] (by_moment 0) refl ([], sym (append-nil premium_text)) (accepted_line 1 hand_premium 3)
+    (accepted_content 1 hand_premium 3) (accepted_is 1 hand_premium 3) has in
+    none_there premium_text (accepted_content 1 hand_premium 3) there.after there.starts other_lines there.free (free_accepted 1 hand_premium 3) there.there
+
+pub line_by_hand : LineByHand
+line_by_hand = (has_line, has_no_other)
+
+-- the staged file has one record
+staged_journal : IsJournal staged_file (spelling_of hand_issue ∷ [])
+unfolding staged_file
+staged_journal =
+    (journal_of_issue staged_file
+    (is_still cut_file reopening (spelling_of hand_issue ∷ []) hand_premium (lit< tt) premium_size cut (looks_safe 2 cut_file) refl)).records
+
+not_two : OpensWith Spells staged_file 2 hand_premium → ⊥
+not_two opens =
+    let long = length-append opens.earlier (opens.command ∷ opens.later) in
+    let spelled = length-map (opens.earlier ++ opens.command ∷ opens.later) spelling_of in
+    let second : 1 < length (map spelling_of (opens.earlier ++ opens.command ∷ opens.later)) = omega (arith, long, spelled, opens.place) in
+    staged_journal.end.1 (opens.opens.records 1 second).0
+
+pub durable_by_hand : DurableByHand
+durable_by_hand = (
+  promised_durable called cut_disk last_disk (output_of premium_text) (record { empty = refl; none = refl; tied = refl }) table_reserves premium_lanes []
+      two_auditors 0 promised honest_last,
+  λ moment before durable.
+      not_two (durable [] [] (record { bytes = premium_text; since = moment }) refl 1 2 hand_premium (lit< tt) (lit< tt) has_line staged_file
+      (still_staged moment before)),
+)

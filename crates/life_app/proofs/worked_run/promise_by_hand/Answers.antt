@@ -1,4 +1,4 @@
-use Rattle.life_app.proofs.WorkedRun.Promise.{given_by_hand, headline_by_hand, obeyed_by_hand, promised_by_hand, told_once_safe}
+use Rattle.life_app.proofs.WorkedRun.Promise.{durable_by_hand, given_by_hand, headline_by_hand, line_by_hand, obeyed_by_hand, promised_by_hand, told_once_safe}
 use Rattle.life_app.proofs.worked_run.promise_by_hand.Goals as goal
 
 pub returns-clause-given : goal.returns-clause-given
@@ -15,3 +15,9 @@ returns-clause-promised c = promised_by_hand
 
 pub returns-clause-safe : goal.returns-clause-safe
 returns-clause-safe c = told_once_safe
+
+pub returns-clause-line : goal.returns-clause-line
+returns-clause-line c = line_by_hand
+
+pub returns-clause-durable : goal.returns-clause-durable
+returns-clause-durable c = durable_by_hand

@@ -1,10 +1,24 @@
-use Rattle.life_cli.proofs.Names.{List, Some, ap, refl, length}
+use Rattle.life_cli.proofs.Names.{List, Some, ap, map, refl, length, shipped_auditors}
+use Rattle.std.specs.Prelude.{string_bytes}
 use Rattle.outside_io.specs.FileCalls.{FileCall, file_reads}
 use Rattle.outside_io.specs.Streams.{StreamPiece, passed_bytes, pieces_by}
+use Rattle.life_app.proofs.ToldStays.{told_stays}
+use Rattle.life_cli.proofs.Promised.{asked_for}
 use Rattle.life_cli.proofs.shipped.run_shipped.Goals as goal
 
 pub returns-clause-shipped : goal.returns-clause-shipped
 returns-clause-shipped g c = c.obey-status.ensures.shipped
+
+pub returns-clause-durable : goal.returns-clause-durable
+returns-clause-durable g c = λ name options same run other honest.
+    told_stays _ c.args.devices.disk c.obey-status.result.disk _
+    (record {
+      empty = ap (λ (pieces : List StreamPiece). Some (passed_bytes pieces)) c.requires.output.1;
+      none = ap (λ (pieces : List StreamPiece). pieces_by pieces c.args.devices.output.by) c.requires.output.1;
+      tied = c.obey-status.new.output.tied;
+    })
+    _ (Some c.args.devices.second) (Some c.obey-status.result.second) shipped_auditors _ _ (map string_bytes c.args.words.now) name _ _ c.obey-status.result.status other
+    honest (asked_for name (map string_bytes c.args.words.now) options same run) c.obey-status.ensures.shipped.obeys
 
 pub returns-clause-first : goal.returns-clause-first
 returns-clause-first g c = (
