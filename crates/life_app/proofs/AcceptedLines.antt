@@ -6,7 +6,7 @@ use Rattle.std.specs.Prelude.{nat_lt}
 use Rattle.std.proofs.lemmas.Bool.{lt-ltb}
 use Rattle.money_core.specs.CentsText.{cents_text}
 use Rattle.money_core.proofs.CentsTextLemmas.{hundredths_text}
-use Rattle.deficiency_reserve.specs.declared.answer.Adequacy.TheVariants.{Short, Enough, Close}
+use Rattle.report_text.specs.Names.{Close, Enough, Short}
 use Rattle.lane_runner.specs.AnsweredLines.{AnsweredLine}
 use Rattle.policy_types.specs.Valid.{id_of}
 use Rattle.policy_types.specs.Words.{kind_word, status_word}
@@ -18,6 +18,8 @@ use Rattle.policy_types.specs.declared.refusal.Refusal.TheVariants.{TooEarly, Wr
 use Rattle.policy_types.specs.declared.script.Line.{Line}
 use Rattle.policy_types.specs.declared.script.Line.TheVariants.{Post, Value, Trim}
 use Rattle.policy_types.specs.declared.watcher.Report.{Report}
+use Rattle.policy_value.specs.declared.worth.Measure.{Measure}
+use Rattle.policy_value.specs.declared.worth.Measure.TheVariants.{Deficiency, Mean}
 use Rattle.policy_value.specs.declared.worth.Worth.{Worth}
 use Rattle.report_text.specs.Block.{total_of}
 use Rattle.text_lines.specs.Lines.{behind_commas, line_of}
@@ -64,7 +66,7 @@ low_first (b ∷ bytes) are = are.0.1
 pub low_number : (n : ℕ) → get_or (decimal n) 0 0 < 58
 low_number n = low_first (decimal n) (are_digits n)
 
-bare_money : (n : ℕ) → IsBare (cents_text n)
+pub bare_money : (n : ℕ) → IsBare (cents_text n)
 bare_money n = bare_both (decimal (n / 100)) (hundredths_text (n % 100)) (bare_any (n / 100)) (bare_hundredths (n % 100))
 
 -- ---- a line's content, without its line feed
@@ -168,15 +170,25 @@ letter_line line lane named k free high =
     (λ same. let low = low_content lane named k in let first = ap (λ (bytes : List ℕ). get_or bytes 0 0) same in omega (arith, low, high, first))
 
 -- a line of other fields, of which the third isn't `accepted`
-other_line : (Says : Type 0) (first : List ℕ) (fields : List (List ℕ)) (lane : ℕ) (named : Command) (k : ℕ) → IsBare first → AreBare fields
+pub other_line : (Says : Type 0) (first : List ℕ) (fields : List (List ℕ)) (lane : ℕ) (named : Command) (k : ℕ) → IsBare first → AreBare fields
     → (get_or (get_or fields 2 []) 0 0 ≡ 97 → ⊥) → HasLines (line_of first fields) (accepted_content lane named k) Says
 other_line Says first fields lane named k one bare other =
     one_line (content_of first fields) (accepted_content lane named k) Says (free_content first fields one bare)
     (λ same. let fields_are = same_content first (decimal lane) fields (accepted_fields named k) one (bare_any lane) bare (bare_fields named k) same in
     absurd (other (ap (λ (fs : List (List ℕ)). get_or (get_or fs 2 []) 0 0) fields_are.1)))
 
-not_number : (n : ℕ) → get_or (decimal n) 0 0 ≡ 97 → ⊥
+pub not_number : (n : ℕ) → get_or (decimal n) 0 0 ≡ 97 → ⊥
 not_number n is = let low = low_number n in omega (arith, low, is)
+
+low_money : (n : ℕ) → get_or (cents_text n) 0 0 < 58
+low_money n = by (decimal (n / 100)) (are_digits (n / 100))
+  where
+    by : (bytes : List ℕ) → AreDigits bytes → get_or (bytes ++ hundredths_text (n % 100)) 0 0 < 58
+    by [] are = omega arith
+    by (b ∷ bytes) are = are.0.1
+
+not_money : (n : ℕ) → get_or (cents_text n) 0 0 ≡ 97 → ⊥
+not_money n is = let low = low_money n in omega (arith, low, is)
 
 -- ---- a posting
 
@@ -246,7 +258,7 @@ posting clerk command (Floor floor) lane named k = unaccepted clerk command (Flo
 
 -- ---- a valuation
 
-bare_worth_of : (worth : Worth) → AreBare (worth_fields worth)
+pub bare_worth_of : (worth : Worth) → AreBare (worth_fields worth)
 bare_worth_of (Bounds lo hi) = (bare_money lo, (bare_money hi, tt))
 bare_worth_of (Both lo hi min_lo min_hi Short) =
     (bare_money lo, (bare_money hi, (bare_money min_lo, (bare_money min_hi, (bare_by (codes "short") refl, tt)))))
@@ -269,28 +281,53 @@ module _ (Says : Type 0) (lane : ℕ) (named : Command) (k : ℕ) where
       (bare_by (codes "row") refl) (bare_any row.id, (bare_status row.status, (bare_any row.t, bare_worth_of row.worth))) (not_number row.t))
       (row_lines rows)
 
-  heading_lines : (clerk : ℕ) (on : ℤ) (position policies : ℕ)
-      → HasLines (heading_text clerk on position policies Terminal) (accepted_content lane named k) Says
+  heading_lines : (clerk : ℕ) (on : ℤ) (position policies : ℕ) (measure : Measure)
+      → HasLines (heading_text clerk on position policies measure) (accepted_content lane named k) Says
   unfolding heading_text
-  heading_lines clerk on position policies =
+  heading_lines clerk on position policies Terminal =
       other_line Says (decimal clerk) (codes "value" ∷ day_text on ∷ decimal position ∷ decimal policies ∷ []) lane named k (bare_any clerk)
       (bare_by (codes "value") refl, (bare_day on, (bare_any position, (bare_any policies, tt)))) (not_number position)
+  heading_lines clerk on position policies Mean =
+      other_line Says (decimal clerk) (codes "value" ∷ day_text on ∷ decimal position ∷ decimal policies ∷ codes "mean" ∷ []) lane named k (bare_any clerk)
+      (bare_by (codes "value") refl, (bare_day on, (bare_any position, (bare_any policies, (bare_by (codes "mean") refl, tt))))) (not_number position)
+  heading_lines clerk on position policies Deficiency =
+      other_line Says (decimal clerk) (codes "value" ∷ day_text on ∷ decimal position ∷ decimal policies ∷ codes "deficiency" ∷ []) lane named k
+      (bare_any clerk)
+      (bare_by (codes "value") refl, (bare_day on, (bare_any position, (bare_any policies, (bare_by (codes "deficiency") refl, tt))))) (not_number position)
 
-  total_lines : (rows : List Row) → HasLines (total_text Terminal rows) (accepted_content lane named k) Says
-  unfolding total_text
-  total_lines rows =
+  three_sums : (rows : List Row)
+      → HasLines
+      (line_of (codes "total")
+      (cents_text (total_of (λ t. t.lower) rows) ∷ cents_text (total_of (λ t. t.upper) rows) ∷ decimal (total_of (λ t. t.unvalued) rows) ∷ []))
+      (accepted_content lane named k) Says
+  three_sums rows =
       let lower = total_of (λ t. t.lower) rows in
       let upper = total_of (λ t. t.upper) rows in
       let unvalued = total_of (λ t. t.unvalued) rows in
       other_line Says (codes "total") (cents_text lower ∷ cents_text upper ∷ decimal unvalued ∷ []) lane named k (bare_by (codes "total") refl)
       (bare_money lower, (bare_money upper, (bare_any unvalued, tt))) (not_number unvalued)
 
-  block_lines : (clerk : ℕ) (on : ℤ) (position : ℕ) (rows : List Row)
-      → HasLines (run_wording.block clerk on position rows) (accepted_content lane named k) Says
-  block_lines clerk on position rows =
-      both_lines (heading_text clerk on position (length rows) Terminal ++ flat_map row_text rows) (total_text Terminal rows) (accepted_content lane named k) Says
-      (both_lines (heading_text clerk on position (length rows) Terminal) (flat_map row_text rows) (accepted_content lane named k) Says
-      (heading_lines clerk on position (length rows)) (row_lines rows)) (total_lines rows)
+  total_lines : (rows : List Row) (measure : Measure) → HasLines (total_text measure rows) (accepted_content lane named k) Says
+  unfolding total_text
+  total_lines rows Terminal = three_sums rows
+  total_lines rows Mean = three_sums rows
+  total_lines rows Deficiency =
+      let lower = total_of (λ t. t.lower) rows in
+      let upper = total_of (λ t. t.upper) rows in
+      let low_minimum = total_of (λ t. t.lower_minimum) rows in
+      let high_minimum = total_of (λ t. t.upper_minimum) rows in
+      let unvalued = total_of (λ t. t.unvalued) rows in
+      other_line Says (codes "total")
+      (cents_text lower ∷ cents_text upper ∷ cents_text low_minimum ∷ cents_text high_minimum ∷ decimal unvalued ∷ []) lane named k
+      (bare_by (codes "total") refl)
+      (bare_money lower, (bare_money upper, (bare_money low_minimum, (bare_money high_minimum, (bare_any unvalued, tt))))) (not_money low_minimum)
+
+  pub block_lines : (clerk : ℕ) (on : ℤ) (position : ℕ) (measure : Measure) (rows : List Row)
+      → HasLines (block_text clerk on position measure rows) (accepted_content lane named k) Says
+  block_lines clerk on position measure rows =
+      both_lines (heading_text clerk on position (length rows) measure ++ flat_map row_text rows) (total_text measure rows) (accepted_content lane named k) Says
+      (both_lines (heading_text clerk on position (length rows) measure) (flat_map row_text rows) (accepted_content lane named k) Says
+      (heading_lines clerk on position (length rows) measure) (row_lines rows)) (total_lines rows measure)
 
   unpinned_lines : (clerk : ℕ) (on : ℤ) (refusal : PinRefusal) → HasLines (run_wording.unpinned clerk on refusal) (accepted_content lane named k) Says
   unpinned_lines clerk on (Ahead count) =
@@ -331,7 +368,7 @@ told_lines IsRow clerk (Value on at workers) (PinRefused refusal) commands IsDry
 told_lines IsRow clerk (Value on at workers) (Pinned position policies) commands IsDry text lane named k is = elim is [
   | inl dry ↦ text_of text (run_wording.unvalued clerk on) (accepted_content lane named k) ⊥ dry.1 (unvalued_lines ⊥ lane named k clerk on)
   | inr rows ↦
-      text_of text (run_wording.block clerk on position rows.1.0) (accepted_content lane named k) ⊥ rows.1.2 (block_lines ⊥ lane named k clerk on position rows.1.0)
+      text_of text (run_wording.block clerk on position rows.1.0) (accepted_content lane named k) ⊥ rows.1.2 (block_lines ⊥ lane named k clerk on position Terminal rows.1.0)
 ]
 told_lines IsRow _ _ _ _ _ _ _ _ _ is = absurd is
 

@@ -26,7 +26,7 @@ use Rattle.policy_types.specs.declared.watcher.Report.{Report}
 use Rattle.program_endings.specs.Writing.{WroteOrFailed}
 use Rattle.script_run.specs.Shown.{AreSafeWhenShown}
 use Rattle.std.specs.Prelude.{decimal}
-use Rattle.life_app.specs.Durable.{HasLine, IsDurable, OpensWith, Spells, accepted_line}
+use Rattle.life_app.specs.Durable.{HasWholeLine, IsDurable, OpensWith, SpellsCommands, accepted_line}
 use Rattle.life_app.proofs.AcceptedLines.{HasLines, IsTold, SaysAccepted, accepted_content, accepted_is, find, free_accepted, none_there, reports_lines}
 use Rattle.life_app.proofs.LineLaws.{AreLines, IsFree, lines_text, start_lines}
 
@@ -102,7 +102,7 @@ regroup a c x y z =
     append_assoc (a ++ (c ++ 10 ∷ [] ++ x)) y z ∙ append_assoc a (c ++ 10 ∷ [] ++ x) (y ++ z) ∙ ap (λ (bytes : List ℕ). a ++ bytes) line
 
 pub there_in : (text : List ℕ) (pieces later earlier : List TakenPiece) (piece : TakenPiece) → pieces ≡ later ++ piece ∷ earlier
-    → IsFront (taken_bytes pieces) text → (line content : List ℕ) → line ≡ content ++ 10 ∷ [] → HasLine (taken_bytes (piece ∷ earlier)) line
+    → IsFront (taken_bytes pieces) text → (line content : List ℕ) → line ≡ content ++ 10 ∷ [] → HasWholeLine (taken_bytes (piece ∷ earlier)) line
     → IsThere text (taken_bytes (piece ∷ earlier)) content
 there_in text pieces later earlier piece split front line content is has =
     let before = start_lines has.0 has.1.2 in
@@ -251,7 +251,7 @@ journal_of image earlier later command (inr none) =
 
 -- no line of the text is that of an accepted posting
 pub none_durable : {D : Type 0} (g : Ghosts D) (new : D) (pieces : List TakenPiece) (text : List ℕ) → IsFront (taken_bytes pieces) text
-    → ((lane k : ℕ) (named : Command) → HasLines text (accepted_content lane named k) ⊥) → IsDurable g Spells new pieces
+    → ((lane k : ℕ) (named : Command) → HasLines text (accepted_content lane named k) ⊥) → IsDurable g SpellsCommands new pieces
 none_durable g new pieces text front none later earlier piece split lane k named small few has image left =
     let there = there_in text pieces later earlier piece split front (accepted_line lane named k) (accepted_content lane named k)
     (accepted_is lane named k) has in
@@ -264,7 +264,7 @@ module _ {D : Type 0} (g : Ghosts D) (new : D) (pieces : List TakenPiece) (IsRow
     (told : AllZip (IsToldLine run_wording IsRow commands history dry) lines texts)
     (front : IsFront (taken_bytes pieces) (concat texts ++ run_wording.reports reports))
     (shown : AreSafeWhenShown g Opens new commands history lines texts pieces) where
-  pub run_durable : IsDurable g Spells new pieces
+  pub run_durable : IsDurable g SpellsCommands new pieces
   run_durable later earlier piece split lane k named small few has image left =
       let there = there_in (concat texts ++ run_wording.reports reports) pieces later earlier piece split front
       (accepted_line lane named k) (accepted_content lane named k) (accepted_is lane named k) has in

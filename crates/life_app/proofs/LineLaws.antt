@@ -3,7 +3,7 @@ use Rattle.std.proofs.Common.{◌≡◌, ◌≢◌, ℕ, ◌+◌, ◌==◌, ◌�
 use Rattle.std.proofs.lemmas.Bool.{eqb-false}
 use Rattle.std.proofs.lemmas.Map.Views.{exact_unsigned_eq}
 use Rattle.std.specs.List.{AllByRecursion}
-use Rattle.life_app.specs.Durable.{EndsLine}
+use Rattle.life_app.specs.Durable.{AreWholeLines}
 
 -- no byte is a line feed
 abbrev pub IsFree : List ℕ → Type 0
@@ -69,7 +69,7 @@ split_lines (b ∷ front) = by (b == 10) refl (split_lines front)
     by false is rest = before_first b (front ++ 10 ∷ []) rest.lines (eqb-false b 10 is) rest.free rest.are (no_bytes front)
 
 -- where a line may begin
-pub start_lines : (before : List ℕ) → EndsLine before → AreLines before
+pub start_lines : (before : List ℕ) → AreWholeLines before → AreLines before
 start_lines before (inl none) = record { lines = []; free = tt; are = none }
 start_lines before (inr ends) =
     let whole = split_lines ends.0 in

@@ -4,7 +4,7 @@ use Rattle.office_state.specs.declared.faults.StartCause.{StartCause}
 use Rattle.life_args.proofs.Answering.{ask_once}
 use Rattle.program_endings.specs.Refusals.{SaysWhy}
 use Rattle.script_run.specs.Shown.{AreSafeWhenShown}
-use Rattle.life_app.specs.Durable.{IsDurable, Spells}
+use Rattle.life_app.specs.Durable.{IsDurable, SpellsCommands}
 use Rattle.life_app.specs.Given.{Reserves}
 use Rattle.life_app.proofs.AcceptedLines.{bare_any, feedless, free_both, letter_line}
 use Rattle.life_app.proofs.DurableLaws.{IsFresh, front_ended, front_or, none_durable, run_durable}
@@ -27,7 +27,7 @@ free_number n = feedless (decimal n) (bare_any n)
 
 module _ {D : Type 0} (g : Ghosts D) (old new : D) (output : Stream) (fresh : IsFresh output) where
   abbrev Durable : Type 0
-  Durable = IsDurable g Spells new output.pieces_after
+  Durable = IsDurable g SpellsCommands new output.pieces_after
 
   -- of a run as it is promised
   pub promised_durable : (reserves : Reserves) (lanes : List Lane) (basis : List Dated) (auditors : List Auditor) (status : ℕ)

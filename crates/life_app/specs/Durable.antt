@@ -12,16 +12,16 @@ accepted_line lane command k =
     decimal lane ++ 44 ∷ kind_word command ++ 44 ∷ decimal (id_of command) ++ codes ",accepted," ++ decimal k ++ 10 ∷ []
 
 -- it is empty, or ends with a line feed
-abbrev pub EndsLine : List ℕ → Type 0
-EndsLine bytes = (bytes ≡ []) ⊎ ((front : List ℕ) × (bytes ≡ front ++ 10 ∷ []))
+abbrev pub AreWholeLines : List ℕ → Type 0
+AreWholeLines bytes = (bytes ≡ []) ⊎ ((front : List ℕ) × (bytes ≡ front ++ 10 ∷ []))
 
 -- the line stands in the bytes, at their beginning or behind a line feed
-abbrev pub HasLine : List ℕ → List ℕ → Type 0
-HasLine bytes line = (before : List ℕ) × ((after : List ℕ) × (bytes ≡ before ++ line ++ after) × EndsLine before)
+abbrev pub HasWholeLine : List ℕ → List ℕ → Type 0
+HasWholeLine bytes line = (before : List ℕ) × ((after : List ℕ) × (bytes ≡ before ++ line ++ after) × AreWholeLines before)
 
 -- the file is the journal whose records spell these commands
-abbrev pub Spells : List ℕ → List Command → Type 0
-Spells image commands = IsJournal image (map spelling_of commands)
+abbrev pub SpellsCommands : List ℕ → List Command → Type 0
+SpellsCommands image commands = IsJournal image (map spelling_of commands)
 
 -- it has at least k commands, of which the k-th is of this kind and number
 pub record OpensWith (Opens : List ℕ → List Command → Type 0) (image : List ℕ) (k : ℕ) (named : Command) : Type 0 where
@@ -38,5 +38,5 @@ pub record OpensWith (Opens : List ℕ → List Command → Type 0) (image : Lis
 abbrev pub IsDurable : {D : Type 0} → Ghosts D → (List ℕ → List Command → Type 0) → D → List TakenPiece → Type 0
 IsDurable g Opens new pieces = (later earlier : List TakenPiece) (piece : TakenPiece) → pieces ≡ later ++ piece ∷ earlier
     → (lane k : ℕ) (named : Command) → k < 2 ^ 64 → id_of named < 2 ^ 64
-    → HasLine (taken_bytes (piece ∷ earlier)) (accepted_line lane named k)
+    → HasWholeLine (taken_bytes (piece ∷ earlier)) (accepted_line lane named k)
     → (image : List ℕ) → g.left_since new piece.since image → OpensWith Opens image k named

@@ -1,7 +1,7 @@
 // Durability, as a function that does nothing.
 ghost use Rattle.std.specs.Prelude.{◌≡◌, ◌≢◌, ℕ, List, Option, Some, []};
 ghost use Rattle.life_app.specs.Names.{AreWords, Run, between, input_between, shelf_between, Auditor};
-ghost use Rattle.life_app.specs.Durable.{IsDurable, Spells};
+ghost use Rattle.life_app.specs.Durable.{IsDurable, SpellsCommands};
 ghost use Rattle.life_app.specs.Obeys.{Obeys};
 
 use outside_io::{Disk, Shelf, Sink, Source};
@@ -17,5 +17,5 @@ pub fn told_stays<S: Source, K: Sink, H: Shelf, D: Disk, E: Disk>()
         (between K.faults K.written K.pieces output written) (shelf_between H.faults H.agrees shelf asked)
         (read ≡ input) (asked ≡ shelf) status
         → AreWords words (Run name) → status ≢ 4 → K.written output ≡ Some [] → K.pieces output ≡ [] → D.honest new
-        → IsDurable D.Disk Spells new (K.pieces written) }
+        → IsDurable D.Disk SpellsCommands new (K.pieces written) }
 {}

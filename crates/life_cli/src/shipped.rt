@@ -2,7 +2,7 @@
 // waiting, and these devices: no way leads to another.
 ghost use Rattle.std.specs.Prelude.{◌≡◌, ◌≢◌, ℕ, Some, None, List, [], ◌∷◌, codes, map, string_bytes, IsSome};
 ghost use Rattle.std.specs.Process.{exit_status};
-ghost use Rattle.life_app.specs.Durable.{IsDurable, Spells};
+ghost use Rattle.life_app.specs.Durable.{IsDurable, SpellsCommands};
 ghost use Rattle.life_args.specs.Words.{IsRun};
 ghost use Rattle.life_cli.specs.Names.{between, input_between, shelf_between};
 ghost use Rattle.program_endings.specs.Writing.{WroteLine};
@@ -63,7 +63,7 @@ pub fn run_shipped<R: Threads + Wait + Sync, F: FoundFile, C: FoundFile>(
     // kind and number. Of no run with status 4: its output is one line, which names a file.
     ensures durable { (name : List ℕ) (options : List (List ℕ)) → map string_bytes words.now ≡ codes "run" ∷ options
         → IsRun options name → result.status ≢ 4 → ⟦<JournalDisk<F> as Disk>⟧.honest result.disk
-        → IsDurable ⟦<JournalDisk<F> as Disk>⟧ Spells result.disk (⟦<OutputOf<F> as Sink>⟧.pieces result.output) }
+        → IsDurable ⟦<JournalDisk<F> as Disk>⟧ SpellsCommands result.disk (⟦<OutputOf<F> as Sink>⟧.pieces result.output) }
     // So the devices tell it of their start: the two files read as they were found, and nothing had passed or failed.
     ensures first { (⟦<JournalDisk<F> as Disk>⟧.reads devices.disk ≡ F.bytes) × (⟦<JournalDisk<F> as Disk>⟧.clock devices.disk ≡ 0)
         × (⟦<JournalDisk<F> as Disk>⟧.faults devices.disk ≡ 0) }

@@ -7,7 +7,7 @@ use Rattle.policy_types.specs.declared.script.Line.TheVariants.{Post}
 use Rattle.lane_runner.specs.AnsweredLines.{AnsweredLine, AreLinesOf}
 use Rattle.policy_machine.specs.Merge.{IsMerge, Placed}
 use Rattle.script_run.specs.Shown.{AreSafeWhenShown}
-use Rattle.life_app.specs.Durable.{HasLine, OpensWith, Spells, accepted_line}
+use Rattle.life_app.specs.Durable.{HasWholeLine, OpensWith, SpellsCommands, accepted_line}
 use Rattle.life_app.proofs.AcceptedLines.{HasLines, accepted_content, accepted_is, free_accepted, none_there}
 use Rattle.life_app.proofs.DurableLaws.{there_in}
 use Rattle.life_app.proofs.HeadlineLaws.{by_script, headline}
@@ -222,7 +222,7 @@ told_once_safe = (shown, lit< tt, too_soon)
 
 -- ---- the line, and that it is durable
 
-has_line : HasLine premium_text (accepted_line 1 hand_premium 2)
+has_line : HasWholeLine premium_text (accepted_line 1 hand_premium 2)
 unfolding digits
 has_line = ([], (codes "watcher,1,1,1" ++ 10 ∷ codes "watcher,2,1,40000" ++ 10 ∷ [], refl, inl refl))
 
@@ -247,7 +247,7 @@ other_lines = record {
 by_moment : ℕ → TakenPiece
 by_moment moment = record { bytes = premium_text; since = moment }
 
-has_no_other : HasLine premium_text (accepted_line 1 hand_premium 3) → ⊥
+has_no_other : HasWholeLine premium_text (accepted_line 1 hand_premium 3) → ⊥
 unfolding by_moment
 has_no_other has =
     let there = there_in premium_text (by_moment 0 ∷ []) [] [] (by_moment 0) refl ([], sym (append-nil premium_text)) (accepted_line 1 hand_premium 3)
@@ -264,7 +264,7 @@ staged_journal =
     (journal_of_issue staged_file
     (is_still cut_file reopening (spelling_of hand_issue ∷ []) hand_premium (lit< tt) premium_size cut (looks_safe 2 cut_file) refl)).records
 
-not_two : OpensWith Spells staged_file 2 hand_premium → ⊥
+not_two : OpensWith SpellsCommands staged_file 2 hand_premium → ⊥
 not_two opens =
     let long = length-append opens.earlier (opens.command ∷ opens.later) in
     let spelled = length-map (opens.earlier ++ opens.command ∷ opens.later) spelling_of in

@@ -1,7 +1,7 @@
 -- What the headline says of the worked run's second half: the script, what is written, and the basis that is given
 use Rattle.std.specs.Prelude.{◌⊎◌, ◌==◌, ℕ, ◌<◌, false, length, List, [], ◌∷◌, ◌++◌, Option, Some, codes}
 use Rattle.life_app.specs.WorkedRun.Names.{IsBasis, Reads, lane_of, Agrees, Answer, Lane, Post, Opens, AnsweredLine, hand_issue, hand_premium, premium_turn, Accepted, Input, IsWholeInput, Shelving, Stream, Done, EndsRead, EndsRun, Auditor, AreSafeWhenShown, EndsScript, IsRunOf, input_that_gave, IsGivenBasis, IsPromised, IsUnrun, Obeys, table_reserves, run_wording, AreWords, Run}
-use Rattle.life_app.specs.Durable.{HasLine, IsDurable, Spells, accepted_line}
+use Rattle.life_app.specs.Durable.{HasWholeLine, IsDurable, SpellsCommands, accepted_line}
 use Rattle.watcher_set.specs.Premiums.{premiums_of}
 use Rattle.life_app.specs.WorkedRun.Calls.{CalledDisk, called, cut_disk, last_disk}
 use Rattle.life_app.specs.WorkedRun.Runs.{second_turns}
@@ -80,10 +80,10 @@ ToldOnceSafe = AreSafeWhenShown called Opens last_disk (hand_issue ∷ []) secon
 
 -- the output's first line tells clerk 1 of command 2, the premium, and none tells it of a command 3
 abbrev pub LineByHand : Type 0
-LineByHand = HasLine premium_text (accepted_line 1 hand_premium 2) × (HasLine premium_text (accepted_line 1 hand_premium 3) → ⊥)
+LineByHand = HasWholeLine premium_text (accepted_line 1 hand_premium 2) × (HasWholeLine premium_text (accepted_line 1 hand_premium 3) → ⊥)
 
 -- handed on by the disk's last moment the line is durable, and by no earlier one
 abbrev pub DurableByHand : Type 0
-DurableByHand = IsDurable called Spells last_disk ((record { bytes = premium_text; since = called.clock last_disk }) ∷ [])
+DurableByHand = IsDurable called SpellsCommands last_disk ((record { bytes = premium_text; since = called.clock last_disk }) ∷ [])
     × ((moment : ℕ) → moment < called.clock last_disk
-    → IsDurable called Spells last_disk ((record { bytes = premium_text; since = moment }) ∷ []) → ⊥)
+    → IsDurable called SpellsCommands last_disk ((record { bytes = premium_text; since = moment }) ∷ []) → ⊥)
