@@ -7,6 +7,7 @@ ghost use Rattle.life_args.specs.Words.{IsRun};
 ghost use Rattle.life_cli.specs.Names.{between, input_between, shelf_between};
 ghost use Rattle.program_endings.specs.Writing.{WroteLine};
 ghost use Rattle.life_cli.specs.ShippedRun.{IsShipped};
+ghost use Rattle.outside_io.specs.Streams.{taken_bytes};
 
 use crate::devices::{CheckpointDisk, Devices, Folder, Input, JournalDisk, OutputOf};
 use life_app::{EndedKept, life_kept};
@@ -58,6 +59,9 @@ pub fn run_shipped<R: Threads + Wait + Sync, F: FoundFile, C: FoundFile>(
         devices.output result.output)
         (shelf_between (⟦<Folder as Shelf>⟧.faults) (⟦<Folder as Shelf>⟧.agrees) devices.shelf result.shelf)
         (result.input ≡ devices.input) (result.shelf ≡ devices.shelf) result.status }
+    // What was written to the output is what its pieces hold, in order.
+    ensures tied { ⟦<OutputOf<F> as Sink>⟧.written result.output
+        ≡ Some (taken_bytes (⟦<OutputOf<F> as Sink>⟧.pieces result.output)) }
     // What a run tells to be accepted stays. Where the output has the line `LANE,KIND,ID,accepted,K`, whatever a crash leaves
     // from the moment on by which that line was handed over is the journal of at least K commands, of which the K-th is of that
     // kind and number. Of no run with status 4: its output is one line, which names a file.

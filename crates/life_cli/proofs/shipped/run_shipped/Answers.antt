@@ -1,4 +1,4 @@
-use Rattle.life_cli.proofs.Names.{List, Some, ap, map, refl, length, shipped_auditors}
+use Rattle.life_cli.proofs.Names.{ℕ, List, Some, ap, map, refl, length, shipped_auditors}
 use Rattle.std.specs.Prelude.{string_bytes}
 use Rattle.outside_io.specs.FileCalls.{FileCall, file_reads}
 use Rattle.outside_io.specs.Streams.{StreamPiece, passed_bytes, pieces_by}
@@ -8,6 +8,9 @@ use Rattle.life_cli.proofs.shipped.run_shipped.Goals as goal
 
 pub returns-clause-shipped : goal.returns-clause-shipped
 returns-clause-shipped g c = c.obey-status.ensures.shipped
+
+pub returns-clause-tied : goal.returns-clause-tied
+returns-clause-tied g c = ap (λ (bytes : List ℕ). Some bytes) c.obey-status.new.output.tied
 
 pub returns-clause-durable : goal.returns-clause-durable
 returns-clause-durable g c = λ name options same run other honest.
