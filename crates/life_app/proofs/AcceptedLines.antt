@@ -26,7 +26,7 @@ use Rattle.text_lines.specs.Lines.{behind_commas, line_of}
 use Rattle.transcript_text.specs.Transcript.{refusal_fields}
 use Rattle.life_app.specs.Durable.{accepted_line}
 use Rattle.life_app.proofs.LineLaws.{IsAmong, IsBeyond, IsFree, among, lines_append, lines_free, lines_text}
-use Rattle.life_app.proofs.TextLaws.{AreBare, IsBare, bare_both, bare_by, bare_day, bare_hundredths, bare_kind, bare_status, heads, is_bare, same_line}
+use Rattle.life_app.proofs.TextLaws.{AreBare, IsBare, bare_both, bare_by, bare_day, bare_hundredths, bare_kind, bare_status, same_line}
 
 -- ---- numbers, however large
 

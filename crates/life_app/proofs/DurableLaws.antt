@@ -1,17 +1,16 @@
 -- What is told to be accepted stays
-use Rattle.life_app.proofs.Names.{◌≡◌, ◌⊎◌, ℕ, ℤ, zero, suc, ◌+◌, ◌<◌, ◌≤◌, ◌^◌, ◌==◌, Bool, true, false, Option, None, Some, List, [], ◌∷◌, ◌++◌, length, map, take, drop, refl, ap, ap₂, sym, ◌∙◌, subst, inl, inr, arith, append_assoc, append-nil, length-append, length-map, take_at, filter_map-append, AllByRecursion, AllZip, flat_map, cons_option, TakenPiece, Ghosts, Command, Entry, Reply, Accepted, Lane, accepted_of, accepted_by, commands_after, opened_on, Opening, IsLegal, Row, Opens, JournalBytes, WroteAsEnded, Stream, WroteAll, Ending, Done, DiskFault, WriteFault, NoMemory, run_wording, IsToldLine}
+use Rattle.life_app.proofs.Names.{◌≡◌, ℕ, ℤ, zero, suc, ◌+◌, ◌<◌, ◌^◌, ◌==◌, Bool, true, false, Option, None, Some, List, [], ◌∷◌, ◌++◌, length, map, take, drop, refl, ap, ap₂, sym, ◌∙◌, subst, inl, inr, arith, append_assoc, append-nil, length-append, length-map, take_at, filter_map-append, AllByRecursion, AllZip, flat_map, cons_option, TakenPiece, Ghosts, Command, Entry, Reply, Accepted, Lane, accepted_of, accepted_by, commands_after, opened_on, Opening, IsLegal, Row, Opens, JournalBytes, WroteAsEnded, Stream, WroteAll, Ending, Done, DiskFault, WriteFault, NoMemory, run_wording, IsToldLine}
 use Rattle.std.specs.Io.KnownBytes.{Appends}
 use Rattle.std.specs.List.{Contains, concat, enumerate_from, filter, slice_get}
 use Rattle.std.specs.Prelude.{IfSome, cond, slice_index_or}
 use Rattle.std.proofs.Common.{eq-eqb}
 use Rattle.record_codec.specs.Spelling.{spelling_of}
-use Rattle.std.proofs.lemmas.Bool.{cond-false, cond-true}
 use Rattle.std.proofs.lemmas.Fmt.{decimal_injective}
 use Rattle.std.proofs.lemmas.List.{take-append-drop}
 use Rattle.std.proofs.lemmas.Option.{same_Some}
 use Rattle.lane_runner.specs.AnsweredLines.{AnsweredLine, AreLinesOf, lines_by, turns_in}
 use Rattle.outside_io.specs.Streams.{AppendsPart, taken_bytes}
-use Rattle.policy_machine.proofs.HistoryGrowth.{Answered, answered_at}
+use Rattle.policy_machine.proofs.HistoryGrowth.{answered_at}
 use Rattle.policy_machine.specs.History.{IsDue}
 use Rattle.policy_machine.specs.Merge.{AnswersLine, Placed, turns_of}
 use Rattle.policy_types.specs.Valid.{IsValid, id_of}
@@ -26,9 +25,9 @@ use Rattle.policy_types.specs.declared.watcher.Report.{Report}
 use Rattle.program_endings.specs.Writing.{WroteOrFailed}
 use Rattle.script_run.specs.Shown.{AreSafeWhenShown}
 use Rattle.std.specs.Prelude.{decimal}
-use Rattle.life_app.specs.Durable.{HasWholeLine, IsDurable, OpensWith, SpellsCommands, accepted_line}
-use Rattle.life_app.proofs.AcceptedLines.{HasLines, IsTold, SaysAccepted, accepted_content, accepted_is, find, free_accepted, none_there, reports_lines}
-use Rattle.life_app.proofs.LineLaws.{AreLines, IsFree, lines_text, start_lines}
+use Rattle.life_app.specs.Durable.{HasWholeLine, IsDurable, SpellsCommands, accepted_line}
+use Rattle.life_app.proofs.AcceptedLines.{HasLines, SaysAccepted, accepted_content, accepted_is, find, free_accepted, none_there, reports_lines}
+use Rattle.life_app.proofs.LineLaws.{IsFree, lines_text, start_lines}
 
 -- ---- what the output has taken
 
@@ -70,7 +69,7 @@ module _ (output : Stream) (fresh : IsFresh output) (text : List ℕ) where
   )
 
   pub front_or : WroteOrFailed output text → IsFront (taken_bytes output.pieces_after) text
-  front_or wrote = elim wrote [ | inl all ↦ front_all all | inr part ↦ front_part part.1 ]
+  front_or wrote = elim wrote [ inl all ↦ front_all all | inr part ↦ front_part part.1 ]
 
 -- what was taken of a run's text
 pub front_ended : {D : Type 0} (g : Ghosts D) (old new : D) (history : List Entry) (dry : List ℕ) (texts : List (List ℕ)) (reports : List ℕ)

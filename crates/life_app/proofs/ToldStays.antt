@@ -1,5 +1,5 @@
 -- What a run told to be accepted stays, however the run ended
-use Rattle.life_app.proofs.Names.{◌≡◌, ◌⊎◌, ℕ, ◌+◌, ◌≤◌, Bool, true, Option, List, [], ◌∷◌, ◌++◌, codes, get_or, refl, ap, sym, ◌∙◌, subst, inl, inr, arith, append-nil, nat_le, ◌&&◌, and_parts, leb-true, AllByRecursion, decimal, TakenPiece, Dated, Ghosts, Lane, Auditor, reports_of, accepted_of, Command, Opens, EndsNoOffice, EndsNoBasis, EndsScript, EndsRun, EndsLanes, EndsUnread, IsRunOf, IsPromised, IsEnclosingRow, Input, Shelving, Stream, WroteLine, Ending, Usage, BadScript, BadBasis, BadJournal, ReadFault, DiskFault, NoMemory, status_of, NotAJournal, BadRecord, FaultyDisk, NoRoom, run_wording, table_reserves, Mode, Run, AskForRun, Does, EndsMode, Obeys, SaysUnasked}
+use Rattle.life_app.proofs.Names.{◌≡◌, ℕ, ◌+◌, ◌≤◌, Bool, true, Option, List, [], ◌∷◌, ◌++◌, codes, get_or, refl, ap, sym, ◌∙◌, subst, inl, inr, arith, append-nil, nat_le, ◌&&◌, and_parts, leb-true, decimal, TakenPiece, Dated, Ghosts, Lane, Auditor, reports_of, accepted_of, Opens, EndsNoOffice, EndsNoBasis, EndsScript, EndsRun, EndsLanes, EndsUnread, IsPromised, IsEnclosingRow, Input, Shelving, Stream, WroteLine, Ending, Usage, BadScript, BadBasis, BadJournal, ReadFault, DiskFault, NoMemory, status_of, NotAJournal, BadRecord, run_wording, table_reserves, Mode, Run, AskForRun, Does, EndsMode, Obeys, SaysUnasked}
 use Rattle.office_state.specs.declared.faults.StartCause.{StartCause}
 use Rattle.life_args.proofs.Answering.{ask_once}
 use Rattle.program_endings.specs.Refusals.{SaysWhy}
@@ -51,9 +51,9 @@ module _ {D : Type 0} (g : Ghosts D) (old new : D) (output : Stream) (fresh : Is
   unread input BadScript says = elim says [
     | inl long ↦ line_durable (codes "badscript,toolong") (free_by (codes "badscript,toolong") refl) (omega arith) long.2
     | inr bad ↦ line_durable (codes "badscript," ++ decimal bad.3.0 ++ 44 ∷ decimal bad.3.1.0)
-          (free_both (codes "badscript," ++ decimal bad.3.0) (44 ∷ decimal bad.3.1.0)
-          (free_both (codes "badscript,") (decimal bad.3.0) (free_by (codes "badscript,") refl) (free_number bad.3.0))
-          ((λ feed. omega (arith, feed)), free_number bad.3.1.0)) (omega arith) bad.3.1.2
+        (free_both (codes "badscript," ++ decimal bad.3.0) (44 ∷ decimal bad.3.1.0)
+        (free_both (codes "badscript,") (decimal bad.3.0) (free_by (codes "badscript,") refl) (free_number bad.3.0))
+        ((λ feed. omega (arith, feed)), free_number bad.3.1.0)) (omega arith) bad.3.1.2
   ]
   unread input ReadFault says = line_durable (codes "readfault") (free_by (codes "readfault") refl) (omega arith) says.1
   unread input (NoMemory lack) says = line_durable (codes "nomemory") (free_by (codes "nomemory") refl) (omega arith) says
