@@ -20,6 +20,7 @@ PREMISES = ["life_args.specs.Words.IsRun", "program_endings.specs.Writing.IsWhol
 DISK_MODEL = [f"outside_io.specs.FileCalls.{name}" for name in ("AreAllowed", "FileImage", "FileLeft", "file_reads")]
 HEADLINE = ["life_app.specs.Headline.IsPromised"]
 DURABLE = ["life_app.specs.Durable.IsDurable", "life_app.specs.Durable.SpellsCommands"]
+LEGAL = ["life_app.specs.Legality.IsLegallyAnswered"]
 WHOLE = [*HEADLINE, "life_app.specs.Headline.IsUnrun", *GIVEN, *PREMISES, *DISK_MODEL]
 # why no transcript stands there, what was written of it by status, and what is safe when it is shown
 TOLD = ["script_run.specs.Script.EndsUnread", "program_endings.specs.WithoutBasis.EndsNoBasis",
@@ -28,6 +29,7 @@ TOLD = ["script_run.specs.Script.EndsUnread", "program_endings.specs.WithoutBasi
 COUNTED: tuple[tuple[str, list[str], list[str]], ...] = (
     ("durability", DURABLE, []),
     ("durability and the disk model", [*DURABLE, *DISK_MODEL], []),
+    ("legality", LEGAL, []),
     ("the headline, whatever its texts and reserves are", HEADLINE, []),
     ("with the program's texts and reserves", [*HEADLINE, *GIVEN], []),
     ("these, `IsUnrun`, the premises and the disk model", WHOLE, []),

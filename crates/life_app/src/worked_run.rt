@@ -2,7 +2,7 @@
 
 ghost use Rattle.life_app.specs.WorkedRun.Calls.{HonestCalls, ReadsByHand};
 ghost use Rattle.life_app.specs.WorkedRun.Runs.{CrashesByHand, FoundByHand, ImagesByHand, LeftByHand, OpenedByHand, RanByHand, RowByHand};
-ghost use Rattle.life_app.specs.WorkedRun.Promise.{DurableByHand, GivenByHand, HeadlineByHand, LineByHand, ObeyedByHand, PromisedByHand, ToldOnceSafe};
+ghost use Rattle.life_app.specs.WorkedRun.Promise.{DurableByHand, GivenByHand, HeadlineByHand, LegalByHand, LineByHand, ObeyedByHand, PromisedByHand, ToldOnceSafe};
 ghost use Rattle.life_app.specs.WorkedRun.Due.{BasisByHand, DueByHand, DueOfTheRun, NeedsByHand};
 ghost use Rattle.life_app.specs.WorkedRun.Both.{DueOfBothByHand, DueOfTheSaving, LeftOfTwoByHand, OtherwiseByHand, PartsOfTwoByHand, RowOfTwoByHand, SavedByHand, StatedByHand, TrustedByHand};
 ghost use Rattle.life_app.specs.WorkedRun.Lanes.{LeftLanes, LegalLanes, PromisedLanes, ReopenedLanes};
@@ -32,7 +32,7 @@ pub fn runs_by_hand()
     ensures left { LeftByHand }
 {}
 
-/// The script of the third posting is run as is promised, and its line is told once safe, and durable.
+/// The script of the third posting is run as is promised, and its line is told once safe, durable, and legally answered.
 pub fn promise_by_hand()
     ensures given { GivenByHand }
     ensures obeyed { ObeyedByHand }
@@ -41,6 +41,7 @@ pub fn promise_by_hand()
     ensures safe { ToldOnceSafe }
     ensures line { LineByHand }
     ensures durable { DurableByHand }
+    ensures legal { LegalByHand }
 {}
 
 /// Each mode has what it needs, or lacks it, and so some ending is due.

@@ -1,10 +1,15 @@
 // All of the program but what the system hands it, on the devices that it is shipped with. Of the system it has threads and
 // waiting, and these devices: no way leads to another.
-ghost use Rattle.std.specs.Prelude.{◌≡◌, ◌≢◌, ℕ, Some, None, List, [], ◌∷◌, codes, map, string_bytes, IsSome};
+ghost use Rattle.std.specs.Prelude.{◌≡◌, ◌≢◌, ◌⊎◌, ℕ, Some, None, List, [], ◌∷◌, codes, map, string_bytes, IsSome};
 ghost use Rattle.std.specs.Process.{exit_status};
+ghost use Rattle.basis_book.specs.Dated.{Dated};
+ghost use Rattle.basis_shelf.specs.Bases.{IsBasis};
+ghost use Rattle.command_csv.specs.Reads.{Reads};
 ghost use Rattle.life_app.specs.Durable.{IsDurable, SpellsCommands};
+ghost use Rattle.life_app.specs.Legality.{IsLegallyAnswered};
 ghost use Rattle.life_args.specs.Words.{IsRun};
-ghost use Rattle.life_cli.specs.Names.{between, input_between, shelf_between};
+ghost use Rattle.life_cli.specs.Names.{between, input_between, shelf_between, IsGivenBasis, IsUnrun, IsWholeInput, Opens};
+ghost use Rattle.policy_types.specs.declared.script.Lane.{Lane};
 ghost use Rattle.program_endings.specs.Writing.{WroteLine};
 ghost use Rattle.life_cli.specs.ShippedRun.{IsShipped};
 ghost use Rattle.outside_io.specs.Streams.{taken_bytes};
@@ -68,6 +73,23 @@ pub fn run_shipped<R: Threads + Wait + Sync, F: FoundFile, C: FoundFile>(
     ensures durable { (name : List ℕ) (options : List (List ℕ)) → map string_bytes words.now ≡ codes "run" ∷ options
         → IsRun options name → result.status ≢ 4 → ⟦<JournalDisk<F> as Disk>⟧.honest result.disk
         → IsDurable ⟦<JournalDisk<F> as Disk>⟧ SpellsCommands result.disk (⟦<OutputOf<F> as Sink>⟧.pieces result.output) }
+    // The lines of a run's transcript are answers of one legal history, each lane's lines once and in order; or nothing was run.
+    ensures legal { (name script : List ℕ) (options : List (List ℕ)) (lanes : List Lane) (basis : List Dated)
+        → map string_bytes words.now ≡ codes "run" ∷ options → IsRun options name
+        → IsWholeInput (input_between (⟦<Input as Source>⟧.faults) (⟦<Input as Source>⟧.left) (⟦<Input as Source>⟧.given)
+        (⟦<Input as Source>⟧.ended) devices.input result.input) script
+        → Reads script lanes
+        → IsGivenBasis IsBasis lanes name
+        (shelf_between (⟦<Folder as Shelf>⟧.faults) (⟦<Folder as Shelf>⟧.agrees) devices.shelf result.shelf) basis
+        → IsLegallyAnswered ⟦<JournalDisk<F> as Disk>⟧ Opens devices.disk result.disk lanes
+        (between (⟦<OutputOf<F> as Sink>⟧.faults) (⟦<OutputOf<F> as Sink>⟧.written) (⟦<OutputOf<F> as Sink>⟧.pieces)
+        devices.output result.output) result.status
+        ⊎ IsUnrun ⟦<JournalDisk<F> as Disk>⟧ Opens devices.disk result.disk name
+        (input_between (⟦<Input as Source>⟧.faults) (⟦<Input as Source>⟧.left) (⟦<Input as Source>⟧.given)
+        (⟦<Input as Source>⟧.ended) devices.input result.input)
+        (between (⟦<OutputOf<F> as Sink>⟧.faults) (⟦<OutputOf<F> as Sink>⟧.written) (⟦<OutputOf<F> as Sink>⟧.pieces)
+        devices.output result.output)
+        (shelf_between (⟦<Folder as Shelf>⟧.faults) (⟦<Folder as Shelf>⟧.agrees) devices.shelf result.shelf) result.status }
     // So the devices tell it of their start: the two files read as they were found, and nothing had passed or failed.
     ensures first { (⟦<JournalDisk<F> as Disk>⟧.reads devices.disk ≡ F.bytes) × (⟦<JournalDisk<F> as Disk>⟧.clock devices.disk ≡ 0)
         × (⟦<JournalDisk<F> as Disk>⟧.faults devices.disk ≡ 0) }

@@ -11,8 +11,10 @@ use Rattle.life_app.specs.Durable.{HasWholeLine, OpensWith, SpellsCommands, acce
 use Rattle.life_app.proofs.AcceptedLines.{HasLines, accepted_content, accepted_is, free_accepted, none_there}
 use Rattle.life_app.proofs.DurableLaws.{there_in}
 use Rattle.life_app.proofs.HeadlineLaws.{by_script, headline}
+use Rattle.life_app.proofs.LegalityLaws.{legally_answered}
+use Rattle.life_app.specs.Legality.{reply_line}
 use Rattle.life_app.proofs.ToldStays.{free_by, promised_durable}
-use Rattle.life_app.specs.WorkedRun.Promise.{DurableByHand, LineByHand}
+use Rattle.life_app.specs.WorkedRun.Promise.{DurableByHand, LegalByHand, LineByHand}
 use Rattle.life_app.proofs.WorkedRun.Calls.{is_still, looks_safe}
 use Rattle.life_app.proofs.WorkedRun.First.{cut, honest_last, journal_of_issue, premium_size}
 use Rattle.life_app.proofs.WorkedRun.Row.{both_now, facts, legal_second, second_left}
@@ -278,4 +280,17 @@ durable_by_hand = (
   λ moment before durable.
       not_two (durable [] [] (record { bytes = premium_text; since = moment }) refl 1 2 hand_premium (lit< tt) (lit< tt) has_line staged_file
       (still_staged moment before)),
+)
+
+-- ---- legality
+
+posted : (command one : Command) → Post command ≡ Post one → command ≡ one
+posted command one same = cc
+
+pub legal_by_hand : LegalByHand
+unfolding digits
+legal_by_hand = (
+  legally_answered called Opens table_reserves cut_disk last_disk premium_lanes [] two_auditors (output_of premium_text) 0 promised,
+  λ one same. ap (λ (command : Command). reply_line 1 command (Accepted 2)) (posted hand_premium one same),
+  λ gives. let same = gives hand_premium refl in let last = ap (λ (bytes : List ℕ). get_or bytes 24 0) same in omega (arith, last),
 )

@@ -2,6 +2,7 @@
 use Rattle.std.specs.Prelude.{◌⊎◌, ◌==◌, ℕ, ◌<◌, false, length, List, [], ◌∷◌, ◌++◌, Option, Some, codes}
 use Rattle.life_app.specs.WorkedRun.Names.{IsBasis, Reads, lane_of, Agrees, Answer, Lane, Post, Opens, AnsweredLine, hand_issue, hand_premium, premium_turn, Accepted, Input, IsWholeInput, Shelving, Stream, Done, EndsRead, EndsRun, Auditor, AreSafeWhenShown, EndsScript, IsRunOf, input_that_gave, IsGivenBasis, IsPromised, IsUnrun, Obeys, table_reserves, run_wording, AreWords, Run}
 use Rattle.life_app.specs.Durable.{HasWholeLine, IsDurable, SpellsCommands, accepted_line}
+use Rattle.life_app.specs.Legality.{GivesReply, IsLegallyAnswered}
 use Rattle.watcher_set.specs.Premiums.{premiums_of}
 use Rattle.life_app.specs.WorkedRun.Calls.{CalledDisk, called, cut_disk, last_disk}
 use Rattle.life_app.specs.WorkedRun.Runs.{second_turns}
@@ -87,3 +88,9 @@ abbrev pub DurableByHand : Type 0
 DurableByHand = IsDurable called SpellsCommands last_disk ((record { bytes = premium_text; since = called.clock last_disk }) ∷ [])
     × ((moment : ℕ) → moment < called.clock last_disk
     → IsDurable called SpellsCommands last_disk ((record { bytes = premium_text; since = moment }) ∷ []) → ⊥)
+
+-- its transcript is legally answered, and the premium's line with another position would not give the reply
+abbrev pub LegalByHand : Type 0
+LegalByHand = IsLegallyAnswered called Opens cut_disk last_disk premium_lanes (output_of premium_text) 0
+    × GivesReply premium_line (codes "1,premium,7001,accepted,2" ++ 10 ∷ [])
+    × (GivesReply premium_line (codes "1,premium,7001,accepted,3" ++ 10 ∷ []) → ⊥)

@@ -1,4 +1,4 @@
-use Rattle.life_app.proofs.WorkedRun.Promise.{durable_by_hand, given_by_hand, headline_by_hand, line_by_hand, obeyed_by_hand, promised_by_hand, told_once_safe}
+use Rattle.life_app.proofs.WorkedRun.Promise.{durable_by_hand, given_by_hand, headline_by_hand, legal_by_hand, line_by_hand, obeyed_by_hand, promised_by_hand, told_once_safe}
 use Rattle.life_app.proofs.worked_run.promise_by_hand.Goals as goal
 
 pub returns-clause-given : goal.returns-clause-given
@@ -21,3 +21,6 @@ returns-clause-line c = line_by_hand
 
 pub returns-clause-durable : goal.returns-clause-durable
 returns-clause-durable c = durable_by_hand
+
+pub returns-clause-legal : goal.returns-clause-legal
+returns-clause-legal c = legal_by_hand

@@ -1,8 +1,12 @@
 use Rattle.life_cli.proofs.Names.{ℕ, List, Some, ap, map, refl, length, shipped_auditors}
+use Rattle.std.proofs.Common.{inl, inr}
 use Rattle.std.specs.Prelude.{string_bytes}
 use Rattle.outside_io.specs.FileCalls.{FileCall, file_reads}
 use Rattle.outside_io.specs.Streams.{StreamPiece, passed_bytes, pieces_by}
+use Rattle.life_app.proofs.LegalityLaws.{legally_answered}
 use Rattle.life_app.proofs.ToldStays.{told_stays}
+use Rattle.life_app.specs.TableReserves.{table_reserves}
+use Rattle.life_cli.specs.Names.{Opens}
 use Rattle.life_cli.proofs.Promised.{asked_for}
 use Rattle.life_cli.proofs.shipped.run_shipped.Goals as goal
 
@@ -22,6 +26,13 @@ returns-clause-durable g c = λ name options same run other honest.
     })
     _ (Some c.args.devices.second) (Some c.obey-status.result.second) shipped_auditors _ _ (map string_bytes c.args.words.now) name _ _ c.obey-status.result.status other
     honest (asked_for name (map string_bytes c.args.words.now) options same run) c.obey-status.ensures.shipped.obeys
+
+pub returns-clause-legal : goal.returns-clause-legal
+returns-clause-legal g c = λ name script options lanes basis same run whole reads given.
+    elim (c.obey-status.ensures.shipped.promised name script options lanes basis same run whole reads given) [
+      | inl promised ↦ inl (legally_answered _ Opens table_reserves _ _ lanes basis shipped_auditors _ _ promised)
+      | inr unrun ↦ inr unrun
+    ]
 
 pub returns-clause-first : goal.returns-clause-first
 returns-clause-first g c = (
