@@ -16,10 +16,10 @@ from tests.support.killed_days import Trial
 from tests.support.missing import lacks
 
 # so many kills; another number may be asked for, as for a long trial by hand
-SOME, MANY = 20, int(os.environ.get("LIFE_TRIAL_KILLS", "120"))
+SOME, MANY = 25, int(os.environ.get("LIFE_TRIAL_KILLS", "120"))
 SEED = int(os.environ.get("LIFE_TRIAL_SEED", "70"))
 FEW = 12
-JUDGED_EACH = 10
+JUDGED_EACH = 25
 
 
 @pytest.fixture
