@@ -91,6 +91,16 @@ def test_what_nobody_foresaw(office: Folder, monkeypatch: pytest.MonkeyPatch, tm
     os.remove(found[1])
 
 
+def test_another_pipe_that_breaks_is_no_reader_that_has_left(office: Folder, monkeypatch: pytest.MonkeyPatch) -> None:
+    from life_tools.cli import verify
+
+    def fail(*_: object) -> None:
+        raise BrokenPipeError(errno.EPIPE, os.strerror(errno.EPIPE))
+
+    monkeypatch.setattr(verify, "shape_with", fail)
+    office.refused("verify", says="life-tools verify: Broken pipe")
+
+
 def test_help_is_asked_for_in_each_way(office: Folder) -> None:
     whole = office.printed("--help")
     assert office.printed("help") == office.printed("-h") == office.printed() == whole

@@ -5,6 +5,7 @@ import errno
 import io
 import os
 import re
+import select
 import sys
 import tempfile
 import traceback
@@ -66,6 +67,13 @@ def give_up_output() -> None:
         os.dup2(os.open(os.devnull, os.O_WRONLY), 1)
 
 
+def has_reader_left() -> bool:
+    """Whether nobody reads the pipe any more that standard output is."""
+    asked = select.poll()
+    asked.register(1, 0)
+    return any(event & select.POLLERR for _, event in asked.poll(0))
+
+
 def kept_traceback() -> str:
     """The file that has the traceback of an error that nobody foresaw."""
     with tempfile.NamedTemporaryFile("w", prefix="life-tools-", suffix=".traceback", delete=False, encoding="utf-8",
@@ -85,8 +93,10 @@ def ended(name: str, run: Callable[[], int]) -> int:
         status = run()
         sys.stdout.flush()
         return status
-    except BrokenPipeError:
-        # whoever read has left, so something is left out
+    except BrokenPipeError as error:
+        if not has_reader_left():
+            return told(name, said_of(error), NOT_DONE)
+        # something is left out
         give_up_output()
         return REPORTED
     except Wrong as wrong:
