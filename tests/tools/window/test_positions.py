@@ -105,6 +105,18 @@ def test_a_changed_basis_is_told_and_changes_no_old_page(tools: Path, copied: Fo
         assert footer and footer[1] == sums[1]
 
 
+def test_a_journal_that_grew_is_the_same_one(tools: Path, copied: Folder) -> None:
+    with Window(tools, copied.path) as window:
+        before = window.page("/1/find").rows("Policies")
+        copied.post("1,issue,4000000000,2025-01-02,term,40,20,1000.00,50.00\n")
+        assert "The book has grown: 1 posting after this position" in window.page("/1/find").text
+        address = link_of(window.page("/1/"), "find")
+        assert "4000000000" in window.page("/1/newest").text
+        for path in ("/1/find", "/1/stands", address):
+            assert "isn't the one any more" not in window.page(path).text, path
+        assert window.page(address).rows("Policies") == before
+
+
 def test_a_changed_journal_is_told_with_both_sums(tools: Path, copied: Folder) -> None:
     with Window(tools, copied.path) as window:
         before = window.page("/1/find").rows("Policies")

@@ -219,7 +219,7 @@ class BookCopy:
     def journal_change(self) -> str:
         """Why the journal isn't the one any more that was copied, or nothing where that is its prefix."""
         count, was = self.newest, self.sum_at(self.newest)
-        now = self.looked_at("journal", [self.book.journal], lambda: prefix_sum(self.book.folder, count))
+        now = self.looked_at(f"journal {count}", [self.book.journal], lambda: prefix_sum(self.book.folder, count))
         if now == was:
             return ""
         return (f"The journal isn't the one any more of which this window was opened. Its first {count:,} postings had the "

@@ -1,76 +1,135 @@
-"""Goes through the window as a clerk, an administrator, an actuary, an auditor and an operator do, at both widths.
-
-usage: ways.py ADDRESS FOLDER PROGRAM SHOTS
-
-What the pages say is compared with what the program and the other tools print of the same book, in the words that a person
-reads; pictures of the pages are kept in SHOTS.
-"""
+"""A clerk's, an administrator's, an actuary's, an auditor's and an operator's way through the window, in Chromium at a desk's, a
+tablet's and a phone's width, light and dark; what the pages say is compared with what the program and the tools print."""
 from __future__ import annotations
 
-import datetime
-import os
+import json
 import re
-import subprocess
-import sys
-from typing import Any
+import shutil
+from pathlib import Path
+from typing import Any, Iterator
 
-from browser import By, DESK, Fault, PHONE, Browser, Keys, Wrong, demand
+import pytest
 
-ROOT = os.path.join(os.path.dirname(os.path.abspath(__file__)), "..", "..")
+from tests.support.folders import EXAMPLES, Folder
+from tests.support.program import ROOT, Program
+from tests.support.windows import Window
+
+pytestmark = [pytest.mark.browser, pytest.mark.needs("python:flask", "python:selenium")]
 YEAR_END = "2022-12-31"
 # the statuses that a person reads otherwise than the program prints them
 SAYS = {"inforce": "in force", "paidup": "paid up"}
+SHOTS = ROOT / "out" / "shots"
+TAB = "\ue004"
 
 
 class Book:
     """What the program and the tools print of the book."""
 
-    def __init__(self, folder: str, program: str) -> None:
-        self.folder, self.program = folder, program
+    def __init__(self, folder: Folder) -> None:
+        self.folder = folder
         self.told: dict[Any, Any] = {}
         self.begun = self.count()
 
-    def life(self, *words: Any, given: str = "") -> Any:
-        return subprocess.run([self.program, *words], cwd=self.folder, input=given, capture_output=True, text=True,
-                              check=True).stdout
+    def life(self, *words: str, given: str = "") -> str:
+        ended = self.folder.life(*words, given=given)
+        assert ended.status == 0, ended
+        return ended.out
 
-    def tool(self, *words: Any) -> Any:
+    def tool(self, *words: str) -> tuple[str, str]:
         """What a tool prints, asked once of each state of the journal."""
-        key = os.path.getsize(os.path.join(self.folder, "journal.life")), words
+        key = self.folder.journal.stat().st_size, words
         if key not in self.told:
-            self.told[key] = self.ran(*words)
-        return self.told[key]
+            ended = self.folder.tools(*words)
+            self.told[key] = ended.out, ended.err
+        found: tuple[str, str] = self.told[key]
+        return found
 
-    def ran(self, *words: Any) -> Any:
-        told = [sys.executable, os.path.join(ROOT, "tools", "life-tools"), *words]
-        ran = subprocess.run(told, cwd=self.folder, capture_output=True, text=True,
-                             env={**os.environ, "LIFE_PROGRAM": self.program})
-        return ran.stdout, ran.stderr
-
-    def count(self) -> Any:
+    def count(self) -> int:
         return int(self.life("state").splitlines()[-1].split(",")[1])
 
-    def total(self, *words: Any) -> Any:
+    def total(self, *words: str) -> list[str]:
         return [apart(each) for each in self.life("value", *words).splitlines()[-1].split(",")[1:-1]]
 
 
-def apart(number: str) -> Any:
+def apart(number: str) -> str:
     whole, _, cents = number.partition(".")
     return f"{int(whole):,}" + (f".{cents}" if cents else "")
 
 
-def cents(text: str) -> Any:
+def cents(text: str) -> int:
     return int(text.replace(",", "").replace(".", ""))
 
 
-def clerk(browser: Any, book: Any, base: Any) -> None:
+def demand(right: object, what: str) -> None:
+    assert right, what
+
+
+@pytest.fixture(scope="module")
+def office(tmp_path_factory: pytest.TempPathFactory, program: Program) -> Folder:
+    """A book of drawn policies, of the examples' small office and of 7001, with a run in its log and a backup."""
+    folder = Folder(tmp_path_factory.mktemp("ways") / "book", program)
+    folder.path.mkdir()
+    for name in ("q.xml", "g.xml"):
+        folder.write(name, (EXAMPLES / name).read_bytes())
+    folder.write("basis.csv", "1900-01-01,g.xml,400\n2020-01-01,q.xml,0\n2020-02-01,g.xml,400\n")
+    small = (EXAMPLES / "small-office.csv").read_text()
+    renumbered = re.sub(r"^(1,[a-z]+,)(1[1-7]),", r"\g<1>700\2,", small, flags=re.M)
+    lines = [line for line in renumbered.splitlines() if ",7001," not in line]
+    # a claim on the day of the posting before it, which is paid at once
+    lines += ["1,issue,70021,2024-04-04,term,40,20,1000.00,50.00", "1,premium,70021,2024-04-04,50.00", "1,claim,70021,2024-04-04",
+              "1,settle,70021,2024-04-04,1000.00"]
+    drawn = folder.life("generate", "1", "400", "1").out
+    folder.post(drawn + (EXAMPLES / "first-minute.csv").read_text() + "\n".join(lines) + "\n")
+    folder.write("log/runs/000001/run.json", json.dumps({"format": 1, "state": "begun", "begun": "2024-01-02T10:00:00+00:00",
+                                                         "before": 3, "after": None, "status": None}))
+    (folder.path / "backups").mkdir()
+    shutil.copy(folder.journal, folder.path / "backups" / "no.backup")
+    return folder
+
+
+@pytest.fixture(scope="module")
+def window(tools: Path, office: Folder) -> Iterator[Window]:
+    with Window(tools, office.path) as opened:
+        yield opened
+
+
+@pytest.fixture(scope="module")
+def book(office: Folder) -> Book:
+    return Book(office)
+
+
+SIZES = {"desk": ((1280, 900), "light"), "desk in the dark": ((1280, 900), "dark"), "tablet": ((768, 1000), "light"),
+         "phone": ((390, 844), "light"), "phone in the dark": ((390, 844), "dark")}
+
+
+@pytest.fixture(scope="module", params=SIZES)
+def browser(request: pytest.FixtureRequest, window: Window) -> Iterator[Any]:
+    from tests.support.browser import Browser
+    SHOTS.mkdir(parents=True, exist_ok=True)
+    size, scheme = SIZES[request.param]
+    shown = Browser(size, SHOTS, scheme)
+    try:
+        shown.enter(window)
+        yield shown
+    finally:
+        shown.close()
+
+
+@pytest.mark.parametrize("way", ["clerk", "administrator", "actuary", "auditor", "operator"])
+def test_way(browser: Any, window: Window, book: Book, way: str) -> None:
+    globals()[way](browser, book, f"http://127.0.0.1:{window.port}{window.root}")
+    demand(browser.driver.get_cookies() and not browser.driver.execute_script("return document.cookie"),
+           "the cookie is seen by scripts")
+
+
+def clerk(browser: Any, book: Book, base: str) -> None:
     """Finds a policy by its number, reads it, and takes the lines of what is due."""
     browser.open(base + "/1/")
     browser.look("book")
     demand(cents(browser.rows("Policies by plan and status", "tfoot")[0][2]) ==
            len([line for line in book.life("state").splitlines() if line.startswith("policy,")]), "the count of policies")
     browser.type("Number of a policy, or part of it", "7001", is_sent=True)
-    browser.says("7 policies; shown are 1 to 7.", "Of just this number there is policy 7001.")
+    browser.says("7 policies; shown are 1 to 7.", "Exactly this number has policy 7001.")
     browser.press("policy 7001")
     browser.says("Policy 7001", "An endowment of 1,000.00 for 3 years on a life aged 0 at issue, issued on 2020-01-01, for "
                                 "400.00 a year, "
@@ -89,7 +148,7 @@ def clerk(browser: Any, book: Any, base: Any) -> None:
     day_lists(browser, book)
 
 
-def day_lists(browser: Any, book: Any) -> None:
+def day_lists(browser: Any, book: Book) -> None:
     day = "2022-01-15"
     browser.type("Day", day)
     browser.type("And what falls due within so many days", "30", is_sent=True)
@@ -109,13 +168,13 @@ def day_lists(browser: Any, book: Any) -> None:
     read = browser.rows("To be lapsed")
     demand(len(read) == min(50, len(lapses)) and {row[0] for row in read} <= {it[1] for it in lapses}, "the list of lapses")
     script = book.tool("due", day, "--within", "30", "--script", "lapse")[0].splitlines()
-    demand(browser.driver.find_element(By.TAG_NAME, "pre").text.split("\n") == script[:200], "the lines to send")
+    demand(browser.driver.find_element("tag name", "pre").text.split("\n") == script[:200], "the lines to send")
     browser.look("day-list")
     demand(cents(browser.rows("To be lapsed", "tfoot")[0][3]) == sum(int(it[4].replace(".", "")) for it in lapses),
            "the sum of lapses")
 
 
-def administrator(browser: Any, book: Any, base: Any) -> None:
+def administrator(browser: Any, book: Book, base: str) -> None:
     """Looks through lists, and takes what was posted since; an earlier page stays as it was."""
     browser.open(base + "/1/find")
     browser.choose("Plan", "endowment")
@@ -127,7 +186,8 @@ def administrator(browser: Any, book: Any, base: Any) -> None:
     browser.press("last")
     demand([int(row[0]) for row in browser.rows("Policies")] == wanted[(len(wanted) - 1) // 50 * 50:], "the last page")
     browser.press("first")
-    if not browser.is_phone:
+    # a narrow list has no heads to press
+    if browser.size[0] > 1000:
         browser.press("amount insured")
         browser.press("amount insured")
         amounts = [cents(row[5]) for row in browser.rows("Policies")]
@@ -137,24 +197,25 @@ def administrator(browser: Any, book: Any, base: Any) -> None:
     grows(browser, book, base)
 
 
-def grows(browser: Any, book: Any, base: Any) -> None:
+def grows(browser: Any, book: Book, base: str) -> None:
     at = book.count()
     browser.open(f"{base}/1/find?number=7001&at={at}")
     before = browser.rows("Policies")
     number = 8000001 + at
     book.life("run", given=f"1,issue,{number},2024-04-05,endowment,30,20,1000.00,40.00\n1,premium,{number},2024-04-05,40.00\n")
     browser.open(f"{base}/1/find?number=7001&at={at}")
-    browser.says("The book has grown: 2 postings behind this position.")
+    browser.says("The book has grown: 2 postings after this position.")
     demand(browser.rows("Policies") == before, "a page of a position changed")
+    browser.leave(False)
     browser.press("Go to the newest position")
-    browser.says(f"{at + 2:,} postings, the last of 2024-04-05")
+    demand(browser.facts()["postings"] == f"{at + 2:,}", "the newest position")
     browser.open(f"{base}/1/find?number={number}")
-    demand(browser.rows("Policies")[0][:2] == [str(number), "in force"], "the new policy isn't found")
+    browser.says(f"Policy {number}", "In force: 1 premium paid")
     browser.open(f"{base}/1/find?number={number}&at={at}")
-    browser.says("No policy is so.", "This is an earlier position.")
+    browser.says("No policy matches what is asked for.", "This is an earlier position.")
 
 
-def actuary(browser: Any, book: Any, base: Any) -> None:
+def actuary(browser: Any, book: Book, base: str) -> None:
     """Chooses a year's end, values it, sees that all adds up, and has one reserve worked out."""
     browser.open(base + "/1/month")
     browser.type("Opening day", "2021-12-31")
@@ -177,7 +238,7 @@ def actuary(browser: Any, book: Any, base: Any) -> None:
     reads_reserve(browser, base)
 
 
-def reads_report(browser: Any, book: Any, position: int) -> None:
+def reads_report(browser: Any, book: Book, position: str) -> None:
     total = book.total(YEAR_END, "--at", position)
     facts = browser.facts()
     demand([facts["lower bound"], facts["upper bound"]] == total, f"the total is {total}, and the page says {facts}")
@@ -195,7 +256,7 @@ def reads_report(browser: Any, book: Any, position: int) -> None:
     browser.look("report")
 
 
-def reads_movement(browser: Any, book: Any, position: int) -> None:
+def reads_movement(browser: Any, book: Book, position: str) -> None:
     rows, closing = browser.rows("What moved"), browser.rows("What moved", "tfoot")[0]
     for place in (2, 3):
         added = sum(signed(row[place]) for row in rows)
@@ -207,46 +268,49 @@ def reads_movement(browser: Any, book: Any, position: int) -> None:
     browser.look("movement")
 
 
-def reads_statement(browser: Any, book: Any) -> None:
+def reads_statement(browser: Any, book: Book) -> None:
     """Each sheet adds up in the words that are read, and ends with what the program prints."""
-    browser.says("Checked: the increase in reserves ends with just these")
+    browser.says("Checked: the increase in reserves ends with exactly these")
     last = book.tool("position-on", "2024-06-30", "journal.life")[0].strip()
     total, increase = book.total("2024-06-30", "--at", last), browser.rows("Increase in reserves")
     for place in (2, 3):
         added = sum(signed(row[place]) for row in increase[:-1])
         demand(added == signed(increase[-1][place]) == cents(total[place - 2]),
                f"the increase in reserves: {increase[-1]}, by life {total}")
-    exhibit, names = browser.rows("Exhibit of life insurance"), [row[0] for row in browser.rows("Exhibit of life insurance")]
-    begins, ends = names.index("in force at the beginning"), names.index("in force at the end")
-    for place in range(1, 13):
-        added = sum(signed(row[place]) for row in exhibit[begins:ends])
-        demand(added == signed(exhibit[ends][place]), f"column {place} of the exhibit: {added}, and not {exhibit[ends][place]}")
+    for part in ("number of policies", "amounts"):
+        exhibit = browser.rows(f"Exhibit of life insurance: {part}")
+        names = [row[0] for row in exhibit]
+        begins, ends = names.index("in force at the beginning"), names.index("in force at the end")
+        for place in range(1, 7):
+            added = sum(signed(row[place]) for row in exhibit[begins:ends])
+            demand(added == signed(exhibit[ends][place]), f"column {place} of the {part}: {added}, not {exhibit[ends][place]}")
     reserves = browser.rows("Reserves by valuation basis")
     demand(sum(signed(row[-2]) for row in reserves[:-1]) == signed(reserves[-1][-2]) == cents(total[1]), "reserves by basis")
     browser.look("statement")
 
 
-def signed(text: str) -> Any:
+def signed(text: str) -> int:
     return int(text.replace(",", "").replace(".", ""))
 
 
-def reads_reserve(browser: Any, base: Any) -> None:
+def reads_reserve(browser: Any, base: str) -> None:
     browser.open(base + "/1/policy?number=7001")
     label = "On the day"
-    fields = [each for each in browser.driver.find_elements(By.TAG_NAME, "label") if each.text.strip() == label]
-    field = browser.driver.find_element(By.ID, fields[1].get_attribute("for"))
-    field.clear()
-    field.send_keys("2021-01-01")
-    browser.send(field)
+    fields = [each for each in browser.driver.find_elements("tag name", "label") if each.text.strip() == label]
+    field = browser.driver.find_element("id", fields[1].get_attribute("for"))
+    browser.driver.execute_script("arguments[0].value = '2021-01-01'", field)
+    browser.leave()
+    field.submit()
+    browser.settle()
     demand(list(browser.facts().values())[:2] == ["127.22", "127.23"], f"the reserve of 7001 is {browser.facts()}")
     browser.says("Row of the basis from 2020-01-01: table q.xml, interest of 0 %.", "Printed: 127.22,127.23: the same.",
                  "Its limit, whole life at age 1 on 4 premiums")
     # by hand (docs/explanation/reserves.md): (1 + 0.3704 - 0.1)/2.62, and 1 less 1.8 times that
     formulas = [re.sub(r"\s", "", each.get_attribute("textContent"))
-                for each in browser.driver.find_elements(By.TAG_NAME, "math")]
+                for each in browser.driver.find_elements("tag name", "math")]
     for wanted in ("=0.555555556", "=0.37037037", "=0.484874187", "=0.127226463", "127.22≤127.226463104≤127.23"):
         demand(wanted in formulas, f"{wanted} isn't worked out: {formulas}")
-    tall = [each for each in browser.driver.find_elements(By.TAG_NAME, "math") if each.size["height"] > 8]
+    tall = [each for each in browser.driver.find_elements("tag name", "math") if each.size["height"] > 8]
     demand(len(tall) == len(formulas), "mathematics isn't shown")
     browser.press("The same as a table")
     curve = [row[2:] for row in browser.rows("The reserve on each anniversary")]
@@ -263,11 +327,11 @@ def reads_reserve(browser: Any, base: Any) -> None:
     browser.look("deficiency")
 
 
-def auditor(browser: Any, book: Any, base: Any) -> None:
+def auditor(browser: Any, book: Book, base: str) -> None:
     """Keeps the seal, looks at flags, and draws a sample: all as the tools print them."""
     browser.open(base + "/1/audit")
     seal = book.tool("seal")[0].strip()
-    demand(browser.driver.find_element(By.TAG_NAME, "pre").text.strip() == seal, "the seal is another one")
+    demand(browser.driver.find_element("tag name", "pre").text.strip() == seal, "the seal is another one")
     browser.says("whole")
     browser.look("audit")
     browser.press("Show")
@@ -276,10 +340,14 @@ def auditor(browser: Any, book: Any, base: Any) -> None:
     demand(printed and [row[:3] for row in browser.rows("Postings to look at")] == [row[:3] for row in printed], "the flags")
     browser.look("flags")
     browser.press("Audit")
-    browser.type("Valued on", YEAR_END)
-    browser.type("Rows wished for", "20")
+    browser.type("Audit of the day", YEAR_END)
+    browser.press("Choose")
+    position = book.tool("position-on", YEAR_END, "journal.life")[0].strip()
+    browser.says(f"All that follows is of position {apart(position)}, the book at the end of {YEAR_END}.")
+    browser.look("audit-of-a-day")
+    browser.type("Rows asked for", "20")
     browser.press("Draw")
-    lines = book.tool("audit", "sample", "20", "--seed", "1", "--on", YEAR_END)[0].splitlines()
+    lines = book.tool("audit", "sample", "20", "--seed", "1", "--on", YEAR_END, "--at", position, "--mean")[0].splitlines()
     drawn = [line.split(",")[1:] for line in lines if line.startswith("row,")]
     demand(len(drawn) > 10, f"only {len(drawn)} rows are drawn")
     wanted = [[row[0], SAYS.get(row[1], row[1]), row[2], *map(apart, row[3:5])] for row in drawn]
@@ -287,7 +355,7 @@ def auditor(browser: Any, book: Any, base: Any) -> None:
     browser.look("sample")
 
 
-def operator(browser: Any, book: Any, base: Any) -> None:
+def operator(browser: Any, book: Book, base: str) -> None:
     """Looks how the book stands, types what is no day, and goes by keys alone."""
     browser.open(base + "/1/stands")
     browser.look("stands")
@@ -300,41 +368,14 @@ def operator(browser: Any, book: Any, base: Any) -> None:
     browser.says("on: 2022-02-31 is no day YYYY-MM-DD from 1900-01-01 to 2199-12-31")
     browser.look("told")
     browser.open(base + "/1/")
-    body = browser.driver.find_element(By.TAG_NAME, "body")
-    body.send_keys(Keys.TAB)
+    body = browser.driver.find_element("tag name", "body")
+    body.send_keys(TAB)
     active = browser.driver.switch_to.active_element
     demand(active.text.strip() == "To the page", f"the first key goes to {active.text!r}")
     names = []
     for _ in range(8):
-        browser.driver.switch_to.active_element.send_keys(Keys.TAB)
+        browser.driver.switch_to.active_element.send_keys(TAB)
         names.append(browser.driver.switch_to.active_element.text.strip()
                      or browser.driver.switch_to.active_element.get_attribute("name"))
     demand(names[:8] == ["Book", "Find", "The day", "Month and year", "Audit", "How it stands", "number", "Find"],
            f"the order of keys: {names}")
-
-
-def main(address: Any, folder: str, program: str, shots: Any) -> int:
-    book, base = Book(folder, program), address.split("/?")[0]
-    for size in (DESK, PHONE):
-        browser = Browser(size, shots)
-        try:
-            browser.open(address)
-            demand(browser.driver.current_url == base + "/1/", f"the address leads to {browser.driver.current_url}")
-            for way in [globals()[name] for name in os.environ.get("WAYS",
-                                                                   "clerk administrator actuary auditor operator").split()]:
-                begun = datetime.datetime.now()
-                way(browser, book, base)
-                print(f"{way.__name__} at {size[0]}: {(datetime.datetime.now() - begun).seconds} s", file=sys.stderr)
-            demand(browser.driver.get_cookies() and not browser.driver.execute_script("return document.cookie"),
-                   "the cookie is seen by scripts")
-        except (Wrong, Fault) as wrong:
-            print(f"at {size[0]}, on {browser.driver.title!r}: {str(wrong)[:2000]}")
-            browser.keep("wrong")
-            return 1
-        finally:
-            browser.close()
-    return 0
-
-
-if __name__ == "__main__":
-    sys.exit(main(*sys.argv[1:]))

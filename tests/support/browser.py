@@ -1,25 +1,23 @@
 """A real browser on the window: what a person reads, types and presses, at a desk's width and at a phone's."""
 from __future__ import annotations
 
-import os
+import importlib
 import re
-import sys
 import time
+from pathlib import Path
 from typing import Any
 
-sys.path.insert(0, os.path.join(os.path.dirname(os.path.abspath(__file__)), "..", "..", "tools"))
+from tests.support.windows import Window
 
-from life_tools.common.packages import package  # noqa: E402
+webdriver: Any = importlib.import_module("selenium.webdriver")
+By: Any = importlib.import_module("selenium.webdriver.common.by").By
+Keys: Any = importlib.import_module("selenium.webdriver.common.keys").Keys
+Stale: Any = importlib.import_module("selenium.common.exceptions").StaleElementReferenceException
+Fault: Any = importlib.import_module("selenium.common.exceptions").WebDriverException
+Service: Any = importlib.import_module("selenium.webdriver.chrome.service").Service
 
-webdriver = package("selenium.webdriver", "python3-selenium")
-By = package("selenium.webdriver.common.by", "python3-selenium").By
-Keys = package("selenium.webdriver.common.keys", "python3-selenium").Keys
-Stale = package("selenium.common.exceptions", "python3-selenium").StaleElementReferenceException
-Fault = package("selenium.common.exceptions", "python3-selenium").WebDriverException
-Service = package("selenium.webdriver.chrome.service", "python3-selenium").Service
-
-PATIENCE = 60
-DESK, PHONE = (1280, 900), (390, 844)
+PATIENCE = 120
+DESK, TABLET, PHONE = (1280, 900), (768, 1000), (390, 844)
 OPTIONS = ("--headless=new", "--no-sandbox", "--disable-gpu", "--hide-scrollbars", "--disable-dev-shm-usage", "--no-first-run",
            "--disable-background-networking")
 # the text and the ground of each element that has words of its own, as red, green, blue
@@ -40,7 +38,7 @@ return found;
 UNNAMED = """
 return [...document.querySelectorAll('tbody td')].filter(cell => cell.textContent.trim() && !cell.classList.contains('bar') &&
   cell.getClientRects().length && getComputedStyle(cell, '::before').content.replaceAll('"', '') !== cell.dataset.head)
-  .map(cell => cell.textContent);
+  .filter(cell => !cell.closest('.list')).map(cell => cell.textContent);
 """
 
 # tables that are wider than their place, so that they scroll sideways
@@ -57,13 +55,9 @@ return rows ? rows.map(row => [...row.cells].map(cell => cell.innerText.trim()))
 """
 
 
-class Wrong(Exception):
-    pass
-
-
 def demand(right: Any, what: str) -> None:
-    if not right:
-        raise Wrong(what)
+    """An assertion, which a test of a page makes many of."""
+    assert right, what
 
 
 def luminance(colour: Any) -> Any:
@@ -80,15 +74,24 @@ def contrast(one: Any, other: Any) -> Any:
 class Browser:
     """A window of Chromium of one width."""
 
-    def __init__(self, size: tuple[int, int], shots: Any) -> None:
+    def __init__(self, size: tuple[int, int], shots: Path, scheme: str = "light") -> None:
         options = webdriver.ChromeOptions()
         for each in OPTIONS:
             options.add_argument(each)
         options.binary_location = "/usr/bin/chromium"
         self.driver = webdriver.Chrome(service=Service("/usr/bin/chromedriver"), options=options)
         self.driver.set_page_load_timeout(PATIENCE)
-        self.size, self.shots, self.kept = size, shots, 0
+        self.size, self.shots, self.scheme, self.kept = size, shots, scheme, 0
         self.measure(size[1])
+        media = {"features": [{"name": "prefers-color-scheme", "value": scheme}]}
+        self.driver.execute_cdp_cmd("Emulation.setEmulatedMedia", media)
+
+    def enter(self, window: Window) -> None:
+        """Comes into a window by the cookie of whoever opened it; its key works once."""
+        base = f"http://127.0.0.1:{window.port}{window.root}"
+        self.driver.get(f"{base}/1/")
+        name, _, value = window.cookie.partition("=")
+        self.driver.add_cookie({"name": name, "value": value, "path": f"{window.root}/", "httpOnly": True})
 
     def measure(self, height: Any) -> None:
         told = {"width": self.size[0], "height": height, "deviceScaleFactor": 1, "mobile": self.size == PHONE}
@@ -109,7 +112,7 @@ class Browser:
         ends = time.monotonic() + PATIENCE
         while self.driver.execute_script(WAITS):
             if time.monotonic() > ends:
-                raise Wrong(f"after {PATIENCE} seconds the page still waits: {self.driver.title}")
+                raise AssertionError(f"after {PATIENCE} seconds the page still waits: {self.driver.title}")
             time.sleep(0.1)
 
     def press(self, words: list[str]) -> Any:
@@ -128,18 +131,22 @@ class Browser:
                     each.click()
                     self.settle()
                     return
-        raise Wrong(f"nothing can be pressed that says {words!r}; the page says: {self.text()[:600]}")
+        raise AssertionError(f"nothing can be pressed that says {words!r}; the page says: {self.text()[:600]}")
 
     def field(self, label: Any) -> Any:
         for each in self.driver.find_elements(By.TAG_NAME, "label"):
             if each.text.strip() == label:
                 return self.driver.find_element(By.ID, each.get_attribute("for"))
-        raise Wrong(f"no field is labelled {label!r}")
+        raise AssertionError(f"no field is labelled {label!r}")
 
     def type(self, label: Any, text: str, is_sent: bool = False) -> None:
         field = self.field(label)
-        field.clear()
-        field.send_keys(text)
+        if field.get_attribute("type") == "date":
+            # the keys that a date takes are those of a country
+            self.driver.execute_script("arguments[0].value = arguments[1]", field, text)
+        else:
+            field.clear()
+            field.send_keys(text)
         if is_sent:
             self.send(field)
 
@@ -158,7 +165,7 @@ class Browser:
             if each.text.strip() == words:
                 each.click()
                 return
-        raise Wrong(f"{label} has no choice {words!r}")
+        raise AssertionError(f"{label} has no choice {words!r}")
 
     # --- what a person reads ---
 
@@ -178,7 +185,7 @@ class Browser:
     def rows(self, caption: Any, part: str = "tbody") -> Any:
         """The cells of a table's rows, as they are read."""
         found = self.driver.execute_script(CELLS, caption, part)
-        demand(found is not None, f"there is no table {caption!r}")
+        demand(found is not None, f"there is no table {caption!r}: {self.driver.current_url} says {self.text()[:800]}")
         return found
 
     # --- how it looks ---
@@ -206,7 +213,7 @@ class Browser:
     def keep(self, name: str) -> None:
         height = self.driver.execute_script("return document.documentElement.scrollHeight")
         self.measure(min(height, 6000))
-        self.shoot(os.path.join(self.shots, f"window-{name}-{self.size[0]}.png"))
+        self.shoot(str(self.shots / f"window-{name}-{self.size[0]}-{self.scheme}.png"))
         self.measure(self.size[1])
         self.kept += 1
 
