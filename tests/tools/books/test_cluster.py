@@ -1,100 +1,137 @@
-"""Many books on a cluster of Dask: what is left out is told, a message names the book's folder, and a worker that stands
-still is one line and 2."""
+"""`books --scheduler`: a cluster of Dask on the loopback, with a worker that dies and a scheduler that goes away, prints what
+this machine prints, byte for byte."""
 from __future__ import annotations
 
-import json
+import fcntl
+import hashlib
 import os
-import shutil
-import signal
+import re
+import shlex
 import subprocess
-import time
-from dataclasses import dataclass
+import sys
+from collections.abc import Iterator
 from pathlib import Path
-from typing import Iterator
 
 import pytest
 
+from life_tools.books.runs import Task, run_once
+from tests.support.clusters import Cluster, await_that
 from tests.support.folders import EXAMPLES, Folder
+from tests.support.program import ROOT
 
-DEBIANS = "/usr/bin/python3"
-PATIENCE = 90
-
-
-@dataclass
-class Cluster:
-    """A scheduler and one worker on the loopback, beside two books."""
-
-    folder: Folder
-    address: str
-    worker: subprocess.Popen[bytes]
-
-    def books(self, *words: str) -> tuple[int, str, str]:
-        ended = self.folder.tools("books", "books.csv", *words, "--scheduler", self.address)
-        return ended.status, ended.out, ended.err
-
-
-def until(path: Path, ended: subprocess.Popen[bytes]) -> None:
-    """Until a file is there and has something in it."""
-    begun = time.monotonic()
-    while not path.exists() or not path.stat().st_size:
-        assert ended.poll() is None and time.monotonic() - begun < PATIENCE
-        time.sleep(0.1)
-
-
-def began(folder: Path, *words: str) -> subprocess.Popen[bytes]:
-    with open(folder / f"{words[0]}.log", "wb") as log:
-        return subprocess.Popen([DEBIANS, "-m", f"distributed.cli.{words[0]}", *words[1:]], cwd=folder, stdout=log, stderr=log)
+pytestmark = [pytest.mark.slow, pytest.mark.needs("python:distributed"), pytest.mark.timeout(900)]
+VALUE = ["books", "books.csv", "value", "2010-12-31", "--totals"]
 
 
 @pytest.fixture
-def cluster(small_office: Folder) -> Iterator[Cluster]:
-    for name in ("a", "b"):
-        book = small_office.below(name)
-        for each in ("basis.csv", "q.xml", "g.xml"):
-            shutil.copy(small_office.path / each, book.path)
-    shutil.copy(small_office.journal, small_office.path / "a")
-    small_office.below("b").post((EXAMPLES / "first-issues.csv").read_text())
-    small_office.write("books.csv", "a,a,basis.csv\nb,b,basis.csv\n")
-    where = small_office.path / "where.json"
-    scheduler = began(small_office.path, "dask_scheduler", "--host", "127.0.0.1", "--port", "0", "--no-dashboard",
-                      "--scheduler-file", str(where))
-    until(where, scheduler)
-    address = json.loads(where.read_text())["address"]
-    (small_office.path / "room").mkdir()
-    worker = began(small_office.path, "dask_worker", address, "--nthreads", "1", "--no-nanny", "--no-dashboard",
-                   "--local-directory", "room")
+def three(folder: Folder) -> Folder:
+    """Three books of 120 policies each."""
+    subprocess.run([sys.executable, str(EXAMPLES / "many_books.py"), ".", "3", "120"], cwd=folder.path, check=True,
+                   capture_output=True)
+    return folder
+
+
+@pytest.fixture
+def cluster(three: Folder) -> Iterator[Cluster]:
+    room = three.path / "cluster"
+    room.mkdir()
+    made = Cluster(room)
     try:
-        begun = time.monotonic()
-        while "Registered to" not in small_office.read("dask_worker.log") and time.monotonic() - begun < PATIENCE:
-            time.sleep(0.1)
-        yield Cluster(small_office, address, worker)
+        yield made
     finally:
-        os.kill(worker.pid, signal.SIGCONT)
-        for process in (worker, scheduler):
-            process.kill()
-            process.wait()
+        made.end()
 
 
-@pytest.mark.alone
-@pytest.mark.needs("python:distributed")
-def test_lines_that_a_cluster_leaves_out_are_told(cluster: Cluster) -> None:
-    here = cluster.folder.printed("books", "books.csv", "value", "2022-12-31", "--totals")
-    status, out, err = cluster.books("value", "2022-12-31")
-    assert (status, out) == (1, here) and "--parts FOLDER has them written" in err, err
-    assert cluster.books("value", "2022-12-31", "--totals")[:2] == (0, here)
-    # of a position that isn't there the book's own folder is named, and not the worker's
-    cluster.folder.write("positions.csv", "a,99\nb,4\n")
-    status, out, err = cluster.books("value", "2022-12-31", "--totals", "--at", "positions.csv")
-    assert status == 2 and f"{cluster.folder.path / 'a' / 'journal.life'} has 27 commands, and not 99" in err, err
-    assert "life-books-" not in err and str(cluster.folder.path / "room") not in err
+def without_process(text: str) -> str:
+    return re.sub("process [0-9]*", "process", text)
 
 
-@pytest.mark.slow
-@pytest.mark.alone
-@pytest.mark.needs("python:distributed")
-@pytest.mark.timeout(240)
-def test_a_worker_that_stands_still(cluster: Cluster) -> None:
-    os.kill(cluster.worker.pid, signal.SIGSTOP)
-    begun = time.monotonic()
-    status, out, err = cluster.books("value", "2022-12-31", "--totals")
-    assert (status, out) == (2, "") and "Traceback" not in err and time.monotonic() - begun < 110, err
+def test_no_scheduler(three: Folder) -> None:
+    ended = three.tools(*VALUE, "--scheduler", "tcp://127.0.0.1:1")
+    assert ended.status == 2 and "there is no scheduler at tcp://127.0.0.1:1" in ended.err and not ended.out, ended
+
+
+def test_what_the_cluster_prints(three: Folder, cluster: Cluster) -> None:
+    """By books that the workers see, by books that they are sent, and of a book in use, cut short or damaged."""
+    there = ["--scheduler", cluster.address]
+    three.printed(*VALUE[:-1], "--parts", "parts")
+    wanted = three.printed(*VALUE)
+    assert three.printed(*VALUE, *there) == wanted
+    assert three.printed(*VALUE, "--parts", "far", "--send", *there) == wanted
+    for name in ("book1", "book2", "book3"):
+        assert three.read(f"far/{name}.csv") == three.read(f"parts/{name}.csv")
+    three.refused("books", "books.csv", "checkpoint", *there, says="not on a cluster")
+    whole = (three.path / "book2/journal.life").read_bytes()
+    with open(three.path / "book2/journal.life", "rb") as held:
+        fcntl.flock(held, fcntl.LOCK_EX)
+        here, far = three.tools(*VALUE), three.tools(*VALUE, *there)
+        assert here.status == far.status == 8 and without_process(here.out) == without_process(far.out)
+    damaged = bytearray(whole)
+    damaged[17 + 65 * 100] = 0
+    for data, status, line in ((whole[:100], 5, "badjournal,badrecord,1"),
+                               (bytes(damaged), 1, ".*9100 bytes lie behind byte 6517")):
+        three.write("book2/journal.life", data)
+        for how in (there, [*there, "--send"]):
+            ended = three.tools(*VALUE, *how)
+            assert ended.status == status and re.search("^tried once more: book2$", ended.err, re.M), ended
+            assert re.search(f"^book2,failed,{status},{line}", ended.out, re.M), ended
+
+
+def test_workers_that_die_and_a_scheduler_that_goes_away(three: Folder, cluster: Cluster) -> None:
+    wanted = three.printed(*VALUE)
+    life = shlex.quote(str(three.program.path))
+    slow = three.write("slow", f'#!/bin/sh\ntouch "{three.path}/begun.$$"\nsleep 2\nexec {life} "$@"\n')
+    slow.chmod(0o755)
+
+    def begin() -> subprocess.Popen[bytes]:
+        """`books` at work on the cluster by a program that takes its time, once it has begun with a book."""
+        for file in three.path.glob("begun.*"):
+            file.unlink()
+        run = subprocess.Popen([sys.executable, str(ROOT / "tools" / "life-tools"), *VALUE, "--scheduler", cluster.address],
+                               cwd=three.path, env={**os.environ, "LIFE_PROGRAM": str(slow)}, stdout=subprocess.PIPE,
+                               stderr=open(three.path / "remarks", "wb"))
+        await_that(lambda: bool(list(three.path.glob("begun.*"))) or run.poll() is not None, "nothing was begun")
+        return run
+
+    run = begin()
+    cluster.kill_worker(1)
+    assert run.communicate()[0].decode() == wanted and run.returncode == 0
+    run = begin()
+    cluster.kill_worker(2)
+    await_that(lambda: "has no worker left: waiting for one" in three.read("remarks"), "nothing is told of no worker")
+    assert run.poll() is None
+    cluster.begin_worker(3)
+    assert run.communicate()[0].decode() == wanted and run.returncode == 0
+    run = begin()
+    cluster.scheduler.kill()
+    assert not run.communicate()[0] and run.returncode == 2
+    assert f"the scheduler at {cluster.address} went away" in three.read("remarks")
+
+
+# --- a worker that has another program, or sees another book ---
+
+WORDS = ("value", "2010-12-31")
+NAMES = ("journal.life", "basis.csv", "g.xml")
+
+
+def sum_at(path: Path) -> str:
+    return hashlib.sha256(path.read_bytes()).hexdigest()
+
+
+def test_a_worker_that_has_something_else(three: Folder) -> None:
+    right = sum_at(three.program.path)
+    sums = {name: sum_at(three.path / "book1" / name) for name in NAMES}
+
+    def outcome(told: dict[str, str], program_sum: str = right, name: str = "book1") -> tuple[int, str]:
+        found = run_once(Task(name, str(three.path / name), "basis.csv", WORDS, (str(three.program.path),), None, True,
+                              program_sum, tuple(told.items())))
+        return found.status, found.line
+
+    assert outcome(sums)[0] == 0
+    status, line = outcome(sums, "0" * 64)
+    assert status == 2 and "has no program of the sum 0000000000000000" in line
+    for name in NAMES:
+        status, line = outcome({**sums, name: "0" * 64})
+        assert status == 2 and f"sees another {name} than the one asked for" in line
+    status, line = outcome(sums, name="book9")
+    assert status == 2 and "there is no" in line

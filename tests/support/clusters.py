@@ -1,0 +1,60 @@
+"""A cluster of Dask on the loopback: a scheduler and workers of a thread each, as programs of their own."""
+from __future__ import annotations
+
+import json
+import os
+import subprocess
+import sys
+import time
+from pathlib import Path
+from typing import Callable
+
+SECONDS = 120
+ENV = {"DASK_LOGGING__DISTRIBUTED": "critical", "DASK_DISTRIBUTED__COMM__TIMEOUTS__CONNECT": "10s"}
+
+
+def await_that(holds: Callable[[], bool], what: str) -> None:
+    """Waits until something holds, for so long at most."""
+    until = time.monotonic() + SECONDS
+    while not holds():
+        assert time.monotonic() < until, what
+        time.sleep(0.1)
+
+
+class Cluster:
+    """A scheduler and two workers in a folder, which its logs and its workers' folders are written to."""
+
+    def __init__(self, folder: Path) -> None:
+        self.folder, self.workers = folder, dict[int, subprocess.Popen[bytes]]()
+        where = folder / "where.json"
+        self.scheduler = self.begin("scheduler", "dask_scheduler", "--host", "127.0.0.1", "--port", "0", "--no-dashboard",
+                                    "--scheduler-file", str(where))
+        await_that(lambda: where.exists() and where.stat().st_size > 0, "there is no scheduler")
+        self.address: str = json.loads(where.read_text(encoding="utf-8"))["address"]
+        for number in (1, 2):
+            self.begin_worker(number)
+        self.await_workers(2)
+
+    def begin(self, name: str, module: str, *words: str) -> subprocess.Popen[bytes]:
+        with open(self.folder / f"{name}.log", "wb") as log:
+            return subprocess.Popen([sys.executable, "-m", f"distributed.cli.{module}", *words], cwd=self.folder, stdout=log,
+                                    stderr=log, env={**os.environ, **ENV})
+
+    def begin_worker(self, number: int) -> None:
+        self.workers[number] = self.begin(f"worker{number}", "dask_worker", self.address, "--nthreads", "1", "--no-nanny",
+                                          "--no-dashboard", "--local-directory", str(self.folder / f"room{number}"))
+
+    def await_workers(self, count: int) -> None:
+        from distributed import Client
+
+        with Client(self.address, timeout=SECONDS) as client:  # type: ignore[no-untyped-call] # Dask has no types for it
+            client.wait_for_workers(count, timeout=SECONDS)
+
+    def kill_worker(self, number: int) -> None:
+        self.workers[number].kill()
+        self.workers.pop(number).wait()
+
+    def end(self) -> None:
+        for process in (*self.workers.values(), self.scheduler):
+            process.kill()
+            process.wait()
