@@ -33,6 +33,8 @@ def on_page_markdown(markdown: str, page: Any, config: Any, files: Any) -> str:
 
 def on_post_build(config: Any) -> None:
     site = pathlib.Path(config["site_dir"])
+    index = (site / "search" / "search_index.json").read_text(encoding="utf-8")
+    (site / "search" / "search_index.js").write_text(f"var __search = {{ index: Promise.resolve({index}) }};\n", encoding="utf-8")
     # its links lead from the root of a server, which there is none of
     (site / "404.html").unlink()
     (site / "katex" / "contrib").mkdir(parents=True)
