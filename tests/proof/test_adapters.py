@@ -28,9 +28,9 @@ MIDDLE = f"{FAILING}::test_the_middle_of_a_file_overwritten_in_place_is_read_fro
 BY_TESTS = [
     ("place", CALLS, r"made \['write journal 1 00'"), ("behind", CALLS, r"wanted \['fsync journal', 'write journal 1 "),
     ("folder", CALLS, r"wanted \['open folder', 'fsync folder'"), ("lock", CALLS, r"wanted \['lock journal "),
-    ("read", DEVICES, ""), ("longer", DEVICES, "a read of 1 bytes at 0 gave 0 others"),
+    ("read", DEVICES, ""), ("longer", DEVICES, "returncode=8, stdout=b'diskfault"),
     ("cut", DEVICES, "the journal doesn't hold what was written"), ("shelf", DEVICES, ""),
-    ("status", "tests/program/test_run.py::test_a_bad_record", r"assert \(0, 'badjournal"),
+    ("status", "tests/program/test_run.py::test_a_bad_record", r"assert \(0, 'badjourn"),
     ("descriptors", f"{CLOSED}[output-foreign-program]", ""), ("archive", ARCHIVE, ""),
     ("undropped", COPIES, r"FAILED .*test_both_ends_are_dropped_before_anything_is_read\[18 bytes-journal"),
     ("start", COPIES, r"FAILED .*test_both_ends_are_dropped_before_anything_is_read\[18 bytes-journal"),

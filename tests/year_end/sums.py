@@ -70,11 +70,16 @@ def cents(text: str) -> int:
     return int(text.replace(".", "").replace(",", ""))
 
 
-def csv_rows(path: str) -> Rows:
-    """The rows of a sheet behind its head, by their first cell; amounts in cents, what is no number as text."""
+def sheet_rows(path: str) -> list[list[str]]:
+    """The rows of a sheet behind its head, but for the one that says that no program is known to be proved."""
     with open(path, newline="", encoding="utf-8") as file:
         _, *rows = csv.reader(file)
-    return {row[0]: [value_of(cell) for cell in row[1:]] for row in rows}
+    return [row for row in rows if row[0] != "not the proved program"]
+
+
+def csv_rows(path: str) -> Rows:
+    """The rows of a sheet behind its head, by their first cell; amounts in cents, what is no number as text."""
+    return {row[0]: [value_of(cell) for cell in row[1:]] for row in sheet_rows(path)}
 
 
 def value_of(cell: str) -> Any:

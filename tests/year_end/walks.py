@@ -10,7 +10,7 @@ import sqlite3
 from typing import Any
 
 from .office import Office, moved_lines, need
-from .sums import Sums, Year, cents, csv_rows, value_of
+from .sums import Sums, Year, cents, csv_rows, sheet_rows, value_of
 
 ON1, ON2, TODAY = "2022-12-31", "2023-12-31", "2024-04-02"
 WITHIN = 31
@@ -147,8 +147,7 @@ class Walk:
         rows = {"main": self.basis_rows("basis.csv"), **({"other": self.basis_rows("other.csv")} if classes else {})}
         method = "mean" if measure == "mean" else "terminal"
         wanted = self.sums.reserves(rows, f"CRVM {method}", f"paid up {method}")
-        with open(self.office.path(sheets, "reserves.csv"), newline="", encoding="utf-8") as file:
-            read = list(csv.reader(file))[1:]
+        read = sheet_rows(self.office.path(sheets, "reserves.csv"))
         found = [[row[0], cents(row[1].rstrip("%")), *row[2:5], *map(value_of, row[5:])]
                  for row in read if row[0] != "total" and not row[2].startswith("no value")]
         self.office.same("reserves", sorted(found), sorted(wanted))
@@ -294,7 +293,8 @@ class Walk:
         found = [[row["policy"], row["status"], row["amount"], row["premium a year"], row["premiums paid"], row["outstanding"],
                   row["issued"]] for row in csv.DictReader(io.StringIO(text))]
         rows = {row[0]: row for row in self.sums.rows("""
-            select policy, status, printf('%.2f', amount_cents / 100.0), printf('%.2f', premium_cents / 100.0), premiums_paid,
+            select policy, status, printf('%.2f', amount_cents / 100.0),
+                   case status when 'paidup' then '' else printf('%.2f', premium_cents / 100.0) end, premiums_paid,
                    printf('%.2f', outstanding_cents / 100.0), issued from main.policy""")}
         self.office.same("letters", found, [[str(cell) for cell in rows[number]] for number in drawn])
 

@@ -3,7 +3,7 @@
 usage: python3 -m tests.program.faults.stops PROGRAM FOLDER QUICK SEED
 
 In half of the runs the journal lies in FOLDER, on a real disk, where most of the time is a sync's; in the others in QUICK,
-a disk in memory. `.ci/checks/kills.sh` kills runs that have no valuations; here two are under way.
+a disk in memory. tests/program/kills kills runs that have no valuations; here two are under way.
 """
 from __future__ import annotations
 
