@@ -53,10 +53,10 @@ verify_length() {
     length=$(stat -Lc %s journal.life) || return 1
     count=$(od -An -v -tu1 -w65 -j17 journal.life | awk '$1 != 1 { exit } { n++ } END { print n + 0 }')
     [ $((length - 18 - 65 * count)) -gt 65 ] || return 1
-    printf 'count,%s\ndamaged\n%s bytes lie behind its end\n' "$count" $((length - 18 - 65 * count))
+    printf 'count,%s\ndamaged\n%s bytes follow its last commit byte\n' "$count" $((length - 18 - 65 * count))
 } 2>/dev/null
 
-# A damaged commit byte ends the journal for the program, and the next posting overwrites what lies behind it. So what
+# A damaged commit byte ends the journal for the program, and the next posting overwrites what follows it. So what
 # posts ends with 67, unless the caller accepts that so many commands ($1) are left; all else is run, and warned of.
 demand_whole() {
     accepted=$1
@@ -71,10 +71,10 @@ demand_whole() {
             if ! posts "$@"; then
                 say "journal.life is damaged, and what follows is of its first $count commands alone: $why"
             elif [ "$accepted" = "$count" ]; then
-                say "journal.life is damaged, and is posted to behind its first $count commands: $why"
+                say "journal.life is damaged, and is posted to after its first $count commands: $why"
             else
                 say "journal.life is damaged, so nothing was run: its first $count commands can be read. $why" \
-                    "Restore the last whole copy; or $called $1 --accept-damage $count overwrites what lies behind them"
+                    "Restore the last whole copy; or $called $1 --accept-damage $count overwrites what follows them"
                 exit 67
             fi
             ;;

@@ -38,8 +38,8 @@ Posts the lines of a script, which it reads from standard input to its end, and
 prints what became of each.
 
   --basis NAME           the basis of the script's value lines (basis.csv)
-  --accept-damage COUNT  posts to a book that was reported as damaged behind its
-                         first COUNT commands, and overwrites what lies there
+  --accept-damage COUNT  posts to a book that was reported as damaged after its
+                         first COUNT commands, and overwrites what follows
 
 Example: $called run < monday.csv > monday.transcript
 Status 0: each line was processed. 3: a row of the script is wrong. 8: the disk

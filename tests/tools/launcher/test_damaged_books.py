@@ -1,5 +1,5 @@
 """A damaged commit byte ends the journal for the program. Neither the clone's launcher nor the installed `life` lets it post
-behind that, unless the caller accepts the loss; what only reads is warned of."""
+after that, unless the caller accepts the loss; what only reads is warned of."""
 from __future__ import annotations
 
 import json
@@ -26,7 +26,7 @@ def damage(journal: Path, record: int) -> None:
 
 @pytest.fixture
 def damaged(small_office: Folder) -> Folder:
-    """The small office, whose record 3 has a damaged commit byte: 23 records behind it can't be read."""
+    """The small office, whose record 3 has a damaged commit byte: 23 records after it can't be read."""
     damage(small_office.journal, 3)
     return small_office
 

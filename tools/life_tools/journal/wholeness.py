@@ -70,8 +70,9 @@ class Shape:
         if not self.length:
             yield f"{self.path} is empty, and the program would begin a new book in it"
         if self.excess:
-            yield (f"{self.path}: {self.excess} bytes follow byte {gate_of(self.count)}, the commit byte of record {self.count}, "
-                   + ("which isn't 1" if self.excess > RECORD_SIZE else "as after a crash, or as with a damaged last commit byte"))
+            why = "which isn't 1" if self.excess > RECORD_SIZE else "as after a crash, or as with a damaged last commit byte"
+            yield (f"{self.path}: {self.excess} bytes follow byte {gate_of(self.count)}, the commit byte of record "
+                   f"{self.count}, {why}")
         for it in self.noted:
             if it.commands > self.count:
                 yield f"{self.path} has {self.count} commands, and had {it.commands} by {it.by}"
