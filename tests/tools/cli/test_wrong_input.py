@@ -124,6 +124,8 @@ verify @
 verify --seal @
 headroom @
 headroom --recorded @
+backup new --folder @
+restore @ --folder new
 read @
 read-checkpoint @
 read-checkpoint checkpoint.life @
