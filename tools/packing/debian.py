@@ -14,7 +14,7 @@ from packing.tree import NAME, Release, lay, settle, write
 
 # what the tools need beside Python's own library; each says which one it misses, so none is demanded
 RECOMMENDED = ("python3 (>= 3.11)", "python3-flask", "python3-numpy", "python3-openpyxl", "python3-pandas")
-SUGGESTED = ("python3-distributed", "chromium", "libreoffice-calc")
+SUGGESTED = ("python3-distributed", "chromium", "libreoffice-calc", "rsync", "openssh-client")
 OVERRIDES = """# The bytes of the program are those that were proved and built, and whose sum proved.txt tells: it isn't stripped.
 life: unstripped-binary-or-object [usr/libexec/life/life-program]
 """
