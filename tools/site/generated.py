@@ -7,7 +7,6 @@ A block stands between `<!-- generated: NAME WORDS -->` and `<!-- end -->`; NAME
 """
 from __future__ import annotations
 
-import ast
 import os
 import pathlib
 import re
@@ -154,17 +153,8 @@ def read() -> str:
     return "\n".join([*rows, f"| **together** | | **{total}** | | |"]) + "\n"
 
 
-def suite() -> str:
-    """The modules of the test suite, each with the first sentence of its description."""
-    rows = ["| Module | What it tries |", "|---|---|"]
-    for file in sorted((TOP / "tests").rglob("test_*.py")):
-        described = ast.get_docstring(ast.parse(file.read_text(encoding="utf-8"))) or ""
-        rows.append(f"| `{file.relative_to(TOP)}` | {' '.join(described.split(chr(10) * 2)[0].split())} |")
-    return "\n".join(rows) + "\n"
-
-
 MAKERS: dict[str, Callable[..., str]] = {"launcher": launcher, "tools": tools, "help": help_of, "refusals": refusals,
-                                         "layers": layers, "counts": counts, "clauses": clauses, "read": read, "suite": suite}
+                                         "layers": layers, "counts": counts, "clauses": clauses, "read": read}
 
 
 def filled(text: str) -> str:
