@@ -363,6 +363,16 @@ def test_what_a_bad_end_leaves_is_posted_by_the_next_day(begun: Desk, ends: str,
     assert begun.day().out.endswith("-a,1,0,0,0\n") and begun.count() == 4
 
 
+def test_rows_that_find_the_book_full_are_kept_for_another_one(begun: Desk) -> None:
+    """As the program answers them, which a stand-in repeats: no book of 4,000,000 postings is needed for that."""
+    begun.folder.write("stand-in", "#!/bin/sh\ncat >/dev/null\necho 1,settle,7001,refused,full,4000000\n"
+                       "echo 1,lapse,7001,refused,wrongstatus,claimed\n").chmod(0o755)
+    begun.hand_in("a.csv", '1,"settle",7001,2024-06-01,1.00\r\n1,lapse,7001,2024-06-01\r\n')
+    ended = begun.day("--life", "stand-in", status=1)
+    assert "refused, full,4000000: " in ended.err and ended.out.endswith("-a,0,2,0,0\n")
+    assert (begun.entry_folder(2) / "full.csv").read_text() == '1,"settle",7001,2024-06-01,1.00\n'
+
+
 def test_a_program_that_cannot_be_run_leaves_the_file(begun: Desk) -> None:
     begun.folder.write("stand-in", "no program")
     begun.hand_in("a.csv", "1,settle,7001,2024-06-01,1.00\n")
