@@ -225,6 +225,17 @@ def test_what_a_killed_copier_left_is_kept_or_cut_off(tail: bytes, book: Folder,
     assert prefix_of(copy) == issues(8)[:gate_of(8)]
 
 
+def test_a_copy_that_finds_no_space_goes_on_later(book: Folder, copy: Path) -> None:
+    """No file may have more than 512 bytes; so much of the postings is taken."""
+    book.write("journal.life", issues(20))
+    words = [sys.executable, "-B", str(ROOT / "tools" / "life-tools"), "backup", str(copy)]
+    ran = subprocess.run(["sh", "-c", 'ulimit -f 1; exec "$@"', "sh", *words], cwd=book.path, check=False, capture_output=True,
+                         text=True)
+    assert ran.returncode == 2 and "the next backup goes on" in ran.stderr, ran
+    assert len(prefix_of(copy)) == 512 and not (copy / "backup.seal").exists()
+    backed_up(book, [str(copy)], 20, 20)
+
+
 def test_two_backups_at_once(book: Folder, copy: Path) -> None:
     copy.mkdir()
     with open(copy / ".lock", "w") as file:

@@ -100,8 +100,10 @@ def append(copy: BinaryIO, journal: BinaryIO, start: int, end: int) -> None:
     copy.truncate(start)
     place = start
     for piece in pieces(journal, start, end):
-        os.pwrite(copy.fileno(), piece, place)
-        place += len(piece)
+        # a disk that gets full takes a part of it, and fails at the next one
+        while piece:
+            written = os.pwrite(copy.fileno(), piece, place)
+            place, piece = place + written, piece[written:]
     if place != end:
         raise Wrong("journal.life became shorter while it was copied")
     os.fsync(copy.fileno())
