@@ -73,7 +73,7 @@ demand_whole() {
             elif [ "$accepted" = "$count" ]; then
                 say "journal.life is damaged, and is posted to after its first $count commands: $why"
             else
-                say "journal.life is damaged, so nothing was run: its first $count commands can be read. $why" \
+                say "journal.life is damaged, so nothing was run: its first $count commands can be read: $why." \
                     "Restore the last whole copy; or $called $1 --accept-damage $count overwrites what follows them"
                 exit 67
             fi
