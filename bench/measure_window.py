@@ -88,13 +88,15 @@ class Window:
         self.run: Any = subprocess.Popen(words, stdout=subprocess.PIPE, stderr=subprocess.DEVNULL, text=True)
         self.memory = Memory(self.run.pid)
         self.memory.start()
-        self.address = urlsplit(self.run.stdout.readline().strip())
-        self.cookie = ""
+        # to a pipe the path of the file with the address is printed
+        with open(self.run.stdout.readline().strip(), encoding="ascii") as file:
+            self.address = urlsplit(file.read().strip())
+        self.root, self.cookie = self.address.path.rstrip("/"), ""
         self.cookie = self.ask(f"/?{self.address.query}")[1].getheader("Set-Cookie").split(";")[0]
 
     def ask(self, path: str) -> Any:
         line = http.client.HTTPConnection(self.address.hostname or "", self.address.port, timeout=600)
-        line.request("GET", path, headers={"Cookie": self.cookie})
+        line.request("GET", path if path.startswith(self.root) else self.root + path, headers={"Cookie": self.cookie})
         answer = line.getresponse()
         text = answer.read()
         if answer.status >= 400:

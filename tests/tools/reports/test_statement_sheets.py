@@ -46,22 +46,15 @@ def test_the_printed_exhibit_has_all_its_columns(office: Folder) -> None:
 
 @pytest.mark.browser
 def test_no_sheet_scrolls_sideways(office: Folder) -> None:
-    from selenium import webdriver
-    from selenium.webdriver.chrome.service import Service
+    from tests.support.browser import Browser
     office.printed("statement", *MOMENTS, "--mean", "--html", "page.html")
-    options = webdriver.ChromeOptions()
-    for each in ("--headless=new", "--no-sandbox", "--disable-gpu", "--hide-scrollbars", "--disable-dev-shm-usage"):
-        options.add_argument(each)
-    options.binary_location = "/usr/bin/chromium"
-    driver = webdriver.Chrome(service=Service("/usr/bin/chromedriver"), options=options)
-    try:
-        for width in (1366, 768, 390):
-            driver.execute_cdp_cmd("Emulation.setDeviceMetricsOverride",
-                                   {"width": width, "height": 900, "deviceScaleFactor": 1, "mobile": width < 500})
-            driver.get(f"file://{office.path}/page.html")
-            assert driver.execute_script("return document.documentElement.scrollWidth") <= width, width
-    finally:
-        driver.quit()
+    for size in ((1366, 900), (768, 1000), (390, 844)):
+        browser = Browser(size, office.path)
+        try:
+            browser.driver.get(f"file://{office.path}/page.html")
+            assert browser.driver.execute_script("return document.documentElement.scrollWidth") <= size[0], size
+        finally:
+            browser.close()
 
 
 def first_line(office: Folder, *words: str) -> str:

@@ -4,10 +4,11 @@ from __future__ import annotations
 import csv
 import io
 from pathlib import Path
+from typing import Any
 
-import openpyxl
 import pytest
 
+from life_tools.common.packages import package
 from tests.support.folders import Folder
 from tests.support.program import Program
 from tests.support.windows import Window, installed
@@ -109,6 +110,7 @@ def test_a_sheet_names_another_program(office: Folder, other: Path, name: str) -
 @pytest.mark.needs("python:openpyxl")
 def test_a_workbook_names_another_program_on_each_sheet(office: Folder, other: Path) -> None:
     office.printed("report", "2021-01-01", "--life", str(other), "--xlsx", "book.xlsx")
+    openpyxl: Any = package("openpyxl", "python3-openpyxl")
     book = openpyxl.load_workbook(office.path / "book.xlsx")
     assert all(sheet["A2"].value == "not the proved program" for sheet in book)
     office.printed("report", "2021-01-01", "--xlsx", "book.xlsx")
