@@ -91,7 +91,7 @@ class Window:
     def __enter__(self) -> Window:
         self.out, self.err = self.folder.parent / "address", self.folder.parent / "remarks"
         self.temporary = self.temporary or self.folder.parent / "temporary"
-        self.temporary.mkdir(exist_ok=True)
+        self.temporary.mkdir(parents=True, exist_ok=True)
         environment = {name: text for name, text in os.environ.items() if name not in ("LIFE_PROGRAM", "LIFE_TOOLS_ANEW")}
         environment.update(TMPDIR=str(self.temporary), **self.env)
         words = [sys.executable, "-B", str(self.tools), "browse", "--port", "0", *self.words]
