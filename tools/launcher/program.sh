@@ -83,7 +83,8 @@ run_program() {
     # a write past a limit on the size of files then fails like any other, and doesn't end the program
     trap '' XFSZ
     [ -t 2 ] || exec "$program" "$@"
-    case $1 in
+    [ "${1-}" != run ] || [ ! -t 0 ] || say "the script is read from the terminal until Ctrl-D; a file is $called run < SCRIPT"
+    case ${1-} in
         run | load) run_and_watch "$@" ;;
         *)
             trap : INT

@@ -24,14 +24,17 @@ def ran(words: Sequence[str | Path], folder: Path, given: str = "", env: dict[st
     return Ended(done.returncode, done.stdout.decode("utf-8", "replace"), done.stderr.decode("utf-8", "replace"))
 
 
-def on_terminal(words: Sequence[str | Path], folder: Path, given: str = os.devnull) -> tuple[int, str]:
-    """The status of a command whose standard output and error are a terminal, and what stands on it."""
+def on_terminal(words: Sequence[str | Path], folder: Path, given: str = os.devnull, typed: bytes = b"") -> tuple[int, str]:
+    """The status of a command whose standard output and error are a terminal, and what stands on it. What is typed is
+    standard input, in place of a file."""
     child, terminal = pty.fork()
     if child == 0:
         os.chdir(folder)
-        os.dup2(os.open(given, os.O_RDONLY), 0)
+        if not typed:
+            os.dup2(os.open(given, os.O_RDONLY), 0)
         os.execvp(str(words[0]), [str(word) for word in words])
     said = b""
+    os.write(terminal, typed)
     while True:
         try:
             more = os.read(terminal, 1000)

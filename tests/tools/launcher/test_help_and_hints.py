@@ -69,6 +69,11 @@ def test_what_usage_means(small_office: Folder, life: Called, words: list[str], 
     assert status == 2 and "usage" in said and hint.format(life=life.named) in said, said
 
 
+def test_a_script_that_is_typed(small_office: Folder, life: Called) -> None:
+    status, said = on_terminal([*life.words, "run"], small_office.path, typed=b"1,trim\n\x04")
+    assert status == 0 and f"until Ctrl-D; a file is {life.named} run < SCRIPT" in said and "1,trim,27" in said, said
+
+
 def test_a_message_isnt_cut_or_obeyed(installed: Path, tmp_path: Path) -> None:
     r"""`echo` ends a message at `\c`; a terminal obeys an escape in a folder's name."""
     folder = tmp_path / "acme\\co\x1b[2J"
