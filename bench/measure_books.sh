@@ -10,7 +10,7 @@ work=$(mktemp -d) || exit 2
 trap 'rm -rf "$work"' EXIT
 check=measure
 complain() { echo "$check: $1" >&2; }
-. "$root/.ci/books/loopback.sh"
+. "$root/bench/loopback.sh"
 cd "$work" && python3 "$root/examples/many_books.py" . "$1" "$2" || exit 2
 
 # the seconds that words take, appended to a file; what was written before is on the disk by then

@@ -19,7 +19,7 @@ example_checks() {
 
 other_checks() {
     example_checks >"$results/examples"
-    for check in "$root"/.ci/checks/*.sh "$root"/.ci/checks/long/*.sh; do
+    for check in "$root"/.ci/checks/*.sh; do
         [ ! -f "$check" ] || grep -qxF "$check" "$results/examples" || echo "$check"
     done
 }

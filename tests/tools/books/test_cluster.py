@@ -69,7 +69,7 @@ def test_what_the_cluster_prints(three: Folder, cluster: Cluster) -> None:
     damaged = bytearray(whole)
     damaged[17 + 65 * 100] = 0
     for data, status, line in ((whole[:100], 5, "badjournal,badrecord,1"),
-                               (bytes(damaged), 1, ".*9100 bytes lie behind byte 6517")):
+                               (bytes(damaged), 1, ".*9100 bytes .* byte 6517")):
         three.write("book2/journal.life", data)
         for how in (there, [*there, "--send"]):
             ended = three.tools(*VALUE, *how)
@@ -106,6 +106,31 @@ def test_workers_that_die_and_a_scheduler_that_goes_away(three: Folder, cluster:
     cluster.scheduler.kill()
     assert not run.communicate()[0] and run.returncode == 2
     assert f"the scheduler at {cluster.address} went away" in three.read("remarks")
+
+
+@pytest.mark.needs_proof
+def test_eight_large_books(folder: Folder) -> None:
+    """400,000 policies: beside a run of each, by processes, and on a cluster by folders and sent, byte for byte."""
+    subprocess.run([sys.executable, str(EXAMPLES / "many_books.py"), ".", "8", "50000"], cwd=folder.path, check=True,
+                   capture_output=True)
+    names = [f"book{number}" for number in range(1, 9)]
+    each = {name: "".join(f"{name},{line}" for line in folder.below(name).life("value", "2024-12-31").out.splitlines(True))
+            for name in names}
+    totals = [each[name].splitlines()[-1].split(",")[2:] for name in names]
+    lower, upper, words = (sum(int(total[place].replace(".", "")) for total in totals) for place in range(3))
+    wanted = f"all,total,{lower // 100}.{lower % 100:02},{upper // 100}.{upper % 100:02},{words},8,8\n"
+    value = ["books", "books.csv", "value", "2024-12-31"]
+    assert folder.printed(*value, "--processes", "2") == "".join(each.values()) + wanted
+    (folder.path / "cluster").mkdir()
+    cluster = Cluster(folder.path / "cluster")
+    try:
+        there = ["--scheduler", cluster.address]
+        for place, how in enumerate((["--processes", "4"], there, ["--send", *there])):
+            parts = f"parts-{place}"
+            assert folder.printed(*value, "--parts", parts, *how).endswith(wanted)
+            assert {name: folder.read(f"{parts}/{name}.csv") for name in names} == each
+    finally:
+        cluster.end()
 
 
 # --- a worker that has another program, or sees another book ---

@@ -14,7 +14,7 @@ begin_cluster() {
 
 # until the scheduler has so many workers
 has_workers() {
-    "$dask" "$root/.ci/books/workers.py" "$address" "$1" >workers.log 2>&1 ||
+    "$dask" "$root/bench/workers.py" "$address" "$1" >workers.log 2>&1 ||
         complain "there are no $1 workers: $(tail -n 1 workers.log) $(tail -n 3 worker?.log)"
 }
 
@@ -39,7 +39,7 @@ end_cluster() {
 }
 
 has_dask() {
-    "$dask" "$root/.ci/books/workers.py"
+    "$dask" "$root/bench/workers.py"
 }
 
 skip_cluster() {
