@@ -109,11 +109,7 @@ grep -qx "version: $version" out && grep -q "life-program has this sum$" out || 
 echo more >>"$top/libexec/life/life-program"
 PATH=$PWD/bin:$PATH life-tools version >out 2>&1
 [ $? = 1 ] && grep -q "^wrong: " out || complain "a changed program isn't found: $(cat out)"
-(cd "$root" && python3 -c "
-import pathlib, sys
-from tests.pages.links import wrong_links
-links, wrong = wrong_links(pathlib.Path(sys.argv[1]))
-sys.exit('\n'.join(wrong[:20]) if wrong else None if links > 8000 else f'only {links} links')" "$top/share/doc/life/html") >out 2>&1 ||
+python3 "$root/tests/pages/links.py" "$top/share/doc/life/html" 8001 >out 2>&1 ||
     complain "links: $(cat out)"
 
 begin "a fresh Debian"

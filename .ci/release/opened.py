@@ -4,19 +4,24 @@ usage: /usr/bin/python3 opened.py ADDRESS POLICY DAY WORDS..      ADDRESS is the
 """
 from __future__ import annotations
 
-import os
 import sys
 import time
 import urllib.parse
 from typing import Any
 
-sys.path.insert(0, os.path.join(os.path.dirname(os.path.abspath(__file__)), "..", "documents"))
-
-from widths import browser  # noqa: E402
+from selenium import webdriver
+from selenium.webdriver.chrome.service import Service
 
 PATIENCE = 60
 # whether a page has come, and isn't one that waits for another
 HAS_COME = "return document.readyState === 'complete' && document.querySelector('h1') && !document.title.startsWith('One moment')"
+
+
+def browser() -> Any:
+    options: Any = webdriver.ChromeOptions()
+    for word in ("--headless=new", "--no-sandbox", "--disable-gpu", "--disable-dev-shm-usage", "--hide-scrollbars"):
+        options.add_argument(word)
+    return webdriver.Chrome(service=Service("/usr/bin/chromedriver"), options=options)
 
 
 def text_at(opened: Any, address: str) -> str:

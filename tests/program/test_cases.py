@@ -41,8 +41,8 @@ def lay_out(case: Path, folder: Folder) -> None:
         if file.name not in ("words", "transcript", "files"):
             shutil.copy(file, folder.path)
     named = (case / "files").read_text(encoding="utf-8").split("\n") if (case / "files").exists() else []
-    for file, *other in filter(None, (line.split() for line in named)):
-        shutil.copy(ROOT / file, folder.path / (other[0] if other else ""))
+    for source, *other in filter(None, (line.split() for line in named)):
+        shutil.copy(ROOT / source, folder.path / (other[0] if other else ""))
 
 
 def run_one(folder: Folder, status: int, asked: str) -> str:
@@ -69,7 +69,7 @@ def test_runs_of_a_folder(name: str, folder: Folder) -> None:
             printed += run_one(folder, int(status), asked)
         else:
             printed += "\n"
-            for file in ("journal.life", "checkpoint.life"):
-                (folder.path / file).unlink(missing_ok=True)
+            for book in ("journal.life", "checkpoint.life"):
+                (folder.path / book).unlink(missing_ok=True)
             lay_out(CASES / name, folder)
     assert printed == (CASES / name / "transcript").read_text(encoding="utf-8")

@@ -101,7 +101,8 @@ OTHERS = ["run", "state 7001", "value 2021-01-01", "project 2021-01-01 3", "load
 
 
 def test_no_other_mode_makes_one(table_q: Folder) -> None:
-    for words in [*OTHERS, "generate 1 1 1", "value 2021-01-01 --at 9", "checkpoint now", "checkpoint --at 1", "Checkpoint", "help"]:
+    more = ["generate 1 1 1", "value 2021-01-01 --at 9", "checkpoint now", "checkpoint --at 1", "Checkpoint", "help"]
+    for words in [*OTHERS, *more]:
         table_q.life(*words.split())
         assert not kept(table_q).exists(), words
 

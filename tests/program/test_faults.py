@@ -21,7 +21,8 @@ FAULTS = Path("tests/program/faults")
 
 @pytest.mark.needs("strace")
 @pytest.mark.needs_proof
-@pytest.mark.parametrize("module, words", [("self_test", []), ("calls", []), ("drawn", [SEED]), ("taken", []), ("memory", [SEED])])
+@pytest.mark.parametrize("module, words", [
+    ("self_test", []), ("calls", []), ("drawn", [SEED]), ("taken", []), ("memory", [SEED])])
 def test_faults(module: str, words: list[str], program: Program, tmp_path: Path) -> None:
     with in_memory(tmp_path) as quick:
         assert passes(program, f"faults.{module}", program.path, quick / module, *words).startswith("faults: ")
@@ -31,7 +32,8 @@ def test_faults(module: str, words: list[str], program: Program, tmp_path: Path)
 @pytest.mark.needs_proof
 def test_each_request_for_memory_is_refused_once(program: Program, tmp_path: Path) -> None:
     library = tmp_path / "refuse_nth.so"
-    words = ["gcc", "-shared", "-fPIC", "-O1", "-Wall", "-Wextra", "-o", library, ROOT / FAULTS / "refuse_nth.c", "-ldl"]
+    source = str(ROOT / FAULTS / "refuse_nth.c")
+    words = ["gcc", "-shared", "-fPIC", "-O1", "-Wall", "-Wextra", "-o", str(library), source, "-ldl"]
     built = subprocess.run(words, capture_output=True, text=True, check=False)
     if built.returncode:
         lacks(f"the headers of the C library aren't installed: {built.stderr[:200]}")

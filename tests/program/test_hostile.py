@@ -88,7 +88,8 @@ def test_scripts_at_a_limit(table_q: Folder) -> None:
 def nested(depth: int) -> str:
     """A table of so many elements one in the other: the four of the path, its row, and further ones around the row."""
     around = depth - 4
-    return ('<XTbML><Table><Values><Axis><Y t="0">1</Y>' + "<a>" * around + "</a>" * around + "</Axis></Values></Table></XTbML>\n")
+    row = '<Y t="0">1</Y>' + "<a>" * around + "</a>" * around
+    return f"<XTbML><Table><Values><Axis>{row}</Axis></Values></Table></XTbML>\n"
 
 
 def test_elements_one_in_the_other(table_q: Folder) -> None:

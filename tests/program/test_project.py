@@ -108,7 +108,8 @@ def test_select_tables_by_hand(layout: str, folder: Folder) -> None:
     "project 2021-01-01 -1", "project 2021-01-01 +1", "project 2021-01-01 1.0", "project 2021-01-01 1 1", "project 1 2021-01-01",
     "project 2021-02-29 1", "project 1899-12-31 1", "project 2200-01-01 1", "project 2021-01-01 1 --workers 0",
     "project 2021-01-01 1 --workers 65", "project 2021-01-01 1 --at 0", "project 2021-01-01 1 --mean",
-    "project 2021-01-01 1 --basis ../basis.csv", "project 2021-01-01 --years 1", "projection 2021-01-01 1", "Project 2021-01-01 1",
+    "project 2021-01-01 1 --basis ../basis.csv", "project 2021-01-01 --years 1", "projection 2021-01-01 1",
+    "Project 2021-01-01 1",
     "project 2021-01-01 18446744073709551617", "--workers 2 project 2021-01-01 1"])
 def test_arguments_that_are_no_projections(words: str, table_q: Folder) -> None:
     assert told(table_q, *words.split()) == (2, "usage\n")

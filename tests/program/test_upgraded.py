@@ -65,5 +65,6 @@ def test_an_older_program_refuses_it(folder: Folder) -> None:
         assert (ran.returncode, ran.stdout.decode()) == (5, text_of("older-program.answer"))
         assert folder.journal.read_bytes() == UPGRADED
     env = {**os.environ, "PYTHONPATH": str(ROOT / "tools")}
-    said = subprocess.run([sys.executable, "-c", OLDER_TOOLS], cwd=folder.path, env=env, capture_output=True, text=True, check=True)
+    words = [sys.executable, "-c", OLDER_TOOLS]
+    said = subprocess.run(words, cwd=folder.path, env=env, capture_output=True, text=True, check=True)
     assert said.stdout == text_of("older-program.answer")

@@ -113,7 +113,8 @@ def test_every_row_by_a_select_table(made: tuple[int, int, int, int, int], words
     folder.write("basis.csv", "1900-01-01,s.xml,325\n")
     ages = [*range(max(first - 1, 0), first + 1), last - 1, last, last + 1, last + 2, made[3], end - 2, end - 1, end]
     folder.post(script_of_ages(ages))
-    found = "".join(valued(folder, asked) for asked in ("2001-01-01", "2003-06-01 --mean", "2025-01-01 --deficiency", "2030-01-01"))
+    asked = ("2001-01-01", "2003-06-01 --mean", "2025-01-01 --deficiency", "2030-01-01")
+    found = "".join(valued(folder, one) for one in asked)
     assert set(words.split()) <= {line.rpartition(",")[2] for line in found.splitlines() if line.startswith("row,")}
 
 

@@ -60,7 +60,7 @@ def premiums_around(basis: list[BasisRow]) -> Iterator[tuple[str, str]]:
                              for years in ((0,) if plan == "whole" else (2, 11, 25))):
         insured = insured_on(Policy(1, plan, age, years, amount, 1, day, day), basis, day, known)[1]
         assert insured is not None and not isinstance(insured, str)
-        net = int(amount * insured.modified)
+        net = int(amount * getattr(insured, "modified"))
         for premium in range(net - 1, net + 3):
             number += 1
             yield (f"1,issue,{number},{day},{plan},{age},{years},{money(amount)},{money(premium)}\n",

@@ -37,6 +37,7 @@ def lay_book(folder: Path) -> int:
 
 
 @pytest.mark.slow
+@pytest.mark.timeout(1800)
 def test_a_year_end(tmp_path: Path, program: Program) -> None:
     last = lay_book(tmp_path / "main")
     office = Office(str(tmp_path), str(ROOT / "tools" / "life-tools"), str(program.path))

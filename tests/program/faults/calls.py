@@ -1,6 +1,8 @@
 """The program where one call of the system fails: strace makes the k-th call of each kind fail, for every k of a run.
 
-usage: python3 -m tests.program.faults.calls PROGRAM FOLDER [KIND K ERROR]     with a kind: its k-th call on the journal, of one clerk's first run
+usage: python3 -m tests.program.faults.calls PROGRAM FOLDER [KIND K ERROR]
+
+With a kind: its k-th call on the journal, of one clerk's first run
 
 An undisturbed run is recorded first: how many calls of each kind each thread makes of each file, and which of them the
 first thread makes to open the journal, before there is a second thread or a record is written. strace counts the calls
@@ -18,8 +20,8 @@ from collections.abc import Iterator
 from dataclasses import dataclass
 from typing import Any
 
-from tests.program.faults.judge import (commands_in, demand_faults, demand_file, judge_early_end, judge_front, judge_transcript,
-                   judge_unanswered, reason)
+from tests.program.faults.judge import (commands_in, demand_faults, demand_file, judge_early_end,
+                                        judge_front, judge_transcript, judge_unanswered, reason)
 from life_tools.journal.file import file_of
 from tests.program.faults.runs import JOURNAL, KEPT, Desk, Ended, read_bytes
 from tests.program.faults.scenes import SCENES, Scene, book_before, checkpoint_before

@@ -17,7 +17,7 @@ from typing import Any
 
 from tests.program.faults.judge import demand_faults, judge_early_end, judge_transcript, reason
 from life_tools.journal.file import file_of, read_journal
-from tests.program.faults.runs import JOURNAL, ROOT, Desk, read_bytes
+from tests.program.faults.runs import JOURNAL, Desk, read_bytes
 from life_tools.tables.basis import read_basis
 
 from tests.support.drawn_scripts import draws, make_book, make_script

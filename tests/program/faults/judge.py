@@ -1,4 +1,5 @@
-"""Judges a run that met a fault, a limit or a signal, by docs/reference/statuses.md: its status, what it printed, the file it left.
+"""Judges a run that met a fault, a limit or a signal, by docs/reference/statuses.md: its status, what it printed, the file
+that it left.
 
 Nothing that was accepted may be lost, just the lines whose calls failed may be answered `fault`, and those behind a sync
 that failed; and the status has to be the one that is due. Beyond what was accepted the file may hold one command more, of
@@ -6,9 +7,7 @@ a line that was answered `fault` and behind which nothing was accepted.
 """
 from __future__ import annotations
 
-import os
 import re
-import sys
 from typing import Any
 
 from life_tools.scripts.transcript_check import Run, answers_in, is_block

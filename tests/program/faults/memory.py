@@ -3,8 +3,9 @@
 usage: python3 -m tests.program.faults.memory PROGRAM FOLDER SEED
 
 The answer has to be that of a run which may want memory. In two cases the system ends the program, which then can say
-nothing, as docs/reference/statuses.md tells: below some limit it can't be loaded; and where memory ends just where the stack of the
-first thread has to grow, the system has no other answer than a signal. strace records where such a signal points.
+nothing, as docs/reference/statuses.md tells: below some limit it can't be loaded; and where memory ends just where the stack
+of the first thread has to grow, the system has no other answer than a signal. strace records where such a signal
+points.
 """
 from __future__ import annotations
 

@@ -1,6 +1,8 @@
 """Runs whose journal is taken away: removed, renamed, replaced by another file, or cut, while strace holds up a call.
 
-usage: python3 -m tests.program.faults.taken PROGRAM FOLDER [DEED KIND K | link]     with a deed and a call, or a link: just this one
+usage: python3 -m tests.program.faults.taken PROGRAM FOLDER [DEED KIND K | link]
+
+With a deed and a call, or a link, just this one is tried
 
 From then on no line may be answered `accepted`, and the status is 8. What was accepted before is in the file that was taken
 away; the file that took its place isn't touched. Where the name is a symbolic link, it is so of the file to which it leads,

@@ -16,9 +16,8 @@ from tests.program.hostile.changed_bytes import BASIS, SELECT, TABLE, book_of_fo
 from life_tools.common.formats import Wrong
 from life_tools.rules.policies import Book
 from tests.support.drawn_scripts import MIDDLE, make_script
-from tests.program.hostile.trial import (ROOT, Trial, judge_basis, judge_checkpoint, judge_journal, judge_posting, judge_script, judge_table,
-                   judge_words,
-                   try_for)
+from tests.program.hostile.trial import (ROOT, Trial, judge_basis, judge_checkpoint, judge_journal, judge_posting, judge_script,
+                                         judge_table, judge_words, try_for)
 from life_tools.journal.checkpoints import bytes_of_checkpoint, checkpoint_of
 from life_tools.journal.file import file_of
 

@@ -1,4 +1,4 @@
-"""A plain reading of the words of a command line (docs/reference/commands.md, "The words"), and the shape of the answer to each."""
+"""A plain reading of the arguments of a command line (docs/reference/commands.md), and the shape of the answer to each."""
 from __future__ import annotations
 
 import datetime

@@ -9,13 +9,10 @@ from __future__ import annotations
 import collections
 import os
 import subprocess
-import sys
 import time
 import zlib
 from collections.abc import Callable, Iterable
 from typing import Any
-
-ROOT = os.path.abspath(os.path.join(os.path.dirname(os.path.abspath(__file__)), "..", "..", ".."))
 
 from life_tools.reserves.projection_check import check_years
 from life_tools.scripts.transcript_check import asks_for_values, check
@@ -32,6 +29,8 @@ from tests.support.drawn_scripts import folder_for
 from life_tools.tables.basis import BasisRow, NotXml, SelectTable, Table, read_basis, read_table
 from life_tools.rules.commands import Command
 from life_tools.reserves.exact import Known
+
+ROOT = os.path.abspath(os.path.join(os.path.dirname(os.path.abspath(__file__)), "..", "..", ".."))
 
 SECONDS = 30
 # so many cases are tried whatever their time

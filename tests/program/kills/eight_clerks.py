@@ -1,7 +1,7 @@
 #!/usr/bin/env python3
 """Kills runs of eight clerks at random moments, and looks at the file that is left each time.
 
-usage: python3 tests/program/kills/eight_clerks.py ROUNDS FOLDER    (python3 and its standard library; the program has to be built)
+usage: python3 tests/program/kills/eight_clerks.py ROUNDS FOLDER    (the program has to be built)
 
 All records from before have to be there, and of each clerk's postings the first so many, in order, once each. Then the
 program has to open the file to just these records. The same file goes on from round to round.

@@ -132,7 +132,7 @@ def test_a_workbook_of_the_greatest_amounts_is_read(examples_basis: Folder) -> N
 @pytest.mark.needs("python:openpyxl")
 def test_a_number_of_a_workbook_is_one(small_office: Folder) -> None:
     """With two places, under heads that stay."""
-    import openpyxl  # type: ignore # Debian's package has no types
+    import openpyxl
 
     small_office.printed(*AT, "--xlsx", "book.xlsx")
     sheet = openpyxl.load_workbook(small_office.path / "book.xlsx").worksheets[1]
