@@ -107,8 +107,8 @@ def text_of(release: Release, *names: str) -> str:
 
 def write_site(release: Release, folder: str) -> None:
     """The documentation, by Debian's MkDocs; its dates are those of the revision."""
-    words = ["/usr/bin/python3", os.path.join(release.root, "tools", "site", "build.py"), folder]
-    built = subprocess.run(words, cwd=release.root,
+    command = ["/usr/bin/python3", os.path.join("tools", "site", "build.py"), os.path.abspath(folder)]
+    built = subprocess.run(command, cwd=release.root,
                            env={**os.environ, "SOURCE_DATE_EPOCH": str(release.seconds)}, stdout=subprocess.PIPE,
                            stderr=subprocess.STDOUT, check=False)
     lines = built.stdout.decode("utf-8", "replace").strip().splitlines()

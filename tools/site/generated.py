@@ -7,6 +7,7 @@ A block stands between `<!-- generated: NAME WORDS -->` and `<!-- end -->`; NAME
 """
 from __future__ import annotations
 
+import argparse
 import os
 import pathlib
 import re
@@ -34,7 +35,14 @@ def launcher() -> str:
 
 
 def help_of(*names: str) -> str:
-    return as_text(printed([sys.executable, "tools/life-tools", *names, "--help"]))
+    """The help of `life-tools`, or of one of its names, as it is on a terminal of 80 columns."""
+    from life_tools.cli.entry import parser_of
+    os.environ["COLUMNS"] = "80"
+    parser = parser_of(names)
+    if not names:
+        return as_text(parser.format_help())
+    entries = next(action for action in parser._actions if isinstance(action, argparse._SubParsersAction))
+    return as_text(entries.choices[names[0]].format_help())
 
 
 def tools() -> str:
