@@ -123,9 +123,6 @@ module _ {D : Type 0} (g : Ghosts D) (old new : D) (output : Stream) where
     synced = λ honest.
         let synced = ran.disk.synced honest in
         (synced.0, synced.1.later, synced.1.passed, λ image left. synced.1.safe image left ∙ synced.1.reads, synced.2);
-    kept = λ honest some rest split.
-        let kept = ran.disk.kept honest some rest split in
-        (g.clock kept.stood, kept.later, kept.passed, kept.since);
   }
 
   module _ (name : List ℕ) (input : Input) (shelf : Shelving) where

@@ -55,9 +55,8 @@ pub record IsPromised {D : Type 0} (g : Ghosts D) (Opens : List ℕ → List Com
   -- and what was shown of the lines is safe by then
   pub shown : g.honest new → (run : List TakenPiece) × (output.pieces_after ≡ run ++ output.pieces_before)
       × AreSafeWhenShown g Opens new commands history lines texts run
-  -- a crash after the run leaves all that was accepted; one within it what a crash before it left, or a front of these; once
-  -- the opening has synced the file as it was, a front of these; and from a moment on, which is one of the run, it leaves at
-  -- least what was accepted in any beginning of the history
+  -- a crash after the run leaves all that was accepted; one within it what a crash before it left, or a prefix of these; and
+  -- once the opening has synced the file as it was, a prefix of these
   pub now : g.honest new → (image : List ℕ) → g.may_leave new image
       → IsThere Opens commands history (accepted_of history) image
   pub since : g.honest new → (image : List ℕ) → g.left_since new (g.clock old) image
@@ -65,9 +64,6 @@ pub record IsPromised {D : Type 0} (g : Ghosts D) (Opens : List ℕ → List Com
   pub synced : g.honest new → (mid : D) × (g.clock old ≤ g.clock mid) × (g.clock mid ≤ g.clock new)
       × ((image : List ℕ) → g.may_leave mid image → image ≡ g.reads old)
       × ((image : List ℕ) → g.left_since new (g.clock mid) image → IsFrontThere Opens commands history image)
-  pub kept : g.honest new → (front rest : List Entry) → history ≡ front ++ rest → (moment : ℕ)
-      × (g.clock old ≤ moment) × (moment ≤ g.clock new) × ((image : List ℕ) → g.left_since new moment image
-      → (more : List Command) × Opens image (commands ++ accepted_of front ++ more))
 
 -- A run that failed and added no command. A line in place of a transcript was written, or the output failed in it: there is no
 -- script, or no basis, or no office. And a crash leaves what it might have left before, or what opens to what the file did.
