@@ -6,7 +6,6 @@ from __future__ import annotations
 
 import sys
 import time
-import urllib.parse
 from typing import Any
 
 from selenium import webdriver
@@ -39,7 +38,7 @@ def main() -> int:
     try:
         first = text_at(opened, address)
         # the token is gone from the address, and the cookie is there
-        book = urllib.parse.urljoin(opened.current_url, "/1/")
+        book = opened.current_url.partition("?")[0]
         found = text_at(opened, f"{book}find?number={number}")
         policy = text_at(opened, f"{book}policy?number={number}&on={day}")
     finally:

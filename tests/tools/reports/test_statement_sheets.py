@@ -83,6 +83,13 @@ def test_what_the_minimum_is_compared_with(office: Folder) -> None:
     assert "The minimum reserve is a terminal one" not in office.printed("statement", *MOMENTS)
 
 
+def test_report_tells_policies_issued_after_the_day(office: Folder) -> None:
+    told = office.tools("report", "2020-12-31")
+    assert told.status == 0 and "policies issued after 2020-12-31, which are counted" in told.err, told
+    assert told.err.rstrip().endswith(": 1")
+    assert "issued after" not in office.tools("report", "2020-12-31", "--at", "24").err
+
+
 def test_movement_says_what_counts_on_which_line(office: Folder) -> None:
     printed = office.printed("movement", *MOMENTS)
     assert "after a claim or maturity of the period, its settlement" in printed

@@ -19,7 +19,9 @@ from typing import Sequence
 
 from life_tools.valuations.class_bases import Bases, basis_arguments, bases_in
 from life_tools.cli.why import measure_arguments, position_in
+from life_tools.common.arrays import np
 from life_tools.common.formats import Wrong, day_in, demand, remark
+from life_tools.journal.day_columns import number_at
 from life_tools.valuations.groups import KEYS, Groups, Sums, demand_whole, grouped, whole
 from life_tools.valuations.printed_columns import ColumnValuation
 from life_tools.valuations.joined_rows import read_both
@@ -106,6 +108,9 @@ def run(options: argparse.Namespace) -> int:
     bases = bases_in(options.basis, options.classes, options.bases)
     valuation, rows = read_both(options.folder, position_in(options.at), options.life, options.on, bases, options.measure)
     total = whole(rows)
+    later = int(np.count_nonzero(rows.policies.issued > number_at(valuation.on)))
+    if later:
+        remark(f"policies issued after {valuation.on}, which are counted as the position has them, with a reserve of 0: {later}")
     tables: list[tuple[list[str], Groups]] = [(keys, grouped(rows, keys)) for keys in wanted]
     try:
         for keys, groups in tables:

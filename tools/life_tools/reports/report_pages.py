@@ -77,7 +77,7 @@ def facts(valuation: ColumnValuation, total: Sums, heads: Sequence[str]) -> str:
             ("policies", f"{total.policies:,}"), ("of these insured", f"{total.insured:,}"),
             ("amount insured", money(total.amount))]
     told += [(name, money(each)) for name, each in zip(heads, valuation.total)]
-    told.append(("rows with a word, in no sum", apart(str(valuation.words))))
+    told.append(("policies without a value, in no sum", apart(str(valuation.words))))
     return "<div class=\"facts\">" + "".join(f"<div><span>{escape(name)}</span><b>{escape(value)}</b></div>"
                                              for name, value in told) + "</div>"
 

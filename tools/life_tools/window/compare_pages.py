@@ -10,7 +10,7 @@ from life_tools.valuations.groups import KEYS, Sums
 from life_tools.reports import charts
 from life_tools.window.asked import Asked, BadRequest, shown
 from life_tools.window.book_copy import TakenBasis
-from life_tools.window.month_pages import KEY_WORDS, asked_valuation, other_bases
+from life_tools.window.month_pages import KEY_WORDS, asked_valuation
 from life_tools.window.parts import Answer, Cell, Page, Table, cells, heads
 from life_tools.window.policies import STATUSES as STATUS_WORDS
 from life_tools.window.policy_pages import MEASURE_WORDS
@@ -23,7 +23,7 @@ MOST_SHOWN = 12
 def other_in(book: View, asked: Asked) -> TakenBasis:
     """The other basis, as it lies in the book's folder now."""
     name = asked.text("other")
-    if not NAME.fullmatch(name) or name not in other_bases(book):
+    if not NAME.fullmatch(name) or name not in book.other_bases():
         raise BadRequest(f"other: {shown(name) or 'nothing'} is no other basis in the book's folder")
     taken = book.copy.take_basis(name)
     demand(os.path.isfile(os.path.join(taken.folder, name)), f"{name} can't be read any more")

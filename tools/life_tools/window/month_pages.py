@@ -2,20 +2,18 @@
 from __future__ import annotations
 
 import datetime
-import os
 import re
 
 from life_tools.journal.day_columns import number_at
 from life_tools.cli.report import HEADS
 from life_tools.common.arrays import np
-from life_tools.common.formats import MEASURES, MOST_BASIS_BYTES
+from life_tools.common.formats import MEASURES
 from life_tools.journal.positions import on_day
 from life_tools.journal.records import UPGRADE
 from life_tools.reports.provenance import provenance
 from life_tools.reports.report_pages import apart, money
 from life_tools.common.revisions import revision
 from life_tools.reports.sheets import BY_BOUNDS
-from life_tools.tables.basis import NAME
 from life_tools.reports import charts
 from life_tools.window import pictures
 from life_tools.window.asked import Asked, BadRequest
@@ -33,7 +31,6 @@ REPORT_WORDS = ("at", "on", "p", "measure")
 MOVEMENT_WORDS = ("at", "on1", "p1", "on2", "p2")
 XLSX = "application/vnd.openxmlformats-officedocument.spreadsheetml.sheet"
 NAMED = 20
-MOST_BASES = 30
 KEY_WORDS = {"plan": "plan", "status": "status", "issue-year": "year of issue", "age-band": "age at issue",
              "basis-row": "row of the basis"}
 
@@ -51,7 +48,7 @@ def month(book: View, asked: Asked) -> Answer:
     positions, opening = (on_day(history.day, number_at(day), upgrade) for day in (on, before))
     values = {"on": on, "before": before, "positions": positions, "opening": opening, "newest_day": book.day,
               "measures": [(each, MEASURE_WORDS[each]) for each in MEASURES], "statement_measure": measure_on(str(on)),
-              "statement_measures": list(RESERVES.items()), "bases": other_bases(book)}
+              "statement_measures": list(RESERVES.items()), "bases": book.other_bases()}
     return Page("month.html", "Month and year", values)
 
 
@@ -98,7 +95,7 @@ def report(book: View, asked: Asked) -> Answer:
     words = {"on": it.on, "measure": it.measure if it.measure != "terminal" else ""}
     missing = [(word, WHY_NO_VALUE.get(word, ""), count, numbers) for word, count, numbers in words_of(it, NAMED)]
     later = int(np.count_nonzero(book.policies().issued > number_at(it.on)))
-    values = {"it": it, "facts": facts(it), "later": later, "compare": other_bases(book),
+    values = {"it": it, "facts": facts(it), "later": later, "compare": book.other_bases(),
               "tables": [group_table(book, it, key) for key in it.groups],
               "missing": missing, "balances": [(name, money(cents)) for name, cents in it.balances.items()],
               "insured": it.whole.insured,
@@ -112,7 +109,7 @@ def facts(it: Valuation) -> list[tuple[str, str, bool]]:
     """The headline figures, and whether the program printed each."""
     found = [("policies", f"{it.policies:,}", True), ("amount insured", money(it.whole.amount), False)]
     found += [(name, money(cents), True) for name, cents in zip(HEADS[len(it.total)], it.total)]
-    return [*found, ("rows with a word, in no sum", f"{it.words:,}", True)]
+    return [*found, ("policies without a value, in no sum", f"{it.words:,}", True)]
 
 
 def file_name(it: Valuation) -> str:
@@ -153,17 +150,6 @@ def origin_of(book: View) -> list[list[str]]:
     """Journal, program, tools and moment."""
     facts = provenance(book.desk, book.at, book.name)
     return [[name, says] for name, says in facts.items() if name != "book"] + [["tools", revision()]]
-
-
-def other_bases(book: View) -> list[str]:
-    """The files of the book's folder that may be another basis: small ones by their names."""
-    try:
-        with os.scandir(book.listed.folder) as found:
-            names = [each.name for each in found if each.name.endswith(".csv") and NAME.fullmatch(each.name)
-                     and each.is_file() and each.stat().st_size <= MOST_BASIS_BYTES]
-    except OSError:
-        return []
-    return sorted(name for name in names if name != book.basis.name)[:MOST_BASES]
 
 
 # --- a movement ---

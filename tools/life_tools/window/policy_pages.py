@@ -77,7 +77,9 @@ def reserve_of(book: View, known: Known, on: datetime.date, measure: str) -> dic
     assert isinstance(worked, Explained)
     rates = Table("Rates of death", heads(("year", "age", "rate"), 0), [cells((it[0] + 1, *it[1:])) for it in worked.rates])
     bounds = [(name, money(cents)) for name, cents in zip(names, row.bounds)]
-    return {"row": row, "status": STATUSES[row.status], "bounds": bounds, "worked": worked, "rates": rates}
+    others = book.other_bases() if measure != "deficiency" else []
+    return {"row": row, "status": STATUSES[row.status], "bounds": bounds, "worked": worked, "rates": rates,
+            "other_bases": others}
 
 
 def picture_of(book: View, known: Known, on: datetime.date | None) -> dict[str, Any]:

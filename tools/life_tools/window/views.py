@@ -3,6 +3,7 @@ from __future__ import annotations
 
 import datetime
 import hashlib
+import os
 import re
 import sqlite3
 from contextlib import contextmanager
@@ -11,8 +12,9 @@ from typing import Callable, Iterator, Mapping, Sequence
 from urllib.parse import urlencode
 
 from life_tools.books.lists import ListedBook
-from life_tools.common.formats import MOST_COMMANDS, Wrong, number_of
+from life_tools.common.formats import MOST_BASIS_BYTES, MOST_COMMANDS, Wrong, number_of
 from life_tools.journal.policy_columns import Policies
+from life_tools.tables.basis import NAME
 from life_tools.window.asked import Asked, BadRequest, shown
 from life_tools.window.book_copy import BookCopy, TakenBasis
 from life_tools.window.history import History
@@ -22,6 +24,8 @@ from life_tools.window.lists import newest_day
 # a position, perhaps with what ties it to a journal's prefix and a basis
 AT = re.compile("([0-9]{1,7})(?:-([0-9a-f]{12}))?")
 TIE = 12
+# so many other bases of a folder are offered
+MOST_BASES = 30
 # the words of an address that name the position that its page shows, the first of them that is there
 POSITIONS = ("p2", "p")
 
@@ -97,6 +101,16 @@ class View:
 
     def newest_link(self, page: str, /, **words: object) -> str:
         return address(self.copy.root, self.number, page, words)
+
+    def other_bases(self) -> list[str]:
+        """The files of the book's folder that may be another basis: small ones by their names."""
+        try:
+            with os.scandir(self.listed.folder) as found:
+                names = [each.name for each in found if each.name.endswith(".csv") and NAME.fullmatch(each.name)
+                         and each.is_file() and each.stat().st_size <= MOST_BASIS_BYTES]
+        except OSError:
+            return []
+        return sorted(name for name in names if name != self.basis.name)[:MOST_BASES]
 
     # --- what is known of it ---
 
