@@ -16,6 +16,8 @@ from tests.support.folders import Folder
 from tests.support.program import ROOT
 
 TOOLS = str(ROOT / "tools" / "life-tools")
+# Python writes at once where this is set, and else at the end
+BUFFERED = {name: text for name, text in os.environ.items() if name != "PYTHONUNBUFFERED"}
 # the arguments, and the status with a whole output
 PRINT = [("read journal.life", 0), ("check small-office.csv", 1), ("report 2022-12-31", 0), ("verify", 0), ("--help", 0)]
 
@@ -29,7 +31,7 @@ def ran(folder: Folder, words: str, redirected: str, env: dict[str, str] | None 
     """The status of a tool with its output redirected by a shell, and what it says on standard error."""
     done = subprocess.run(["bash", "-c", f'"$0" "$@" {redirected}', sys.executable, TOOLS, *words.split()], cwd=folder.path,
                           stderr=subprocess.PIPE, stdin=subprocess.DEVNULL, check=False,
-                          env={**os.environ, "LIFE_PROGRAM": str(folder.program.path), **(env or {})})
+                          env={**BUFFERED, "LIFE_PROGRAM": str(folder.program.path), **(env or {})})
     return done.returncode, done.stderr.decode("utf-8", "replace")
 
 

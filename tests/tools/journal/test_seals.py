@@ -76,7 +76,7 @@ def test_a_book_that_has_become_shorter(office: Folder) -> None:
     office.write("newer", office.printed("seal"))
     office.journal.write_bytes(office.journal.read_bytes()[:732] + b"\x00")
     office.finds("seal", "--check", "newer", says="has 733 bytes, and the front had 1837")
-    office.finds("seal", "--check", "seal", says="had 27 when it was sealed: those behind position 11 are gone")
+    office.finds("seal", "--check", "seal", says="had 27 when it was sealed: those after position 11 are gone")
 
 
 @pytest.mark.parametrize(("words", "says"), [

@@ -87,10 +87,18 @@ def said_of(error: OSError) -> str:
     return f"{error.filename}: {error.strerror}" if error.filename else error.strerror or str(error)
 
 
+def status_of(run: Callable[[], int]) -> int:
+    """The status of a run, which argparse ends after help and of wrong arguments."""
+    try:
+        return run()
+    except SystemExit as end:
+        return end.code if isinstance(end.code, int) else NOT_DONE if end.code else DONE
+
+
 def ended(name: str, run: Callable[[], int]) -> int:
     """The status of a tool, whatever happens in it: what can't be done is one line on standard error, and 2."""
     try:
-        status = run()
+        status = status_of(run)
         sys.stdout.flush()
         return status
     except BrokenPipeError as error:
