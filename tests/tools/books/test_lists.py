@@ -291,7 +291,7 @@ def test_a_report_as_a_page(books: Folder) -> None:
 
 @pytest.mark.needs("python:openpyxl")
 def test_a_statement_as_a_workbook(books: Folder) -> None:
-    import openpyxl  # type: ignore # Debian's package has no types
+    import openpyxl
 
     books.printed(*LIST, "statement", *DAYS, "--from", "p1.csv", "--at", "p2.csv", "--xlsx", "sheets.xlsx")
     assert len(openpyxl.load_workbook(books.path / "sheets.xlsx").sheetnames) > len(SHEETS)
