@@ -15,9 +15,10 @@ import tempfile
 from collections.abc import Iterator
 from typing import Any
 
-sys.path.insert(0, os.path.join(os.path.dirname(os.path.abspath(__file__)), "..", "tests", "support"))
+ROOT = os.path.join(os.path.dirname(os.path.abspath(__file__)), "..")
+sys.path[:0] = [ROOT, os.path.join(ROOT, "tools")]
 
-from big_journals import WRITERS, write  # noqa: E402 # the folder is put on the path above
+from tests.support.big_journals import WRITERS, write  # noqa: E402 # of the repository, which is put on the path above
 
 SECONDS = 3600
 SCRIPT, FILE, RECORDS, ROWS = 16 * 2**20, 4 * 2**20, 4_000_000, 1000
