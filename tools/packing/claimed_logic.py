@@ -3,7 +3,7 @@
 usage: python3 tools/packing/claimed_logic.py           writes the number of the noted proof into each page
        python3 tools/packing/claimed_logic.py --check   ends with 1 and names each page that claims another
 
-The kit has a name as well, which changes where the logic doesn't; what is claimed is the logic's number, 16 digits behind
+The kit has a name as well, which changes where the logic doesn't; what is claimed is the logic's number, 16 digits after
 the word `logic`. It is noted in out/proved, from `rt version` at the time of the proof.
 """
 from __future__ import annotations

@@ -17,7 +17,7 @@ from life_tools.audit.sampling import Draw, draw
 
 
 class Drawable(NamedTuple):
-    """What a valuation's first line tells, its rows, what each counts for in cents, and how many have a word."""
+    """What a valuation's first line states, its rows, what each counts for in cents, and how many have a word."""
 
     head: Head
     rows: Rows
@@ -34,7 +34,7 @@ class Drawn:
     words: int
 
     def told(self) -> list[str]:
-        """What a person is told beside the rows."""
+        """What is reported to a person beside the rows."""
         sample, drawn = self.sample, self.draw
         lines = [f"{len(sample.rows)} of {sample.policies} rows were drawn by {sample.by}, of {money(sample.total)} in "
                  f"all; the interval is {money(drawn.total // drawn.asked)}",
@@ -59,7 +59,7 @@ def numbers_of(drawn: Draw, by: str) -> Numbers:
 
 def sample_of(folder: str, on: datetime.date, asked: int, seed: int, by: str, bases: Bases, position: int | None = None,
               measure: str = "terminal", life: str | None = None) -> Drawn:
-    """A sample of what the program prints of a folder's book at a position (the newest where none is told)."""
+    """A sample of what the program prints of a folder's book at a position (the newest if none is given)."""
     demand(by in BY, f"{by} is none of {', '.join(BY)}")
     demand(measure in MEASURED, f"{measure} is none of {', '.join(MEASURED)}")
     valuation, both = read_both(folder, position, life, str(on), bases, measure)

@@ -1,7 +1,7 @@
 """Postings that people should look at: what the rules took, and what is nevertheless rare or doubtful.
 
 - `soon-after-reinstatement`: a claim within a year of a reinstatement;
-- `on-last-day`: a claim on the very day of the policy's posting before it, as of a death that was told late;
+- `on-last-day`: a claim on the very day of the policy's posting before it, such as of a death that was reported late;
 - `paid-at-once`: a claim that is settled to the cent on its own day;
 - `last-day-of-right`: a reinstatement on the last day on which it was possible;
 - `late-maturity`: a maturity long after the end of the term.
@@ -106,7 +106,7 @@ def days_before(book: Columns) -> Array:
 
 
 def doubtful_claims(book: Columns) -> Array:
-    """The places of claims on the day of the posting before them, or some year behind a reinstatement."""
+    """The places of claims on the day of the posting before them, or some year after a reinstatement."""
     day, place = book.records.day, book.place
     claims, reinstated = np.flatnonzero(book.records.kind == CLAIM), np.flatnonzero(book.records.kind == REINSTATE)
     newest = np.full(len(book.policies), FIRST - 2 * LONGEST_YEAR)

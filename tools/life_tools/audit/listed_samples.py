@@ -1,7 +1,7 @@
 """A sample of the valuations of many books as one, as text, and the part that each book has in it.
 
     all,sample,BY,COUNT ASKED FOR,SEED,TOTAL IN CENTS,START,DAY,MEASURE
-    NAME,0,value,DAY,POSITION,POLICIES[,mean]       of each book; its drawn rows stand behind it
+    NAME,0,value,DAY,POSITION,POLICIES[,mean]       of each book; its drawn rows follow it
     NAME,row,..
 """
 from __future__ import annotations
@@ -28,7 +28,7 @@ def lines_of(parts: Parts) -> Iterator[str]:
 
 
 def parts_in(text: str) -> Parts:
-    """The parts of a text that `books LIST sample` printed; of which bases isn't told there."""
+    """The parts of a text that `books LIST sample` printed; of which bases it is isn't given there."""
     first, *lines = text.splitlines() or [""]
     fields = first.split(",")[1:]
     demand(not is_sample([line.split(",") for line in (first, *lines[:1])]), "it is a sample of one book: audit papers and "
@@ -45,7 +45,7 @@ def parts_in(text: str) -> Parts:
 
 
 def blocks_in(lines: list[str]) -> dict[str, list[str]]:
-    """The lines of each book, which stand one behind the other, without its name."""
+    """The lines of each book, which stand one after the other, without its name."""
     blocks: dict[str, list[str]] = {}
     for line in lines:
         name, _, rest = line.partition(",")

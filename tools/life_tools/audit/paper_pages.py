@@ -76,7 +76,7 @@ def seals(papers: Papers) -> list[str]:
 
 
 def contents(papers: Papers) -> str:
-    """A row for each drawn policy; of several books the book stands in front."""
+    """A row for each drawn policy; of several books the book comes first."""
     are_many = len(papers.books) > 1
     rows = [[*([book.book] * are_many), str(it.policy.number), money(it.size), chance_text(it.chance),
              *([it.row.word, ""] if it.row.word else map(money, it.row.bounds)), verdict(it)]
@@ -89,7 +89,7 @@ def contents(papers: Papers) -> str:
 
 
 def postings_text(paper: Paper) -> str:
-    """Each posting behind its position."""
+    """Each posting after its position."""
     width = len(apart(str(paper.postings[-1][0])))
     return "\n".join(f"{apart(str(position)):>{width}}  {line}" for position, line in paper.postings)
 

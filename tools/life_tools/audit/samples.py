@@ -23,7 +23,7 @@ MOST_TOTAL = 10**18
 MOST_DRAWN = 10**6
 MOST_SEED = 2**63 - 1
 BOUNDS = 2
-# the fields of a line `sample` in front of the bases
+# the fields of a line `sample` before the bases
 HEAD = 6
 
 
@@ -76,7 +76,7 @@ def is_listed(line: str) -> bool:
 
 
 class Head(NamedTuple):
-    """What a valuation's first line tells."""
+    """What a valuation's first line states."""
 
     on: datetime.date
     position: int

@@ -1,6 +1,6 @@
 """A monetary unit sample: each row is drawn with a chance in proportion to its size, the same rows for the same seed.
 
-The rows' sizes, in cents, lie one behind the other on a line. Points lie on it at equal intervals, the total over the wished
+The rows' sizes, in cents, lie one after the other on a line. Points lie on it at equal intervals, the total over the wished
 count, from a random start on; a row is drawn where a point lies in it. So its chance is its size over the interval, and a row
 of at least the interval is drawn for certain, once. To stay within whole numbers all lengths are multiplied by the count: the
 interval is then the total itself, and the start one of as many numbers.
@@ -44,7 +44,7 @@ def chance_of(size: int, total: int, asked: int) -> Fraction:
 def draw_at(sizes: Cents | Sequence[int], asked: int, total: int, start: int) -> list[int]:
     """The places of the rows in which a point lies."""
     ends = np.cumsum(sizes, dtype=np.int64)
-    # a length in whole cents lies behind a point where it lies behind the point's whole cents
+    # a length in whole cents lies after a point where it lies after the point's whole cents
     points = np.array([(start + place * total) // asked for place in range(asked)], np.int64)
     found: list[int] = np.unique(np.searchsorted(ends, points, "right")).tolist()
     return found

@@ -180,7 +180,7 @@ def text_of(word: str, file: IO[bytes]) -> Text:
     text = text_in(word, file)
     file.seek(0)
     if word == "value":
-        # the first line, which tells the position and the count
+        # the first line, which states the position and the count
         file.readline()
     return text
 

@@ -24,7 +24,7 @@ LEAST, MOST = 2, 64
 
 
 class Rule(NamedTuple):
-    """A rule as it was told, and whether each policy falls under it."""
+    """A rule as it was given, and whether each policy falls under it."""
 
     text: str
     takes: Callable[[Policies], Array]

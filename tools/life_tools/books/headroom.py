@@ -19,7 +19,7 @@ from life_tools.journal.policy_columns import INFORCE, MADE_PAIDUP, TERM, Polici
 YEAR = 365
 # more days than from any today to the end of any policy
 MOST_DAYS = 200_000
-# a book is told so many days before it is full, where nothing else is asked for
+# a book is reported so many days before it is full, if nothing else is asked for
 AHEAD = 2 * YEAR
 DAY_IN_NAME = re.compile(r"(?<![0-9])[0-9]{4}-[0-9]{2}-[0-9]{2}(?![0-9])")
 
@@ -51,7 +51,7 @@ class Room(NamedTuple):
                 f"{until(self.full_alone)}")
 
     def warnings(self, today: int, least: int, within: int) -> Iterator[str]:
-        """What is told of it: fewer commands than are wanted, or full within so many days."""
+        """What is reported of it: fewer commands than are wanted, or full within so many days."""
         if self.left < least:
             yield f"{self.left} commands are left, fewer than {least}"
         days = [day for day in (self.full, self.full_alone) if day is not None]

@@ -45,7 +45,7 @@ def demand_once(book: ListedBook, before: list[ListedBook]) -> None:
 
 
 def books_at(path: str) -> list[ListedBook]:
-    """The books of a list; folders are told from the list's own folder on."""
+    """The books of a list; folders are relative to the list's own folder."""
     found: list[ListedBook] = []
     for row in rows_in(bytes_of(path)):
         try:

@@ -120,7 +120,7 @@ def program_of(task: Task) -> list[str]:
 # --- the folder ---
 
 def lay_copy(task: Task, folder: str) -> None:
-    """Copies what the task needs into a folder: the front of the journal, the basis and its tables."""
+    """Copies what the task needs into a folder: the prefix of the journal, the basis and its tables."""
     if task.files:
         for name, packed in task.files:
             with open(os.path.join(folder, name), "wb") as file:
@@ -213,7 +213,7 @@ def write_part_database(task: Task, file: IO[bytes], path: str) -> None:
 class Look:
     """What was seen of a folder while the program ran: the beginnings of so many records, and the sums of a copy's files.
 
-    And what has to be told of the book itself, where it may not be whole; one of which commands are gone is no book.
+    And what has to be reported of the book itself, where it may not be whole; one of which commands are gone is no book.
     """
 
     count: int
@@ -296,7 +296,7 @@ def run_on(task: Task, folder: str, room: str | None) -> Outcome:
 
 
 def run_once(task: Task, room: str | None = None) -> Outcome:
-    """Runs a task; what can't be asked of the program is told with a status of its own. Copies are made in the room."""
+    """Runs a task; what can't be asked of the program is reported with a status of its own. Copies are made in the room."""
     desk = ""
     try:
         if not task.is_copied:

@@ -114,7 +114,7 @@ def without_name(path: str, name: str) -> Iterator[bytes]:
 
 
 def valuation_in_part(wanted: Wanted, on: str, measure: str) -> ColumnValuation | None:
-    """The valuation of a part, where one was told; it has to be the one that is asked for."""
+    """The valuation of a part, if one was given; it has to be the one that is asked for."""
     if not wanted.part:
         return None
     path, told = wanted.part
@@ -167,7 +167,7 @@ def due_of(wanted: Wanted, day: str, within: str) -> Made:
 
 
 def flags_made(wanted: Wanted, late: str) -> Made:
-    """The flags behind the opening position, where one is told."""
+    """The flags after the opening position, if one is given."""
     book = columns_at(wanted.journal, wanted.last)
     return Made(book.count, [flag for flag in flags_of(book, int(late)) if flag.position > (wanted.first or 0)])
 

@@ -142,7 +142,7 @@ def seen_alike(asked: Asked, book: ListedBook, outcome: Outcome) -> Outcome:
 
 
 class Told:
-    """Tells each book that failed, and how many are done."""
+    """Reports each book that failed, and how many are done."""
 
     def __init__(self, books: int) -> None:
         self.progress, self.done = Progress("books", books), 0

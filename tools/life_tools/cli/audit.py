@@ -135,7 +135,7 @@ def papers_arguments(parser: argparse.ArgumentParser) -> None:
 
 
 def write_papers(papers: Papers, html: str | None, pdf: str | None) -> int:
-    """A row that isn't right is written, and told."""
+    """A row that isn't right is written, and reported."""
     text = page(papers)
     written_whole(pdf or html or "", lambda path: write_pdf(path, text) if pdf else write_text(path, text))
     for number in papers.wrong:

@@ -151,7 +151,7 @@ def numbered(book: ListedBook, outcome: Outcome, place: int) -> Iterator[tuple[i
 
 
 def tell_twice(books: list[ListedBook], outcomes: list[Outcome]) -> int:
-    """Tells the numbers that stand in two books; gives how many there are."""
+    """Reports the numbers that stand in two books; gives how many there are."""
     merged = heapq.merge(*(numbered(books[place], outcomes[place], place) for place in overlapping(outcomes)))
     found = 0
     for number, group in itertools.groupby(merged, key=itemgetter(0)):
@@ -166,7 +166,7 @@ def tell_twice(books: list[ListedBook], outcomes: list[Outcome]) -> int:
 
 
 def tell_left_out(options: argparse.Namespace, asked: Asked) -> bool:
-    """Tells that the lines of policies are left out, which a cluster doesn't send back, unless that was asked for."""
+    """Reports that the lines of policies are left out, which a cluster doesn't send back, unless that was asked for."""
     are_lines = asked.words[0] in ("value", "state")
     if not are_lines or asked.parts or asked.are_rows_kept or options.totals:
         return False
@@ -211,7 +211,7 @@ def arguments(parser: argparse.ArgumentParser) -> None:
 
 
 def word_in(options: argparse.Namespace) -> str:
-    """The word that the list is asked for. `headroom` may stand in front of the list, and `audit` before the words that it has
+    """The word that the list is asked for. `headroom` may precede the list, and `audit` before the words that it has
     of one book."""
     if options.list == "headroom":
         options.list, options.words = options.words[0], ["headroom", *options.words[1:]]

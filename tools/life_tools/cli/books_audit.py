@@ -22,7 +22,7 @@ from life_tools.common.program import program_asked
 from life_tools.audit.samples import BY, asked_in, sample_from, seed_in
 from life_tools.audit.sampling import draw
 
-# those of which each book's belongs to all others', and so none is told without one
+# those of which each book's belongs to all others', and so none is given without one
 OF_ALL = ("sample", "papers", "letters")
 ON_A_SAMPLE = ("papers", "letters")
 WORDS = ("flags", *OF_ALL)
@@ -35,7 +35,7 @@ def by_in(options: argparse.Namespace) -> str:
 
 
 def words_of(options: argparse.Namespace, measure: str) -> tuple[str, ...]:
-    """The words of each book's task behind the first."""
+    """The words of each book's task after the first."""
     word, *given = options.words
     if word == "flags":
         return (str(late_in(options.late or str(DAYS_LATE))),)

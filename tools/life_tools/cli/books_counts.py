@@ -44,7 +44,7 @@ def counted(look: Look, book: ListedBook) -> Counted:
 
 
 def each_of(look: Look, books: Sequence[ListedBook], processes: int) -> Iterator[Counted]:
-    """What is said of each book, in their order; what is remarked is told with it."""
+    """What is said of each book, in their order; what is remarked is reported with it."""
     progress = Progress("books", len(books))
     with ProcessPoolExecutor(min(processes, len(books))) as pool:
         for done, found in enumerate(pool.map(partial(counted, look), books), 1):
@@ -66,7 +66,7 @@ def position_of(day: int, is_last: bool, book: ListedBook) -> tuple[str, int]:
 
 
 def written(look: Look, books: Sequence[ListedBook], processes: int) -> int:
-    """The line of each book; one that can't be told is a line as well, and its status is the whole's."""
+    """The line of each book; one that can't be read is a line as well, and its status is the whole's."""
     failed, told = 0, 0
     for each in each_of(look, books, processes):
         if each.failed:

@@ -30,12 +30,12 @@ from life_tools.reports.sheet_pages import page
 from life_tools.reports.sheets import Sheet
 from life_tools.reports.statement import of_books
 
-# how many words stand behind each, and how many of these are days
+# how many words follow each, and how many of these are days
 TAKES = {"report": 1, "movement": 2, "statement": 2, "due": 1, "flags": 0, "sample": 1, "papers": 1, "letters": 1}
 DAYS = {"report": 1, "movement": 2, "statement": 2, "due": 1}
 WITH_SHEETS = ("report", "movement", "statement")
 FROM_ROWS = ("report", "sample")
-# what belongs to which words, by the names that options have, and by those that they are told under
+# what belongs to which words, by the names that options have, and by those that they are given under
 OPTIONS = {"by": FROM_ROWS, "seed": ("sample",), "on": ("sample", "split"), "late": ("flags",), "rows": FROM_ROWS,
            "opening": ("movement", "statement", "flags"), "csv": WITH_SHEETS, "xlsx": WITH_SHEETS,
            "html": (*WITH_SHEETS, "papers"), "pdf": ("papers",), "title": (*WITH_SHEETS, "papers"),
@@ -43,9 +43,9 @@ OPTIONS = {"by": FROM_ROWS, "seed": ("sample",), "on": ("sample", "split"), "lat
            "within": ("headroom", "due"), "today": ("headroom",), "least": ("headroom",), "recorded": ("headroom",),
            "at": ("value", "project", "state", "checkpoint", *TAKES), "basis": ("split",)}
 TOLD_AS = {"opening": "from"}
-# so many words and more aren't told
+# so many words and more aren't listed
 MOST_TOLD = 8
-# how many files of bases are told at most
+# how many files of bases may be given
 MOST_BASES = {"movement": 2}
 
 
@@ -67,7 +67,7 @@ def add_arguments(parser: argparse.ArgumentParser) -> None:
 
 
 def demand_options(options: argparse.Namespace, word: str) -> None:
-    """Demands that no option is told that the word would pass over."""
+    """Demands that no option is given that the command would ignore."""
     for name, words in OPTIONS.items():
         belongs = f"belongs to {' and '.join(words)}" if len(words) < MOST_TOLD else f"doesn't belong to {word}"
         demand(getattr(options, name) is None or word in words, f"--{TOLD_AS.get(name, name)} {belongs}")
@@ -111,7 +111,7 @@ def words_of(options: argparse.Namespace) -> tuple[str, ...]:
 
 
 def rows_left(folder: str, books: Sequence[ListedBook]) -> dict[str, tuple[str, str]]:
-    """Of each book the file of rows, and its sum, as the list of parts tells them."""
+    """Of each book the file of rows, and its sum, as the list of parts states them."""
     path = os.path.join(folder, "parts.csv")
     found = {row.fields[0]: (row.fields[2], row.fields[3]) for row in rows_in(bytes_of(path)) if len(row.fields) == 4}
     for book in books:

@@ -46,7 +46,7 @@ def arguments(parser: argparse.ArgumentParser) -> None:
 
 
 def look_over(lines: list[Line], transcript: str, desk: Desk, doubts: Doubts) -> dict[int, list[str]]:
-    """What is told of rows, by their numbers."""
+    """What is reported of rows, by their numbers."""
     left = {lane: iter(rows) for lane, rows in lanes_of(lines).items()}
     told: dict[int, list[str]] = {}
     for head, *_ in answers_in(transcript)[0]:

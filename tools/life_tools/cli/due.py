@@ -61,7 +61,7 @@ class Items:
         self.found: list[Due] = []
 
     def find(self, what: int, chosen: Array, day: Array, until: Array | np.int32, cents: Cents, first: Array) -> None:
-        """An item of each of the chosen policies; all else is told of all policies."""
+        """An item of each of the chosen policies; all else is reported of all policies."""
         count = int(np.count_nonzero(chosen))
         until = until[chosen] if isinstance(until, np.ndarray) else np.full(count, until)
         self.found.append(Due(np.full(count, what), day[chosen], self.of.number[chosen], until, cents[chosen], first[chosen]))

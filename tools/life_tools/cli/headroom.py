@@ -55,7 +55,7 @@ def wanted_of(options: argparse.Namespace) -> Wanted:
 
 
 def room_at(path: str, name: str, wanted: Wanted) -> tuple[Room, int]:
-    """The room of a book, which must not be damaged; and 1 where something of the book was told."""
+    """The room of a book, which must not be damaged; and 1 where something of the book was reported."""
     status = tell(demand_undamaged(path))
     holder = holder_of(path)
     if holder:
@@ -66,7 +66,7 @@ def room_at(path: str, name: str, wanted: Wanted) -> tuple[Room, int]:
 
 
 def told_of(name: str, room: Room, wanted: Wanted) -> int:
-    """Tells what is to be told of a book's room: 1, or 0 where nothing is."""
+    """Reports what is to be reported of a book's room: 1, or 0 where nothing is."""
     warnings = list(room.warnings(wanted.today, wanted.least, wanted.within))
     for warning in warnings:
         remark(f"{name}: {warning}")
@@ -74,7 +74,7 @@ def told_of(name: str, room: Room, wanted: Wanted) -> int:
 
 
 def add_arguments(parser: argparse.ArgumentParser) -> None:
-    """What `books headroom` takes, too; None where it isn't told."""
+    """What `books headroom` takes, too; None where it isn't given."""
     parser.add_argument("--today", metavar="DAY", help="headroom: the day from which it is counted (that of this machine)")
     parser.add_argument("--least", metavar="N", help="headroom: 1 where fewer commands are left")
     parser.add_argument("--within", metavar="DAYS", help=f"headroom: 1 where a book is full within so many ({AHEAD}); "

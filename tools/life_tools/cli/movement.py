@@ -62,7 +62,7 @@ def arguments(parser: argparse.ArgumentParser) -> None:
 
 
 def bases_of(options: argparse.Namespace) -> list[Bases]:
-    """The bases, and those that they are changed to, where these are told."""
+    """The bases, and those that they are changed to, if these are given."""
     demand(len(options.basis or []) <= 2 and len(options.bases or []) <= 2, "there are two bases at most")
     if options.basis and not options.classes and not options.bases:
         return [bases_in(name, None, None) for name in options.basis]
@@ -78,7 +78,7 @@ TOLD = ("each column is a sum of the printed rows' bounds, of the lower or of th
 
 
 class Moment(NamedTuple):
-    """A day as it is told to the program, and a position."""
+    """A day as it is given to the program, and a position."""
 
     on: str
     position: int

@@ -102,7 +102,7 @@ def tell_equal(answered: list[Line], rest: list[Line]) -> None:
 
 
 def tell_full(printed: Printed) -> int:
-    """Tells how many rows found the book full: 1, or 0 where none did."""
+    """Reports how many rows found the book full: 1, or 0 where none did."""
     if printed.full:
         remark(f"rows that found the book full, and aren't in the rest: {len(printed.full)}; --full has them there")
     return 1 if printed.full else 0

@@ -91,7 +91,7 @@ def run_check(options: argparse.Namespace) -> int:
 # --- what is made ---
 
 def write_table(path: str, data: bytes, changes: list[str], life: str | None) -> int:
-    """Writes a table that the program takes, and tells what was changed."""
+    """Writes a table that the program takes, and reports what was changed."""
     verdict = verdict_on(data, STANDS_FOR, life)
     demand(not verdict, f"what would be written isn't taken: {verdict}")
     demand(not os.path.lexists(path), f"{path} is there already")

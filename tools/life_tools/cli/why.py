@@ -36,7 +36,7 @@ def measure_arguments(parser: argparse.ArgumentParser) -> None:
 
 
 def position_in(text: str | None) -> int | None:
-    """A position that was told, or none."""
+    """A position that was given, or none."""
     if text is None:
         return None
     position = number_of(text, 0, MOST_COMMANDS)

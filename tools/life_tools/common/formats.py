@@ -36,7 +36,7 @@ KINDS = {1: "issue", 2: "premium", 3: "alter", 4: "lapse", 5: "reinstate", 6: "c
 STATUSES = ("inforce", "lapsed", "claimed", "matured", "expired", "settled", "paidup")
 # what a valuation may show; the first line says it, but of the first one
 MEASURES = ("terminal", "mean", "deficiency")
-# what a posting has behind its day
+# what a posting has after its day
 FIELDS = {
     "issue": ("plan", "age", "years", "amount", "premium"),
     "premium": ("amount",),
@@ -91,7 +91,7 @@ def bytes_of(path: str) -> bytes:
 
 
 def read_whole(path: str, most: int, read: Callable[[bytes], Read]) -> Read:
-    """What is read of a file of at most so many bytes; what is wrong with it is told with its name."""
+    """What is read of a file of at most so many bytes; what is wrong with it is reported with its name."""
     data = bytes_of(path)
     try:
         demand(len(data) <= most, f"it has {len(data)} bytes, and at most {most} are read")
@@ -181,7 +181,7 @@ def text_of(data: bytes) -> str:
 
 
 def field_at(text: str, at: int) -> tuple[str, int]:
-    """The field that begins at a place, and the place behind it."""
+    """The field that begins at a place, and the place after it."""
     quoted = QUOTED.match(text, at)
     if not quoted:
         plain = PLAIN.match(text, at)

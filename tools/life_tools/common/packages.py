@@ -28,7 +28,7 @@ def is_seen_by_debians(module: str) -> bool:
 
 def begin_anew(module: str, debian: str) -> NoReturn:
     """Begins the tool anew with Debian's Python, where only that one sees the module."""
-    # words behind -c can't be begun anew, nor a worker of a cluster
+    # words after -c can't be begun anew, nor a worker of a cluster
     is_tool = os.path.isfile(sys.argv[0]) and "distributed" not in sys.modules
     if is_tool and ANEW not in os.environ and is_seen_by_debians(module):
         sys.stdout.flush()

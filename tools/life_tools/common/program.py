@@ -92,7 +92,7 @@ def why_unproved(found: str) -> str:
 
 @lru_cache(maxsize=None)
 def asked_by(words: tuple[str, ...], path: str) -> Program:
-    """The program of some words; where it isn't the proved one, people are told so, once."""
+    """The program of some words; where it isn't the proved one, it is reported once."""
     if not os.path.isfile(path):
         return Program(words, "", f"there is no proved program {path}: sh life prove", path)
     found = sum_of_program(path)
@@ -103,7 +103,7 @@ def asked_by(words: tuple[str, ...], path: str) -> Program:
 
 
 def program_asked(given: str | None = None) -> Program:
-    """The program that is told, else by LIFE_PROGRAM, else the one beside these tools, else the clone's by its launcher."""
+    """The program that is named, else by LIFE_PROGRAM, else the one beside these tools, else the clone's by its launcher."""
     told = given or os.environ.get("LIFE_PROGRAM")
     if told:
         demand(os.path.isfile(told), f"{told} is no program")

@@ -19,7 +19,7 @@ def built_with() -> dict[str, str] | None:
 
 
 def of_clone() -> str | None:
-    """The commit of the clone that these tools lie in, where git tells it."""
+    """The commit of the clone that these tools lie in, where git knows it."""
     folder = os.path.dirname(os.path.realpath(sys.argv[0]))
     try:
         asked = subprocess.run(["git", "-C", folder, "describe", "--always", "--dirty"], stdout=subprocess.PIPE,

@@ -19,7 +19,7 @@ STALE_SECONDS = 60
 
 
 def place_to_post(size: int) -> str | None:
-    """Memory, where a posting waits for no disk, unless TMPDIR tells another place or memory has no room for the copy."""
+    """Memory, where a posting waits for no disk, unless TMPDIR names another place or memory has no room for the copy."""
     if os.environ.get("TMPDIR") or not os.access(MEMORY, os.W_OK | os.X_OK):
         return None
     return MEMORY if shutil.disk_usage(MEMORY).free >= size + ROOM else None

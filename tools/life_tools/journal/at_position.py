@@ -89,7 +89,7 @@ def copied(path: str, position: int | None, to: str) -> Blocks:
 
 @contextlib.contextmanager
 def book_at(folder: str, position: int | None, bases: Sequence[str], life: str | None) -> Iterator[BookAt]:
-    """A copy of the book at a position (the newest where none is told), with these basis files and their tables."""
+    """A copy of the book at a position (the newest if none is given), with these basis files and their tables."""
     path, command = os.path.join(folder, JOURNAL), life_command(life)
     with private_copy(folder, bases[0]) as desk:
         copy = os.path.join(desk, JOURNAL)

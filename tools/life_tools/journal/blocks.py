@@ -1,4 +1,4 @@
-"""A journal's file block by block: its records up to the first gate that isn't open, never all of them in memory."""
+"""A journal's file block by block: its records up to the first commit byte that isn't 1, never all of them in memory."""
 from __future__ import annotations
 
 import io
@@ -15,7 +15,7 @@ AT_ONCE = 1 << 13
 
 
 class Blocks:
-    """The blocks, which are gone through once; behind the last one it is known how many records there are."""
+    """The blocks, which are gone through once; after the last one it is known how many records there are."""
 
     def __init__(self, file: io.BufferedIOBase) -> None:
         self.file = file
@@ -57,7 +57,7 @@ class Blocks:
         return None if isinstance(count, Journal) else (count, self.length)
 
     def count(self) -> int | Journal:
-        """How many records stand in front of the first gate that isn't open, as `records_in` says it of a file's bytes."""
+        """How many records precede the first commit byte that isn't 1, as `records_in` says it of a file's bytes."""
         if is_unfinished_creation(self.front):
             return 0
         return wrong_front(self.front) or counted(self.open, self.is_ended, self.read)

@@ -79,7 +79,7 @@ def header_in(data: bytes) -> Header:
 
 
 def checkpoint_in(data: bytes) -> Checkpoint:
-    """The books in a file, which has to be a checkpoint. What stands behind the last policy has no meaning."""
+    """The books in a file, which has to be a checkpoint. What follows the last policy has no meaning."""
     header = header_in(data)
     return Checkpoint(header.position, header.upgrade, header.balances, list(policies_in(data, header.policies)))
 

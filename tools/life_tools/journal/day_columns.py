@@ -12,7 +12,7 @@ __all__ = ["FIRST", "FIRST_YEAR", "LAST", "LAST_YEAR", "NEVER", "anniversaries",
 
 FIRST, LAST = number_at(FIRST_DAY), number_at(LAST_DAY)
 FIRST_YEAR = FIRST_DAY.year
-# no anniversary of a day of the calendar lies behind it
+# no anniversary of a day of the calendar lies after it
 LAST_YEAR = 2400
 # the place of 29 February in a leap year
 LEAP_DAY = 31 + 28

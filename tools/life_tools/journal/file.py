@@ -64,7 +64,7 @@ def read_journal(data: bytes, into: Book | None = None) -> Journal:
 
 
 def open_gates(gates: bytes | bytearray) -> int:
-    """How many gates stand in front of the first one that isn't open."""
+    """How many gates precede the first one that isn't open."""
     is_all = gates == bytes([OPEN]) * len(gates)
     return len(gates) if is_all else len(gates) - len(gates.lstrip(bytes([OPEN])))
 
@@ -88,7 +88,7 @@ def counted(count: int, is_ended: bool, length: int) -> int | Journal:
 
 
 def records_in(data: bytes) -> int | Journal:
-    """How many records stand in front of the first gate that isn't open; or the refusal of what is no journal."""
+    """How many records precede the first commit byte that isn't 1; or the refusal of what is no journal."""
     wrong = wrong_front(data[:len(EMPTY)])
     if wrong:
         return wrong

@@ -131,7 +131,7 @@ def policies_in(of: Sequence[Policy]) -> Policies:
 
 
 def together(one: Policies, other: Policies) -> Policies:
-    """The policies of both, one behind the other."""
+    """The policies of both, one after the other."""
     return Policies(*(np.concatenate([getattr(one, column.name), getattr(other, column.name)]) for column in fields(one)))
 
 
@@ -144,7 +144,7 @@ def missed(of: Some, day: Array) -> Array:
 
 def is_in_grace(of: Some, day: Array) -> Array:
     """Whether a premium can still be paid, as far as one is due."""
-    # a premium that is due never is behind each day
+    # a premium that is due never is after each day
     found: Array = day - GRACE.days <= of.due
     return found
 

@@ -2,7 +2,7 @@
 
 The days of one policy's commands never fall, but those of different policies may stand in any order. So no position need
 have just the commands up to a day. *The first* position is the last one up to which every command is of the day or of one
-before; it lacks commands of such days that were posted behind one of a later day. *The last* is that of the last command
+before; it lacks commands of such days that were posted after one of a later day. *The last* is that of the last command
 of the day or of one before; it has commands of later days among its own.
 
 What reads a journal hands in the days as numbers, in the order of the commands; an upgrade, which has none, may have any.
@@ -39,7 +39,7 @@ class OnDay(NamedTuple):
 
 
 def on_day(days: Union[Array, array[int]], day: int, upgrade: int = 0) -> OnDay:
-    """How the commands lie about a day; the upgrade's position is told, or 0."""
+    """How the commands lie about a day; the upgrade's position is reported, or 0."""
     later = np.asarray(days) > day
     before = ~later
     if upgrade:

@@ -124,7 +124,7 @@ def close_gate(path: str, place: int) -> None:
 
 
 def places_in(path: str) -> int:
-    """How many records have room in a journal, in front of a last gate."""
+    """How many records have room in a journal, before a last commit byte."""
     return max(os.path.getsize(path) - len(EMPTY), 0) // RECORD_SIZE
 
 

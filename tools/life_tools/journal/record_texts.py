@@ -69,7 +69,7 @@ def lines_of(records: Records, template_of: Callable[[str], str]) -> Iterator[st
 
 
 def plain_template(kind: str) -> str:
-    """The position, and the fields of a script behind the lane."""
+    """The position, and the fields of a script after the lane."""
     return ",".join(["%s", kind, *["%s"] * (len(HELD[kind]) - 1)]) + "\n"
 
 

@@ -15,7 +15,7 @@ from life_tools.journal.file import FIRST_GATE, RECORD_SIZE, gate_of
 from life_tools.common.arrays import Array, Cents, np
 from life_tools.journal.blocks import AT_ONCE, Blocks, prefix_at
 
-# a record as it stands in the file; the bytes behind its premium are 0 of every kind, and an amount of 2^63 or more is below 0
+# a record as it stands in the file; the bytes after its premium are 0 of every kind, and an amount of 2^63 or more is below 0
 # here, so outside its limits as well
 RECORD = np.dtype([("gate", "u1"), ("kind", "u1"), ("plan", "u1"), ("age", "u1"), ("years", "u1"), ("number", ">u4"),
                    ("day", ">i4"), ("amount", ">i8"), ("premium", ">i8"), ("idle", "u1", 36)])
@@ -102,7 +102,7 @@ def is_issue_right(plan: Array, age: Array, years: Array) -> Array:
 
 
 def is_right(block: Records) -> Array:
-    """Whether each record spells a valid command, by all but what stands behind its premium."""
+    """Whether each record spells a valid command, by all but what follows its premium."""
     kind, plan, age, years = block.kind, block.plan, block.age, block.years
     # where all are of one kind, its limits are looked up once
     kinds = kind[:1] if (kind == kind[0]).all() else kind
@@ -123,7 +123,7 @@ def take_block(raw: Array, block: Records) -> None:
 
 
 def has_idle_bytes(block: memoryview, raw: Array) -> Array:
-    """Which records of a block have bytes behind their premium."""
+    """Which records of a block have bytes after their premium."""
     rows, found = len(raw) // ROW, np.zeros(len(raw), bool)
     words = np.frombuffer(block, np.uint64, len(IDLE) * rows).reshape(rows, len(IDLE))
     has_none = not (np.bitwise_or.reduce(words, axis=0) & IDLE).any()
@@ -161,7 +161,7 @@ def raw_records(data: bytes, count: int) -> Array:
 
 
 def records_behind(path: str, first: int, last: int) -> Records:
-    """The columns of a copy's records behind one position, up to another; none but these are read."""
+    """The columns of a copy's records after one position, up to another; none but these are read."""
     with opened(path) as file:
         file.seek(gate_of(first))
         ends = range(first + AT_ONCE, last + AT_ONCE, AT_ONCE)

@@ -47,13 +47,13 @@ class Rounds:
             self.done += 1
 
     def alone(self) -> Iterator[tuple[int, Array]]:
-        """A policy, and all commands that it has left behind the rounds."""
+        """A policy, and all commands that it has left after the rounds."""
         for place in self.mine[:self.active].tolist():
             yield place, self.order[self.begins[place] + self.done:self.ends[place]]
 
 
 class Replay:
-    """The policies that the commands leave. Where one can't follow, `bad` is its place, and nothing behind it counts."""
+    """The policies that the commands leave. Where one can't follow, `bad` is its place, and nothing after it counts."""
 
     def __init__(self, records: Records) -> None:
         self.records = records
@@ -92,7 +92,7 @@ class Replay:
 
     def judge(self, issues: Array) -> None:
         numbers = Numbers(self.records.number[issues], self.records.number[:self.count])
-        # behind all records that of a policy that is nowhere
+        # after all records that of a policy that is nowhere
         issued_at = np.append(issues, self.count)
         start = 0
         while start < self.count:
@@ -111,7 +111,7 @@ class Replay:
         issues, others = np.flatnonzero(is_issue), np.flatnonzero(~(is_issue | is_upgrade))
         self.finds_bad(at[issues[issued_at[place[issues]] != at[issues]]])
         self.finds_bad(at[others[issued_at[place[others]] > at[others]]])
-        # behind the first one that can't follow nothing is judged; so each of these names a policy that is there
+        # after the first one that can't follow nothing is judged; so each of these names a policy that is there
         sound = others if self.bad is None else others[at[others] < self.bad]
         self.judge_rounds(at[sound], place[sound].astype(np.intp))
 

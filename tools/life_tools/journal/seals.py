@@ -1,6 +1,6 @@
 """A seal: what a book's front and its basis were, as a few lines to keep elsewhere, by which they are known again.
 
-Its lines are CSV. The day is the latest of the front's postings, or empty where there is none:
+Its lines are CSV. The day is the latest of the prefix's postings, or empty where there is none:
 
     seal,1,DAY ON WHICH IT WAS MADE
     position,POSITION,COMMANDS THAT THE JOURNAL HAD,DAY
@@ -8,7 +8,7 @@ Its lines are CSV. The day is the latest of the front's postings, or empty where
     file,NAME,BYTES,SHA-256        of the basis and of each table that it names
     sum,SHA-256                    of the lines above
 
-The front is what no posting changes: 17 bytes and 65 for each command, without the gate behind the last one.
+The front is what no posting changes: 17 bytes and 65 for each command, without the commit byte after the last one.
 """
 from __future__ import annotations
 
@@ -43,7 +43,7 @@ class Sealed(NamedTuple):
 
 @dataclass(frozen=True)
 class Seal:
-    """What a seal says: of a front of so many commands, of which day, with which sum; and of the files of bases."""
+    """What a seal says: of a prefix of so many commands, of which day, with which sum; and of the files of bases."""
 
     made: datetime.date
     position: int
@@ -90,7 +90,7 @@ def newest_of(days: Sequence[int], path: str) -> datetime.date | None:
 
 
 def seal_of(folder: str, position: int | None = None, bases: Sequence[str] = ("basis.csv",)) -> Seal:
-    """The seal of a folder's journal at a position (the newest where none is told) and of these bases."""
+    """The seal of a folder's journal at a position (the newest if none is given) and of these bases."""
     path = os.path.join(folder, JOURNAL)
     whole = columns_at(path)
     front = whole if position is None else columns_at(path, position)
@@ -151,7 +151,7 @@ def seal_at(path: str) -> Seal:
 # --- whether a book is still that of a seal ---
 
 def front_difference(seal: Seal, path: str) -> str | None:
-    """How the front of a journal's file differs, or none where it is the same."""
+    """How the prefix of a journal's file differs, or none where it is the same."""
     data = bytes_of(path)
     if len(data) < seal.size:
         return f"{path} has {len(data)} bytes, and the front had {seal.size}"
@@ -174,7 +174,7 @@ def shape_by(shape: Shape, seals: Sequence[str]) -> Shape:
 
 
 def count_difference(seal: Seal, path: str) -> str | None:
-    """Whether commands behind the front are gone: a journal only grows."""
+    """Whether commands after the prefix are gone: a journal only grows."""
     try:
         count = shape_at(path).count
     except BadJournal as bad:

@@ -1,8 +1,8 @@
 """Whether a journal's file is whole: its length beside its count, and who knows of more commands than it has.
 
-A closed gate ends the journal, so one byte that has turned hides all that lies behind it, and the next posting writes over
+A commit byte that isn't 1 ends the journal, so one damaged byte hides all that lies after it, and the next posting writes over
 it. But a book on which a run has ended duly has 18 bytes and 65 for each command. A crash or a fault leaves at most 65 more,
-which nothing cuts off; a last gate that has turned leaves as many. Who noted a greater count tells the two apart: a
+which nothing cuts off; a damaged last commit byte leaves as many. Who noted a greater count tells the two apart: a
 checkpoint, a seal that was kept, or the log of a day's work.
 """
 from __future__ import annotations
@@ -54,7 +54,7 @@ class Shape:
 
     @property
     def excess(self) -> int:
-        """The bytes behind the gate that ends it."""
+        """The bytes after the commit byte that ends it."""
         return max(0, self.length - gate_of(self.count) - 1)
 
     @property
@@ -85,7 +85,7 @@ class Shape:
 # --- the file ---
 
 def shape_at(path: str, seen: Seen | None = None) -> Shape:
-    """The shape of a journal's file alone; of one that isn't a journal the program's answer is told."""
+    """The shape of a journal's file alone; of one that isn't a journal the program's answer is reported."""
     if seen:
         return Shape(path, *seen)
     demand(os.path.lexists(path), f"there is no {path}")
@@ -159,7 +159,7 @@ def beside(path: str) -> tuple[str | None, str | None]:
     return (checkpoint if is_book and os.path.isfile(checkpoint) else None), (log if is_book and os.path.isdir(log) else None)
 
 
-# --- what a tool does with it; one that has read the file tells what it has seen of it ---
+# --- what a tool does with it; one that has read the file states what it has seen of it ---
 
 def demand_undamaged(path: str, seen: Seen | None = None) -> Shape:
     """The shape of a book of which nothing shows to be gone."""
@@ -170,7 +170,7 @@ def demand_undamaged(path: str, seen: Seen | None = None) -> Shape:
 
 
 def doubt_of(path: str, seen: Seen | None = None) -> str:
-    """What is to be told of a book that may not be whole; what is no journal is left to who reads it."""
+    """What is to be reported of a book that may not be whole; what is no journal is left to who reads it."""
     try:
         return demand_undamaged(path, seen).told()
     except BadJournal:
@@ -178,14 +178,14 @@ def doubt_of(path: str, seen: Seen | None = None) -> str:
 
 
 def tell_doubt(path: str, seen: Seen | None = None) -> None:
-    """Tells it, of a book of which nothing shows to be gone, or of none."""
+    """Reports it, of a book of which nothing shows to be gone, or of none."""
     doubt = doubt_of(path, seen) if os.path.isfile(path) else ""
     if doubt:
         remark(doubt)
 
 
 def tell(shape: Shape) -> int:
-    """Tells what isn't as in a whole book: 1, or 0 where nothing is told."""
+    """Reports what isn't as in a whole book: 1, or 0 where nothing is reported."""
     for reason in shape.reasons():
         remark(reason)
     if shape.verdict == UNDECIDED:

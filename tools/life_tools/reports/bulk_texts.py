@@ -6,7 +6,7 @@ from typing import Sequence
 from life_tools.common.arrays import Array, Cents, np
 
 ZERO, MINUS, POINT, COMMA, LINE_END = (np.uint8(ord(letter)) for letter in "0-.,\n")
-# an amount has at least a digit before its point, and two behind it
+# an amount has at least a digit before its point, and two after it
 LEAST = 3
 
 
@@ -23,7 +23,7 @@ class Letters:
         self.written.append(written)
 
     def add_letter(self, letter: np.uint8, written: Array | None = None) -> None:
-        """The same letter in each row, or in those of which it is told."""
+        """The same letter in each row, or in those that are named."""
         where = np.ones((self.rows, 1), bool) if written is None else written[:, None]
         self.add(np.full((self.rows, 1), letter, np.uint8), where)
 

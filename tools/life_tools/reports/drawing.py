@@ -29,7 +29,7 @@ def framed(title: str, parts: Sequence[str], height: int = HEIGHT) -> str:
 
 
 class Unit(NamedTuple):
-    """What amounts are told in: so many cents, and what a title says of it."""
+    """The unit in which amounts are shown: so many cents, and what a title says of it."""
 
     cents: int
     words: str

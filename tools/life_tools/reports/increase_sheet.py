@@ -1,7 +1,7 @@
 """The increase in reserves: from the opening by net premiums, interest, cost of insurance, releases and changes to the closing.
 
 Each policy's way is followed year by year and posting by posting, by the arithmetic that `why` shows. A posting of a day
-behind the closing one counts on that day; one of a policy that the opening book has, of a day before the opening one, on
+after the closing one counts on that day; one of a policy that the opening book has, of a day before the opening one, on
 this one. What is insured is added up by case and year before it is multiplied by what 1 is worth there, which is exact.
 """
 from __future__ import annotations
@@ -148,7 +148,7 @@ class Increase:
         return np.minimum(completed_years(self.issued[place], day), self.terms.years[self.case[place] // 2])
 
     def go_on(self, place: Array, day: Array) -> Array:
-        """Those of the policies that are on their way; it goes up to the days, but not behind the closing one."""
+        """Those of the policies that are on their way; it goes up to the days, but not after the closing one."""
         is_there = self.case[place] >= 0
         place, since = place[is_there], self.year[place[is_there]]
         year = np.maximum(since, self.years_on(place, np.minimum(day[is_there], self.on2)))

@@ -56,7 +56,7 @@ def lines_by_policy(records: Records, numbers: Array) -> Array:
 
 
 def bounds_of(valuation: ColumnValuation) -> Cents:
-    """The bounds of what a valuation is for: by `deficiency` those of the minimum reserve, which stand behind the others."""
+    """The bounds of what a valuation is for: by `deficiency` those of the minimum reserve, which follow the others."""
     return valuation.rows.bounds[:, -2:]
 
 

@@ -87,7 +87,7 @@ class Period:
 # --- reading ---
 
 class Watched:
-    """A copy of a book that tells how often it was asked."""
+    """A copy of a book that counts how often it was asked."""
 
     def __init__(self, copy: BookAt, progress: Progress) -> None:
         self.copy, self.progress, self.done = copy, progress, 0
@@ -102,7 +102,7 @@ class Watched:
 def moment(copy: Watched, on: datetime.date, asked: Asked, is_closing: bool) -> Moment:
     state = whole_state_of(copy.streams("state"))
     minimum = valued_columns(copy, str(on), asked.bases, "deficiency") if is_closing else None
-    # which has the terminal reserve in front of the minimum
+    # which has the terminal reserve before the minimum
     valuation = minimum if minimum and asked.measure == "terminal" else valued_columns(copy, str(on), asked.bases, asked.measure)
     demand(valuation.position == state.count, f"the valuation is of position {valuation.position}, the state of {state.count}")
     rows, policies = valuation.rows, state.policies

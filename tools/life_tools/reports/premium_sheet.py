@@ -72,7 +72,7 @@ class Parts:
 
 
 def paid_ahead(moment: Moment, of: Policies) -> Array:
-    """How many of the premiums that were paid are due behind the day."""
+    """How many of the premiums that were paid are due after the day."""
     due = np.maximum(completed_years(of.issued, moment.day) + 1, 0)
     found: Array = np.maximum(of.paid - due, 0)
     return found

@@ -17,7 +17,7 @@ FORMATS = {COUNT: "#,##0", CENTS: "#,##0.00"}
 
 
 def texts_of(sheet: Sheet) -> list[list[str]]:
-    """The rows as they are written, behind a head."""
+    """The rows as they are written, after a head."""
     rows = [[cell_text(cell, column) for cell, column in zip(row.cells, sheet.columns)] for row in sheet.rows]
     return [[column.name for column in sheet.columns], *rows]
 
@@ -53,7 +53,7 @@ def write_csvs(folder: str, facts: Facts, sheets: Sequence[Sheet]) -> None:
 
 
 def write_policies(folder: str, sheets: Sequence[Sheet]) -> None:
-    """A file for each sheet that tells each policy's part."""
+    """A file for each sheet that states each policy's part."""
     for sheet in sheets:
         if sheet.policy_head:
             write_csv_file(os.path.join(folder, f"{sheet.name}.csv"), chain([sheet.policy_head], sheet.policy_rows))

@@ -47,7 +47,7 @@ class Expected:
         self.add_by(policy, terms, completed(policy.issued, on))
 
     def add_by(self, policy: Policy, terms: Terms, now: int) -> None:
-        """Adds a policy in a year of its cover; behind the last nothing is expected."""
+        """Adds a policy in a year of its cover; after the last nothing is expected."""
         rates = terms.table.rates[policy.age - terms.table.first:]
         owes = policy.status == "inforce"
         alive = 1

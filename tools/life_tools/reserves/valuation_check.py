@@ -69,7 +69,7 @@ def check_row(row: list[str], policy: Policy, basis: Sequence[BasisRow], on: dat
 
 
 def demand_policies(head: list[str], policies: Sequence[Policy]) -> None:
-    """Demands that a first line tells the number of policies."""
+    """Demands that a first line states the number of policies."""
     demand(head[4] == str(len(policies)), f"{','.join(head)}: there are {len(policies)} policies")
 
 
@@ -89,7 +89,7 @@ def check_block(rows: list[list[str]], policies: Sequence[Policy], basis: Sequen
 
 
 def check_sample(lines: list[list[str]], policies: Sequence[Policy], basis: Sequence[BasisRow], measure: str) -> int:
-    """Checks some rows of a valuation, in any order, behind its first line; gives their number. A total is passed over."""
+    """Checks some rows of a valuation, in any order, after its first line; gives their number. A total is passed over."""
     head, *rest = lines
     rows = [row for row in rest if row[0] != "total"]
     demand_policies(head, policies)

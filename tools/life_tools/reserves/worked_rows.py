@@ -12,7 +12,7 @@ from life_tools.rules.policies import Policy, completed
 from life_tools.tables.basis import BasisRow
 
 PLACES = 9
-# an exact fraction with more digits than this is told by its length
+# an exact fraction with more digits than this is reported by its length
 SHORT = 40
 RATES_A_LINE = 5
 WORDS = {

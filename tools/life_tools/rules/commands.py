@@ -50,7 +50,7 @@ def day_at(number: int) -> datetime.date:
 
 
 def words_of(command: Command) -> list[str]:
-    """The fields of a command behind the lane: its kind, its policy's number, its day, and what the kind holds."""
+    """The fields of a command after the lane: its kind, its policy's number, its day, and what the kind holds."""
     if command.kind == "upgrade":
         return [command.kind]
     words = [command.kind, str(command.number), str(command.day)]
@@ -100,7 +100,7 @@ def body_of(command: Command) -> bytes:
             + command.amount.to_bytes(8, "big") + command.premium.to_bytes(8, "big") + bytes(36))
 
 
-# kind, plan, age, years, number, day, amount, premium; behind them nothing
+# kind, plan, age, years, number, day, amount, premium; after them nothing
 BODY = struct.Struct(">BBBBIiQQ")
 NOTHING = bytes(BODY_SIZE - BODY.size)
 

@@ -14,7 +14,7 @@ from life_tools.rules.commands import LAST_AGE, Command
 from life_tools.common.formats import MOST_COMMANDS, Wrong, money
 
 # days of grace after a premium was due, days before it is due from which on it may be paid, and the anniversaries
-# behind the last paid one up to which a lapsed policy can be reinstated
+# after the last paid one up to which a lapsed policy can be reinstated
 GRACE = datetime.timedelta(31)
 EARLY = datetime.timedelta(90)
 REINSTATEMENT_ANNIVERSARIES = 3

@@ -1,6 +1,6 @@
-"""What a run that was cut has printed: a front of its transcript.
+"""What a run that was cut has printed: a prefix of its transcript.
 
-Its lines stand in the order of the turns in which they were answered, and an accepted one has its position. So it tells
+Its lines stand in the order of the turns in which they were answered, and an accepted one has its position. So it states
 how many rows of each lane are answered for certain, which records of the run are theirs, and where the run began.
 """
 from __future__ import annotations
@@ -16,7 +16,7 @@ from life_tools.scripts.transcript_check import Answer, is_block, is_whole
 @dataclass
 class Printed:
     """The rows that are printed as answered; the commands of those accepted; and how many were accepted before the run,
-    where a line tells."""
+    where a line states."""
 
     rows: set[int] = field(default_factory=set)
     answered: dict[int, int] = field(default_factory=dict)
@@ -26,11 +26,11 @@ class Printed:
     unposted: list[tuple[str, Line]] = field(default_factory=list)
     # the rows that found the book full
     full: list[Line] = field(default_factory=list)
-    # of those answered `fault` the ones behind which none is accepted, of which one may be in the journal
+    # of those answered `fault` the ones after which none is accepted, of which one may be in the journal
     in_doubt: list[Command] = field(default_factory=list)
 
     def began(self, count: int, answer: list[str]) -> None:
-        """A line that tells how many commands were accepted before it."""
+        """A line that states how many commands were accepted before it."""
         begun = count - len(self.accepted)
         demand(begun >= 0 and self.begun in (None, begun), f"{','.join(answer)} has another position than the lines before")
         self.begun = begun
@@ -80,7 +80,7 @@ def whole_answers(text: str) -> list[Answer]:
 
 
 def read_prefix(text: str, lines: list[Line]) -> Printed:
-    """What a front tells of a script's lines."""
+    """What a prefix states of a script's lines."""
     printed, lanes = Printed(), lanes_of(lines)
     for answer in whole_answers(text):
         lane = number_of(answer[0][0], 1, 8) or 0

@@ -118,7 +118,7 @@ def map_at(path: str) -> Map:
 # --- the fields of a row ---
 
 def whole_in(text: str, least: int, most: int, what: str) -> int:
-    """Digits, of which those in front may be 0, as other systems fill them up."""
+    """Digits, of which those before may be 0, as other systems fill them up."""
     demand(re.fullmatch("[0-9]{1,18}", text), f"the {what} is {text or 'empty'}")
     demand(least <= int(text) <= most, f"the {what} is {text}, and {least} to {most} can be")
     return int(text)

@@ -101,14 +101,14 @@ WORKERS = number("workers", 1, MOST_WORKERS, "the workers")
 POSTED = {"plan": PLAN, "age": AGE, "years": YEARS, "amount": amount("amount"), "premium": amount("premium")}
 
 
-# the fields of a kind behind lane and kind
+# the fields of a kind after lane and kind
 WANTED_OF = {kind: [NUMBER, DAY, *(POSTED[name] for name in fields)] for kind, fields in FIELDS.items()}
 WANTED_OF.update(value=[DAY, POSITION, WORKERS], trim=[], upgrade=[],
                  reinstate=[NUMBER, DAY, amount("amount", MOST_REINSTATEMENT_CENTS)])
 
 
 def line_of(row: Row, valuations: int) -> Line | Fault:
-    """The line of a row that stands behind so many valuations, or its fault."""
+    """The line of a row that follows so many valuations, or its fault."""
     fields = row.fields
     lane = number_of(fields[0], 1, MOST_LANES)
     if lane is None:

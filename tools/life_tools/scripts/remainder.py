@@ -2,7 +2,7 @@
 
 What a killed run had accepted stands in the journal, and a lane's rows are answered in their order. So of each lane the
 rows up to the last one that the journal shows were answered, and the rest is to be run. Where what it printed is there,
-too, the rows that are answered in it are so for certain, and only the records behind it are to be dealt out.
+too, the rows that are answered in it are so for certain, and only the records after it are to be dealt out.
 
 A record doesn't say whose it is. Where equal rows stand in several lanes, the records are dealt out so that each row
 in between was refused at some moment, or asked for a value or a trim: the killed run together with the rest is then one
@@ -91,7 +91,7 @@ class History(Book):
 
 
 def history_in(columns: Columns, begun: int, lines: Iterable[Line]) -> History:
-    """The history of the policies of a script and of a run, which began behind so many commands of a journal."""
+    """The history of the policies of a script and of a run, which began after so many commands of a journal."""
     demand(begun <= columns.count, f"the journal has {columns.count} commands, and before the run there were {begun}")
     records, script = columns.records, {line.command.number for line in lines if line.command}
     numbers = np.union1d(np.array(sorted(script), np.uint32), records.number[begun:])
@@ -230,13 +230,13 @@ def demand_records(printed: Printed, history: History) -> None:
 
 
 def dealt_by(printed: Printed, history: History) -> int:
-    """How many of the run's records are those of printed lines: a faulted line's is there, if at all, behind all others."""
+    """How many of the run's records are those of printed lines: a faulted line's is there, if at all, after all others."""
     count = len(printed.accepted)
     return count + (history.records == count + 1 and history.record(count) in printed.in_doubt)
 
 
 def rest_of(lines: list[Line], history: History, printed: Printed | None = None) -> dict[int, list[Line]]:
-    """Of each lane the rows that are to be run, behind those that are printed as answered."""
+    """Of each lane the rows that are to be run, after those that are printed as answered."""
     lanes, printed = lanes_of(lines), printed or Printed()
     stands = Search(lanes, history).run(printed.answered, dealt_by(printed, history))
     return {lane: lanes[lane][answered:] for lane, (answered, _) in stands.items()}

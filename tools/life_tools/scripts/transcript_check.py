@@ -33,7 +33,7 @@ def is_whole(answer: Answer) -> bool:
 
 
 def answers_in(transcript: str) -> tuple[list[Answer], list[list[str]]]:
-    """The lines in order, each with the rows and the total behind it where it is a valuation's, and the watchers' lines."""
+    """The lines in order, each with the rows and the total after it where it is a valuation's, and the watchers' lines."""
     demand(transcript.endswith("\n") or not transcript, "the last line isn't ended")
     answers: list[Answer] = []
     watchers: list[list[str]] = []
@@ -144,7 +144,7 @@ def check_run(lines: list[Line], transcript: str, begun: Book, after: Journal, b
 def prefix_of(transcript: str) -> tuple[str, int]:
     """The lines of a transcript that are whole, without a valuation that has no total; and how many lines they are."""
     lines = transcript[:transcript.rfind("\n") + 1].splitlines(keepends=True)
-    # rows and totals belong to the line above that they stand behind
+    # rows and totals belong to the line above that they follow
     heads = [place for place, line in enumerate(lines) if not line.startswith(("row,", "total,", "watcher,"))]
     last = lines[heads[-1]:] if heads else []
     if last and is_block([last[0].rstrip("\n").split(",")]) and not any(line.startswith("total,") for line in last):
@@ -159,7 +159,7 @@ def is_cut(transcript: str) -> bool:
 
 
 def check_cut(lines: list[Line], transcript: str, begun: Book, after: Journal, basis: Sequence[BasisRow]) -> str:
-    """Checks the front of a transcript that was cut, and that the journal holds what it says was accepted; tells where it
+    """Checks the prefix of a transcript that was cut, and that the journal holds what it says was accepted; states where it
     was cut, and what of the run is known from the journal alone."""
     front, count = prefix_of(transcript)
     run = Run(lines, begun, basis, {})

@@ -79,7 +79,7 @@ class Table:
 
 @dataclass(frozen=True)
 class SelectTable:
-    """For each issue age from the first on the rates by duration, and behind these the ultimate rates by age."""
+    """For each issue age from the first on the rates by duration, and after these the ultimate rates by age."""
 
     first: int
     periods: tuple[tuple[Fraction, ...], ...]
@@ -286,7 +286,7 @@ def rows_by_duration(axis: Element) -> list[Element]:
 
 
 def durations_of(axis: Element) -> list[Element]:
-    """The rows of an issue age, without the blank ones behind the last that isn't blank."""
+    """The rows of an issue age, without the blank ones after the last that isn't blank."""
     rows = rows_by_duration(axis)
     while rows and is_blank(rows[-1]):
         rows.pop()
@@ -332,7 +332,7 @@ def select_table_of(path: list[Element], name: str) -> SelectTable:
         raise BadBasis(name, table.at, "noultimate")
     ultimate = table_by_age(rows, name)
     for axis, age, period in zip(axes, ages, periods):
-        # ultimate rates that begin so late go on behind the period, too
+        # ultimate rates that begin so late go on after the period, too
         if ultimate.first > age + len(period):
             raise BadBasis(name, axis.at, "ultimategap")
     return SelectTable(ages[0], tuple(periods), ultimate)

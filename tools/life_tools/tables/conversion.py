@@ -221,7 +221,7 @@ def converted(document: Document, factor: str | None = None) -> tuple[bytes, lis
 
 
 def joined(select: Document, ultimate: Document) -> Document:
-    """A document of select rates with the first table of another one, of ultimate rates, behind its first."""
+    """A document of select rates with the first table of another one, of ultimate rates, after its first."""
     paths = [demand_path(select.root, "the select file: "), demand_path(ultimate.root, "the ultimate file: ")]
     changes = [*(f"select: {change}" for change in select.changes), *(f"ultimate: {change}" for change in ultimate.changes)]
     if in_one_axis(paths[0]):

@@ -58,7 +58,7 @@ def valued_columns(copy: Streams, on: str, bases: Bases, measure: str) -> Column
 
 
 class PlacedRow(NamedTuple):
-    """A row of a basis file, with the file's name, and the day of the row behind it, where there is one."""
+    """A row of a basis file, with the file's name, and the day of the row after it, where there is one."""
 
     file: str
     row: BasisRow

@@ -86,7 +86,7 @@ def added(groups: Array, count: int, cents: Cents) -> list[int]:
 
 
 def sums_by(it: Joined, groups: Array, count: int) -> list[Sums]:
-    """The sums of groups, which each policy's number tells."""
+    """The sums of groups, which each policy's number states."""
     insured = (it.rows.status == CODE_OF_STATUS["inforce"]) | (it.rows.status == CODE_OF_STATUS["paidup"])
     amounts = added(groups, count, np.where(insured, it.policies.amount, 0))
     counts: list[int] = np.bincount(groups[insured], minlength=count).tolist()

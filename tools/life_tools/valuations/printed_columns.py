@@ -102,7 +102,7 @@ class Fields:
         return between(self.ends[:, field - 1] + 1 if field else self.starts, self.ends[:, field])
 
     def wrong(self, right: Array) -> None:
-        """Demands something of each line, and tells the first of which it isn't so."""
+        """Demands something of each line, and states the first of which it isn't so."""
         if not right.all():
             at = int(right.argmin())
             line = self.text[self.starts[at]:self.ends[at, -1]].tobytes().decode("ascii", "replace")
@@ -134,7 +134,7 @@ class Fields:
         return number
 
     def higher(self, field: Field) -> Array:
-        """The numbers that the digits in front of the last eight spell."""
+        """The numbers that the digits before the last eight spell."""
         return self.digits(self.words[np.maximum(field.ends - 2 * WORD, 0)], LASTS[np.clip(field.length - WORD, 0, WORD)])
 
     def whole(self, field: int, most: int) -> Array:
@@ -416,7 +416,7 @@ def read_state(parts: Iterable[bytes], of: type[P]) -> ColumnState[P]:
 
     def policies() -> Iterator[bytes]:
         for block in blocks_of(parts):
-            # behind the policies stand the balances and the count
+            # after the policies stand the balances and the count
             is_in = not rest[0] and block.startswith(b"policy,")
             at = (block.find(b"\nbalance,") + 1 or len(block)) if is_in else 0
             rest[0] += block[at:]
@@ -440,7 +440,7 @@ def whole_state_of(parts: Iterable[bytes]) -> ColumnState[WholePolicies]:
 
 
 def printed_policies(of: WholePolicies) -> Policies:
-    """The policies that a state tells, which has no day of a last posting: the day of issue stands for it."""
+    """The policies of a printed state, which has no day of a last posting: the day of issue stands for it."""
     # without a policy the columns have a type of no use
     plan, age, years, issued = (column.astype(kind) for column, kind in zip((of.plan, of.age, of.years, of.issued),
                                                                             (np.uint8, np.uint8, np.uint8, np.int32)))
@@ -449,7 +449,7 @@ def printed_policies(of: WholePolicies) -> Policies:
 
 
 def balances_in(text: bytes) -> tuple[dict[str, int], int]:
-    """The balances and the count, which stand behind the policies."""
+    """The balances and the count, which follow the policies."""
     *lines, last = text.decode("ascii", "replace").splitlines() or [""]
     count = number_of(last[6:], 0, MOST_NUMBER) if last.startswith("count,") else None
     heads = [line.rpartition(",")[0] for line in lines]
