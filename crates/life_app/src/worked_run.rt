@@ -41,7 +41,7 @@ pub fn promise_by_hand()
     ensures safe { ToldOnceSafe }
     ensures line { LineByHand }
     ensures durable { DurableByHand }
-    ensures legal { LegalByHand }
+    ensures answered { LegalByHand }
 {}
 
 /// Each mode has what it needs, or lacks it, and so some ending is due.

@@ -22,5 +22,5 @@ returns-clause-line c = line_by_hand
 pub returns-clause-durable : goal.returns-clause-durable
 returns-clause-durable c = durable_by_hand
 
-pub returns-clause-legal : goal.returns-clause-legal
-returns-clause-legal c = legal_by_hand
+pub returns-clause-answered : goal.returns-clause-answered
+returns-clause-answered c = legal_by_hand
