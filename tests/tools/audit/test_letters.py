@@ -10,8 +10,8 @@ from tests.support.folders import Folder
 
 # By hand, of the day 2021-03-31; a whole life covers up to age 131. 1 is paid until 2022-01-15. 2 has a premium due since
 # 2021-03-15, whose grace of 31 days ends on 2021-04-15. 3 was due on 2021-01-20; its grace ended on 2021-02-20, and no lapse
-# is posted. 4 is paid up since the upgrade, so no premium is told. 5 has missed two premiums and is past its
-# grace since 2020-04-01.
+# is posted. 4 is paid up since the upgrade, so no premium is told. 5 has missed two premiums and is past its grace since
+# 2020-04-01.
 SCRIPT = """\
 1,issue,1,2020-01-15,whole,40,0,1000.00,10.00
 1,premium,1,2020-01-15,10.00

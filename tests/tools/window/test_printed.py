@@ -33,7 +33,7 @@ def browser(tools: Path, office: Folder, tmp_path: Path) -> Iterator[Any]:
     from tests.support.browser import Browser
     with Window(tools, office.path) as window:
         window.page(STATEMENT)
-        shown = Browser((1366, 900), tmp_path)
+        shown: Any = Browser((1366, 900), tmp_path)
         try:
             shown.enter(window)
             shown.base = f"http://127.0.0.1:{window.port}{window.root}"

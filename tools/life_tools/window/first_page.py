@@ -119,7 +119,7 @@ def waiting_table(book: View) -> Table:
     lapses, cents = due.sums.get("lapse", (0, 0))
     rows = [[Cell("rows held back", book.link("held") if held else ""), Cell("Rows of scripts that a person has to look at."),
              *cells((held, ""))],
-            [Cell("refusals", book.link("refusals") if refused else ""), Cell("Lines that the last five runs refused."),
+            [Cell("refusals", book.link("refusals") if refused else ""), Cell("Rows of the last five files that were refused."),
              *cells((refused, ""))],
             [Cell("past grace", book.link("day/list", what="lapse", day=book.today) if lapses else ""),
              Cell(f"In arrears on {book.today}, and no longer to be paid."), *cells((lapses, money(cents)))]]

@@ -130,7 +130,7 @@ def posting_page(book: View, asked: Asked, positions: Array, title: str, words: 
 
 def log_page(title: str, says: str, lines: Sequence[tuple[str, str]]) -> Answer:
     rows = [[Cell(run), Cell(line)] for run, line in lines]
-    values = {"table": Table(title, [Head("run"), Head("row", "says")], rows), "page": 1, "pages": 1, "turns": [], "says": says}
+    values = {"table": Table(title, [Head("file"), Head("row", "says")], rows), "page": 1, "pages": 1, "turns": [], "says": says}
     return Page("postings.html", title, values)
 
 
@@ -144,4 +144,4 @@ def held(book: View, asked: Asked) -> Answer:
 def refusals(book: View, asked: Asked) -> Answer:
     asked.only(("at",))
     rows = refused_rows(book.listed.folder)
-    return log_page("Refusals of the last runs", f"{len(rows):,} lines were refused by the last five runs.", rows)
+    return log_page("Refusals of the last files", f"{len(rows):,} rows of the last five files were refused.", rows)

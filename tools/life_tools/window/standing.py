@@ -7,7 +7,7 @@ import stat
 from dataclasses import dataclass
 
 from life_tools.common.formats import Wrong
-from life_tools.desk.entries import DONE, ENDED, ENTRY, RUN, Entry, Log, Run
+from life_tools.desk.entries import DONE, ENDED, ENTRY, HANDED_IN, RUN, Entry, Log, Run
 from life_tools.journal.copied_folder import JOURNAL
 from life_tools.journal.file import EMPTY, FIRST_GATE
 from life_tools.reports.provenance import shown
@@ -62,10 +62,10 @@ def logged_run(run: Run) -> LoggedRun:
 
 # --- what waits for a person ---
 
-def entries_in(folder: str) -> list[Entry]:
-    """The entries of the log, the last ones first, as far as their records can be read."""
-    log, found = Log(folder), []
-    for name in log.names()[:-MOST_LOOKED_AT - 1:-1]:
+def entries_of(log: Log, names: list[str]) -> list[Entry]:
+    """Entries of the log by their names, as far as their records can be read."""
+    found = []
+    for name in names:
         try:
             found += [log.entry(name)] if is_plain(os.path.join(log.path, name, ENTRY)) else []
         except Wrong:
@@ -73,24 +73,45 @@ def entries_in(folder: str) -> list[Entry]:
     return found
 
 
+def waiting_entries(folder: str) -> list[Entry]:
+    """The entries of which something is left to do, the last ones first: only these have rows that are held."""
+    log = Log(folder)
+    undone = [name for name in log.names() if not os.path.exists(os.path.join(log.path, name, DONE))]
+    return entries_of(log, undone[:-MOST_LOOKED_AT - 1:-1])
+
+
+def last_entries(folder: str) -> list[Entry]:
+    log = Log(folder)
+    return entries_of(log, log.names()[:-MOST_RUNS - 1:-1])
+
+
 def held_rows(folder: str) -> list[tuple[str, str]]:
     """The rows that wait for a person: the entry and the row."""
-    return [(shown(entry.name), shown(str(each["text"]))) for entry in entries_in(folder) for each in entry.held]
+    return [(shown(entry.name), shown(str(each["text"]))) for entry in waiting_entries(folder) for each in entry.held]
 
 
 def refused_rows(folder: str) -> list[tuple[str, str]]:
-    """The rows of the last entries that were refused: the entry and what was answered."""
-    return [(shown(entry.name), f"row {row}: {shown(answer_text(answer))}") for entry in entries_in(folder)[:MOST_RUNS]
-            for row, answer in entry.record["refused"]]
+    """The rows of the last entries that were refused: the entry, and the row with what was answered."""
+    found = []
+    for entry in last_entries(folder):
+        texts = texts_of(entry)
+        for row, answer in entry.record["refused"]:
+            found.append((shown(entry.name), shown(f"{texts.get(row, f'row {row}')}: {answer}")))
+    return found
 
 
-def answer_text(answer: object) -> str:
-    return ",".join(map(str, answer)) if isinstance(answer, list) else str(answer)
+def texts_of(entry: Entry) -> dict[int, str]:
+    """The rows of the file that was handed in, by their numbers, where it is still there as it was read."""
+    try:
+        return {line.row.number: line.row.text for line in entry.lines} if is_plain(entry.path(HANDED_IN)) else {}
+    except Wrong:
+        return {}
 
 
 def waiting_in(folder: str) -> tuple[int, int]:
-    """How many rows are held back, and how many lines were refused."""
-    return len(held_rows(folder)), len(refused_rows(folder))
+    """How many rows are held back, and how many lines of the last entries were refused."""
+    return (sum(len(entry.held) for entry in waiting_entries(folder)),
+            sum(len(entry.record["refused"]) for entry in last_entries(folder)))
 
 
 @dataclass(frozen=True)
