@@ -59,6 +59,11 @@ def test_a_seed_draws_the_same_rows() -> None:
     assert draw([5, 7, 9, 200], 2, 11) == draw([5, 7, 9, 200], 2, 11)
 
 
+def test_a_row_of_just_the_interval_is_certain() -> None:
+    drawn = draw([5, 5, 0], 2, 1)
+    assert (drawn.places, drawn.certain, drawn.nothing) == ([0, 1], 2, 1)
+
+
 @given(st.lists(st.integers(0, 40), min_size=1, max_size=12).map(lambda sizes: [*sizes, 1]), st.integers(1, 14))
 def test_over_all_starts_just_as_many_draw_a_row_as_its_chance_says(sizes: list[int], asked: int) -> None:
     total, counts = sum(sizes), [0] * len(sizes)
