@@ -11,11 +11,11 @@ hold journal.life
 launch --wait 0 state </dev/null
 echo diskfault >wanted
 judge "$status" 8 wanted
-notes_are "still journal.life is held by process [0-9]*, python"
+notes_are "still journal.life is in use by process [0-9]*, python"
 # the script is a pipe, which is read once
 echo 1,issue,7501,2020-01-01,endowment,0,3,1000.00,400.00 | sh "$launcher" --wait 600 run >out 2>notes &
 waiter=$!
-await 'grep -q "waiting: journal.life is held by process [0-9]*, python" notes'
+await 'grep -q "waiting: journal.life is in use by process [0-9]*, python" notes'
 let_go
 wait "$waiter"
 [ $? = 0 ] && grep -q '^1,issue,7501,accepted,5$' out || complain "it doesn't wait: $(cat out notes)"
@@ -28,7 +28,7 @@ for n in 1 2 3 4 5 6; do
     echo "1,issue,76$n,2020-01-01,endowment,0,3,1000.00,400.00" | sh "$launcher" --wait 600 run >"out.$n" 2>"notes.$n" &
     waiters="$waiters $!"
 done
-await '[ "$(cat notes.? | grep -c "is held by")" -ge 6 ]'
+await '[ "$(cat notes.? | grep -c "is in use by")" -ge 6 ]'
 let_go
 # shellcheck disable=SC2086
 wait $waiters

@@ -53,13 +53,13 @@ def held_files() -> None:
     with open("journal.life") as file:
         fcntl.flock(file, fcntl.LOCK_EX)
         status, said = on_a_terminal("state")
-        assert status == 8 and said.startswith("diskfault") and f"journal.life is held by {me}" in said, (status, said)
+        assert status == 8 and said.startswith("diskfault") and f"journal.life is in use by {me}" in said, (status, said)
     with open("checkpoint.life", "w") as file:
         fcntl.flock(file, fcntl.LOCK_EX)
         for word in ("state", "checkpoint"):
             status, said = on_a_terminal(word)
             assert status == 8 and said.startswith("diskfault"), (status, said)
-            assert f"checkpoint.life is held by {me}" in said, said
+            assert f"checkpoint.life is in use by {me}" in said, said
 
 
 def wrong_words() -> None:

@@ -1,6 +1,7 @@
 """The documentation: every command shown prints what is shown, every link leads somewhere, the language keeps to its rules."""
 from __future__ import annotations
 
+import ast
 import os
 import pathlib
 import re
@@ -155,6 +156,26 @@ def prose_of(page: str) -> list[tuple[int, str]]:
         if not fenced and not generated and not line.startswith("    "):
             lines.append((number, re.sub("`[^`]*`", "", line)))
     return lines
+
+
+# the same of what the tools and the launcher say: in the texts of their code, and in the help of a tool
+REPLACED_IN_MESSAGES = re.compile(r"\bbehind\b|\b(?:is|are|was|were|be|been) told\b|\bin front of\b|\bgates?\b|\bheld by\b")
+
+
+def said_by(file: str) -> list[tuple[int, str]]:
+    """The texts of a tool's code with their lines: all but comments, and the help that stands at the head of its module."""
+    tree = ast.parse((TOP / file).read_text(encoding="utf-8"))
+    described = {id(node.body[0].value) for node in ast.walk(tree)
+                 if isinstance(node, (ast.Module, ast.ClassDef, ast.FunctionDef)) and node.body
+                 and isinstance(node.body[0], ast.Expr) and not (node is tree and "/cli/" in file)}
+    return [(node.lineno, node.value) for node in ast.walk(tree)
+            if isinstance(node, ast.Constant) and isinstance(node.value, str) and " " in node.value and id(node) not in described]
+
+
+@pytest.mark.parametrize("file", [file for file in MESSAGES if file.endswith(".py") and "/window/" not in file])
+def test_replaced_words_do_not_come_back_in_messages(file: str) -> None:
+    found = [f"{file}:{line}: {text.strip()[:80]}" for line, text in said_by(file) if REPLACED_IN_MESSAGES.search(text)]
+    assert not found, "\n".join(found)
 
 
 @pytest.mark.parametrize("page", PAGES)

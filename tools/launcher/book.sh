@@ -41,7 +41,7 @@ verify_book() {
                 ;;
             2)
                 # the program itself answers a journal that is in use or is none
-                case $found in *" is held by "* | *" is in use "* | *badjournal,*) ;; *) say "the book isn't verified: $found" ;; esac
+                case $found in *" is in use by "* | *" is in use "* | *badjournal,*) ;; *) say "the book isn't verified: $found" ;; esac
                 return 1
                 ;;
         esac

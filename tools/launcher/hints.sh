@@ -36,7 +36,7 @@ why_not() {
     elif [ -e "$1" ]; then
         holder=$(holder_of "$1")
         if [ -n "$holder" ]; then
-            printf '%s\n' "$1 is held by $holder: wait until it has ended, or begin with $waits SECONDS"
+            printf '%s\n' "$1 is in use by $holder: wait until it has ended, or use $waits SECONDS"
         elif [ ! -w "$1" ]; then
             echo "$1 can't be written by $(id -un)"
         fi

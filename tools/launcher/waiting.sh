@@ -33,7 +33,7 @@ why_wait() {
     for file in $(needed_files "$1"); do
         holder=$(holder_of "$file")
         if [ "$queue" = 1 ]; then [ -n "$holder" ]; else is_held "$file"; fi || continue
-        printf '%s\n' "$file is held by $holder"
+        printf '%s\n' "$file is in use by $holder"
         return
     done
     [ "$queue" != 1 ] || echo "another one that waited for this folder has its turn"

@@ -158,7 +158,7 @@ def test_a_book_without_its_table(three: Folder) -> None:
 def test_a_book_in_use_and_who_waits_for_it(three: Folder) -> None:
     with open(three.path / "book2/journal.life", "rb") as held:
         fcntl.flock(held, fcntl.LOCK_EX)
-        fails(three.tools(*VALUE, "--totals"), 8, f"diskfault: .*book2/journal.life is held by process {os.getpid()}")
+        fails(three.tools(*VALUE, "--totals"), 8, f"diskfault: .*book2/journal.life is in use by process {os.getpid()}")
         waits = threading.Timer(2, lambda: fcntl.flock(held, fcntl.LOCK_UN))
         waits.start()
         assert re.search("^all,total,.*,3,3$", three.printed(*VALUE, "--totals", "--wait", "60"), re.M)
@@ -247,7 +247,7 @@ def test_a_list_that_is_none(three: Folder, text: str, says: str) -> None:
     ("no-list state", "is no name of a book|it has a name, a folder"),
     ("no-book state", "no-book has no book"),
     ("books.csv run", "run is none of value, project"),
-    ("books.csv value", "value takes 1 words"),
+    ("books.csv value", "value takes 1 arguments"),
     ("books.csv value 2021-02-29", "2021-02-29 is no day"),
     ("books.csv project 2020-01-01 132", "1 to 131 years are wanted"),
     ("books.csv value 2020-01-01 --mean --deficiency", "of --mean and --deficiency one stands"),

@@ -169,7 +169,7 @@ good,9,3999991,0,never,10,6,never
 """
     assert ended.err == f"""missing: status 2: there is no {here}/missing/journal.life
 cut: status 5: badjournal,badrecord,1
-{here}/held/journal.life is held by process {os.getpid()}, and may have more commands by now
+{here}/held/journal.life is in use by process {os.getpid()}, and may have more commands by now
 foreign: status 5: badjournal,notajournal
 full: 0 commands are left, 401019 were used in the last year, and it is full on 2026-11-29: life-tools books split divides it
 damaged: status 1: {damaged}

@@ -341,7 +341,7 @@ def test_a_policy_in_two_books(books: Folder) -> None:
 # an option that was passed over would give another list than the one that was asked for
 @pytest.mark.parametrize(("words", "says"), [
     ("books.csv statement 2015-12-31 2019-12-31", "wants --from and --at"),
-    ("books.csv statement 2015-12-31", "statement takes 2 words"),
+    ("books.csv statement 2015-12-31", "statement takes 2 arguments"),
     ("books.csv report 2019-12-31 --by color", "color is none of"),
     ("books.csv sample 3 --seed 1 --on 2019-12-31 --by plan", "by plan: sample takes|--by plan"),
     ("books.csv sample 3", "sample wants --on and --seed"),

@@ -335,7 +335,7 @@ def test_refused(main: Folder, words: str, says: str) -> None:
 def test_a_book_in_use(main: Folder) -> None:
     with open(main.path / "main" / "journal.life", "rb") as held:
         fcntl.flock(held, fcntl.LOCK_EX)
-        main.refused("books", "split", "main/journal.life", *HALVES, says="main/journal.life is held by another run")
+        main.refused("books", "split", "main/journal.life", *HALVES, says="main/journal.life is in use by another run")
 
 
 def test_a_book_without_a_table(main: Folder) -> None:

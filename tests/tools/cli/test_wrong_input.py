@@ -50,7 +50,7 @@ read nowhere | nowhere: {NONE}
 read strange | strange: its first 17 bytes aren't those of a journal
 read cut.life | cut.life: record 1: it is cut short
 read-checkpoint nowhere | nowhere: {NONE}
-read-checkpoint strange | strange: byte 0, its gate, isn't 1
+read-checkpoint strange | strange: byte 0, its commit byte, isn't 1
 read-checkpoint cut.checkpoint | cut.checkpoint: it has 12 bytes
 read-checkpoint checkpoint.life cut.life | {CUT}
 export csv nowhere | nowhere: {NONE}
@@ -81,8 +81,8 @@ plot projection strange | isn't what life project prints
 plot projection cut.projected | this one 3
 at 29 state | 29 is no position of ./journal.life, which has 28 commands
 at x state | x is no position
-at 1 run | behind the position stands one of state, value, project
-at 1 | behind the position stands one of state, value, project
+at 1 run | after the position comes one of state, value, project
+at 1 | after the position comes one of state, value, project
 at --folder nowhere 0 state | nowhere/journal.life: {NONE}
 at --folder cut 1 state | {CUT}
 at 1 value 2021-02-29 | life value 2021-02-29 ended with 2

@@ -204,7 +204,7 @@ def test_a_journal_that_has_grown_is_still_that_of_its_seal(book: Folder) -> Non
 def test_a_journal_in_use(book: Folder) -> None:
     with open(book.journal, "rb") as held:
         fcntl.flock(held, fcntl.LOCK_EX)
-        ends(book, 2, f"journal.life is held by process {os.getpid()}", "verify")
+        ends(book, 2, f"journal.life is in use by process {os.getpid()}", "verify")
 
 
 @pytest.mark.parametrize(("data", "says"), [(None, "there is no journal.life"), (b"", "is empty"),

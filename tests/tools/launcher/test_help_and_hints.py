@@ -54,7 +54,7 @@ def test_who_has_the_journal(small_office: Folder, life: Called) -> None:
     with open(small_office.journal, "rb") as file:
         fcntl.flock(file, fcntl.LOCK_EX)
         status, said = on_terminal([*life.words, "state"], small_office.path)
-    assert status == 8 and f"journal.life is held by process {os.getpid()}, " in said, said
+    assert status == 8 and f"journal.life is in use by process {os.getpid()}, " in said, said
 
 
 @pytest.mark.parametrize("words, hint", [

@@ -128,4 +128,4 @@ def test_a_dry_run_prints_what_the_run_prints_and_posts_nothing(office: Folder) 
 def test_a_dry_run_beside_another_run(office: Folder) -> None:
     with open(office.journal, "rb") as held:
         fcntl.flock(held, fcntl.LOCK_EX)
-        office.refused("dry-run", "one-order.csv", says="held by another run")
+        office.refused("dry-run", "one-order.csv", says="in use by another run")

@@ -104,7 +104,7 @@ def held(asked: Asked, book: ListedBook) -> Outcome | None:
     until = time.monotonic() + asked.wait
     while holder := holder_of(book.journal):
         if time.monotonic() >= until:
-            return Outcome(book.name, DISK_FAULT, f"diskfault: {book.journal} is held by {holder}")
+            return Outcome(book.name, DISK_FAULT, f"diskfault: {book.journal} is in use by {holder}")
         time.sleep(SECONDS_BETWEEN)
     return None
 

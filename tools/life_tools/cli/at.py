@@ -40,7 +40,7 @@ def basis_in(words: list[str]) -> str:
 
 def run(options: argparse.Namespace) -> int:
     words = options.words
-    demand(words and words[0] in WORDS, f"behind the position stands one of {', '.join(WORDS)}")
+    demand(words and words[0] in WORDS, f"after the position comes one of {', '.join(WORDS)}")
     position = number_of(options.position, 0, MOST_COMMANDS)
     if position is None:
         raise Wrong(f"{options.position} is no position from 0 to {MOST_COMMANDS}")

@@ -49,7 +49,7 @@ def folder_arguments(parser: argparse.ArgumentParser) -> None:
 
 def late_argument(parser: argparse._ActionsContainer, default: str | None) -> None:
     parser.add_argument("--late", metavar="DAYS", default=default, help="flags: a maturity is reported if it is more than so "
-                        f"many days behind the end ({DAYS_LATE})")
+                        f"many days after the end ({DAYS_LATE})")
 
 
 def flags_arguments(parser: argparse.ArgumentParser) -> None:

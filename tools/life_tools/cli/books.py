@@ -39,7 +39,7 @@ def program_words(options: argparse.Namespace) -> tuple[str, ...]:
     """The words of the program; those that belong to a list aren't among them."""
     word, *given = options.words
     wanted = {"value": 1, "project": 2, "position-on": 1}.get(word, 0)
-    demand(len(given) == wanted, f"{word} takes {wanted} words behind it")
+    demand(len(given) == wanted, f"{word} takes {wanted} arguments")
     if wanted:
         day_in(given[0])
     demand(word != "project" or number_of(given[1], 1, MOST_YEARS), f"{' '.join(given[1:])}: 1 to {MOST_YEARS} years are wanted")

@@ -94,7 +94,7 @@ def words_of(options: argparse.Namespace) -> tuple[str, ...]:
     """The words of each book's task."""
     word, *given = options.words
     measure, count = measure_in(options), TAKES[word]
-    demand(len(given) == count or word == "due" and len(given) == 2, f"{word} takes {count} words behind it")
+    demand(len(given) == count or word == "due" and len(given) == 2, f"{word} takes {count} arguments")
     for day in given[:DAYS.get(word, 0)]:
         day_in(day)
     if word == "report":
@@ -198,7 +198,7 @@ def show(options: argparse.Namespace, outcomes: Sequence[Outcome]) -> int:
     well, word = [outcome for outcome in outcomes if outcome.made], options.words[0]
     is_whole = len(well) == len(outcomes)
     if not well or word in books_audit.OF_ALL and not is_whole:
-        remark(f"nothing is told of {len(well)} of {len(outcomes)} books")
+        remark(f"nothing is reported of {len(well)} of {len(outcomes)} books")
         return 2
     if word in books_audit.WORDS:
         return books_audit.show(options, well)

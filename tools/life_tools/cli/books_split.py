@@ -40,7 +40,7 @@ def words_in(words: list[str]) -> tuple[str, list[str], list[str]]:
     journal, *rest = words
     rules = [word for word in rest if is_rule(word)]
     folders = rest[len(rules):]
-    demand(rest[:len(rules)] == rules, f"{' '.join(rest)}: the rules stand in front of the folders")
+    demand(rest[:len(rules)] == rules, f"{' '.join(rest)}: the rules come before the folders")
     demand(len(rules) == len(folders), f"there are {len(rules)} rules and {len(folders)} folders for new books")
     demand(os.path.basename(journal) == JOURNAL, f"{journal} is no {JOURNAL}")
     return journal, rules, folders

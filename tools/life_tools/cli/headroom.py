@@ -59,7 +59,7 @@ def room_at(path: str, name: str, wanted: Wanted) -> tuple[Room, int]:
     status = tell(demand_undamaged(path))
     holder = holder_of(path)
     if holder:
-        remark(f"{path} is held by {holder}, and may have more commands by now")
+        remark(f"{path} is in use by {holder}, and may have more commands by now")
     noted = [each[name] for each in wanted.recorded if name in each]
     noted += recorded_in_log(os.path.join(os.path.dirname(path), LOG))
     return room_of(columns_at(path), noted, wanted.today), 1 if holder else status

@@ -40,7 +40,7 @@ def arguments(parser: argparse.ArgumentParser) -> None:
         for file in files:
             piece.add_argument(file.lower(), metavar=file)
         if name in ("convert", "join"):
-            piece.add_argument("--factor", choices=FACTORS, help="what a ScalingFactor is for, where the rates don't tell")
+            piece.add_argument("--factor", choices=FACTORS, help="what a ScalingFactor is for, if the rates do not show it")
         piece.add_argument("--life", metavar="PROGRAM", help="the program to ask")
         piece.set_defaults(piece=run_it)
 
@@ -127,7 +127,7 @@ PIECES = {
               "taken, or something is strange"),
     "convert": (run_convert, ("FILE", "OUT"), "makes a table that the program takes out of one in another form"),
     "round": (run_round, ("FILE", "OUT"), "rounds the rates to nine places, and changes nothing else"),
-    "join": (run_join, ("SELECT", "ULTIMATE", "OUT"), "puts the ultimate rates of one file behind the select rates of another"),
+    "join": (run_join, ("SELECT", "ULTIMATE", "OUT"), "puts the ultimate rates of one file after the select rates of another"),
 }
 
 

@@ -34,7 +34,7 @@ def arguments(parser: argparse.ArgumentParser) -> None:
 
 def run(options: argparse.Namespace) -> int:
     holder = holder_of(options.journal)
-    demand(not holder, f"{options.journal} is held by {holder}: what follows its end shows once it has ended")
+    demand(not holder, f"{options.journal} is in use by {holder}: what follows its end shows once it has ended")
     checkpoint, log = beside(options.journal)
     shape = shape_by(shape_with(options.journal, options.checkpoint or checkpoint, options.log or log), options.seal)
     print(f"count,{shape.count}\nlength,{shape.length}")

@@ -64,7 +64,7 @@ def policy_in(data: bytes) -> Policy:
 
 def header_in(data: bytes) -> Header:
     """The header of a file, which has to be a checkpoint as far as that shows."""
-    demand(data[:1] == bytes([OPEN]), "byte 0, its gate, isn't 1")
+    demand(data[:1] == bytes([OPEN]), "byte 0, its commit byte, isn't 1")
     demand(len(data) >= HEADER_SIZE, f"it has {len(data)} bytes")
     demand(data[1:17] == HEADER, "its header is another one")
     position, upgrade, many = (number_of(data[at:at + 4]) for at in (17, 21, 25))
@@ -74,7 +74,7 @@ def header_in(data: bytes) -> Header:
     balances = {account: signed_of(data[29 + 8 * n:37 + 8 * n]) for n, account in enumerate(ACCOUNTS)}
     for account, cents in balances.items():
         demand(abs(cents) <= MOST_CENTS_A_COMMAND * position, f"{account} is {cents} cents after {position} commands")
-    demand(not any(data[61:64]), "a byte in front of the policies isn't 0")
+    demand(not any(data[61:64]), "a byte before the policies isn't 0")
     return Header(position, upgrade, many, balances)
 
 

@@ -25,7 +25,7 @@ def reading(path: str) -> Iterator[io.BufferedReader]:
         try:
             fcntl.flock(file, fcntl.LOCK_SH | fcntl.LOCK_NB)
         except BlockingIOError as error:
-            raise Wrong(f"{path} is held by another run") from error
+            raise Wrong(f"{path} is in use by another run") from error
         yield file
 
 

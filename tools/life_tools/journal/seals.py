@@ -85,7 +85,7 @@ def newest_of(days: Sequence[int], path: str) -> datetime.date | None:
     if not days:
         return None
     newest = EPOCH + datetime.timedelta(max(days)) if abs(max(days)) < FARTHEST else None
-    demand(newest and newest <= LAST_DAY, f"{path}: a record has no day of the calendar: life-tools read tells which")
+    demand(newest and newest <= LAST_DAY, f"{path}: a record has no day of the calendar: life-tools read shows which")
     return newest
 
 

@@ -60,7 +60,7 @@ def standing(commands: Sequence[Command], death: Command) -> str:
     since = [command for command in commands if command.on > day]
     if is_insured(before, death) != is_insured(at_end, death):
         on_it = [command for command in up_to if command.on == day]
-        return f"there was {listed(on_it)} on that very day: the journal doesn't tell whether it was insured then; {REFER}"
+        return f"there was {listed(on_it)} on that very day: the journal doesn't show whether it was insured then; {REFER}"
     if at_end is None or not is_insured(at_end, death):
         return f"it wasn't insured then: {REFER}; send no later day"
     now, other = after(commands), [command for command in since if command.kind not in HARMLESS]

@@ -16,7 +16,7 @@ from life_tools.scripts.transcript_check import Answer, is_block, is_whole
 @dataclass
 class Printed:
     """The rows that are printed as answered; the commands of those accepted; and how many were accepted before the run,
-    where a line states."""
+    if a line shows it."""
 
     rows: set[int] = field(default_factory=set)
     answered: dict[int, int] = field(default_factory=dict)
