@@ -41,11 +41,6 @@ EXCEPTIONS = {
         program_endings.specs.Writing.shelf_between""",
 }
 
-# Premises that a case builds by one clause of a definition with several, which isn't read here.
-BUILT_BY_A_CLAUSE = {
-    "present_value.specs.Reserve.Encloses": "the worked row of WorkedRun.Told has bounds: the first clause of `IsWorthBy`",
-}
-
 # They say something of each value, or of the one that they find, by the statement that they are given.
 TAKE_STATEMENTS = {"AllZip", "HoldsStill", "IsToldText", "JournalIs", "NeedsBasis", "ShelfHas"}
 
@@ -332,9 +327,7 @@ class Found:
         self.bare = self.promise - held_by(texts, self.cases, built)
         self.wrong = [f"no worked case rests on {key}" for key in sorted(self.bare - EXCEPTED)]
         self.wrong += [f"{key} is held, or gone, and needs no exception" for key in sorted(EXCEPTED - self.bare)]
-        unbuilt = self.premises - built
-        self.wrong += [f"no worked case builds the premise {key}" for key in sorted(unbuilt - BUILT_BY_A_CLAUSE.keys())]
-        self.wrong += [f"{key} is built, or no premise, and needs no reason" for key in BUILT_BY_A_CLAUSE.keys() - unbuilt]
+        self.wrong += [f"no worked case builds the premise {key}" for key in sorted(self.premises - built)]
         told, self.conditional = told_conditional(shown, others)
         self.wrong += told + told_data(texts) + told_empty(texts, self.promise | self.cases)
         if len(EXCEPTED) >= 20:

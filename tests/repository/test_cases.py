@@ -76,7 +76,7 @@ WAYS: list[tuple[Path, str, str, str]] = [
     (CONTRACT, SHOWN, "ensures { Under PromisedByHand }", PROMISED),
     (CONTRACT, "    ensures given {", "    requires { ⊥ }\n    ensures given {", PROMISED),
     (CONTRACT, "    ensures given {", "    requires never { 1 ≡ 0 }\n    ensures given {", PROMISED),
-    (CONTRACT, "    ensures answered {", "    requires { ⊥ }\n    ensures answered {", "Lanes.PromisedLanes"),
+    (CONTRACT, "    ensures legal {", "    requires { ⊥ }\n    ensures legal {", "Lanes.PromisedLanes"),
     (CONTRACT, "    ensures given {", "    requires* { ⌜ ⊥ ⌝ }\n    ensures given {", PROMISED),
     (CONTRACT, "fn promise_by_hand()", "fn promise_by_hand()\n    ghost nothing: { ⊥ }", PROMISED),
     (CONTRACT, "fn promise_by_hand()", "fn promise_by_hand(void: Void)", PROMISED),
