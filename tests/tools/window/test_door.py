@@ -173,14 +173,25 @@ def test_a_journal_that_is_taken_away(tools: Path, office: Folder) -> None:
         assert "it is shorter, or it is gone" in window.get("/1/").text
 
 
-def test_pipes_in_the_log_are_passed_over(tools: Path, office: Folder) -> None:
-    for folder in ("000001-2024-01-02-monday", "runs/000001"):
-        (office.path / "log" / folder).mkdir(parents=True)
-    os.mkfifo(office.path / "log" / "000001-2024-01-02-monday" / "entry.json")
-    os.mkfifo(office.path / "log" / "runs" / "000001" / "run.json")
+def test_a_pipe_in_the_log_in_place_of_an_entry_is_passed_over(tools: Path, office: Folder) -> None:
+    entry = office.path / "log" / "000001-2024-01-02-monday"
+    entry.mkdir(parents=True)
+    os.mkfifo(entry / "entry.json")
     with Window(tools, office.path) as window:
         for page in ("/1/", "/1/stands", "/1/held", "/1/refusals"):
             assert window.get(page).status == 200, page
+
+
+def test_a_pipe_in_place_of_the_newest_run_is_a_page_with_the_reason(tools: Path, office: Folder) -> None:
+    run = office.path / "log" / "runs" / "000001"
+    run.mkdir(parents=True)
+    os.mkfifo(run / "run.json")
+    with Window(tools, office.path) as window:
+        for page in ("/1/", "/1/stands"):
+            answer = window.get(page)
+            assert answer.status == 409, page
+            assert "log/runs/000001/run.json: it is a pipe or a device" in answer.text, page
+            assert str(office.path) not in answer.text, page
 
 
 # --- requests that no browser of a person sends ---
