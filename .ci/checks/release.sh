@@ -55,9 +55,9 @@ commit "$copy" 2026-11-29T12:00:00Z "what is packed"
 begin "what isn't packed"
 refuses_to_pack 69 "no proved program"
 put_program "$copy"
-sleep 0.1
-touch "$copy/crates/policy_types/src/lib.rt"
+echo "// changed since the proof" >>"$copy/crates/policy_types/src/lib.rt" && commit "$copy" 2026-11-29T12:00:01Z "a source that was not proved"
 refuses_to_pack 69 "no proved program"
+git -C "$copy" reset -q --hard HEAD^
 put_program "$copy"
 echo more >>"$copy/docs/howto/clerk.md"
 refuses_to_pack 70 "docs/howto/clerk.md"
@@ -69,7 +69,7 @@ put_program "$copy"
 
 begin "two packs of one revision"
 version=$(sed -n 's/^## \([0-9.]*\) .*/\1/p' "$copy/CHANGELOG.md" | head -n 1)
-git clone -q "$copy" "$work/other/place" && put_program "$work/other/place" && mkdir "$work/other/place/out" || exit 2
+git clone -q "$copy" "$work/other/place" && put_program "$work/other/place" && mkdir -p "$work/other/place/out" || exit 2
 # the gate of other sources isn't told
 printf 'sources: %s\n12 passed, 0 failed\n' "$(echo other | sha256sum | cut -d ' ' -f 1)" >"$work/other/place/out/gate"
 (umask 077 && TZ=Asia/Tokyo LANG=C.UTF-8 HOME=$work && export TZ LANG HOME && pack "$work/other/place")
