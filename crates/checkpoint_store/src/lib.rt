@@ -1,5 +1,5 @@
-//! A second disk that holds the book at some position, so that not the whole journal has to be replayed. The journal stays
-//! the truth: what isn't a checkpoint is as good as none.
+//! A second disk that holds the book at some position, so that opening does not replay the whole journal. The journal stays
+//! the truth: a file that is no checkpoint counts as none.
 #![tactic(auto)]
 
 mod adding;

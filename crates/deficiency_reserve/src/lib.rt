@@ -1,5 +1,5 @@
 //! The minimum reserve where the premium that is charged is below the modified net premium, as proved bounds, and
-//! whether it is.
+//! whether the premium is below it.
 #![tactic(auto)]
 
 mod answer;

@@ -1,4 +1,4 @@
-//! The program whole: what its words ask for, over any devices.
+//! The whole program, over any devices: what its arguments ask for.
 #![tactic(auto)]
 
 mod durable;

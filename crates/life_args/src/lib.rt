@@ -1,4 +1,4 @@
-//! What the program is asked to do, by the words of its command line.
+//! What the program is asked to do: the arguments of its command line.
 #![tactic(auto)]
 
 mod fault;

@@ -1,5 +1,5 @@
 //! The beginning of each mode that has an office: the basis that it asks for, and the office over the disk; and what an office
-//! shows at which one caller alone turned.
+//! shows if only one caller took turns.
 #![tactic(auto)]
 
 mod beginning;

@@ -1,4 +1,4 @@
-//! A ring of moments: by it an office tells since which moment each accepted posting is safe, and a writer beside it hears.
+//! A ring of moments: an office puts in the moment since which each accepted posting is safe, and a writer takes it out.
 #![tactic(auto)]
 
 mod inlet;

@@ -1,5 +1,5 @@
 //! The shared language of the back office: commands, policies, refusals, turns of the history, script lines and
-//! the trait of the auditors.
+//! the trait of the watchers.
 #![tactic(auto)]
 
 mod boxed;

@@ -1,4 +1,4 @@
-//! The body of a journal's record: a command as 64 bytes, and back.
+//! The body of a journal's record: a command as 64 bytes, and the command that 64 bytes spell.
 #![tactic(auto)]
 
 mod body;

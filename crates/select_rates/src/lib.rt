@@ -1,4 +1,4 @@
-//! Select and ultimate mortality tables: for each issue age the rates of death of its select period, and behind them
+//! Select and ultimate mortality tables: for each issue age the rates of death of its select period, and after them
 //! those of the ultimate table.
 #![tactic(auto)]
 

@@ -1,5 +1,5 @@
-//! The text of a run: the line of each answer, the blocks of its valuations, and what the auditors report; and what the
-//! answers say of how the run ends.
+//! The text of a run: the line of each answer, the blocks of its valuations, and the watchers' reports; and how
+//! the run ends by its answers.
 #![tactic(auto)]
 
 mod lines;

@@ -1,4 +1,4 @@
-//! A generated script: its text, or its run over a disk with a valuation behind it.
+//! A generated script: its text, or its run over a disk followed by a valuation.
 #![tactic(auto)]
 
 mod generating;

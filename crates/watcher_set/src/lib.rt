@@ -1,4 +1,4 @@
-//! The auditors who watch the postings: each is told of the accepted commands until it is done, and its report is kept.
+//! The watchers of the postings: each notes the accepted commands until it is done, and its report is kept.
 #![tactic(auto)]
 
 mod counting;
