@@ -90,7 +90,7 @@ free_fields (field ∷ fields) bare =
 pub free_content : (first : List ℕ) (fields : List (List ℕ)) → IsBare first → AreBare fields → IsFree (content_of first fields)
 free_content first fields one bare = free_both first (behind_commas fields) (feedless first one) (free_fields fields bare)
 
-same_content : (a b : List ℕ) (fs gs : List (List ℕ)) → IsBare a → IsBare b → AreBare fs → AreBare gs
+pub same_content : (a b : List ℕ) (fs gs : List (List ℕ)) → IsBare a → IsBare b → AreBare fs → AreBare gs
     → content_of a fs ≡ content_of b gs → (a ≡ b) × (fs ≡ gs)
 same_content a b fs gs one other bare too same =
     let lines : line_of a fs ++ [] ≡ line_of b gs ++ [] = ap (λ (content : List ℕ). (content ++ 10 ∷ []) ++ []) same in
@@ -102,7 +102,7 @@ same_content a b fs gs one other bare too same =
 abbrev pub accepted_fields : Command → ℕ → List (List ℕ)
 accepted_fields named k = kind_word named ∷ decimal (id_of named) ∷ codes "accepted" ∷ decimal k ∷ []
 
-bare_fields : (named : Command) (k : ℕ) → AreBare (accepted_fields named k)
+pub bare_fields : (named : Command) (k : ℕ) → AreBare (accepted_fields named k)
 bare_fields named k = (bare_kind named, (bare_any (id_of named), (bare_by (codes "accepted") refl, (bare_any k, tt))))
 
 joined : (a b c word d : List ℕ)

@@ -54,13 +54,13 @@ taken_all (Some xs) (Some ys) pieces bytes none tied wrote =
     sym tied ∙ wrote ∙ ap (λ (front : List ℕ). front ++ bytes) (same_Some xs [] none)
 
 module _ (output : Stream) (fresh : IsFresh output) (text : List ℕ) where
-  front_all : WroteAll output text → IsFront (taken_bytes output.pieces_after) text
+  pub front_all : WroteAll output text → IsFront (taken_bytes output.pieces_after) text
   front_all wrote = (
     [],
     sym (taken_all output.before output.after output.pieces_after text fresh.empty fresh.tied wrote) ∙ sym (append-nil (taken_bytes output.pieces_after)),
   )
 
-  front_part : AppendsPart output.before output.after text → IsFront (taken_bytes output.pieces_after) text
+  pub front_part : AppendsPart output.before output.after text → IsFront (taken_bytes output.pieces_after) text
   front_part part = (
     drop part.taken text,
     sym (take-append-drop part.taken text)

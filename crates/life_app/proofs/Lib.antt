@@ -7,6 +7,8 @@ pub mod LineLaws
 pub mod AcceptedLines
 pub mod DurableLaws
 pub mod ToldStays
+pub mod OtherTexts
+pub mod DurableModes
 pub mod HeadlineLaws
 pub mod LegalityLaws
 pub mod RunLaws

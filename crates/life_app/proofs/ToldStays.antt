@@ -1,7 +1,6 @@
--- What a run told to be accepted stays, however the run ended
-use Rattle.life_app.proofs.Names.{◌≡◌, ℕ, ◌+◌, ◌≤◌, Bool, true, Option, List, [], ◌∷◌, ◌++◌, codes, get_or, refl, ap, sym, ◌∙◌, subst, inl, inr, arith, append-nil, nat_le, ◌&&◌, and_parts, leb-true, decimal, TakenPiece, Dated, Ghosts, Lane, Auditor, reports_of, accepted_of, Opens, EndsNoOffice, EndsNoBasis, EndsScript, EndsRun, EndsLanes, EndsUnread, IsPromised, IsEnclosingRow, Input, Shelving, Stream, WroteLine, Ending, Usage, BadScript, BadBasis, BadJournal, ReadFault, DiskFault, NoMemory, status_of, NotAJournal, BadRecord, run_wording, table_reserves, Mode, Run, AskForRun, Does, EndsMode, Obeys, SaysUnasked}
+-- What a run printed as accepted stays, however the run ended
+use Rattle.life_app.proofs.Names.{◌≡◌, ℕ, ◌+◌, ◌≤◌, Bool, true, List, [], ◌∷◌, ◌++◌, codes, get_or, refl, ap, sym, ◌∙◌, subst, inl, inr, arith, append-nil, nat_le, ◌&&◌, and_parts, leb-true, decimal, TakenPiece, Dated, Ghosts, Lane, Auditor, reports_of, accepted_of, Opens, EndsNoOffice, EndsNoBasis, EndsScript, EndsRun, EndsLanes, EndsUnread, IsPromised, IsEnclosingRow, Input, Shelving, Stream, WroteLine, Ending, Usage, BadScript, BadBasis, BadJournal, ReadFault, DiskFault, NoMemory, status_of, NotAJournal, BadRecord, run_wording, table_reserves, SaysUnasked}
 use Rattle.office_state.specs.declared.faults.StartCause.{StartCause}
-use Rattle.life_args.proofs.Answering.{ask_once}
 use Rattle.program_endings.specs.Refusals.{SaysWhy}
 use Rattle.script_run.specs.Shown.{AreSafeWhenShown}
 use Rattle.life_app.specs.Durable.{IsDurable, SpellsCommands}
@@ -22,11 +21,11 @@ free_by (b ∷ bytes) all =
     let parts = and_parts (nat_le 11 b) (are_above bytes) all in
     let high = leb-true 11 b parts.0 in ((λ feed. omega (arith, feed, high)), free_by bytes parts.1)
 
-free_number : (n : ℕ) → IsFree (decimal n)
+pub free_number : (n : ℕ) → IsFree (decimal n)
 free_number n = feedless (decimal n) (bare_any n)
 
 module _ {D : Type 0} (g : Ghosts D) (old new : D) (output : Stream) (fresh : IsFresh output) where
-  abbrev Durable : Type 0
+  abbrev pub Durable : Type 0
   Durable = IsDurable g SpellsCommands new output.pieces_after
 
   -- of a run as it is promised
@@ -42,7 +41,7 @@ module _ {D : Type 0} (g : Ghosts D) (old new : D) (output : Stream) (fresh : Is
       (subst (λ (pieces : List TakenPiece). AreSafeWhenShown g Opens new is.commands is.history is.lines is.texts pieces) all shown.2)
 
   -- of a line in place of a transcript, which begins with a letter
-  line_durable : (line : List ℕ) → IsFree line → 58 ≤ get_or line 0 0 → WroteLine output line → Durable
+  pub line_durable : (line : List ℕ) → IsFree line → 58 ≤ get_or line 0 0 → WroteLine output line → Durable
   line_durable line free high wrote =
       none_durable g new output.pieces_after (line ++ 10 ∷ []) (front_or output fresh (line ++ 10 ∷ []) wrote)
       (λ lane k named. letter_line line lane named k free high)
@@ -59,13 +58,13 @@ module _ {D : Type 0} (g : Ghosts D) (old new : D) (output : Stream) (fresh : Is
   unread input (NoMemory lack) says = line_durable (codes "nomemory") (free_by (codes "nomemory") refl) (omega arith) says
   unread input _ says = absurd says
 
-  without_basis : (name : List ℕ) (shelf : Shelving) (ending : Ending) → (status_of ending ≡ 4 → ⊥) → EndsNoBasis name shelf output ending → Durable
+  pub without_basis : (name : List ℕ) (shelf : Shelving) (ending : Ending) → (status_of ending ≡ 4 → ⊥) → EndsNoBasis name shelf output ending → Durable
   without_basis name shelf BadBasis other says = absurd (other refl)
   without_basis name shelf ReadFault other says = line_durable (codes "readfault") (free_by (codes "readfault") refl) (omega arith) says.1
   without_basis name shelf (NoMemory lack) other says = line_durable (codes "nomemory") (free_by (codes "nomemory") refl) (omega arith) says
   without_basis name shelf _ other says = absurd says
 
-  refused : (cause : StartCause) → SaysWhy cause output → Durable
+  pub refused : (cause : StartCause) → SaysWhy cause output → Durable
   refused NotAJournal says =
       line_durable (codes "badjournal,notajournal") (free_by (codes "badjournal,notajournal") refl) (omega arith) says
   refused (BadRecord n) says =
@@ -73,13 +72,13 @@ module _ {D : Type 0} (g : Ghosts D) (old new : D) (output : Stream) (fresh : Is
       (free_both (codes "badjournal,badrecord,") (decimal n) (free_by (codes "badjournal,badrecord,") refl) (free_number n)) (omega arith) says
   refused _ says = absurd says
 
-  no_office : (ending : Ending) → EndsNoOffice g old new output ending → Durable
+  pub no_office : (ending : Ending) → EndsNoOffice g old new output ending → Durable
   no_office BadJournal says = refused says.0 says.1
   no_office DiskFault says = line_durable (codes "diskfault") (free_by (codes "diskfault") refl) (omega arith) says.0
   no_office (NoMemory lack) says = line_durable (codes "nomemory") (free_by (codes "nomemory") refl) (omega arith) says.0
   no_office _ says = absurd says
 
-  unasked : (words : List (List ℕ)) (ending : Ending) → SaysUnasked words output ending → Durable
+  pub unasked : (words : List (List ℕ)) (ending : Ending) → SaysUnasked words output ending → Durable
   unasked words Usage says = line_durable (codes "usage") (free_by (codes "usage") refl) (omega arith) says.1
   unasked words (NoMemory lack) says = line_durable (codes "nomemory") (free_by (codes "nomemory") refl) (omega arith) says
   unasked words _ says = absurd says
@@ -100,25 +99,8 @@ module _ {D : Type 0} (g : Ghosts D) (old new : D) (output : Stream) (fresh : Is
       | inr (asks, inr none) ↦ without_basis name shelf ending other none.1
     ]
 
-    by_run : EndsRun g old new name auditors input output shelf ShelfStays ending → Durable
+    pub by_run : EndsRun g old new name auditors input output shelf ShelfStays ending → Durable
     by_run ends = elim ends [
       | inl read ↦ by_lanes read.lanes read.ends
       | inr said ↦ unread input ending said.2
     ]
-
-  -- of words that ask for a run, however it ended, but for a bad basis
-  module _ {E : Type 0} (e : Ghosts E) (second kept : Option E) (auditors : List Auditor) (input : Input) (shelf : Shelving) (words : List (List ℕ))
-      (name : List ℕ) (InputStays ShelfStays : Type 0) where
-    by_words : (ending : Ending) → (status_of ending ≡ 4 → ⊥) → g.honest new → AskForRun words name
-        → Does g e old new second kept words auditors input output shelf InputStays ShelfStays ending → Durable
-    by_words ending other honest asked (inl (mode, for, ends)) =
-        let run : EndsMode g e old new second kept (Run name) auditors input output shelf InputStays ShelfStays ending =
-        subst (λ (m : Mode). EndsMode g e old new second kept m auditors input output shelf InputStays ShelfStays ending)
-        (ask_once words mode (Run name) for asked) ends in
-        by_run auditors input shelf name ShelfStays ending other honest run.1
-    by_words ending other honest asked (inr said) = unasked words ending said.4
-
-    pub told_stays : (status : ℕ) → (status ≡ 4 → ⊥) → g.honest new → AskForRun words name
-        → Obeys g e old new second kept words auditors input output shelf InputStays ShelfStays status → Durable
-    told_stays status other honest asked obeys =
-        by_words obeys.ending (λ same. other (obeys.exits ∙ same)) honest asked obeys.does

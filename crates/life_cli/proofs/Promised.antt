@@ -21,7 +21,7 @@ pub seen_of_two : {X Y : Type 0} → (see : X → Y) (none ready one two : List 
 seen_of_two see none ready one two first second a b e₁ e₂ e₃ e₄ is_a is_b = rw (e₁, e₂, e₃, e₄, is_a, is_b) refl
 
 -- Words that are `run` and its options ask for a run.
-pub asked_for : (name : List ℕ) (words options : List (List ℕ)) → words ≡ codes "run" ∷ options → IsRun options name → AreWords words (Run name)
+asked_for : (name : List ℕ) (words options : List (List ℕ)) → words ≡ codes "run" ∷ options → IsRun options name → AreWords words (Run name)
 asked_for name words options same run = rw same (refl, run)
 
 -- The auditors that were handed over are these.

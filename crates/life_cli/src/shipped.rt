@@ -67,11 +67,10 @@ pub fn run_shipped<R: Threads + Wait + Sync, F: FoundFile, C: FoundFile>(
     // What was written to the output is what its pieces hold, in order.
     ensures tied { ⟦<OutputOf<F> as Sink>⟧.written result.output
         ≡ Some (taken_bytes (⟦<OutputOf<F> as Sink>⟧.pieces result.output)) }
-    // What a run tells to be accepted stays. Where the output has the line `LANE,KIND,ID,accepted,K`, whatever a crash leaves
-    // from the moment on by which that line was handed over is the journal of at least K commands, of which the K-th is of that
-    // kind and number. Of no run with status 4: its output is one line, which names a file.
-    ensures durable { (name : List ℕ) (options : List (List ℕ)) → map string_bytes words.now ≡ codes "run" ∷ options
-        → IsRun options name → result.status ≢ 4 → ⟦<JournalDisk<F> as Disk>⟧.honest result.disk
+    // What is printed as accepted stays, whatever the words asked for. Where the output has the line `LANE,KIND,ID,accepted,K`,
+    // whatever a crash leaves from the moment on by which that line was handed over is the journal of at least K commands, of
+    // which the K-th is of that kind and number. Nothing is said of a status 4: its output is one line, which names a file.
+    ensures durable { result.status ≢ 4 → ⟦<JournalDisk<F> as Disk>⟧.honest result.disk
         → IsDurable ⟦<JournalDisk<F> as Disk>⟧ SpellsCommands result.disk (⟦<OutputOf<F> as Sink>⟧.pieces result.output) }
     // The lines of a run's transcript are answers of one legal history, each lane's lines once and in order; or nothing was run.
     ensures legal { (name script : List ℕ) (options : List (List ℕ)) (lanes : List Lane) (basis : List Dated)

@@ -4,10 +4,9 @@ use Rattle.std.specs.Prelude.{string_bytes}
 use Rattle.outside_io.specs.FileCalls.{FileCall, file_reads}
 use Rattle.outside_io.specs.Streams.{StreamPiece, passed_bytes, pieces_by}
 use Rattle.life_app.proofs.LegalityLaws.{legally_answered}
-use Rattle.life_app.proofs.ToldStays.{told_stays}
+use Rattle.life_app.proofs.DurableModes.{always_stays}
 use Rattle.life_app.specs.TableReserves.{table_reserves}
 use Rattle.life_cli.specs.Names.{Opens}
-use Rattle.life_cli.proofs.Promised.{asked_for}
 use Rattle.life_cli.proofs.shipped.run_shipped.Goals as goal
 
 pub returns-clause-shipped : goal.returns-clause-shipped
@@ -17,15 +16,15 @@ pub returns-clause-tied : goal.returns-clause-tied
 returns-clause-tied g c = ap (λ (bytes : List ℕ). Some bytes) c.obey-status.new.output.tied
 
 pub returns-clause-durable : goal.returns-clause-durable
-returns-clause-durable g c = λ name options same run other honest.
-    told_stays _ c.args.devices.disk c.obey-status.result.disk _
+returns-clause-durable g c = λ other honest.
+    always_stays _ c.args.devices.disk c.obey-status.result.disk _
     (record {
       empty = ap (λ (pieces : List StreamPiece). Some (passed_bytes pieces)) c.requires.output.1;
       none = ap (λ (pieces : List StreamPiece). pieces_by pieces c.args.devices.output.by) c.requires.output.1;
       tied = c.obey-status.new.output.tied;
     })
-    _ (Some c.args.devices.second) (Some c.obey-status.result.second) shipped_auditors _ _ (map string_bytes c.args.words.now) name _ _ c.obey-status.result.status other
-    honest (asked_for name (map string_bytes c.args.words.now) options same run) c.obey-status.ensures.shipped.obeys
+    _ (Some c.args.devices.second) (Some c.obey-status.result.second) (map string_bytes c.args.words.now) shipped_auditors _ _ _ _
+    c.obey-status.result.status other honest c.obey-status.ensures.shipped.obeys
 
 pub returns-clause-legal : goal.returns-clause-legal
 returns-clause-legal g c = λ name script options lanes basis same run whole reads given.
