@@ -8,6 +8,11 @@ posts() {
     case ${1-} in run | load) ;; *) return 1 ;; esac
 }
 
+# whether they write the journal, or a checkpoint in place of one that may know of more commands
+writes_book() {
+    posts "$@" || [ "${1-}" = checkpoint ]
+}
+
 opens_book() {
     case ${1-} in run | load | state | checkpoint | value | project) ;; *) return 1 ;; esac
 }
@@ -56,25 +61,27 @@ verify_length() {
     printf 'count,%s\ndamaged\n%s bytes follow its last commit byte\n' "$count" $((length - 18 - 65 * count))
 } 2>/dev/null
 
-# A damaged commit byte ends the journal for the program, and the next posting overwrites what follows it. So what
-# posts ends with 67, unless the caller accepts that so many commands ($1) are left; all else is run, and warned of.
+# A damaged commit byte ends the journal for the program, and the next posting overwrites what follows it; a checkpoint
+# that is made then takes the place of one that shows the loss. So what writes ends with 67, unless the caller accepts
+# that so many commands ($1) are left; all else is run, and warned of.
 demand_whole() {
     accepted=$1
     shift
     opens_book "$@" && [ -f journal.life ] && [ -r journal.life ] && told=$(verify_book) || return 0
     verdict=$(printf '%s\n' "$told" | grep -x -e whole -e undecided -e damaged -e empty)
-    why=$(printf '%s\n' "$told" | sed "1,/^$verdict\$/d" | paste -s -d ' ')
+    why=$(printf '%s\n' "$told" | sed "1,/^$verdict\$/d" | awk 'NR > 1 { printf "; " } { printf "%s", $0 }')
     count=$(printf '%s\n' "$told" | sed -n 's/^count,//p')
     case $verdict in
         '' | whole) ;;
         damaged)
-            if ! posts "$@"; then
+            if ! writes_book "$@"; then
                 say "journal.life is damaged, and what follows is of its first $count commands alone: $why"
             elif [ "$accepted" = "$count" ]; then
-                say "journal.life is damaged, and is posted to after its first $count commands: $why"
+                say "journal.life is damaged, and only its first $count commands are used: $why"
             else
-                say "journal.life is damaged, so nothing was run: its first $count commands can be read: $why." \
-                    "Restore the last whole copy; or $called $1 --accept-damage $count overwrites what follows them"
+                say "journal.life is damaged, so nothing was run: its first $count commands can be read ($why)." \
+                    "Restore the last whole copy; or $called $1 --accept-damage $count goes on with these commands alone," \
+                    "and what follows them is lost"
                 exit 67
             fi
             ;;

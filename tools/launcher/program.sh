@@ -55,7 +55,7 @@ accepts_number() {
     case $1 in
         '' | *[!0-9]* | ????????*)
             echo usage
-            say "it is $called run --accept-damage COUNT, with the count that was reported"
+            say "it is $called $first --accept-damage COUNT, with the count that was reported"
             exit 2
             ;;
     esac
@@ -65,7 +65,7 @@ accepts_number() {
 # On a terminal the launcher stays, for a hint; else the program takes its place, and is what a signal meets.
 run_program() {
     first=${1-} accepted='' left=$#
-    while posts "$first" && [ "$left" -gt 0 ]; do
+    while writes_book "$first" && [ "$left" -gt 0 ]; do
         left=$((left - 1))
         case $1 in
             --accept-damage=*) accepts_number "${1#*=}" ;;

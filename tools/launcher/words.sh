@@ -56,12 +56,16 @@ Example: $called state 7001
 WORDS
             ;;
         checkpoint) cat <<WORDS
-$called checkpoint
+$called checkpoint [--accept-damage COUNT]
 
 Keeps the books in checkpoint.life, from which state goes on, and prints after
 how many commands.
 
+  --accept-damage COUNT  of a book that was reported as damaged after its first
+                         COUNT commands
+
 Example: $called checkpoint
+Status 67: the book is damaged.
 WORDS
             ;;
         value) cat <<WORDS

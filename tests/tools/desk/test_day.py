@@ -127,8 +127,15 @@ def test_a_file_of_another_file_system_is_copied_compared_and_removed(begun: Des
 def test_a_bad_file_is_refused_whole_and_nothing_of_it_is_posted(begun: Desk) -> None:
     begun.hand_in("bad.csv", "1,settle,7001,2024-06-01,1.00\n1,settle,7001,2024-02-30,1.00\n")
     ended = begun.day(status=1)
-    assert "inbox/bad.csv is refused whole, badscript,2,4" in ended.err and "a day YYYY-MM-DD of the calendar" in ended.err
+    assert "inbox/bad.csv is refused whole, badscript,2,4" in ended.err
+    assert "(wanted: a day YYYY-MM-DD of the calendar" in ended.err and "; found: '2024-02-30'). Correct a copy of " in ended.err
     assert ended.out.endswith("-bad,0,whole,0,0\n") and begun.count() == 3 and begun.inbox == []
+
+
+def test_a_file_that_is_too_long_is_refused_without_a_place(begun: Desk) -> None:
+    begun.hand_in("long.csv", f"{SETTLE}\n" * (2**24 // len(f"{SETTLE}\n") + 1))
+    ended = begun.day(status=1)
+    assert "is refused whole, badscript,toolong, so nothing of it is posted (wanted: at most 16777216 bytes)" in ended.err
 
 
 # --- recognition ---

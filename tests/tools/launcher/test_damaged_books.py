@@ -37,6 +37,9 @@ def test_a_damaged_book_isnt_posted_to(damaged: Folder, life: Called) -> None:
     assert (done.status, done.out) == (67, "") and damaged.journal.read_bytes() == before
     assert "journal.life is damaged, so nothing was run" in done.err and f"{life.named} run --accept-damage 3" in done.err
     assert ran([*life.words, "load", "1", "1", "1", "1"], damaged.path).status == 67
+    done = ran([*life.words, "checkpoint"], damaged.path)
+    assert done.status == 67 and f"{life.named} checkpoint --accept-damage 3" in done.err
+    assert not (damaged.path / "checkpoint.life").exists(), done
 
 
 def test_only_the_reported_count_is_accepted(damaged: Folder, life: Called) -> None:
@@ -59,7 +62,13 @@ def test_a_count_that_a_checkpoint_or_a_log_noted(small_office: Folder, life: Ca
     assert small_office.life("checkpoint").out == f"checkpoint,{COMMANDS}\n"
     damage(small_office.journal, COMMANDS - 1)
     done = ran([*life.words, "run"], small_office.path, ISSUE)
-    assert done.status == 67 and f"had {COMMANDS} by checkpoint.life" in done.err, done
+    assert done.status == 67 and f"; journal.life has {COMMANDS - 1} commands, and had {COMMANDS} by checkpoint.life)" in done.err
+    # a new checkpoint would take away what shows the loss
+    noted = (small_office.path / "checkpoint.life").read_bytes()
+    assert ran([*life.words, "checkpoint"], small_office.path).status == 67
+    assert (small_office.path / "checkpoint.life").read_bytes() == noted
+    done = ran([*life.words, "checkpoint", "--accept-damage", str(COMMANDS - 1)], small_office.path)
+    assert (done.status, done.out) == (0, f"checkpoint,{COMMANDS - 1}\n"), done
     os.remove(small_office.path / "checkpoint.life")
     small_office.write("log/runs/000001/run.json", json.dumps({"before": 0, "after": COMMANDS}))
     done = ran([*life.words, "run"], small_office.path, ISSUE)

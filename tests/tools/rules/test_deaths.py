@@ -149,8 +149,8 @@ def test_deaths_about_a_reinstatement(deaths: Folder) -> None:
     """7404 was in its days of grace on 2021-04-10, and of the day of its reinstatement nobody knows."""
     deaths.post("1,premium,7404,2022-03-15,1480.00\n")
     assert to_do(deaths, "1,claim,7404,2021-04-10\n1,claim,7404,2021-06-01\n1,claim,7404,2021-06-02\n", "2022-06-15") == [
-        "  to do: it was insured then, but there was lapse of 2021-04-16, reinstate of 2021-06-01 since: don't reinstate; "
+        "  to do: it was insured then; posted since: lapse of 2021-04-16, reinstate of 2021-06-01: don't reinstate; "
         "refer it",
-        "  to do: there was reinstate of 2021-06-01 on that very day: the journal doesn't show whether it was insured then; "
+        "  to do: posted of that very day: reinstate of 2021-06-01; the journal doesn't show whether it was insured then: "
         "don't reinstate; refer it",
         "  to do: it was insured then: post the claim of 2022-03-15; give back 1480.00 outside; note both days for the auditor"]

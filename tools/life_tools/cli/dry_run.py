@@ -35,5 +35,5 @@ def run(options: argparse.Namespace) -> int:
     sys.stdout.write(transcript)
     sys.stdout.flush()
     accepted, refused = transcript.count(",accepted,"), transcript.count(",refused,")
-    remark(f"a dry run, of which nothing is posted: {accepted} accepted, {refused} refused, status {status}")
+    remark(f"a dry run, so nothing is posted: {accepted} accepted, {refused} refused, status {status}")
     return 2 if status else 0

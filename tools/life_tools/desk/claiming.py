@@ -197,7 +197,7 @@ def open_entry(entry: Entry) -> None:
     read = read_script(data) if data else Fault(None, 0, f"at most {MOST_SCRIPT_BYTES} bytes")
     if isinstance(read, Fault):
         record["refused_whole"] = read.answer
-        record["why"] = f"{read.wanted} is wanted, and found is {read.found!r}"
+        record["why"] = f"wanted: {read.wanted}" + (f"; found: {read.found!r}" if read.row else "")
     else:
         record["rows"] = len(read)
     record["state"] = OPEN

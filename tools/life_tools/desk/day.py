@@ -83,7 +83,7 @@ class Day:
 
     def discard(self, words: str, judgement: Judgement) -> None:
         rows = discarded(self.entry(self.log.named(words).name), judgement, self.asked.settings)
-        remark(f"day: {len(rows)} rows of {words} are put away and never posted")
+        remark(f"day: {len(rows)} rows of entry {words} are put away, and are never posted")
 
     def demand_book(self) -> None:
         """A journal is begun only where that was asked for, and never in the place of one that was there."""
@@ -300,8 +300,8 @@ class Day:
 
     def tell_entry(self, entry: Entry) -> None:
         if entry.record["refused_whole"]:
-            self.say(f"{entry.file} is refused whole, {entry.record['refused_whole']}, so nothing of it is posted: "
-                     f"{entry.record['why']}. Correct a copy of {entry.shown}/handed-in.csv, and hand it in")
+            self.say(f"{entry.file} is refused whole, {entry.record['refused_whole']}, so nothing of it is posted ("
+                     f"{entry.record['why']}). Correct a copy of {entry.shown}/handed-in.csv, and hand it in")
             return
         lines = {line.row.number: line for line in entry.lines}
         refused = [refused_text(entry, lines[row], words) for row, words in entry.record["refused"]]

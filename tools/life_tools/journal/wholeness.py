@@ -190,5 +190,6 @@ def tell(shape: Shape) -> int:
         remark(reason)
     if shape.verdict == UNDECIDED:
         holder = holder_of(shape.path)
-        remark(f"{shape.path}: whether a command is gone is undecided" + (f", while {holder} has it" if holder else ""))
+        more = f", while {holder} has it" if holder else ": compare the count with the last position that was printed as accepted"
+        remark(f"{shape.path}: whether a command is gone is undecided{more}")
     return 0 if shape.verdict == WHOLE else 1

@@ -60,10 +60,10 @@ def standing(commands: Sequence[Command], death: Command) -> str:
     since = [command for command in commands if command.on > day]
     if is_insured(before, death) != is_insured(at_end, death):
         on_it = [command for command in up_to if command.on == day]
-        return f"there was {listed(on_it)} on that very day: the journal doesn't show whether it was insured then; {REFER}"
+        return f"posted of that very day: {listed(on_it)}; the journal doesn't show whether it was insured then: {REFER}"
     if at_end is None or not is_insured(at_end, death):
         return f"it wasn't insured then: {REFER}; send no later day"
     now, other = after(commands), [command for command in since if command.kind not in HARMLESS]
     if not since or other or now is None or isinstance(decide(now, Command("claim", death.number, now.last)), Refusal):
-        return f"it was insured then, but there was {listed(other)} since: {REFER}"
+        return f"it was insured then{'; posted since: ' if other else ''}{listed(other)}: {REFER}"
     return told_late(at_end, now, since, day)

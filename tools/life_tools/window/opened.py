@@ -129,8 +129,8 @@ def serve(listed: list[ListedBook], port: int, private: str, program: Program) -
     # a window stays open for days, and each request leaves cycles
     gc.enable()
     hand_over(door.address, private)
-    remark("The window is open: its address holds a key, works once, and leads in from a browser of this machine. Ctrl-C closes "
-           "it.")
+    remark("The window is open. Its address contains a key that works once, in a browser on this machine. Ctrl-C closes the "
+           "window.")
     threading.Thread(target=tell_progress, args=(books[0],), daemon=True).start()
     try:
         server.serve_forever()
