@@ -62,9 +62,6 @@ def calls(record: Path) -> Any:
             if result != int(size):
                 raise AssertionError(f"a short write: {line}")
             found.append(f"write {role} {at} {written.hex()}")
-        elif word == "fadvise64":
-            at, many = part(r"\d+, (\d+), (\d+), POSIX_FADV_DONTNEED$", args)
-            found.append(f"drop {role} {at} {many}")
         elif word == "flock":
             found.append(f"lock {role} {args.split(', ')[1]}")
         elif role == "output":
@@ -79,9 +76,7 @@ HELD = ["open folder"] * 3
 
 
 def opened(file: Any) -> Any:
-    """The copies of a file's two ends are dropped once it is synced; of so short a file the second range is all of it."""
-    return [f"open {file}", f"lock {file} LOCK_EX|LOCK_NB", "open folder", "fsync folder", "close folder", f"fsync {file}",
-            f"drop {file} 0 {2 << 20}", f"drop {file} 0 0"]
+    return [f"open {file}", f"lock {file} LOCK_EX|LOCK_NB", "open folder", "fsync folder", "close folder", f"fsync {file}"]
 
 
 OPENED = opened("journal")

@@ -19,7 +19,7 @@ from tests.program.office import example
 from tests.support.folders import Folder
 
 pytestmark = pytest.mark.needs("strace")
-TRACED = "openat,flock,pread64,read,pwrite64,write,fsync,fdatasync,fadvise64,ftruncate,close,dup,dup2"
+TRACED = "openat,flock,pread64,read,pwrite64,write,fsync,fdatasync,ftruncate,close,dup,dup2"
 THREE = "".join(example("first-issues.csv").splitlines(keepends=True)[:3])
 
 

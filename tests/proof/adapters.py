@@ -27,24 +27,9 @@ CHANGES = {
             " if !files?write { put?; }",
         "self.length = self.length.max(end);":
             "if !files?length { self.length = self.length.max(end); }",
-        # these two hand the system on to where it is asked
-        "self.sync_and_settle()?;":
-            "self.sync_and_settle(files)?;",
-        "fn sync_and_settle(&mut self)":
-            "fn sync_and_settle<R: Files<File = File>>(&mut self, files: &R)",
-        "if let Err(e) = self.file.sync_all() {":
-            "let unasked = files?behind && matches!(self.written, Written::Behind);"
-            " let made = if unasked { Ok(()) } else { self.file.sync_all() };"
-            " let made = if files?sync { Ok(()) } else { made };"
-            " if let Err(e) = made {",
-        "let _ = self.drop_copies(0, 0);":
-            "if !files?kept { let _ = self.drop_copies(0, 0); }",
-        "if !self.settled {":
-            "if !self.settled && !files?undropped {",
-        "self.drop_copies(0, LARGEST_COPY as i64)?;":
-            "self.drop_copies(0, if files?start { 4096 } else { LARGEST_COPY as i64 })?;",
-        "(last - last % LARGEST_COPY) as i64":
-            "(if files?end { length - length % 4096 } else { last - last % LARGEST_COPY }) as i64",
+        "self.file.sync_all()?;":
+            "if !(files?behind && matches!(self.written, Written::Behind)) {"
+            " let made = self.file.sync_all(); if !files?sync { made?; } }",
         "Some(name) => Asked::Named(name),\n            None => ":
             "Some(name) if !files?name => Asked::Named(name),\n            _ => ",
         "Err(e) if e.kind() == ErrorKind::Interrupted => {}":

@@ -20,10 +20,6 @@ CALLS = "tests/program/test_calls.py::test_a_first_run"
 DEVICES = "tests/program/test_devices.py::test_the_devices_give_and_take_what_the_program_is_told_and_prints"
 CLOSED = "tests/program/test_devices.py::test_no_file_takes_the_place_of_a_closed_stream"
 ARCHIVE = "tests/program/test_archive.py"
-COPIES = "tests/program/test_dropped_copies.py"
-FAILING = "tests/program/test_failed_sync.py"
-HEARD = f"{FAILING}::test_later_runs_answer_what_the_medium_has[killed, and another program hears of it-ext4]"
-MIDDLE = f"{FAILING}::test_the_middle_of_a_file_overwritten_in_place_is_read_from_the_medium[ext4]"
 # a change, the test that has to refuse it, and what that says
 BY_TESTS = [
     ("place", CALLS, r"made \['write journal 1 00'"), ("behind", CALLS, r"wanted \['fsync journal', 'write journal 1 "),
@@ -32,12 +28,6 @@ BY_TESTS = [
     ("cut", DEVICES, "the journal doesn't hold what was written"), ("shelf", DEVICES, ""),
     ("status", "tests/program/test_run.py::test_a_bad_record", r"assert \(0, 'badjourn"),
     ("descriptors", f"{CLOSED}[output-foreign-program]", ""), ("archive", ARCHIVE, ""),
-    ("undropped", COPIES, r"FAILED .*test_both_ends_are_dropped_before_anything_is_read\[18 bytes-journal"),
-    ("start", COPIES, r"FAILED .*test_both_ends_are_dropped_before_anything_is_read\[18 bytes-journal"),
-    ("end", COPIES, r"FAILED .*test_both_ends_are_dropped_before_anything_is_read\[5 MiB-journal"),
-    ("kept", COPIES, r"FAILED .*test_after_a_failed_sync_all_is_dropped\[of its commit byte"),
-    # over a medium that fails, where one can be had
-    ("undropped", HEARD, "isn't so on the medium"), ("kept", MIDDLE, ",1000.00,25.00,"),
 ]
 # the same over a part of the trials of failing calls: the module, its words, and what it says
 BY_TRIALS = [

@@ -17,6 +17,19 @@ opens_book() {
     case ${1-} in run | load | state | checkpoint | value | project) ;; *) return 1 ;; esac
 }
 
+# Linux marks pages whose write to the disk failed as clean. So after a failed sync the system's copies of a file may hold
+# postings that the disk never received, a later sync succeeds without writing them, and the next run would believe them.
+# Before a book is opened, its files are synced and the system is asked to drop its copies of them: what is read then comes
+# from the disk. The program itself can't ask, since no library that it may use reaches the call.
+read_from_disk() {
+    opens_book "$@" || return 0
+    for file in journal.life checkpoint.life; do
+        [ -f "$file" ] && [ -r "$file" ] || continue
+        sync "$file" 2>/dev/null || say "the disk failed in a sync of $file: what is read now is what the disk has"
+        dd if="$file" iflag=nocache count=0 2>/dev/null || say "the system's copies of $file can't be dropped"
+    done
+}
+
 # Status 66 where the arguments need a book that isn't there; a line where they begin one. A link to nothing is no folder
 # without a book: the program would begin one in its place.
 demand_journal() {

@@ -79,6 +79,7 @@ run_program() {
         shift
     done
     demand_journal "$@"
+    read_from_disk "$@"
     demand_whole "$accepted" "$@"
     # a write past a limit on the size of files then fails like any other, and doesn't end the program
     trap '' XFSZ

@@ -111,9 +111,7 @@ READ: tuple[tuple[str, str, str, str], ...] = (
     ("outside_io/src/noted_file.rt", "", "each note stands beside the call that was made, with its answer",
      "recorded system calls, failing calls"),
     ("outside_io/src/held_file.rt", "", "the calls, the lock, the folder's sync, whether the file is still "
-     "there, and that the system's copies of the file are dropped: of both ends after the first sync, of all of it after a "
-     "failed one",
-     "two runs at once, failing calls, archives, dropped copies, failed syncs"),
+     "there", "two runs at once, failing calls, archives"),
     ("lane_runner/src/answering.rt", "hand_over answer_lane", "the writer's bell is rung; the tests' stop (`Gate::at`) is called "
      "with 0", "all orders of the steps, early lines"),
     ("lane_runner/src/merging.rt", "wait_for_next", "the writer wakes for the line that it waits for; otherwise the run does not "

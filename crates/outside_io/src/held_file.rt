@@ -3,17 +3,12 @@ ghost use Rattle.std.specs.Prelude.{◌≡◌, false, IsErr};
 
 use std::fs::{File, Metadata, OpenOptions};
 use std::io::ErrorKind;
-use std::os::fd::AsRawFd;
 use std::os::unix::fs::{FileExt, MetadataExt};
 use std::rt::Files;
 use std::{fs, io};
 
-// The system keeps its copies of a file in pieces of up to this many bytes, and drops only whole ones.
-const LARGEST_COPY: u64 = 2 * 1024 * 1024;
-
 // A file that was opened under a name: whether it may be written, which file it is, how long it has been so far, what was
-// written since the last sync, whether a sync has succeeded, and whether the file was found to be cut, or no longer there.
-// From then on it is not written to.
+// written since the last sync, and whether it was found to be cut, or no longer there. From then on it is not written to.
 #[derive(Drop)]
 pub(crate) struct HeldFile {
     file: File,
@@ -22,7 +17,6 @@ pub(crate) struct HeldFile {
     inode: u64,
     length: u64,
     written: Written,
-    settled: bool,
     lost: bool,
 }
 
@@ -77,7 +71,6 @@ impl HeldFile {
             inode: told.ino(),
             length: told.len(),
             written: Written::Nothing,
-            settled: false,
             lost: false,
         })
     }
@@ -122,47 +115,18 @@ impl HeldFile {
         Ok(())
     }
 
-    // A file that is no longer under its name is not safe, so the name is looked up after each sync, except after a sync
-    // of bytes past the end alone: they count for nothing until a byte before them is overwritten and synced.
+    // Nothing is safe in a file that is no longer under its name, so after a sync it is looked for. Not so after one of
+    // bytes past the end alone: they count for nothing before a byte in front of them is written over, and safe too.
     pub(crate) fn make_safe<R: Files<File = File>>(
         &mut self,
         files: &R,
         name: &str,
     ) -> io::Result<()> {
-        self.sync_and_settle()?;
+        self.file.sync_all()?;
         if self.lost || !matches!(self.written, Written::Behind) {
             self.look(files, Some(name))?;
         }
         self.written = Written::Nothing;
-        Ok(())
-    }
-
-    // Linux marks pages whose write-back failed as clean, so a later run would read from the system's copies what the
-    // medium never received, and its own sync would succeed. Therefore the copies of the file's two ends are dropped after
-    // the first sync that succeeds, which is before anything is read, and all copies are dropped after a sync that fails.
-    fn sync_and_settle(&mut self) -> io::Result<()> {
-        if let Err(e) = self.file.sync_all() {
-            // The sync's own error is the one to report.
-            let _ = self.drop_copies(0, 0);
-            return Err(e);
-        }
-        if !self.settled {
-            self.drop_copies(0, LARGEST_COPY as i64)?;
-            let length = self.length.min(i64::MAX as u64);
-            let last = length.saturating_sub(LARGEST_COPY);
-            self.drop_copies((last - last % LARGEST_COPY) as i64, 0)?;
-            self.settled = true;
-        }
-        Ok(())
-    }
-
-    // Asks the system to drop its clean copies of that many bytes from that place on, or of all up to the end for 0.
-    fn drop_copies(&self, at: i64, many: i64) -> io::Result<()> {
-        let advice = libc::POSIX_FADV_DONTNEED;
-        let answer = libc::posix_fadvise(self.file.as_raw_fd(), at, many, advice);
-        if answer != 0 {
-            return Err(io::Error::from_raw_os_error(answer));
-        }
         Ok(())
     }
 

@@ -1,8 +1,8 @@
 """A journal's file as its disk has it, and not as the system keeps it in memory.
 
 Linux marks pages whose write to the disk failed as clean: a later sync succeeds without writing them, and a read returns what
-the disk never received. So, as the program does when it opens the file, the system's copies of both its ends are dropped after a
-sync that succeeded, and all copies after one that failed.
+the disk never received. So the system's copies of both ends of the file are dropped after a sync that succeeded, and all copies
+after one that failed. `life` drops all of them before it runs the program.
 """
 from __future__ import annotations
 
