@@ -1,5 +1,5 @@
-"""What `life` asks of the system before it runs the program: the book's files are synced, and then the system's copies of them are
-dropped, so that what the program reads comes from the disk, whatever became of an earlier sync."""
+"""What `life` asks of the system before it runs the program: the book's files are synced, and then the system's copies of them
+are dropped, so that what the program reads comes from the disk, whatever became of an earlier sync."""
 from __future__ import annotations
 
 import re
@@ -22,8 +22,8 @@ def calls_of(folder: Path, *words: str, inject: str = "") -> tuple[list[str], st
     log = folder / "calls"
     files = [word for name in ("journal.life", "checkpoint.life") for word in ("-P", str(folder / name), "-P", name)]
     asked = ["-e", "trace=fsync,fadvise64"] + (["-e", f"inject={inject}"] if inject else [])
-    ran = subprocess.run(["strace", "-f", "-qq", "-o", str(log), *files, *asked, "sh", "-c", PART, str(LAUNCHER), *words], cwd=folder,
-                         capture_output=True, text=True, check=True)
+    ran = subprocess.run(["strace", "-f", "-qq", "-o", str(log), *files, *asked, "sh", "-c", PART, str(LAUNCHER), *words],
+                         cwd=folder, capture_output=True, text=True, check=True)
     found = re.findall(r"^\d+ +(\w+)\(\d+(?:, )?(.*)\) += ", log.read_text(), re.M)
     said = [line for line in ran.stderr.splitlines() if line.startswith("life: ")]
     return [f"{name} {args}".strip() for name, args in found], "\n".join(said)
