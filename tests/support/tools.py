@@ -17,7 +17,7 @@ from life_tools.common.formats import Wrong
 from tests.support.program import ROOT
 
 # a tool that hasn't ended by then is stopped by a signal
-SECONDS = 120
+SECONDS = 400
 # so much of either end of an output is shown
 SHOWN = 600
 # the status of one that ended with an exception

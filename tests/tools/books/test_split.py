@@ -319,7 +319,7 @@ def test_a_program_that_says_something_else(main: Folder, name: str) -> None:
     ("main/journal.life class=smoker class=other low high --classes classes.csv", "has no class other"),
     ("main/journal.life others low", "by 2 to 64 rules"),
     ("main/journal.life numbers=1-1000 others low", "there are 2 rules and 1 folders"),
-    ("main/journal.life numbers=1-1000 low others high", "the rules stand in front"),
+    ("main/journal.life numbers=1-1000 low others high", "the rules come before the folders"),
     ("main/journal.life numbers=1-1000 others low ./low", "two new books have one name"),
     ("main/journal.life numbers=1-1000 others low 'a b'", "a b is no name of a book"),
     ("main/journal.life numbers=1-1000 others low nowhere/high", "there is no folder for nowhere/high"),

@@ -4,6 +4,7 @@ from __future__ import annotations
 import contextlib
 import os
 import re
+import shlex
 import signal
 import time
 
@@ -14,6 +15,7 @@ from life_tools.desk.entries import Log
 from tests.support.desks import Desk, started
 from tests.support.folders import Folder
 from tests.support.killed_days import start_day
+from tests.support.program import Program
 
 ROWS = 120
 
@@ -85,9 +87,19 @@ def test_after_a_kill_that_posted_nothing_the_whole_file_is_posted(desk: Desk) -
     assert desk.count() == ROWS + 1
 
 
+def slow(desk: Desk) -> Desk:
+    """The same desk with a program whose syncs take 20 ms each: a quick one has posted all before the next `day` looks."""
+    program = shlex.quote(str(desk.folder.program.path))
+    traced = "strace -f -qq -o /dev/null -e trace=fsync -e inject=fsync:delay_exit=20000"
+    wrapper = desk.folder.write("slow", f'#!/bin/sh\n[ "$1" = run ] || exec {program} "$@"\nexec {traced} {program} "$@"\n')
+    wrapper.chmod(0o755)
+    return Desk(Folder(desk.folder.path, Program(wrapper, False)))
+
+
+@pytest.mark.needs("strace")
 def test_a_program_whose_day_was_killed_is_waited_for(desk: Desk) -> None:
     """It goes on without `day`, and no other one takes up its rows meanwhile."""
-    child = start_day(desk, "said", "none", 0)
+    child = start_day(slow(desk), "said", "none", 0)
     until_posted(desk, 10)
     os.kill(child, signal.SIGKILL)
     os.waitpid(child, 0)
