@@ -1,4 +1,4 @@
--- A text cut behind its first digits: there is one such cut.
+-- A text cut after its first digits: there is one such cut.
 use Rattle.decimal_text.proofs.Names.{◌≡◌, ℕ, suc, ◌+◌, Bool, true, false, cond, List, [], ◌∷◌, ◌++◌, take, drop, refl, sym, ap, ◌∙◌, subst, arith, is_ascii_digit, IsAsciiDigit, nat_tests, AreDigits}
 use Rattle.std.specs.List.{prefix_len}
 use Rattle.std.proofs.lemmas.List.{append-nil}
@@ -26,7 +26,7 @@ pub cut_at_prefix : (text : List ℕ) → SplitsDigits text (take (prefix_len is
 cut_at_prefix [] = record { joined = refl; are_digits = tt; stops = tt }
 cut_at_prefix (x ∷ text) = step x text (prefix_len is_ascii_digit text) (is_ascii_digit x) refl (cut_at_prefix text) _ refl
 
--- the digits at the front are those of each other such cut
+-- the digits at the start are those of each other such cut
 pub fronts : (d r e s : List ℕ) → AreDigits d → StopsDigits r → AreDigits e → StopsDigits s → d ++ r ≡ e ++ s → (d ≡ e) × (r ≡ s)
 fronts [] r [] s dd rr ee ss same = (refl, same)
 fronts [] r (y ∷ e) s dd rr ee ss same = absurd ((subst StopsDigits same rr) (digit_from_value y ee.0))

@@ -105,7 +105,7 @@ no_sign : (digits others : List ℕ) (sign : ℕ) → AreDigits digits → digit
 no_sign [] others sign h e low = cc
 no_sign (x ∷ digits) others sign h e low = let same : x ≡ sign = cc in omega (arith, (digit_from_value x h.0).0)
 
--- the digits behind a sign or none, read two ways
+-- the digits after a sign or none, read two ways
 unsigned : (text digits others : List ℕ) → AreDigits digits → AreDigits others → (text ≡ digits) ⊎ (text ≡ plus_sign ∷ digits) → (text ≡ others) ⊎ (text ≡ plus_sign ∷ others) → digits ≡ others
 unsigned text digits others h k a b =
     elim a [

@@ -1,5 +1,5 @@
 -- A decimal number as a rate table writes it: digits, perhaps with a point before, among or after
--- them, and perhaps a power of ten behind an `E`, as in `0.00042`, `.5`, `1.` and `7.5E-05`.
+-- them, and perhaps a power of ten after an `E`, as in `0.00042`, `.5`, `1.` and `7.5E-05`.
 use Rattle.std.specs.Prelude.{◌≡◌, ℕ, ◌+◌, ◌<◌, ◌≤◌, ◌⊎◌, List, [], ◌∷◌, ◌++◌, length, codes}
 use Rattle.std.specs.Str.Parse.{AllDigits, IsNumeral, digits_value}
 
@@ -10,14 +10,14 @@ pub record Decimal : Type 0 where
   pub raised : ℕ
   pub lowered : ℕ
 
--- one to three digits behind a sign or none: a minus lowers by their number, else they raise by it
+-- one to three digits, with a sign before them or none: after a minus their number lowers, else it raises
 abbrev pub IsSigned : List ℕ → ℕ → ℕ → Type 0
 IsSigned text raised lowered =
     (digits : List ℕ) × IsNumeral 10 digits × (length digits ≤ 3)
     × ((((text ≡ digits) ⊎ (text ≡ codes "+" ++ digits)) × (raised ≡ digits_value 10 digits) × (lowered ≡ 0))
     ⊎ ((text ≡ codes "-" ++ digits) × (raised ≡ 0) × (lowered ≡ digits_value 10 digits)))
 
--- nothing, or `E` (69) or `e` (101) before such a number
+-- nothing, or `E` (69) or `e` (101) followed by such a number
 abbrev pub IsExponent : List ℕ → ℕ → ℕ → Type 0
 IsExponent [] raised lowered = (raised ≡ 0) × (lowered ≡ 0)
 IsExponent (letter ∷ text) raised lowered = ((letter ≡ 69) ⊎ (letter ≡ 101)) × IsSigned text raised lowered

@@ -5,8 +5,9 @@ use Rattle.decimal_text.specs.declared.fault.RateFault.{RateFault}
 use Rattle.decimal_text.specs.declared.fault.RateFault.TheVariants.{NoNumber, AboveOne, TooFine}
 use Rattle.decimal_text.specs.Decimal.{Decimal, Spells}
 
--- The text spells a decimal of at most one, whose value is this rate in units of 10^-9: all its digits read as one number,
--- times ten to the power that raises it, over ten for each digit after the point, and to the power that lowers it.
+-- The text spells a decimal of at most one, whose value is this rate in units of 10^-9. The value is all digits read
+-- as one number, times ten to the power that raises it, divided by ten for each digit after the point and by ten to
+-- the power that lowers it.
 abbrev pub IsRate : List ℕ → ℕ → Type 0
 IsRate text rate =
     (decimal : Decimal) × Spells text decimal
@@ -28,11 +29,11 @@ IsAboveOne decimal =
     10 ^ (length decimal.fraction + decimal.lowered)
     < digits_value 10 (decimal.whole ++ decimal.fraction) * 10 ^ decimal.raised
 
--- at most one, and no whole number of units of 10^-9
+-- at most one, and not a whole number of units of 10^-9
 abbrev pub IsTooFine : Decimal → Type 0
 IsTooFine decimal = (IsAboveOne decimal → ⊥) × ((units : ℕ) → IsInUnits units decimal → ⊥)
 
--- what is answered to a decimal
+-- the result for a decimal
 abbrev pub Answers : Decimal → Result ℕ RateFault → Type 0
 Answers decimal (Ok rate) = IsInUnits rate decimal × (rate ≤ 1000000000)
 Answers decimal (Err NoNumber) = ⊥

@@ -2,7 +2,7 @@
 use Rattle.std.specs.Prelude.{ℕ, [], codes}
 use Rattle.decimal_text.specs.Rate.{IsRate}
 
--- digits with a point before, among or behind them
+-- digits with a point before, among or after them
 abbrev pub PlainRates : Type 0
 PlainRates = IsRate (codes "0.00042") 420000 × IsRate (codes "1") 1000000000 × IsRate (codes ".5") 500000000
     × IsRate (codes "1.") 1000000000 × IsRate (codes "0") 0

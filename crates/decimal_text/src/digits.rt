@@ -11,7 +11,7 @@ fn digits_len(text: &[u8]) -> usize
     text.iter().take_while(|byte| byte.is_ascii_digit()).count()
 }
 
-/// The digits at the front of a text, and what follows them.
+/// The digits at the start of a text, and what follows them.
 pub fn split_digits(text: &[u8]) -> (&[u8], &[u8])
     ensures { SplitsDigits text.now result.0.now result.1.now }
 {

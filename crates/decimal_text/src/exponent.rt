@@ -4,7 +4,7 @@ ghost use Rattle.decimal_text.specs.Decimal.{IsExponent, IsSigned};
 
 use crate::digits::{short_number, split_digits};
 
-/// A power of ten: it raises, or it lowers, by less than 1,000.
+/// A power of ten that raises or lowers a number. It is below 1,000.
 #[derive(Clone, Copy)]
 pub struct Power {
     pub raised: usize,
@@ -44,7 +44,7 @@ fn signed_power(text: &[u8]) -> Option<Power>
     }
 }
 
-/// The power of ten that ends a decimal: `None` where the text is neither empty nor one.
+/// The power of ten at the end of a decimal; `None` if the text is neither empty nor such a power.
 pub fn power_of(text: &[u8]) -> Option<Power>
     ensures found { IfSome result (λ power. IsExponent text.now power.raised power.lowered) }
     ensures none { IfNone result ((raised lowered : ℕ) → IsExponent text.now raised lowered → ⊥) }

@@ -3,8 +3,8 @@
 pub enum RateFault {
     /// The text isn't a decimal number.
     NoNumber,
-    /// The number exceeds 1.
+    /// The number is above 1.
     AboveOne,
-    /// The number is at most 1, and no multiple of 10^-9.
+    /// The number is at most 1, but no multiple of 10^-9.
     TooFine,
 }

@@ -1,6 +1,6 @@
 ghost use Rattle.std.specs.Prelude.{◌<◌};
 
-/// A decimal as it is written.
+/// A decimal, split into the parts that its text has.
 #[derive(Clone, Copy)]
 pub struct Parts<'a> {
     pub whole: &'a [u8],

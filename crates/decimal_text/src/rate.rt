@@ -29,7 +29,7 @@ pub fn read_rate(text: &[u8]) -> Result<u32, RateFault>
 
 const ONE: u64 = 1_000_000_000;
 
-/// The rate is found from the places of the digits, so no number here is wide.
+/// The rate is computed from the places of the digits, so that no intermediate number is too large for its type.
 fn rate_of(parts: &Parts) -> Result<u32, RateFault>
     requires whole { AllDigits 10 parts.now.whole.now }
     requires fraction { AllDigits 10 parts.now.fraction.now }

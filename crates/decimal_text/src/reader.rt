@@ -7,7 +7,7 @@ use crate::digits::split_digits;
 use crate::exponent::power_of;
 use crate::parts::Parts;
 
-/// The digits behind a point at the front of a text, and what follows them.
+/// The digits after a point at the start of a text, and what follows them.
 fn split_fraction(text: &[u8]) -> (&[u8], &[u8])
     ensures { SplitsFraction text.now result.0.now result.1.now }
 {

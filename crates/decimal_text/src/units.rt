@@ -2,17 +2,17 @@ ghost use Rattle.std.specs.Prelude.{◌≡◌, ℕ, ◌+◌, ◌*◌, ◌^◌, �
 ghost use Rattle.std.specs.Char.{IsAsciiDigit};
 ghost use Rattle.std.specs.Str.Parse.{AllDigits};
 
-/// One more than the units of 10^-9 in 1: a larger count stays here.
+/// One more than the number of units of 10^-9 in 1. A count that would be larger stays at this value.
 pub const CAP: u64 = 1_000_000_001;
 
-/// Units of 10^-9, counted from the digits of a decimal as they come from the left.
+/// Units of 10^-9, counted from the digits of a decimal from left to right.
 #[derive(Drop)]
 pub struct Units {
     /// The whole units so far, counted in the place that the digits have reached.
     pub count: u64,
-    /// How many places are left down to that of 10^-9.
+    /// How many more places there are down to that of 10^-9.
     pub places: usize,
-    /// Whether no digit but 0 came behind that place.
+    /// Whether every digit past that place is 0.
     pub is_exact: bool,
     ghost capped: { count ≤ 1000000001 },
 }
@@ -41,7 +41,7 @@ impl Units {
         }
     }
 
-    /// The units, where zeros stand in the places that are left.
+    /// The units, if zeros stand in the remaining places.
     pub fn total(&self) -> u64
         ensures { result ≡ min (self.now.count * 10 ^ self.now.places) 1000000001 }
     {

@@ -2,7 +2,7 @@
 
 ghost use Rattle.decimal_text.specs.Worked.{NoRates, PlainRates, ScaledRates};
 
-/// Texts of rates, and two that are none.
+/// Texts of rates, and two texts that are no rates.
 pub fn rates_by_hand()
     ensures plain { PlainRates }
     ensures scaled { ScaledRates }

@@ -1,4 +1,4 @@
--- The text of an amount: its two parts, which are the last three bytes and what stands before, and that it tells the amount.
+-- The text of an amount: its two parts, which are the last three bytes and what stands before, and that it reports the amount.
 use lib.Dec.{leb-zero}
 use Rattle.std.specs.Prelude.{[]}
 use Rattle.money_core.proofs.Names.{◌∷◌, ℤ, pos, negsuc, false, int_le, unsigned_abs, true≢false, suc, get_or, ◌≡◌, ℕ, ◌+◌, ◌-◌, ◌*◌, ◌/◌, ◌%◌, ◌^◌, ◌<◌, List, length, take, drop, sym, ap, ◌∙◌, refl, arith, length-append, take-append-drop, decimal, decimal_is_IsNumeral_wide, digit_at}
@@ -47,7 +47,7 @@ pub minus_first : (z : ℤ) → int_le (pos 0) z ≡ false → 45 ∷ cents_text
 minus_first (pos n) e = absurd (true≢false (sym (leb-zero n) ∙ e))
 minus_first (negsuc n) e = refl
 
--- no minus stands at the front of an amount without a sign
+-- no minus stands at the start of an amount without a sign
 not_minus : (n : ℕ) (rest : List ℕ) → n < 10 ^ 64 → 45 ∷ rest ≡ cents_text n → ⊥
 not_minus n rest small e =
     let numeral = decimal_is_IsNumeral_wide (n / 100) (omega arith) in

@@ -6,7 +6,7 @@ abbrev pub cents_text : ℕ → List ℕ
 cents_text n = let hundredths = n % 100 in
     decimal (n / 100) ++ 46 ∷ (48 + hundredths / 10) ∷ (48 + hundredths % 10) ∷ []
 
--- the same with a `-` in front of a negative amount
+-- the same with a `-` before a negative amount
 abbrev pub signed_cents_text : ℤ → List ℕ
 signed_cents_text (pos n) = cents_text n
 signed_cents_text (negsuc n) = 45 ∷ cents_text (suc n)

@@ -1,4 +1,4 @@
-//! Amounts of cents and whole numbers as text, and back. Nothing here takes memory.
+//! Amounts of cents and whole numbers as text, and back. No call asks for memory.
 #![tactic(auto)]
 
 mod number;

@@ -3,8 +3,8 @@ ghost use Rattle.money_core.specs.CentsText.{cents_text};
 
 use crate::number::parse_number;
 
-/// Reads an amount of 0.01 to `most` cents, as `0.05` or `127.22`: no sign, no leading zeros but a
-/// single `0` before the point, and two digits after it. The result is in cents, as `most` is.
+/// Reads an amount from 0.01 to `most` cents, such as `0.05` or `127.22`: no sign, no leading zeros except a single
+/// `0` before the point, and two digits after it. The result and `most` are in cents.
 pub fn parse_cents(text: &[u8], most: u64) -> Option<u64>
     ensures cents { IfSome result (λ c. (1 ≤ c) × (c ≤ most) × (text.now ≡ cents_text c)) }
     ensures none { IfNone result ((c : ℕ) → 1 ≤ c → c ≤ most → text.now ≢ cents_text c) }

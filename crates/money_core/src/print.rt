@@ -3,8 +3,8 @@ ghost use Rattle.money_core.specs.CentsText.{signed_cents_text};
 
 use itoa::write_digits;
 
-/// Writes an amount of cents into the first bytes of `buf`, as `0.00`, `127.22` or `-400.00`, and
-/// returns how many they are. The bytes behind them stay.
+/// Writes an amount of cents into the first bytes of `buf`, such as `0.00`, `127.22` or `-400.00`, and returns how
+/// many bytes it takes. The bytes after them stay.
 pub fn print_cents(cents: i64, buf: &mut [u8; 24]) -> usize
     ensures within { result ≤ 24 }
     ensures text { take result buf.new ≡ signed_cents_text cents }

@@ -1,4 +1,4 @@
--- A front of the bytes was written, and then a front of the rest.
+-- A prefix of the bytes was written, and then a prefix of the rest.
 use Rattle.std.proofs.Common.{◌≡◌, ℕ, ◌+◌, ◌-◌, ◌<◌, ◌≤◌, Option, None, Some, IfSome, List, [], ◌++◌, length, length-drop, take, drop, min, append_assoc, append-nil, length-append, arith, ap, ◌∙◌, sym}
 use Rattle.std.specs.Io.KnownBytes.{Appends, Consumes, Keeps}
 use Rattle.outside_io.specs.Streams.{GivesFront}
@@ -14,7 +14,7 @@ appends_more (Some xs) (Some ys) (Some zs) bytes k n first more =
     more ∙ ap (λ w. w ++ take n (drop k bytes)) first ∙ append_assoc xs (take k bytes) (take n (drop k bytes))
     ∙ ap (λ w. xs ++ w) (sym (take-add k n bytes))
 
--- The bytes from a place on are the front that was copied, and the rest.
+-- The bytes from a place on are the prefix that was copied, and the rest.
 pub front_and_rest : (bytes copied : List ℕ) (at n : ℕ) → take n copied ≡ take n (drop at bytes) → drop at bytes ≡ take n copied ++ drop (at + n) bytes
 front_and_rest bytes copied at n same =
     sym (take-append-drop n (drop at bytes)) ∙ ap (λ w. w ++ drop n (drop at bytes)) (sym same) ∙ ap (λ w. take n copied ++ w) (drop-drop n at bytes)
@@ -33,14 +33,14 @@ read_front bytes held copied at n same many front =
     let front' = rw (take_rest held at, same) at front in
     (front_and_rest bytes copied at n front', λ none some. none_left bytes at n (length copied) many' none some)
 
--- What was given before a read that copied a front of the rest from a place on, and after it.
+-- What was given before a read that copied a prefix of the rest from a place on, and after it.
 pub given_front : (bytes held copied : List ℕ) (at n : ℕ) → held ≡ bytes → take n copied ≡ take n (take (length held - at) (drop at held))
     → take (at + n) bytes ≡ take at bytes ++ take n copied
 given_front bytes held copied at n same front =
     let front' = rw (take_rest held at, same) at front in
     take-add at n bytes ∙ ap (λ w. take at bytes ++ w) (sym front')
 
--- A front was read, and then a front of the rest.
+-- A prefix was read, and then a prefix of the rest.
 pub consumes_more : (before mid after : Option (List ℕ)) (front more : List ℕ) → Consumes before mid front → Consumes mid after more → Consumes before after (front ++ more)
 consumes_more None mid after front more first then = tt
 consumes_more (Some xs) None after front more first then = absurd first
@@ -60,7 +60,7 @@ gives_none before mid after front piece n none first then =
 pub longer : (front piece : List ℕ) (n limit : ℕ) → n ≤ length piece → limit - length front < n → length front ≤ limit → limit < length (front ++ take n piece)
 longer front piece n limit within many short = omega (arith, length-append front (take n piece), length-take-le n piece within)
 
--- What was left was longer than a limit, where a front of it is.
+-- What was left was longer than a limit, where a prefix of it is.
 pub had_more : (before after : Option (List ℕ)) (front : List ℕ) (limit : ℕ) → Consumes before after front → limit < length front
     → IfSome before (λ told. limit < length told)
 had_more None after front limit taken more = tt

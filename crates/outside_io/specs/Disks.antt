@@ -3,7 +3,7 @@
 use Rattle.std.specs.Prelude.{◌≡◌, ◌⊎◌, ℕ, ◌+◌, ◌≤◌, max, List, ◌++◌, length, take, drop, Result, OnOk, OnErr}
 use Rattle.outside_io.specs.Faults.{Rose}
 
--- a call failed only where the count rose, and leaves the count where it succeeds
+-- a call fails only if the count of faults rose, and a call that succeeds doesn't change the count
 pub record HasDiskCause {T E : Type 0} (before now : ℕ) (result : Result T E) : Type 0 where
   pub later : before ≤ now
   pub failed : OnErr result (Rose before now)
@@ -13,12 +13,12 @@ pub record HasDiskCause {T E : Type 0} (before now : ℕ) (result : Result T E) 
 abbrev pub put : List ℕ → ℕ → List ℕ → List ℕ
 put old at bytes = take at old ++ bytes ++ drop (at + length bytes) old
 
--- new is old with these bytes from a place on
+-- new is old with these bytes written over it from a place on
 abbrev pub Holds : List ℕ → ℕ → List ℕ → List ℕ → Type 0
 Holds old at bytes new = new ≡ put old at bytes
 
--- A write that a crash or a fault cuts short: in its range and past the old end any bytes,
--- elsewhere those of before, and a length from the old to the new.
+-- A write that a crash or a fault cuts short. In its range and past the old end there may be any bytes; elsewhere the
+-- bytes are those of before; the length is any from the old to the new.
 pub record Torn (at many : ℕ) (old new : List ℕ) : Type 0 where
   pub before : take at new ≡ take at old
   pub after : drop (at + many) new ≡ drop (at + many) old
@@ -34,33 +34,32 @@ abbrev pub Follows : (List ℕ → List ℕ → Type 0) → (List ℕ → Type 0
 Follows step old new = (image : List ℕ) → new image → (earlier : List ℕ) × old earlier
     × step earlier image
 
--- a crash leaves this and nothing else
+-- a crash leaves this image and no other
 abbrev pub Only : List ℕ → (List ℕ → Type 0) → Type 0
 Only bytes images = (image : List ℕ) → images image → image ≡ bytes
 
--- a call that asks for the length or reads: what is read stays, and there is no new image
+-- a call that asks for the length or reads: what is read stays, and no new image arises
 pub record Looks (before now : List ℕ) (old new : List ℕ → Type 0) : Type 0 where
   pub reads : now ≡ before
   pub images : (image : List ℕ) → new image → old image
 
--- A write of these bytes from a place on. One that fails counts as a write of its range: what is
--- read there may be any bytes. Until a sync a crash may leave the range in any state.
+-- A write of these bytes from a place on. A write that fails counts as a write of its range: any bytes may be read
+-- there. Until a sync, a crash may leave the range in any state.
 pub record Writes {T E : Type 0} (at : ℕ) (bytes : List ℕ) (result : Result T E)
     (before now : List ℕ) (old new : List ℕ → Type 0) : Type 0 where
   pub written : OnOk result (Holds before at bytes now)
   pub failed : OnErr result (Torn at (length bytes) before now)
   pub images : Follows (Torn at (length bytes)) old new
 
--- A sync: what is read stays, and after a success a crash leaves what is read. A failure makes
--- nothing safe.
+-- A sync: what is read stays, and after a success a crash leaves what is read. A failure makes nothing safe.
 pub record Syncs {T E : Type 0} (result : Result T E) (before now : List ℕ)
     (old new : List ℕ → Type 0) : Type 0 where
   pub reads : now ≡ before
   pub images : (image : List ℕ) → new image → old image
   pub durable : OnOk result (Only now new)
 
--- Time goes on: a crash since a moment might have left what it might have left before, or what it
--- may leave now.
+-- Time goes on: what a crash since a moment might have left now includes what it might have left before, and what it
+-- may leave now, and nothing else.
 pub record Elapses (before now : ℕ) (past since : ℕ → List ℕ → Type 0)
     (images : List ℕ → Type 0) : Type 0 where
   pub later : before ≤ now

@@ -1,21 +1,21 @@
--- What a file was asked and what it answered, newest call first; what it reads as after that, what a crash may leave
--- of it, and when its answers are those of the disk model.
+-- What a file was asked and what it answered, newest call first; what the file reads as after these calls, what a
+-- crash may leave of it, and when its answers are those of the disk model.
 use Rattle.std.specs.Prelude.{⊤, ◌≡◌, ◌⊎◌, ℕ, ◌≤◌, Bool, true, false, Option, Some, None, List, [], ◌∷◌, length, take, drop, nat_le, ◌&&◌}
 use Rattle.outside_io.specs.Disks.{put, Torn, torn_images}
 
 -- a call, and what was answered
 pub data FileCall : Type 0 where
-  -- the length, where it was told
+  -- the length, or that none was reported
   Measured : Option ℕ → FileCall
-  -- so many bytes from a place on, where they were given
+  -- so many bytes from a place on, and the bytes if they were given
   ReadFrom : ℕ → ℕ → Option (List ℕ) → FileCall
   -- these bytes from a place on, and whether that was done
   WrittenTo : ℕ → List ℕ → Bool → FileCall
   -- whether what was written was made safe
   Synced : Bool → FileCall
 
--- Of a file that read as these bytes before the first call, and as `torn n` after a write that failed when n calls had
--- been made.
+-- These definitions are about a file that read as `first` before the first call, and as `torn n` after a write that
+-- failed when n calls had been made.
 module _ (first : List ℕ) (torn : ℕ → List ℕ) where
   -- what it reads as after these calls
   abbrev pub file_reads : List FileCall → List ℕ
@@ -37,8 +37,8 @@ sync_failed [] = false
 sync_failed (Synced false ∷ earlier) = true
 sync_failed (call ∷ earlier) = sync_failed earlier
 
--- What a sync that succeeds makes of the images: one is safe, or left as before, where an earlier sync failed. A system
--- may have dropped what that was to make safe.
+-- What a sync that succeeds makes of the images: only what is read is left. After an earlier sync that failed, it
+-- makes nothing safe, since the system may have dropped what that sync was to make safe.
 abbrev pub SafeUnless : Bool → (safe before : Type 0) → Type 0
 SafeUnless true safe before = before
 SafeUnless false safe before = safe
@@ -60,7 +60,8 @@ module _ (first : List ℕ) (torn : ℕ → List ℕ) where
   AreAllowed [] = ⊤
   AreAllowed (call ∷ earlier) = AreAllowed earlier × IsAllowed call earlier
 
--- Of a file of which a crash before the first call might have left these images, besides what it read as.
+-- These definitions are about a file of which a crash before the first call might have left the images `unsynced`,
+-- besides what it read as.
 module _ (first : List ℕ) (torn : ℕ → List ℕ) (unsynced : List ℕ → Type 0) where
   -- a crash after these calls, or during the last, may leave this
   abbrev pub FileImage : List FileCall → List ℕ → Type 0

@@ -1,4 +1,4 @@
--- Laws of a file's images: what it reads as is one of them, and time only goes on.
+-- Laws of a file's images: what is read is one of them, and time only goes on.
 use Rattle.std.specs.Prelude.{◌≡◌, ℕ, ◌≤◌, Bool, true, false, List, [], ◌∷◌, length, nat_le, ◌&&◌, refl}
 use Rattle.std.proofs.Common.{inl, inr, arith}
 use Rattle.std.proofs.lemmas.Bool.{leb-true}

@@ -5,22 +5,22 @@ use Rattle.std.proofs.Common.{ap}
 use Rattle.outside_io.specs.declared.failures.FetchFault.{FetchFault}
 use Rattle.outside_io.specs.declared.failures.FetchFault.TheVariants as fault
 
--- the bytes at each name, where there is a file
+-- the bytes at each name at which there is a file
 abbrev pub Files : Type 0
 Files = List ℕ → Option (List ℕ)
 
--- what was told of a file
+-- what was reported of a file
 pub data Told : Type 0 where
   Found : List ℕ → Told
   Absent : Told
   TooLong : Told
 
--- what was told of the file with this name
+-- what was reported of the file with this name
 pub record Answer : Type 0 where
   pub name : List ℕ
   pub told : Told
 
--- of a file with these bytes, or of none, this is told
+-- the report of a file with these bytes, or of no file
 abbrev pub FileTells : Option (List ℕ) → Told → Type 0
 FileTells file (Found bytes) = file ≡ Some bytes
 FileTells file Absent = file ≡ None
@@ -31,7 +31,7 @@ abbrev pub Agrees : List Answer → Files → Type 0
 Agrees [] files = ⊤
 Agrees (answer ∷ earlier) files = Agrees earlier files × FileTells (files answer.name) answer.told
 
--- the answer to this name came to those before, where the shelf told of the file
+-- the answer for this name was added to those before, if the shelf reported on the file
 abbrev pub KeepsAnswer : List ℕ → Result (Vec ℕ Global) FetchFault → List Answer → List Answer → Type 0
 KeepsAnswer name (Ok bytes) before now = now ≡ record { name = name; told = Found bytes.items } ∷ before
 KeepsAnswer name (Err fault.Absent) before now = now ≡ record { name = name; told = Absent } ∷ before
@@ -43,10 +43,10 @@ KeepsAnswer name (Err (fault.NoMemory lack)) before now = now ≡ before
 abbrev pub AreFiles : Files → Files → Type 0
 AreFiles files at = (name : List ℕ) → at name ≡ files name
 
--- a shelf that tells its files agrees with them
+-- a shelf that reports its files agrees with them
 pub same_files : (one other : Files) → Some one ≡ Some other → AreFiles one other
 same_files one other same name = let equal : other ≡ one = cc in ap (λ (at : Files). at name) equal
 
--- one that tells none
+-- a shelf that reports none
 pub no_files : (files : Files) (P : Type 0) → None ≡ Some files → P
 no_files files P same = absurd (cc)

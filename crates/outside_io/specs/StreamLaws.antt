@@ -1,11 +1,11 @@
--- Where a source that tells what is left has ended, nothing is left.
+-- If a source that reports what is left has ended, nothing is left.
 use Rattle.std.specs.Prelude.{◌≡◌, ℕ, ◌≤◌, None, Some, List, [], length, drop}
 use Rattle.std.proofs.lemmas.List.{drop_all}
 
--- of a source that tells nothing
+-- the case of a source that doesn't report what is left
 pub nothing_told : (told : List ℕ) → None ≡ Some told → told ≡ []
 nothing_told told same = cc
 
--- of a source that gave all its bytes
+-- the case of a source that gave all its bytes
 pub all_given : (bytes told : List ℕ) (taken : ℕ) → length bytes ≤ taken → Some (drop taken bytes) ≡ Some told → told ≡ []
 all_given bytes told taken all same = let none = drop_all taken bytes all in cc

@@ -1,4 +1,4 @@
-// What a shelf answered, for contracts alone.
+// What a shelf answered. Only contracts read this.
 ghost use Rattle.std.specs.Prelude.{◌≡◌, List, [], ◌∷◌, map};
 ghost use Rattle.outside_io.specs.Shelves.{Answer, Found, Absent, TooLong};
 ghost use Rattle.outside_io.specs.inside.Notes.{answer_of};
@@ -12,7 +12,7 @@ const TOO_LONG: u64 = 1;
 
 const FOUND: u64 = 2;
 
-// Newest first. It has no byte.
+// The newest answer comes first. The value takes no bytes.
 #[derive(Drop)]
 pub(crate) struct Answers {
     record: Record,

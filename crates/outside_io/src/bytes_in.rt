@@ -3,7 +3,7 @@ ghost use Rattle.std.specs.Prelude.{◌≡◌, ◌≤◌, ◌<◌, ◌↔◌, le
 
 use crate::{Failed, FaultPlan, Source};
 
-/// Gives the bytes of a list, and fails at the calls whose numbers, from 1, it is told.
+/// Gives the bytes of a list. It fails at the calls whose numbers, counted from 1, it was given.
 #[derive(Drop)]
 pub struct BytesSource {
     bytes: Vec<u8>,
@@ -86,14 +86,14 @@ impl Source for BytesSource {
     }
 }
 
-// Nothing was given though there was room.
+// Nothing was given although the buffer isn't empty.
 fn is_end(many: usize, room: usize) -> bool
     ensures { IsTrue result ↔ (many ≡ 0) × (0 < room) }
 {
     many == 0 && room > 0
 }
 
-// Copies as many bytes as there are and fit, and answers how many.
+// Copies as many bytes as there are and fit, and returns how many.
 fn copy_front(from: &[u8], to: &mut [u8]) -> usize
     ensures many { result ≡ min (length from.now) (length to.new) }
     ensures front { take result to.new ≡ take result from.now }

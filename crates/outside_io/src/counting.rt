@@ -7,8 +7,7 @@ ghost use Rattle.outside_io.specs.Plans.{number_after};
 use crate::Failed;
 use std::io;
 
-// The same result, and one more fault where it is a failure. The count stands still at its type's
-// end.
+// The same result; if it is a failure, one more fault is counted. The count stands still at its type's end.
 pub(crate) fn counted<T>(done: io::Result<T>, faults: &mut u64) -> Result<T, Failed>
     ensures value { result_ok result ≡ result_ok done }
     ensures one { OnErr result (faults.new ≡ number_after faults.old) }

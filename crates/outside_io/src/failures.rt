@@ -1,4 +1,4 @@
-// What the calls of devices answer where they fail.
+// What the calls of devices return when they fail.
 use memory_requests::NoMemory;
 
 /// A device failed. Its count of faults rose.

@@ -2,8 +2,8 @@
 ghost use Rattle.std.specs.Prelude.{◌≡◌, ◌≤◌, ◌↔◌, IsTrue};
 ghost use Rattle.outside_io.specs.Plans.{FailsNext, number_after, plan_faults, plan_calls, plan_failing};
 
-/// Which calls of a device in memory are to fail, by their numbers from 1, and how many calls and
-/// faults it had. Both counts stand still at their type's end.
+/// Which calls of a device in memory are to fail, by their numbers counted from 1, and how many calls and faults
+/// there were. Both counts stand still at their type's end.
 #[derive(Drop)]
 pub struct FaultPlan {
     failing: Vec<u64>,
@@ -12,7 +12,7 @@ pub struct FaultPlan {
 }
 
 impl FaultPlan {
-    /// No call was made so far.
+    /// A plan before the first call.
     pub fn new(failing: Vec<u64>) -> FaultPlan
         ensures failing { plan_failing result ≡ failing.items }
         ensures calls { plan_calls result ≡ 0 }
@@ -25,14 +25,14 @@ impl FaultPlan {
         }
     }
 
-    /// How many faults there were.
+    /// The number of faults so far.
     pub fn faults(&self) -> u64
         ensures { result ≡ plan_faults self.now }
     {
         self.faults
     }
 
-    /// Counts a call, and answers whether it is to fail.
+    /// Counts a call, and returns whether it is to fail.
     pub fn fails_next(&mut self) -> bool
         ensures fails { IsTrue result ↔ FailsNext self.old }
         ensures failing { plan_failing self.new ≡ plan_failing self.old }

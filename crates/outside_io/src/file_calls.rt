@@ -1,4 +1,4 @@
-// What a file was asked and what it answered, for contracts alone.
+// What a file was asked and what it answered. Only contracts read this.
 ghost use Rattle.std.specs.Prelude.{◌≡◌, Some, None, List, [], ◌∷◌, map, length, if◌then◌else◌};
 ghost use Rattle.std.specs.Result.{result_ok};
 ghost use Rattle.outside_io.specs.FileCalls.{FileCall, Measured, ReadFrom, WrittenTo, Synced};
@@ -16,7 +16,7 @@ const WRITE: u64 = 2;
 
 const SYNC: u64 = 3;
 
-// Newest first. It has no byte.
+// The newest call comes first. The value takes no bytes.
 #[derive(Drop)]
 pub(crate) struct FileCalls {
     record: Record,
@@ -37,7 +37,7 @@ impl FileCalls {
         }
     }
 
-    // The length was asked for, and this was told.
+    // The length was asked for, and this was the answer.
     #[inline(always)]
     pub(crate) fn note_length(&mut self, told: &Result<u64, Failed>)
         ensures { self.new ≡ Measured (result_ok told.now) ∷ self.old }
@@ -48,7 +48,7 @@ impl FileCalls {
         }
     }
 
-    // As many bytes as the buffer has were asked for, and where that was done these are what was given.
+    // As many bytes as the buffer has were asked for; if that was done, these were given.
     #[inline(always)]
     pub(crate) fn note_read(&mut self, at: u64, buf: &[u8], done: bool)
         ensures { self.new ≡ ReadFrom at (length buf.now) (if done then Some buf.now else None) ∷ self.old }
@@ -60,7 +60,7 @@ impl FileCalls {
         }
     }
 
-    // These bytes were written, or that failed.
+    // These bytes were written, or the write failed.
     #[inline(always)]
     pub(crate) fn note_write(&mut self, at: u64, bytes: &[u8], done: bool)
         ensures { self.new ≡ WrittenTo at bytes.now done ∷ self.old }
@@ -72,7 +72,7 @@ impl FileCalls {
         }
     }
 
-    // What was written was made safe, or that failed.
+    // What was written was made safe, or the sync failed.
     #[inline(always)]
     pub(crate) fn note_sync(&mut self, done: bool)
         ensures { self.new ≡ Synced done ∷ self.old }

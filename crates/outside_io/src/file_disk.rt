@@ -1,4 +1,4 @@
-// A real file as a disk. It is honest where each of its answers is one that the disk model allows.
+// A real file as a disk. It is honest if each of its answers is one that the disk model allows.
 ghost use Rattle.std.specs.Prelude.{◌≡◌, ◌<◌, ℕ, List, [], true, length};
 ghost use Rattle.std.specs.Option.{ForSome};
 ghost use Rattle.outside_io.specs.FileCalls.{file_reads, writes_within, AreAllowed, FileImage, FileLeft};
@@ -11,11 +11,11 @@ use std::fs::File;
 use std::marker::PhantomData;
 use std::rt::Files;
 
-/// The file with a name in the folder in which the program runs. It is opened, or made, at the
-/// first call; nothing of it is cut off. It is locked against other processes that do the same, until
-/// it is dropped; where one of them has it, the call fails and counts. So does a write past the end where the
-/// file was removed or cut, and a sync where it was removed, renamed, replaced or cut; but for a sync of bytes
-/// past the end alone, behind which a write within and its sync have to follow.
+/// The file with a name in the folder in which the program runs. The first call opens or makes it, and cuts nothing
+/// off. It is locked against other processes that do the same, until it is dropped. These calls fail and are counted
+/// as faults: any call while another process has the lock; a write past the end, if the file was removed or cut; and
+/// a sync, if the file was removed, renamed, replaced or cut. A sync of bytes past the end alone isn't checked so: a
+/// write within the file and its sync have to follow it.
 #[derive(Drop)]
 pub struct FileDisk<R: Files<File = File> + AllocGlobal, F: FoundFile> {
     file: NotedFile<R>,
@@ -25,7 +25,7 @@ pub struct FileDisk<R: Files<File = File> + AllocGlobal, F: FoundFile> {
 }
 
 impl<R: Files<File = File> + AllocGlobal, F: FoundFile> FileDisk<R, F> {
-    /// Touches nothing. It had no fault so far.
+    /// A disk that has made no call and had no fault so far.
     pub fn at(files: R, name: &'static str, _found: F) -> FileDisk<R, F>
         requires named { ForSome F.name (λ told. name.now ≡ told) }
         ensures name { result.file.name.now ≡ name.now }

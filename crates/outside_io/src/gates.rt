@@ -1,4 +1,4 @@
-// A gate, at which a caller may be held up.
+// A gate, at which a lane may be made to wait. Tests use one to fix the order of steps.
 use std::sync::Wait;
 
 /// Is called before each step of a lane, and may wait there. It changes nothing of the office.

@@ -1,4 +1,4 @@
-// A file of the system that has to stay what it is: the one under its name, and as long as it was.
+// A file of the system that has to stay the one under its name, and as long as it was.
 ghost use Rattle.std.specs.Prelude.{◌≡◌, false, IsErr};
 
 use std::fs::{File, Metadata, OpenOptions};
@@ -7,8 +7,9 @@ use std::os::unix::fs::{FileExt, MetadataExt};
 use std::rt::Files;
 use std::{fs, io};
 
-// A file that was opened under a name: whether it may be written, which file it is, how long it has been so far, what was
-// written since the last sync, and whether it was found to be cut, or no longer there. From then on it is not written to.
+// A file that was opened under a name: whether it may be written, which file it is, its length so far, what was
+// written since the last sync, and whether it was found to be cut or no longer there. Once it was, nothing is written
+// to it.
 #[derive(Drop)]
 pub(crate) struct HeldFile {
     file: File,
@@ -20,7 +21,8 @@ pub(crate) struct HeldFile {
     lost: bool,
 }
 
-// Where writes went: nowhere, all past what was then the end, or some over bytes that were there.
+// Where writes since the last sync went: nowhere, only past what was then the end, or also over bytes that were
+// there.
 #[derive(Clone, Copy)]
 enum Written {
     Nothing,
@@ -29,8 +31,8 @@ enum Written {
 }
 
 impl HeldFile {
-    // Opens the file, or makes it; nothing of it is cut off. It is locked against other processes that do the same. Where
-    // it may not be written it is opened to be read; and none where there is none and none may be made.
+    // Opens the file, or makes it, and cuts nothing off. It is locked against other processes that do the same. If it
+    // may not be written, it is opened to be read; the result is none if there is no file and none may be made.
     pub(crate) fn open<R: Files<File = File> + AllocGlobal>(
         files: &R,
         name: &str,
@@ -75,7 +77,7 @@ impl HeldFile {
         })
     }
 
-    // How long it is. That it got shorter is a failure.
+    // The length of the file. It is a failure if the file got shorter.
     pub(crate) fn length<R: Files<File = File>>(&mut self, files: &R) -> io::Result<u64> {
         let told = ask(files, Asked::Open(&self.file))?.len();
         if told < self.length {
@@ -90,7 +92,7 @@ impl HeldFile {
         self.file.read_exact_at(buf, at)
     }
 
-    // A write past the end would hide that the file was cut, so before such a one the open file is looked at.
+    // A write past the end would hide that the file was cut, so the open file is looked at before such a write.
     pub(crate) fn put<R: Files<File = File>>(
         &mut self,
         files: &R,
@@ -115,8 +117,9 @@ impl HeldFile {
         Ok(())
     }
 
-    // Nothing is safe in a file that is no longer under its name, so after a sync it is looked for. Not so after one of
-    // bytes past the end alone: they count for nothing before a byte in front of them is written over, and safe too.
+    // Nothing is safe in a file that is no longer under its name, so the name is looked up after a sync. It isn't
+    // after a sync of bytes past the end alone: they count for nothing until a byte before them is written and made
+    // safe too.
     pub(crate) fn make_safe<R: Files<File = File>>(
         &mut self,
         files: &R,
@@ -130,7 +133,8 @@ impl HeldFile {
         Ok(())
     }
 
-    // Fails where the name stands for no file or for another, or the open file has no name or was cut; and ever after.
+    // Fails if the name stands for no file or for another one, or if the open file has no name or was cut; and fails
+    // ever after.
     fn look<R: Files<File = File>>(&mut self, files: &R, name: Option<&str>) -> io::Result<()> {
         if self.lost {
             return Err(lost());
@@ -163,7 +167,7 @@ fn open_to_write<R: Files<File = File>>(files: &R, name: &str) -> io::Result<Fil
         .open(files, name)
 }
 
-// Not the disk failed, but writing is refused: to this user, of this file, or on this file system.
+// The disk didn't fail, but writing is refused: to this user, for this file, or on this file system.
 fn is_refusal(kind: ErrorKind) -> bool {
     matches!(
         kind,
@@ -175,8 +179,8 @@ fn lost() -> io::Error {
     io::Error::from(ErrorKind::NotFound)
 }
 
-// The file is safe only once its folder is: where the name is a symbolic link, that in which the file itself lies. A run
-// that made the file may have ended before that, so every run sees to it.
+// The file is safe only once its folder is, which for a symbolic link is the folder in which the file itself lies. An
+// earlier run that made the file may have ended before it made the folder safe, so every run does it.
 fn sync_folder<R: Files<File = File> + AllocGlobal>(files: &R, name: &str) -> io::Result<()> {
     if !ask(files, Asked::Entry(name))?.is_symlink() {
         return File::open(files, ".")?.sync_all();
@@ -188,7 +192,7 @@ fn sync_folder<R: Files<File = File> + AllocGlobal>(files: &R, name: &str) -> io
     }
 }
 
-// What is asked about: the open file, the file under a name, or the name itself, be it a symbolic link.
+// What is asked about: the open file, the file under a name, or the name itself, which may be a symbolic link.
 #[derive(Clone, Copy)]
 enum Asked<'a> {
     Open(&'a File),

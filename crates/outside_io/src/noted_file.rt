@@ -1,4 +1,4 @@
-// A file of the system. Each call of it is noted with what the system answered, for contracts alone.
+// A file of the system. Each call is noted together with the system's answer; only contracts read the notes.
 ghost use Rattle.std.specs.Prelude.{◌≡◌, [], ◌∷◌, Some, None, length, false, is_ok, OnOk, IsErr, IsTrue, if◌then◌else◌};
 ghost use Rattle.std.specs.Result.{result_ok};
 ghost use Rattle.outside_io.specs.Disks.{HasDiskCause};
@@ -13,10 +13,10 @@ use std::io;
 use std::io::ErrorKind;
 use std::rt::Files;
 
-// The file with a name in the folder in which the program runs. It is opened, or made, at the first call; nothing of it
-// is cut off. It is locked against other processes that do the same, until it is dropped; where one of them has it, the
-// call fails and counts. So does one that finds the file cut, or no longer under its name, and each sync behind one that
-// failed.
+// The file with a name in the folder in which the program runs. The first call opens or makes it, and cuts nothing
+// off. It is locked against other processes that do the same, until it is dropped. These calls fail and are counted
+// as faults: any call while another process has the lock, a call that finds the file cut or no longer under its name,
+// and each sync after one that failed.
 #[derive(Drop)]
 pub(crate) struct NotedFile<R: Files<File = File> + AllocGlobal> {
     files: R,
@@ -28,8 +28,8 @@ pub(crate) struct NotedFile<R: Files<File = File> + AllocGlobal> {
     ghost unfailed: { stopped ≡ false → sync_failed calls ≡ false },
 }
 
-// What is known of the file: nothing before the first call; then that it is held, or that there is none and none can be
-// made, which reads as an empty one.
+// What is known of the file: nothing before the first call; after it, either that it is open and locked, or that
+// there is none and none can be made, which reads as an empty file.
 #[derive(Drop)]
 enum Slot {
     Unopened,
@@ -38,7 +38,7 @@ enum Slot {
 }
 
 impl<R: Files<File = File> + AllocGlobal> NotedFile<R> {
-    // Touches nothing.
+    // A file that was not touched yet.
     pub(crate) fn at(files: R, name: &'static str) -> NotedFile<R>
         ensures name { result.name.now ≡ name.now }
         ensures faults { result.faults ≡ 0 }
@@ -59,10 +59,10 @@ impl<R: Files<File = File> + AllocGlobal> NotedFile<R> {
         ensures name { self.new.name.now ≡ self.old.name.now }
         ensures noted { self.new.calls ≡ Measured (result_ok result) ∷ self.old.calls }
     {
-        // The length that the system tells of the open file, asked for once; or that it told none.
+        // The length that the system reports of the open file, asked for once, or that it reported none.
         let told = ask_length(&self.files, self.name, &mut self.slot);
         let told = counted(told, &mut self.faults);
-        // What is noted is what is answered.
+        // What is noted is what is returned.
         self.calls.note_length(&told);
         told
     }
@@ -76,7 +76,7 @@ impl<R: Files<File = File> + AllocGlobal> NotedFile<R> {
         // Success says that the system filled the whole buffer from that place of the file on.
         let filled = fill(&self.files, self.name, &mut self.slot, at, buf);
         let filled = counted(filled, &mut self.faults);
-        // The buffer is noted as the system left it; nothing wrote it since.
+        // The buffer is noted as the system left it; nothing has written it since.
         self.calls.note_read(at, buf, filled.is_ok());
         filled
     }
@@ -86,10 +86,11 @@ impl<R: Files<File = File> + AllocGlobal> NotedFile<R> {
         ensures name { self.new.name.now ≡ self.old.name.now }
         ensures noted { self.new.calls ≡ WrittenTo at bytes.now (is_ok result) ∷ self.old.calls }
     {
-        // Success says that the system took all the bytes at that place; of a failure some may have gone there.
+        // Success says that the system took all the bytes at that place; after a failure some of them may have been
+        // written.
         let written = put(&self.files, self.name, &mut self.slot, at, bytes);
         let written = counted(written, &mut self.faults);
-        // Noted where it failed too, since a part may have been written.
+        // It is noted after a failure too, since a part may have been written.
         self.calls.note_write(at, bytes, written.is_ok());
         written
     }
@@ -100,11 +101,11 @@ impl<R: Files<File = File> + AllocGlobal> NotedFile<R> {
         ensures noted { self.new.calls ≡ Synced (is_ok result) ∷ self.old.calls }
         ensures unfailed { OnOk result (sync_failed self.old.calls ≡ false) }
     {
-        // Success says that the system made safe what was written; after a failure nothing may be safe any more.
+        // Success says that the system made safe what was written; after a failure nothing may be safe.
         let synced = make_safe(&self.files, self.name, &mut self.slot, self.stopped);
         let synced = counted(synced, &mut self.faults);
         self.stopped = synced.is_err();
-        // Noted where it failed too, and where the system wasn't asked.
+        // It is noted after a failure too, and if the system wasn't asked.
         self.calls.note_sync(synced.is_ok());
         synced
     }
@@ -148,7 +149,8 @@ fn put<R: Files<File = File> + AllocGlobal>(
     }
 }
 
-// After a failure the system may drop what it couldn't write, and answer the next time with success. So it isn't asked again.
+// After a failure the system may drop what it couldn't write, and report success the next time. So it isn't asked
+// again.
 fn make_safe<R: Files<File = File> + AllocGlobal>(
     files: &R,
     name: &str,
@@ -166,7 +168,7 @@ fn make_safe<R: Files<File = File> + AllocGlobal>(
     }
 }
 
-// The file, which the first call opens or makes, where there is one or can be.
+// The file, which the first call opens or makes if that can be done.
 fn opened<'a, R: Files<File = File> + AllocGlobal>(
     files: &R,
     name: &str,

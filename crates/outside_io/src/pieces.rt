@@ -1,4 +1,4 @@
-// The pieces that passed through a stream, for contracts alone.
+// The pieces that passed through a stream. Only contracts read this.
 ghost use Rattle.std.specs.Prelude.{◌≡◌, List, [], ◌∷◌, map};
 ghost use Rattle.outside_io.specs.Streams.{StreamPiece};
 ghost use Rattle.outside_io.specs.inside.Notes.{stream_piece_of};
@@ -6,7 +6,7 @@ ghost use Rattle.outside_io.specs.inside.Notes.{stream_piece_of};
 use crate::record::Record;
 use std::marker::Model;
 
-// Newest first. It has no byte.
+// The newest piece comes first. The value takes no bytes.
 #[derive(Drop)]
 pub(crate) struct Pieces {
     record: Record,
@@ -27,7 +27,7 @@ impl Pieces {
         }
     }
 
-    // One piece more, and how many bytes there was room for.
+    // One piece more, and the length of the buffer that it was read into or written from.
     #[inline(always)]
     pub(crate) fn note(&mut self, room: usize, bytes: &[u8])
         ensures { self.new ≡ record { room = room; bytes = bytes.now } ∷ self.old }

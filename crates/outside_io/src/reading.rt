@@ -17,10 +17,10 @@ const PIECE: usize = 65_536;
 
 /// Gives bytes in pieces. Its count of faults never falls.
 pub trait Source {
-    /// How many faults it has had.
+    /// The number of faults so far.
     ghost faults: { Self → ℕ };
 
-    /// The bytes that are left, where it tells them.
+    /// The bytes that are left, if the source reports them.
     ghost left: { Self → Option (List ℕ) };
 
     /// The bytes that it gave so far.
@@ -29,12 +29,12 @@ pub trait Source {
     /// A read gave none into a buffer that isn't empty.
     ghost ended: { Self → Type 0 };
 
-    /// How many faults it has had. The count stands still at its type's end.
+    /// The number of faults so far. The count stands still at its type's end.
     fn faults(&self) -> u64
         ensures { result ≡ faults self.now };
 
-    /// Puts bytes into the front of the buffer and answers how many. None into a buffer that isn't
-    /// empty is the end.
+    /// Puts bytes at the start of the buffer and returns how many. No bytes in a buffer that isn't empty mean the
+    /// end.
     fn read(&mut self, buf: &mut [u8]) -> Result<usize, Failed>
         ensures cause { HasCause (faults self.old) (faults self.new) result }
         ensures held { OnOk result (faults self.new ≡ faults self.old) }
@@ -45,7 +45,7 @@ pub trait Source {
         ensures end { SeesEnd result buf.new → ended self.new }
         ensures not_before { ended self.new → ended self.old ⊎ SeesEnd result buf.new };
 
-    /// Where it ended and tells what is left, nothing is left.
+    /// If the source has ended and reports what is left, nothing is left.
     ghost nothing_left: { (source : Self) (told : List ℕ) → ended source → left source ≡ Some told → told ≡ [] };
 }
 
@@ -60,7 +60,7 @@ pub fn read_all<S: Source>(
     read_all_from::<S, Brand>(alloc, source, limit, Blank::new(1))
 }
 
-// The same with a ledger that the blank becomes.
+// The same with a ledger of steps, which the blank becomes.
 fn read_all_from<S: Source, L: Ledger>(
     alloc: Global,
     source: &mut S,
@@ -76,8 +76,7 @@ fn read_all_from<S: Source, L: Ledger>(
     read_all_counted(alloc, source, limit, &mut steps)
 }
 
-/// Does what `read_all` does and counts its turns, one for each read. There are at most `limit +
-/// 1`, whatever the source gives.
+/// Does what `read_all` does and counts its reads, of which there are at most `limit + 1`, whatever the source gives.
 pub fn read_all_counted<S: Source, L: Ledger>(
     alloc: Global,
     source: &mut S,
@@ -105,7 +104,7 @@ pub fn read_all_counted<S: Source, L: Ledger>(
     }
 }
 
-// One read, which is one step. It is the only reader of the source.
+// One read, which is one step. All reads of the source are made here.
 fn turn<S: Source, L: Ledger>(
     source: &mut S,
     piece: &mut [u8],

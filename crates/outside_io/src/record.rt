@@ -5,7 +5,7 @@ ghost use Rattle.outside_io.specs.inside.Notes.{Note};
 
 use std::marker::{Model, PhantomData};
 
-// What was noted, newest first. It has no byte, and to note does nothing when the program runs.
+// What was noted, newest first. It takes no bytes, and noting does nothing when the program runs.
 #[derive(Drop)]
 pub(crate) struct Record {
     marker: PhantomData<u8>,

@@ -1,4 +1,4 @@
--- Parts of the items, what was made of them, and values that are added behind others
+-- Parts of the items, what was made of them, and values that are added after others
 use Rattle.parallel_value.proofs.Names.{◌≡◌, ◌++◌, ◌∷◌, ◌+◌, ◌<◌, ◌≤◌, List, [], ℕ, zero, suc, min, inl, ap, refl, sym, ◌∙◌, subst, take, drop, set, length, get_or, Result, Ok, Err, IfOk, OnOk, IfSome, Option, Some, None, Bor, Vec, Global, append-nil, arith, append_assoc, length-take, take_min, AllByRecursion, AllZip, IsAmong, AddsBehind, AreBoth, AreValues, IsAsBefore, MayGive, StandBehind, TakeAll, AreMadeParts, IsMadePart, IsOneOf}
 use Rattle.std.proofs.lemmas.List.Elements.{All-from_recursion}
 use Rattle.std.proofs.Math.Seq.{take-add}
@@ -29,7 +29,7 @@ all_push P xs ys x all last longer = subst (AllByRecursion P) (sym longer) (all_
 all_among : {X : Type 0} (P : X → Type 0) (xs : List X) (x : X) → IsAmong xs x → AllByRecursion P xs → P x
 all_among P xs x among all = subst P (sym among.1.1) (All-from_recursion P xs all among.0 x among.1.0)
 
--- the first items, and the part behind them
+-- the first items, and the part after them
 take_part : {X : Type 0} (xs part : List X) (size first : ℕ) → part ≡ take size (drop first xs) → take (first + length part) xs ≡ take first xs ++ part
 take_part xs part size first is =
     let rest = drop first xs in
@@ -37,7 +37,7 @@ take_part xs part size first is =
     take-add first (length part) xs
     ∙ ap (λ l. take first xs ++ l) (ap (λ n. take n rest) long ∙ take_min size rest ∙ sym is)
 
--- what stands behind what stands behind the first
+-- what stands after what stands after the first
 pub stand_more : {O : Type 0} (old ys zs : List O) → StandBehind old ys → StandBehind ys zs → StandBehind old zs
 stand_more old ys zs first last = (
   first.0 ++ last.0,
@@ -122,7 +122,7 @@ module _ {P I O : Type 0} (takes : P → I → Type 0) (gives : P → I → O �
   pub one_alone : (ps : List P) (d : P) → length ps ≡ 1 → IsOneOf gives ps (get_or ps 0 d)
   one_alone ps d one = may_alone takes gives ps d one
 
-  -- the workers behind the part that was made
+  -- the workers after the part that was made
   pub first_takes : (old new : List P) (items : List I) (d : P) → AllZip (IsAsBefore takes gives) old new → 1 ≤ length old → TakeAll takes old items
       → AllByRecursion (takes (get_or new 0 d)) items
   first_takes [] new items d before some all = absurd (omega (arith, some))

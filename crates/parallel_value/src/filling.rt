@@ -1,4 +1,4 @@
-// The values are written into their places, which are cut up with the items: no worker needs memory.
+// The values are written into places that are divided up together with the items, so no worker needs memory.
 ghost use Rattle.std.specs.Prelude.{◌≡◌, ◌≤◌, ◌++◌, length, map};
 ghost use Rattle.std.specs.List.{AllByRecursion, AllZip};
 ghost use Rattle.std.specs.Thread.{IsSync, IsSend};
@@ -8,9 +8,9 @@ use crate::Piece;
 use crate::share::share_of;
 use std::thread::{Threads, join_mut};
 
-/// Writes the values of the items into as many places, in their order, whatever stood there. Each worker goes through as
-/// many items on end as any other, or one more, in a thread of its own; one worker alone starts no thread. It takes no
-/// memory and can't fail.
+/// Writes the values of the items into as many places, in their order, over what was there. Each worker goes through
+/// a run of consecutive items, in a thread of its own; the runs differ in length by one item at most. A single worker
+/// starts no thread. The call asks for no memory and can't fail.
 pub fn map_into<R: Threads + Sync, I: Sync, O: Send + Drop, P: Piece<I, O> + Send>(
     rt: &R,
     pieces: &mut [P],
@@ -27,8 +27,9 @@ pub fn map_into<R: Threads + Sync, I: Sync, O: Send + Drop, P: Piece<I, O> + Sen
     fill_by_all(rt, pieces, items, values);
 }
 
-// Sets the worker in front going, with its share of the items and their places, and then the others. So one thread starts
-// all: a thread that starts another at once was seen to stay on one processor with it, while others stood idle.
+// Starts the first worker, with its share of the items and their places, and then the others. So one thread starts
+// all of them: a thread that starts another thread at once was seen to share one processor with it, while other
+// processors were idle.
 #[cycle(filling)]
 fn fill_by_all<R: Threads + Sync, I: Sync, O: Send + Drop, P: Piece<I, O> + Send>(
     rt: &R,
@@ -54,7 +55,7 @@ fn fill_by_all<R: Threads + Sync, I: Sync, O: Send + Drop, P: Piece<I, O> + Send
     fill_both(rt, front, first, to_first, back, last, to_last);
 }
 
-// The first places by the workers in front, and the last by those behind, at the same time.
+// The first workers fill the first places, and the others the last, at the same time.
 #[cycle(filling)]
 fn fill_both<R: Threads + Sync, I: Sync, O: Send + Drop, P: Piece<I, O> + Send>(
     rt: &R,
@@ -97,7 +98,7 @@ fn fill_both<R: Threads + Sync, I: Sync, O: Send + Drop, P: Piece<I, O> + Send>(
     );
 }
 
-// The one worker goes through all items.
+// The single worker goes through all items.
 fn fill_by_one<I, O: Drop, P: Piece<I, O>>(pieces: &mut [P], items: &[I], values: &mut [O])
     requires one { length pieces.old ≡ 1 }
     requires taken { TakeAll P.takes pieces.old items.now }
@@ -108,7 +109,7 @@ fn fill_by_one<I, O: Drop, P: Piece<I, O>>(pieces: &mut [P], items: &[I], values
     fill_alone(&mut pieces[0], items, values);
 }
 
-// The values of the items by one worker.
+// Writes the values of the items by one worker.
 fn fill_alone<I, O: Drop, P: Piece<I, O>>(piece: &mut P, items: &[I], values: &mut [O])
     requires taken { AllByRecursion (P.takes piece.old) items.now }
     requires places { length values.old ≡ length items.now }

@@ -1,4 +1,4 @@
-// The values of some items in a list of their own, and two such lists one behind the other.
+// The values of some items in a list of their own, and two such lists one after the other.
 ghost use Rattle.std.specs.Prelude.{◌≡◌, ◌≤◌, ◌<◌, IfOk, length};
 ghost use Rattle.std.specs.List.{AllByRecursion, AllZip};
 ghost use Rattle.std.specs.Mem.{type_size};
@@ -26,7 +26,7 @@ pub(crate) fn map_alone<I, O: Drop, P: Piece<I, O>>(
     Ok(values)
 }
 
-// Both lists, one behind the other.
+// Both lists, one after the other.
 pub(crate) fn both<O: Drop>(
     front: Result<Vec<O>, NoMemory>,
     back: Result<Vec<O>, NoMemory>,

@@ -1,8 +1,8 @@
 // What one worker does.
 ghost use Rattle.std.specs.Prelude.{ℕ};
 
-/// A worker that computes the value of one item after another. What it keeps from one item to the next, as a cache,
-/// changes neither which items it takes nor which values it may give.
+/// A worker that computes the value of one item after another. What it keeps from one item to the next, such as a
+/// cache, changes neither which items it takes nor which values it may give.
 pub trait Piece<I, O> {
     /// It takes this item.
     ghost takes: { Self → I → Type 0 };

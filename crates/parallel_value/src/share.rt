@@ -1,7 +1,7 @@
 // How the work is shared out between two parts of the workers.
 ghost use Rattle.std.specs.Prelude.{◌≤◌, ◌<◌};
 
-/// How many of the items fall to the first so many of the workers.
+/// How many of the items belong to the first `half` of `many` workers.
 pub fn share_of(items: usize, half: usize, many: usize) -> usize
     requires some { 0 < many }
     requires front { half ≤ many }

@@ -1,8 +1,8 @@
-// The items are cut into parts, and each worker takes the next part that none has taken, until none is left. So a worker
-// whose processor is slow, or has other work, delays nobody.
+// The items are cut into parts, and each worker takes the next part that none has taken, until none is left. So a
+// worker whose processor is slow, or is busy with other work, delays nobody.
 //
-// Which parts a worker takes is told by no clause, and needn't be: what it made of a part are that part's values, whoever
-// made them, and each part's are looked for in the end. One that wasn't found would be made then.
+// No clause says which parts a worker takes, and none is needed: what a worker made of a part is that part's values,
+// whoever made them. At the end every part is looked up, and a part that isn't found is made then.
 ghost use Rattle.std.specs.Prelude.{◌≡◌, ◌≤◌, ◌++◌, ℕ, List, IfOk, IfSome, OnErr, OnOk, length, map, take, drop};
 ghost use Rattle.std.specs.List.{AllByRecursion, AllZip, IsAmong};
 ghost use Rattle.std.specs.Thread.{IsSync, IsSend};
@@ -17,14 +17,14 @@ use std::alloc::Global;
 use std::sync::atomic::{AtomicUsize, Ordering};
 use std::thread::{Threads, join_mut};
 
-/// What one worker made of one part: the values of its items, from the first on.
+/// What one worker made of one part: the values of its items, and the index of the first item.
 #[derive(Drop)]
 pub(crate) struct Made<O> {
     first: usize,
     values: Vec<O>,
 }
 
-/// The values of the items, in their order: a list of their own, which `map_onto` makes. No program uses it.
+/// The values of the items, in their order, in a list of their own. Only tests call this; programs call `map_onto`.
 pub fn map_in<R: Threads + Sync, I: Sync, O: Copy + Send + Drop, P: Piece<I, O> + Send>(
     rt: &R,
     alloc: Global,
@@ -45,9 +45,10 @@ pub fn map_in<R: Threads + Sync, I: Sync, O: Copy + Send + Drop, P: Piece<I, O> 
     Ok(values)
 }
 
-/// Adds the values of the items to those that are there, in their order; after `NoMemory` those alone are there. A part
-/// has so many items, or the last fewer: so few that the last parts take no time, and so many that taking one doesn't
-/// count. No more workers than parts are set going; each but one has a thread of its own, and one alone starts none.
+/// Adds the values of the items, in their order, to the values that are there. After `NoMemory` only the old values
+/// are there. A part has `items_in_part` items, and the last one may have fewer: few enough that the last parts take
+/// little time, and enough that taking a part costs little beside it. No more workers are started than there are
+/// parts; each but one has a thread of its own, and a single worker starts none.
 pub fn map_onto<R: Threads + Sync, I: Sync, O: Copy + Send + Drop, P: Piece<I, O> + Send>(
     rt: &R,
     alloc: Global,
@@ -72,7 +73,7 @@ pub fn map_onto<R: Threads + Sync, I: Sync, O: Copy + Send + Drop, P: Piece<I, O
     added
 }
 
-// Adds the values of the items by as many workers as there are parts; where memory is wanting, it may be some of them.
+// Adds the values of the items by as many workers as there are parts; if memory is refused for that, by fewer.
 fn add_by_few<R: Threads + Sync, I: Sync, O: Copy + Send + Drop, P: Piece<I, O> + Send>(
     rt: &R,
     alloc: Global,
@@ -131,7 +132,7 @@ fn add_all<R: Threads + Sync, I: Sync, O: Copy + Send + Drop, P: Piece<I, O> + S
     )
 }
 
-// Sets the worker in front going, and then the others.
+// Starts the first worker, and then the others.
 #[cycle(sharing)]
 fn make_parts<R: Threads + Sync, I: Sync, O: Copy + Send + Drop, P: Piece<I, O> + Send>(
     rt: &R,
@@ -154,7 +155,7 @@ fn make_parts<R: Threads + Sync, I: Sync, O: Copy + Send + Drop, P: Piece<I, O> 
     make_both(rt, alloc, front, back, items, items_in_part, next)
 }
 
-// Parts are made by the workers in front and by those behind at the same time.
+// The first workers and the others make parts at the same time.
 #[cycle(sharing)]
 fn make_both<R: Threads + Sync, I: Sync, O: Copy + Send + Drop, P: Piece<I, O> + Send>(
     rt: &R,
@@ -196,7 +197,7 @@ fn make_both<R: Threads + Sync, I: Sync, O: Copy + Send + Drop, P: Piece<I, O> +
     both(left, right)
 }
 
-// The one worker makes parts.
+// The single worker makes parts.
 fn make_by_one<I, O: Drop, P: Piece<I, O>>(
     alloc: Global,
     pieces: &mut [P],
@@ -213,7 +214,7 @@ fn make_by_one<I, O: Drop, P: Piece<I, O>>(
     make_alone(alloc, &mut pieces[0], items, items_in_part, next)
 }
 
-// Takes one part after the other, until none is left. The counter is at the first item of the next.
+// Takes one part after the other, until none is left. The counter is at the first item of the next part.
 fn make_alone<I, O: Drop, P: Piece<I, O>>(
     alloc: Global,
     piece: &mut P,
@@ -238,7 +239,7 @@ fn make_alone<I, O: Drop, P: Piece<I, O>>(
     Ok(made)
 }
 
-// Makes the part of this first item.
+// Makes the part that begins with this item.
 fn make_part<I, O: Drop, P: Piece<I, O>>(
     alloc: Global,
     piece: &mut P,
@@ -256,7 +257,7 @@ fn make_part<I, O: Drop, P: Piece<I, O>>(
     Ok(Made { first, values })
 }
 
-// The items of the part of this first item.
+// The items of the part that begins with this item.
 fn part_at<I>(items: &[I], items_in_part: usize, first: usize) -> &[I]
     requires { first ≤ length items.now }
     ensures { result.now ≡ take items_in_part (drop first items.now) }
@@ -265,7 +266,7 @@ fn part_at<I>(items: &[I], items_in_part: usize, first: usize) -> &[I]
     &left[..left.len().min(items_in_part)]
 }
 
-// Adds the values of all parts, in their order. The worker makes those that aren't there.
+// Adds the values of all parts, in their order. The worker makes the parts that aren't there.
 fn add_parts<I, O: Copy + Drop, P: Piece<I, O>>(
     piece: &mut P,
     items: &[I],
@@ -290,7 +291,7 @@ fn add_parts<I, O: Copy + Drop, P: Piece<I, O>>(
     Ok(())
 }
 
-// Adds the values of a part, which the worker makes where they aren't there.
+// Adds the values of a part. The worker makes them if they aren't there.
 fn add_part<I, O: Copy + Drop, P: Piece<I, O>>(
     piece: &mut P,
     part: &[I],
@@ -320,7 +321,7 @@ fn add_made<O: Copy + Drop>(made: &Made<O>, values: &mut Vec<O>) -> Result<(), N
     extend(values, made.values.as_slice())
 }
 
-// The part of this first item, where it was made.
+// The part that begins with this item, if it was made.
 fn found<O>(made: &[Made<O>], first: usize) -> Option<&Made<O>>
     ensures { IfSome result (λ one. IsAmong made.now one.now × (one.now.first ≡ first)) }
 {
@@ -332,7 +333,7 @@ fn found<O>(made: &[Made<O>], first: usize) -> Option<&Made<O>>
     None
 }
 
-// The one worker adds the values of all items.
+// The single worker adds the values of all items.
 fn add_by_one<I, O: Drop, P: Piece<I, O>>(
     pieces: &mut [P],
     items: &[I],

@@ -1,4 +1,4 @@
--- What an accepted command books on the four accounts, in cents. Every booking adds up to 0
+-- What an accepted command books on the four accounts, in cents. The four amounts of a booking add up to 0
 use Rattle.std.specs.Prelude.{ℕ, ℤ, pos, ◌+ℤ◌, ◌-ℤ◌, ◌≤ℤ◌, if◌then◌else◌}
 use Rattle.policy_types.specs.contracts.policy.StatusPartialEq.TheImpl.{eq-value as status_eq}
 use Rattle.policy_types.specs.declared.command.Command.{Command}
@@ -32,7 +32,8 @@ benefit_incurred cents = record { cash = pos 0; premiums = pos 0; incurred = pos
 abbrev pub benefit_paid : ℕ → Booking
 benefit_paid cents = record { cash = against cents; premiums = pos 0; incurred = pos 0; payable = pos cents }
 
--- what a command books that made the policy what it is now: at the end of its term it has matured, or it has expired
+-- what a command books, by the policy as the command has left it: at the end of its term a policy has matured or has
+-- expired
 abbrev pub booking_of : Command → Policy → Booking
 booking_of (Issue id day plan age years amount premium) after = nothing_booked
 booking_of (Premium id day amount) after = premium_received amount
@@ -54,14 +55,14 @@ added a b = record {
   payable = a.payable +ℤ b.payable;
 }
 
--- what the four accounts have together
+-- the sum of the four accounts
 abbrev pub sum_of : Booking → ℤ
 sum_of b = b.cash +ℤ b.premiums +ℤ b.incurred +ℤ b.payable
 
--- so many cents at most, on either side of an account
+-- an account is at most so many cents, on either side
 abbrev pub IsWithin : ℕ → ℤ → Type 0
 IsWithin most balance = (against most ≤ℤ balance) × (balance ≤ℤ pos most)
 
--- no account has more
+-- no account is more than so many cents
 abbrev pub AreWithin : ℕ → Booking → Type 0
 AreWithin most b = IsWithin most b.cash × IsWithin most b.premiums × IsWithin most b.incurred × IsWithin most b.payable

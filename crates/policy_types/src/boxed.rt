@@ -1,7 +1,7 @@
 use crate::command::Command;
 use crate::watcher::{Attention, NotReady, Report, Watcher};
 
-/// A box of an auditor is an auditor, so auditors of many types can stand in one list.
+/// A box of a watcher is a watcher, so that watchers of many types can stand in one list.
 impl Watcher for Box<dyn Watcher + Send> {
     ghost noted = { λ it. (Watcher-box it).noted it.value };
 

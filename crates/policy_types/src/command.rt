@@ -1,7 +1,7 @@
 ghost use Rattle.std.specs.Prelude.{◌≡◌, ◌↔◌, ◌≤◌, IsTrue};
 ghost use Rattle.policy_types.specs.Valid.{IsId, IsCommandDay, IsIssueAge, AreYears};
 
-/// A journal takes so many commands at most.
+/// The most commands that a journal takes.
 pub const MOST_COMMANDS: u32 = 4_000_000;
 /// 1900-01-01, in days since 1970-01-01.
 pub const FIRST_DAY: i32 = -25567;
@@ -9,7 +9,7 @@ pub const FIRST_DAY: i32 = -25567;
 pub const LAST_DAY: i32 = 84005;
 /// The greatest age at issue.
 pub const LAST_ISSUE_AGE: u8 = 129;
-/// No term and no table goes past the age before this one.
+/// Every term and every table ends before this age, in years.
 pub const END_AGE: u16 = 131;
 /// The greatest amount of insurance and the greatest premium, in cents.
 pub const MOST_CENTS: u64 = 10_000_000_000;
@@ -19,11 +19,11 @@ pub const MOST_REINSTATEMENT_CENTS: u64 = 40_000_000_000;
 /// The four plans of insurance, all with level annual premiums.
 #[derive(Clone, Copy, PartialEq, Eq, Hash, Debug)]
 pub enum Plan {
-    /// Pays a death within `years` years.
+    /// Pays if the insured dies within `years` years.
     Term,
-    /// Pays a death at any age.
+    /// Pays when the insured dies, at any age.
     Whole,
-    /// Pays a death within `years` years, or survival to their end.
+    /// Pays if the insured dies within `years` years, or at their end if the insured is alive.
     Endowment,
     /// Whole life with at most `years` annual premiums.
     Limited,
@@ -48,7 +48,7 @@ pub enum Command {
         day: i32,
         amount: u64,
     },
-    /// The amount of insurance is reduced, with a new premium.
+    /// The amount of insurance is reduced, and a new premium is agreed.
     Alter {
         id: u32,
         day: i32,
@@ -60,7 +60,7 @@ pub enum Command {
         id: u32,
         day: i32,
     },
-    /// A lapsed policy is put in force again for the premiums that it missed.
+    /// A lapsed policy is put in force again by a payment of the premiums that were missed.
     Reinstate {
         id: u32,
         day: i32,
@@ -82,13 +82,13 @@ pub enum Command {
         id: u32,
         day: i32,
     },
-    /// No more premiums are paid, for a lower amount of insurance.
+    /// No more premiums are paid, in return for a lower amount of insurance.
     PaidUp {
         id: u32,
         day: i32,
         amount: u64,
     },
-    /// From here on policies may be made paid up. It names no policy and has no day.
+    /// From this command on policies may be made paid up. It names no policy and has no day.
     Upgrade,
 }
 
@@ -153,7 +153,7 @@ impl Command {
         }
     }
 
-    /// The number of the policy that the command names; 0 of an upgrade, which names none.
+    /// The number of the policy that the command names, or 0 for an upgrade, which names none.
     pub fn id(&self) -> u32
         ensures { result ≡ id_of self.now }
     {
@@ -171,7 +171,7 @@ impl Command {
         }
     }
 
-    /// The day on which it takes effect; of a claim, the day of death. An upgrade has none.
+    /// The day on which the command takes effect; for a claim, the day of death. An upgrade has none.
     pub fn day(&self) -> Option<i32>
         ensures { result ≡ day_of self.now }
     {

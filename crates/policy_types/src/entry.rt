@@ -14,18 +14,18 @@ pub enum At {
     Position(u32),
 }
 
-/// What a caller asks in one turn.
+/// What a caller asks of the office in one turn.
 #[derive(Clone, Copy, PartialEq, Eq, Debug)]
 pub enum Call {
     Post(Command),
-    /// Hold the list as it stands.
+    /// Pin the list as it stands.
     Pin,
-    /// Hold the list as it stood after this many commands.
+    /// Pin the list as it stood after this many commands.
     PinAt(u32),
     /// Up to 256 policies of a pinned list, from the index `first`.
     Read { pin: u64, first: u32 },
     Unpin(u64),
-    /// Forget what no pin needs.
+    /// Drop what no pin needs.
     Trim,
 }
 
@@ -36,20 +36,20 @@ pub enum PinRefusal {
     Ahead(u32),
     /// The position lies below the floor, which is given.
     Trimmed(u32),
-    /// As many pins are live as may be.
+    /// As many pins are live as there may be.
     PinsFull,
 }
 
 /// Policies in order of issue.
 pub type Slice = Listed<Policy>;
 
-/// What a turn answers.
+/// The reply of a turn.
 #[derive(Drop)]
 pub enum Reply {
     /// Posted, as the command of this number.
     Accepted(u32),
     Refused(Refusal),
-    /// The disk's count of faults as it then stood.
+    /// The disk failed; its count of faults as it then stood.
     Faulted(u64),
     Pinned { position: u32, policies: u32 },
     PinRefused(PinRefusal),
@@ -57,7 +57,7 @@ pub enum Reply {
     Unpinned,
     /// The position before which nothing is kept.
     Floor(u32),
-    /// The caller was answered want of memory.
+    /// Memory was refused, and the caller was answered so.
     Blank,
 }
 

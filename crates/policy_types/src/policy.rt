@@ -9,11 +9,11 @@ pub enum Status {
     Matured,
     Expired,
     Settled,
-    /// In force for a lower amount, and no more premiums fall due.
+    /// In force for a lower amount of insurance, and no more premiums fall due.
     PaidUp,
 }
 
-/// A policy as the accepted commands left it.
+/// A policy as the accepted commands have left it.
 #[derive(Clone, Copy, PartialEq, Eq, Debug)]
 pub struct Policy {
     pub id: u32,

@@ -1,40 +1,41 @@
 use crate::policy::Status;
 
-/// Why a command isn't accepted, numbered from 1 in this order. Days are days since 1970-01-01, amounts are cents.
+/// Why a command isn't accepted. The reasons are numbered from 1 in this order. Days are days since 1970-01-01,
+/// amounts are cents.
 #[derive(Clone, Copy, PartialEq, Eq, Debug)]
 pub enum Refusal {
-    /// There is a policy of this number.
+    /// There is already a policy with this number.
     Taken,
-    /// There is no policy of this number.
+    /// There is no policy with this number.
     Unknown,
-    /// The day lies before the policy's last, which is given.
+    /// The day is before the policy's last day, which is given.
     BeforeLast(i32),
-    /// The policy's status, which is given, doesn't allow it.
+    /// The policy's status, which is given, doesn't allow the command.
     WrongStatus(Status),
     /// The term ended on the day given.
     TermOver(i32),
     /// All premiums are paid.
     NothingDue,
-    /// The next premium falls due on the day given, more than 90 days on.
+    /// The next premium falls due on the day given, which is more than 90 days later.
     TooEarly(i32),
-    /// The premium that fell due on the day given is out of its days of grace.
+    /// The days of grace of the premium that fell due on the day given are over.
     GraceOver(i32),
-    /// The premium of the day given isn't due yet, or is still in its days of grace.
+    /// The premium that falls due on the day given isn't due yet, or is still in its days of grace.
     NotInArrears(i32),
-    /// The last day for it is given.
+    /// The last day for the command, which is given, has passed.
     TooLate(i32),
-    /// The right amount is given.
+    /// The amount is wrong; the right one is given.
     WrongAmount(u64),
-    /// The policy's amount, which is given, isn't reduced.
+    /// The amount isn't below the policy's amount, which is given.
     NotAReduction(u64),
     /// The term ends on the day given.
     NotMatured(i32),
-    /// No more than the amount given is outstanding.
+    /// The amount given is all that is outstanding.
     OverSettled(u64),
-    /// The journal holds as many commands as it may.
+    /// The journal holds as many commands as it can.
     Full,
-    /// The journal isn't upgraded yet.
+    /// The journal isn't upgraded yet, so no policy can be made paid up.
     NotUpgraded,
-    /// The journal was upgraded by the command of this number.
+    /// The journal was already upgraded, by the command of this number.
     Upgraded(u32),
 }

@@ -2,7 +2,7 @@ use crate::command::Command;
 use crate::entry::At;
 use crate::listed::Listed;
 
-/// One line of a clerk.
+/// One line of a lane.
 #[derive(Clone, Copy, PartialEq, Eq, Debug)]
 pub enum Line {
     Post(Command),
@@ -14,7 +14,7 @@ pub enum Line {
 /// Lines in order.
 pub type Lines = Listed<Line>;
 
-/// A clerk's number, from 1 to 8, and lines.
+/// A lane of a script: its number, from 1 to 8, and its lines.
 #[derive(Drop)]
 pub struct Lane {
     pub number: u8,

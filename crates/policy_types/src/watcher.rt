@@ -5,44 +5,45 @@ ghost use Rattle.policy_types.specs.Valid.{IsValid};
 
 use crate::command::Command;
 
-/// An auditor has no room for one more command.
+/// A watcher has no capacity for one more command.
 #[derive(Clone, Copy, PartialEq, Eq, Debug)]
 pub struct NotReady;
 
-/// What an auditor has to say at the end.
+/// What a watcher reports at the end.
 #[derive(Clone, Copy, PartialEq, Eq, Debug)]
 pub struct Report {
     /// How many commands were noted.
     pub seen: u32,
-    /// A number of the auditor's own.
+    /// A number of the watcher's own.
     pub tally: u64,
 }
 
-/// Whether an auditor goes on.
+/// Whether a watcher goes on or has seen enough.
 #[derive(Clone, Copy, PartialEq, Eq, Debug)]
 pub enum Attention {
     More,
     Done,
 }
 
-/// An auditor, who is told of each accepted command.
+/// A watcher notes each accepted command, and reports on them at the end.
 pub trait Watcher: Drop {
     /// The commands noted so far, in order.
     ghost noted: { Self → List ACommand };
 
-    /// The position of the last command that was noted. Of an auditor that has noted none it says nothing.
+    /// The position of the last command that was noted. Nothing is said of it while none was.
     ghost last: { Self → ℕ };
 
-    /// How many further commands can be noted without memory.
+    /// How many further commands can be noted without a request for memory.
     ghost spare: { Self → ℕ };
 
-    /// Of which lists it says that it is done.
+    /// The lists after which the watcher is done.
     ghost stops: { Self → List ACommand → Bool };
 
-    /// Its own number of a list.
+    /// The watcher's own number for a list.
     ghost number: { Self → List ACommand → ℕ };
 
-    /// Makes room for one command. It fails only where there was none, and then all stays.
+    /// Makes the watcher ready for one command. It fails only if the watcher had no capacity for one; then nothing
+    /// changes.
     fn ready(&mut self) -> Result<(), NotReady>
         ensures noted { noted self.new ≡ noted self.old }
         ensures last { last self.new ≡ last self.old }
@@ -52,8 +53,8 @@ pub trait Watcher: Drop {
         ensures stops { (h : List ACommand) → stops self.new h ≡ stops self.old h }
         ensures number { (h : List ACommand) → number self.new h ≡ number self.old h };
 
-    /// Notes the command at this position among all that were accepted, counted from 1: right behind the position of the
-    /// last that was noted. It takes no memory.
+    /// Notes the command at this position among all that were accepted, counted from 1: the position directly after
+    /// that of the last command that was noted. It asks for no memory.
     fn note(&mut self, position: u32, command: &Command) -> Attention
         requires first { 1 ≤ position }
         requires next { 1 ≤ length (noted self.old) → position ≡ last self.old + 1 }
@@ -66,7 +67,7 @@ pub trait Watcher: Drop {
         ensures stops { (h : List ACommand) → stops self.new h ≡ stops self.old h }
         ensures number { (h : List ACommand) → number self.new h ≡ number self.old h };
 
-    /// The length of its list, and its number of it.
+    /// The length of the watcher's list, and its own number for it.
     fn report(&self) -> Report
         ensures seen { result.seen ≡ length (noted self.now) }
         ensures tally { result.tally ≡ number self.now (noted self.now) };

@@ -9,7 +9,7 @@ pub record Rates : Type 0 where
 abbrev pub ONE : ℕ
 ONE = 1000000000
 
--- a list of rates is a table where there is a rate, no age is above 130, and no rate is above 1
+-- a list of rates is a table if it isn't empty, no age is above 130, and no rate is above 1
 pub record AreRates (table : Rates) : Type 0 where
   pub some : 1 ≤ length table.rates
   pub ages : table.first_age + length table.rates ≤ 131

@@ -1,4 +1,4 @@
-/// Why a list of rates is no table. The first that applies is the answer.
+/// Why a list of rates is no table. If several reasons apply, the first in this order is returned.
 #[derive(Clone, Copy, PartialEq, Eq, Debug)]
 pub enum RatesFault {
     /// There is no rate.

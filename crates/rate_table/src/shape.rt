@@ -1,7 +1,7 @@
 /// What a policy of amount 1 pays and is paid, by policy year.
 ///
-/// Death in one of the first `n` years pays 1 at the end of the year of death, and where `matures` a
-/// survivor at the end of year `n` is paid 1. Premiums fall due at the start of the first `h` years.
+/// A death in one of the first `n` years pays 1 at the end of the year of death. If `matures` is set, a survivor at
+/// the end of year `n` is paid 1. Premiums are due at the start of each of the first `h` years.
 #[derive(Clone, Copy, PartialEq, Eq, Debug)]
 pub struct Shape {
     /// The age at issue, in years.

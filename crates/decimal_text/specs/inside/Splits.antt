@@ -1,9 +1,9 @@
--- How a text is cut behind the digits at its front.
+-- How a text is cut after the digits at its start.
 use Rattle.std.specs.Prelude.{◌≡◌, ◌≢◌, ℕ, ◌⊎◌, List, [], ◌∷◌, ◌++◌}
 use Rattle.std.specs.Char.{IsAsciiDigit}
 use Rattle.std.specs.Str.Parse.{AllDigits}
 
--- the text is over, or goes on with something else than a digit
+-- the text ends here, or goes on with a byte that is no digit
 abbrev pub StopsDigits : List ℕ → Type 0
 StopsDigits [] = Unit {0}
 StopsDigits (byte ∷ rest) = IsAsciiDigit byte → ⊥
@@ -13,7 +13,7 @@ pub record SplitsDigits (text digits rest : List ℕ) : Type 0 where
   pub are_digits : AllDigits 10 digits
   pub stops : StopsDigits rest
 
--- the digits behind a point (46), or none where no point stands there
+-- the digits after a point (46), or none where no point stands there
 abbrev pub SplitsFraction : List ℕ → List ℕ → List ℕ → Type 0
 SplitsFraction [] fraction rest = (fraction ≡ []) × (rest ≡ [])
 SplitsFraction (byte ∷ text) fraction rest =

@@ -10,19 +10,20 @@ pub record Note : Type 0 where
   pub name : List ℕ
   pub bytes : List ℕ
 
--- the piece that a note tells of
+-- the piece that a note stands for
 abbrev pub stream_piece_of : Note → StreamPiece
 stream_piece_of note = record { room = slice_index note.numbers 0; bytes = note.bytes }
 
--- what is told, by a number
+-- what is reported, by a number
 abbrev pub told_of : ℕ → List ℕ → Told
 told_of kind bytes = if kind == 0 then Absent else (if kind == 1 then TooLong else Found bytes)
 
--- the answer that a note tells of
+-- the answer that a note stands for
 abbrev pub answer_of : Note → Answer
 answer_of note = record { name = note.name; told = told_of (slice_index note.numbers 0) note.bytes }
 
--- The call of a file that a note tells of. The numbers are its kind, 1 where it was done, and what it was asked or told.
+-- The call of a file that a note stands for. The numbers are its kind, 1 if it was done, and what it was asked or
+-- answered.
 abbrev pub file_call_of : Note → FileCall
 file_call_of note =
     let kind = slice_index note.numbers 0 in

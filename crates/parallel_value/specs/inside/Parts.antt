@@ -5,7 +5,7 @@ use Rattle.parallel_value.specs.Pieces.{MayGive}
 use Rattle.parallel_value.specs.declared.sharing.Made.{Made}
 
 module _ {I O : Type 0} where
-  -- the values are those of the part of this first item, of so many items
+  -- the values are those of the part that begins with this item and has so many items
   abbrev pub IsMadePart : (I → O → Type 0) → ℕ → List I → Made O → Type 0
   IsMadePart Gives size items made = (made.first ≤ length items) × AllZip Gives (take size (drop made.first items)) made.values.items
 

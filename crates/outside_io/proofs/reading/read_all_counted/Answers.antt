@@ -1,4 +1,4 @@
--- The bytes that came and those of the last turn are what was given, and a front of what was left.
+-- The bytes that came and those of the last turn are what was given, and a prefix of what was left.
 use Rattle.std.proofs.Common.{◌++◌, take, ◌∙◌, arith, rules}
 use Rattle.outside_io.proofs.StreamLemmas.{consumes_more, consumes_still, gives_more, gives_none, longer, had_more, some_more, front_more}
 use Rattle.outside_io.proofs.reading.read_all_counted.Goals as goal

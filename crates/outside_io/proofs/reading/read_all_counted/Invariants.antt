@@ -1,4 +1,4 @@
--- So far the bytes are those that the source gave, and came off the front of what it had left; each turn gave one at
+-- So far the bytes are those that the source gave, and came off the start of what it had left; each turn gave one at
 -- least, and its count stands.
 use Rattle.std.proofs.Common.{◌≡◌, ◌-◌, ◌+◌, ◌≤◌, ◌++◌, vec_len}
 use Rattle.std.specs.Io.KnownBytes.{Consumes}

@@ -1,4 +1,4 @@
--- After one more piece the sink took the front that is longer by it.
+-- After one more piece the sink took the prefix that is longer by it.
 use Rattle.std.proofs.Common.{arith, ◌∙◌}
 use Rattle.std.proofs.lemmas.List.{take_rest}
 use Rattle.outside_io.proofs.PieceSteps.{adds_one}

@@ -1,4 +1,4 @@
--- What was copied is the front of what was left.
+-- What was copied is the prefix of what was left.
 use Rattle.outside_io.proofs.StreamLemmas.{read_front, given_front}
 use Rattle.outside_io.proofs.bytes_in.BytesSourceSource.read.Goals as goal
 
