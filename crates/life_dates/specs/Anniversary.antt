@@ -3,8 +3,8 @@ use Rattle.std.specs.Prelude.{ℕ, ◌+◌, ◌≤◌, min, ℤ, pos, ◌≤ℤ�
 use Rattle.jiff_core.specs.Calendar.{days_in_month}
 use Rattle.life_dates.specs.Calendar.{day_number, date_of}
 
--- anniversary t of a day, for policies issued on it: its date with the year raised by t, where 29 February of a common year
--- is read as the 28th
+-- anniversary t of a day, for policies issued on it: the day's date with the year raised by t; in a common year 29
+-- February is read as the 28th
 unfoldable pub anniversary_of : ℤ → ℕ → ℤ
 unfolding day_number date_of
 anniversary_of issued t =

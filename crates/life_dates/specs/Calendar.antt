@@ -46,8 +46,8 @@ month_of y n = let leap = if is_leap_year (pos y) then 1 else 0 in
     else if nat_lt n (243 + leap) then 8 else if nat_lt n (273 + leap) then 9
     else if nat_lt n (304 + leap) then 10 else if nat_lt n (334 + leap) then 11 else 12
 
--- The date of a day: the one date whose day has this number. Its year is that of the n-th day after 0001-01-01: n over
--- 365 1/4, or one more.
+-- The date of a day: the only date whose day has this number. Its year is that of the n-th day after 0001-01-01: n
+-- divided by 365 1/4, or one more.
 unfoldable pub date_of : ℤ → Date
 unfolding month_of days_before_year days_of_months
 date_of day =

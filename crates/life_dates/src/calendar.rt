@@ -1,4 +1,4 @@
-// Days and dates by `jiff`, tied to the calendar of this crate's definitions.
+// Days and dates by `jiff`, related to the calendar of this crate's definitions.
 ghost use Rattle.std.specs.Prelude.{◌≡◌, ◌<◌, ◌≤◌, pos};
 ghost use Rattle.jiff_core.specs.Date.{epoch_day};
 ghost use Rattle.life_dates.specs.Calendar.{IsTermDay, date_of, ymd};

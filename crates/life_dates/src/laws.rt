@@ -12,7 +12,7 @@ pub fn days_have_dates()
         → date_of (day_number date) ≡ date }
 {}
 
-/// Anniversary 0 is the issue day itself, later ones come later, and the 134th is no later than the
+/// Anniversary 0 is the issue day itself, later anniversaries are on later days, and the 134th is no later than the
 /// end of the year 2399.
 pub fn anniversaries_ascend()
     ensures first { (issued : ℤ) → IsDay issued → anniversary_of issued 0 ≡ issued }
@@ -22,13 +22,13 @@ pub fn anniversaries_ascend()
         → IsTermDay (anniversary_of issued t) }
 {}
 
-/// The anniversaries up to the 131st that have come by a day are those up to the completed years.
+/// The anniversaries, up to the 131st, that have come by a day are those up to the number of completed years.
 pub fn completed_years_have_come()
     ensures { (issued on : ℤ) (t u : ℕ) → IsDay issued → IsCompleted issued on t → u ≤ 131
         → ((anniversary_of issued u ≤ℤ on) ↔ (u ≤ t)) }
 {}
 
-/// What is printed of a day is a text of that day, and the day has no other.
+/// What is printed for a day is a text of that day, and the day has no other text.
 pub fn texts_are_exact()
     ensures printed { (day : ℤ) → IsTermDay day → IsDayText (day_text day) day }
     ensures only { (text : List ℕ) (day : ℤ) → IsTermDay day → IsDayText text day

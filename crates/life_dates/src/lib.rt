@@ -1,7 +1,7 @@
 //! Civil days, as days since 1970-01-01: the anniversaries of an issue day, and the texts of days.
 //!
-//! The calendar's arithmetic is `jiff`'s, and for anniversaries and completed years that of its core, which is faster;
-//! `specs/Calendar.antt` states the calendar anew.
+//! The calendar's arithmetic is `jiff`'s. Anniversaries and completed years use its core, `jiff_core`, which is
+//! faster. `specs/Calendar.antt` states the calendar independently of both.
 #![tactic(auto)]
 
 mod calendar;

@@ -1,4 +1,4 @@
-// Days and years by `jiff_core`, the dates that `jiff` itself stands on, for what an opening calls for each record and a
+// Days and years by `jiff_core`, whose dates `jiff` itself uses: an opening calls them for each record, and a
 // valuation for each policy.
 ghost use Rattle.std.specs.Prelude.{◌≡◌, pos};
 ghost use Rattle.life_dates.specs.Calendar.{IsTermDay, date_of};

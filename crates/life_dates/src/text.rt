@@ -9,8 +9,8 @@ use crate::calendar::{number_of, year_month_day};
 use jiff::civil::Date;
 use policy_types::{FIRST_DAY, LAST_DAY};
 
-/// The day whose text these bytes are, from 1900-01-01 to 2199-12-31, and `None` exactly where they
-/// aren't the text of such a day.
+/// The day from 1900-01-01 to 2199-12-31 whose text these bytes are; `None` exactly if they aren't the text of such a
+/// day.
 pub fn parse_day(text: &[u8]) -> Option<i32>
     ensures some { IfSome result (λ day. IsDay day × IsDayText text.now day) }
     ensures exact { (day : ℤ) → IsDay day → IsDayText text.now day → result ≡ Some day }
@@ -41,7 +41,7 @@ pub fn print_day(day: i32) -> [u8; 10]
     [a, b, c, d, b'-', e, f, b'-', g, h]
 }
 
-// The day of a date, if the calendar has the date and the range the day.
+// The day of a date, if the date is in the calendar and its day in the range.
 fn day_of(year: u16, month: u8, day: u8) -> Option<i32>
     requires { (year ≤ 9999) × (month < 100) × (day < 100) }
     ensures { let date = ymd year month day in

@@ -8,8 +8,8 @@ use jiff_core::civil::Date;
 
 const LAST_TERM_DAY: i32 = 157_053;
 
-/// The day, in days since 1970-01-01, of anniversary `t` of a policy that was issued on a day: the
-/// date with its year raised by `t`, where 29 February is the 28th in a common year.
+/// The day, in days since 1970-01-01, of anniversary `t` of a policy that was issued on a day: the date with its year
+/// raised by `t`; in a common year 29 February becomes the 28th.
 pub fn anniversary(issued: i32, t: u8) -> i32
     requires in_range { IsDay issued }
     requires within { t ≤ 134 }
@@ -20,8 +20,8 @@ pub fn anniversary(issued: i32, t: u8) -> i32
     Date::constrain(date.year + t as i16, date.month, date.day).to_unix_epoch_day()
 }
 
-/// How many whole years, up to 131, have passed on a day since the issue day: the greatest number
-/// whose anniversary isn't after it.
+/// How many whole years, at most 131, have passed from the issue day to a day: the greatest number whose anniversary
+/// isn't after the day.
 pub fn completed(issued: i32, on: i32) -> u8
     requires in_range { IsDay issued }
     requires not_before { issued ≤ℤ on }

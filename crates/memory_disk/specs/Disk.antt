@@ -8,7 +8,7 @@ use Rattle.memory_disk.specs.History.{IsImage, GoesOnFrom}
 use Rattle.memory_disk.specs.declared.disk_call.DiskCall.{DiskCall}
 use Rattle.memory_disk.specs.declared.in_memory.MemoryDisk.{MemoryDisk}
 
--- the bytes that it had at first
+-- the bytes that the disk had at first
 abbrev pub disk_first : MemoryDisk → List ℕ
 disk_first disk = first_bytes disk.history.first disk.history.bytes
 
@@ -16,7 +16,7 @@ disk_first disk = first_bytes disk.history.first disk.history.bytes
 abbrev pub disk_bytes : MemoryDisk → List ℕ
 disk_bytes disk = disk.history.bytes.items
 
--- its calls, in order, but for those for whose record there was no memory
+-- its calls, in order, except those for whose record memory was refused
 abbrev pub disk_calls : MemoryDisk → List DiskCall
 disk_calls disk = disk.history.calls.items
 
@@ -24,11 +24,11 @@ disk_calls disk = disk.history.calls.items
 abbrev pub disk_plan : MemoryDisk → FaultPlan
 disk_plan disk = disk.plan
 
--- the record of calls is as it was, where there was no memory for a call's record, or has this call too
+-- the record of calls has this call too; or it is as it was, since memory for the record was refused
 abbrev pub KeepsOrAdds : List DiskCall → List DiskCall → DiskCall → Type 0
 KeepsOrAdds old new call = (new ≡ old) ⊎ (new ≡ old ++ call ∷ [])
 
--- a call whose number was to fail failed, and one call more was made
+-- a call whose number was to fail has failed, and one more call was made
 pub record FollowsPlan {T E : Type 0} (before now : FaultPlan) (result : Result T E) : Type 0 where
   pub fails : FailsNext before → IsErr result
   pub counted : plan_calls now ≡ number_after (plan_calls before)
@@ -46,6 +46,6 @@ LooksAt old new = Looks (disk_bytes old) (disk_bytes new) (images_of old) (image
 abbrev pub GoesOn : MemoryDisk → MemoryDisk → Type 0
 GoesOn old new = GoesOnFrom (disk_first old) (disk_calls old) (disk_first new) (disk_calls new)
 
--- a fault is told where one was noted, and nowhere else
+-- a fault is reported exactly if one was counted
 abbrev pub CountsFaults : {T E : Type 0} → MemoryDisk → MemoryDisk → Result T E → Type 0
 CountsFaults old new result = HasDiskCause (plan_faults old.plan) (plan_faults new.plan) result

@@ -1,12 +1,12 @@
--- What a list of calls makes of a disk that had these bytes at first, all of them safe: what is
--- read, and the images that a crash may leave.
+-- What a list of calls makes of a disk that held these bytes at first, all of them safe: what is read, and the images
+-- that a crash may leave.
 use Rattle.std.specs.declared.alloc.Global.{Global}
 use Rattle.std.specs.Prelude.{⊤, Vec, ◌≡◌, ℕ, ◌+◌, ◌-◌, ◌/◌, ◌≤◌, Bool, true, false, List, [], ◌∷◌, ◌++◌, length, take, nat_le, if◌then◌else◌, ◌&&◌}
 use Rattle.outside_io.specs.Disks.{put, torn_images, Elapses}
 use Rattle.memory_disk.specs.declared.disk_call.DiskCall.{DiskCall}
 use Rattle.memory_disk.specs.declared.disk_call.DiskCall.TheVariants.{Write, Sync}
 
--- What of a write a read then gives. Of one that failed it is the first half, rounded up.
+-- The part of a write that a read then gives. For a write that failed it is the first half, rounded up.
 abbrev pub reaching : Bool → List ℕ → List ℕ
 reaching false bytes = bytes
 reaching true bytes = take ((length bytes + 1) / 2) bytes
@@ -37,7 +37,7 @@ abbrev pub WasImage : List ℕ → List DiskCall → ℕ → List ℕ → Type 0
 WasImage first calls moment image =
     (k : ℕ) × (moment ≤ k) × (k ≤ length calls) × IsImage first (take k calls) image
 
--- time goes on between two moments, of each what was there at first and the calls
+-- time goes on between two moments; for each moment, what the disk held at first and its calls
 abbrev pub GoesOnFrom : List ℕ → List DiskCall → List ℕ → List DiskCall → Type 0
 GoesOnFrom first calls later more =
     Elapses (length calls) (length more) (WasImage first calls) (WasImage later more) (IsImage later more)
@@ -60,8 +60,8 @@ pub record IsWriteOf (at : ℕ) (bytes : List ℕ) (failed : Bool) (before now :
   pub same : kept.items ≡ bytes
   pub pushed : now ≡ before ++ Write at kept failed ∷ []
 
--- The image in which of the writes since the last sync the first so many were done whole, and the others not at all.
--- Here `left` of them are yet to be done.
+-- The image in which the first so many writes since the last sync were done whole, and the others not at all. `left`
+-- of them are still to be done.
 abbrev pub kept_after : List ℕ → List ℕ → ℕ → ℕ → List DiskCall → List ℕ
 kept_after bytes image keep left [] = image
 kept_after bytes image keep left (Write at written failed ∷ calls) =
@@ -70,11 +70,11 @@ kept_after bytes image keep left (Write at written failed ∷ calls) =
 kept_after bytes image keep left (Sync false ∷ calls) = kept_after bytes bytes keep keep calls
 kept_after bytes image keep left (call ∷ calls) = kept_after bytes image keep left calls
 
--- of a disk that had these bytes at first
+-- the same for a disk that held these bytes at first
 abbrev pub image_of_writes : List ℕ → ℕ → List DiskCall → List ℕ
 image_of_writes first keep calls = kept_after first first keep keep calls
 
--- a part of a write put on a disk that is long enough for it to begin
+-- a part of a write put on a disk that is long enough for the write to begin
 abbrev pub put_within : List ℕ → ℕ → List ℕ → List ℕ
 put_within old at bytes = if nat_le at (length old) then put old at bytes else old
 

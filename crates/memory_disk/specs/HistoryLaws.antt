@@ -50,14 +50,14 @@ pub now_counts : (first : List ℕ) (calls : List DiskCall) (moment : ℕ) (imag
 now_counts first calls moment image passed left =
     (length calls, passed, omega arith, rw (take-length calls) left)
 
--- Since the last moment there is no other.
+-- Since the last moment there is no other image.
 pub only_now_left : (first : List ℕ) (calls : List DiskCall) (image : List ℕ)
     → WasImage first calls (length calls) image → IsImage first calls image
 only_now_left first calls image was =
     let last : was.0 ≡ length calls = omega (arith, was.1, was.2) in
     rw (last, take-length calls) at was.3
 
--- What was left since a moment was left since each earlier one.
+-- What was left since a moment was left since each earlier moment.
 pub left_sooner : (first : List ℕ) (calls : List DiskCall) (early late : ℕ) (image : List ℕ) → early ≤ late
     → WasImage first calls late image → WasImage first calls early image
 left_sooner first calls early late image before was = (was.0, omega (arith, before, was.1), was.2, was.3)

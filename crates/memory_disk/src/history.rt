@@ -1,4 +1,4 @@
-// What a disk had at first, and every call since.
+// What a disk held at first, and every call since.
 ghost use Rattle.std.specs.Prelude.{◌≡◌, ◌+◌, ◌<◌, ◌≤◌, ◌++◌, ◌∷◌, [], true, false, if◌then◌else◌, length, IfOk, IsSome, IsTrue, OnErr, OnOk, vec_len, vec_capacity};
 ghost use Rattle.outside_io.specs.Disks.{Looks, Follows, Torn, Only, put};
 ghost use Rattle.memory_disk.specs.History.{bytes_after, all_within, reaching, WritesNothing, IsWriteOf, IsImage, GoesOnFrom};
@@ -10,7 +10,7 @@ use memory_requests::extend;
 use policy_types::NoMemory;
 use std::alloc::{AllocError, Global};
 
-/// The bytes that are read now, those at first where they were others, and all calls in order.
+/// The bytes that are read now, those at first if they were others, and all calls in order.
 #[derive(Drop)]
 pub(crate) struct History {
     pub(crate) bytes: Vec<u8>,
@@ -33,7 +33,7 @@ impl History {
         }
     }
 
-    // Keeps a call that writes nothing, and answers whether there was memory for that.
+    // Keeps a call that writes nothing, and returns whether there was memory for that.
     pub(crate) fn note(&mut self, call: DiskCall) -> bool
         requires { WritesNothing call }
         ensures bytes { self.new.bytes ≡ self.old.bytes }
@@ -64,8 +64,8 @@ impl History {
         self.note(DiskCall::Sync { failed })
     }
 
-    // Writes and keeps the call, or where there is no memory does neither. Of a write that fails
-    // the first half is read from then on.
+    // Writes and keeps the call, or, if memory is refused, does neither. After a write that fails, its first half is
+    // what is read.
     pub(crate) fn write(&mut self, alloc: Global, at: u64, bytes: &[u8], failed: bool) -> bool
         requires { at ≤ length self.old.bytes.items }
         ensures written { IsTrue result → self.new.bytes.items ≡ put self.old.bytes.items at (reaching failed bytes.now) }
@@ -107,7 +107,7 @@ impl History {
         Ok(copy)
     }
 
-    // What was there at first.
+    // What the disk held at first.
     pub(crate) fn first(&self) -> &[u8]
         ensures { result.now ≡ first_bytes self.now.first self.now.bytes }
     {
@@ -117,7 +117,7 @@ impl History {
         }
     }
 
-    // Keeps what was there at first, before anything is written over it.
+    // Keeps what the disk held at first, before anything is written over it.
     fn keep_first(&mut self, alloc: Global) -> Result<(), AllocError>
         ensures kept { OnOk result (IsSome self.new.first) }
         ensures first { first_bytes self.new.first self.new.bytes ≡ first_bytes self.old.first self.old.bytes }
@@ -131,7 +131,7 @@ impl History {
     }
 }
 
-// What of a write is read from then on.
+// The part of a write that is read from then on.
 pub(crate) fn reaching_part(bytes: &[u8], failed: bool) -> &[u8]
     ensures { result.now ≡ reaching failed bytes.now }
 {
@@ -142,7 +142,7 @@ pub(crate) fn reaching_part(bytes: &[u8], failed: bool) -> &[u8]
     }
 }
 
-// Puts bytes over those that stand from a place on, and past the end, where there is room for them.
+// Puts bytes over those from a place on, and past the end, for which memory was reserved.
 fn put_over(target: &mut Vec<u8>, at: usize, bytes: &[u8])
     requires room { vec_len target.old + length bytes.now ≤ vec_capacity target.old }
     ensures { target.new.items ≡ put target.old.items at bytes.now }
@@ -152,7 +152,7 @@ fn put_over(target: &mut Vec<u8>, at: usize, bytes: &[u8])
     }
 }
 
-// Puts bytes over those that stand from a place on, and past the end, for which it takes memory.
+// Puts bytes over those from a place on, and past the end, for which it asks for memory.
 pub(crate) fn put_more(target: &mut Vec<u8>, at: usize, bytes: &[u8]) -> Result<(), NoMemory>
     ensures put { OnOk result (target.new.items ≡ put target.old.items at bytes.now) }
     ensures full { OnErr result (vec_capacity target.old < vec_len target.old + length bytes.now) }

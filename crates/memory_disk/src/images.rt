@@ -1,4 +1,4 @@
-// One image of a moment, made by going through the calls up to then.
+// One image of a moment, made by replaying the calls up to then.
 ghost use Rattle.std.specs.Prelude.{◌≡◌, ◌-◌, ◌∷◌, ℕ, List, IfOk, OnOk, nat_le, if◌then◌else◌};
 ghost use Rattle.memory_disk.specs.History.{image_of_writes, kept_after};
 ghost use Rattle.outside_io.specs.Disks.{put};
@@ -10,7 +10,7 @@ use memory_requests::{copied, extend};
 use policy_types::NoMemory;
 use std::alloc::Global;
 
-// What is read, and the image so far, of which so many writes are yet to be done.
+// What is read, and the image so far, in which `left` writes are still to be done.
 #[derive(Drop)]
 struct Replay {
     bytes: Vec<u8>,
@@ -18,7 +18,7 @@ struct Replay {
     left: u32,
 }
 
-// The image in which of the writes since the last sync the first `keep` were done whole, and the others not at all.
+// The image in which the first `keep` writes since the last sync were done whole, and the others not at all.
 pub(crate) fn image_of(
     alloc: Global,
     first: &[u8],
@@ -61,7 +61,7 @@ impl Replay {
         }
     }
 
-    // The write is done whole, where one is yet to be done.
+    // Does the write whole, if it is one of those still to be done.
     fn do_write(&mut self, at: usize, bytes: &[u8]) -> Result<(), NoMemory>
         ensures bytes { self.new.bytes ≡ self.old.bytes }
         ensures left { OnOk result (self.new.left ≡ self.old.left - 1) }

@@ -15,9 +15,9 @@ use outside_io::{Disk, Failed, FaultPlan};
 use policy_types::NoMemory;
 use std::alloc::Global;
 
-/// A disk in memory that follows the disk model. It keeps each call, and fails at the calls whose
-/// numbers, from 1, it is told. Want of memory for a call's record is a fault too, and such a call
-/// does nothing else.
+/// A disk in memory that follows the disk model. It keeps each call, and fails at the calls whose numbers, counted
+/// from 1, it was given. If memory for a call's record is refused, that is a fault too, and the call does nothing
+/// else.
 #[derive(Drop)]
 pub struct MemoryDisk {
     alloc: Global,
@@ -50,7 +50,7 @@ impl MemoryDisk {
         &self.history.bytes
     }
 
-    /// How many calls it had, but for those for whose record there was no memory. The count stands still at its type's
+    /// How many calls it had, except those for whose record memory was refused. The count stands still at its type's
     /// end.
     pub fn calls(&self) -> u32
         ensures { result ≡ min (length (disk_calls self.now)) (2 ^ 32 - 1) }
@@ -58,8 +58,8 @@ impl MemoryDisk {
         u32::try_from(self.history.calls.len()).unwrap_or(u32::MAX)
     }
 
-    /// The bytes after the first `moment` calls, if of the writes not yet synced the first `keep` were done whole and the
-    /// others not at all: an image that a crash then might have left.
+    /// The bytes after the first `moment` calls, if the first `keep` of the writes that weren't synced yet were done
+    /// whole and the others not at all: an image that a crash might have left then.
     pub fn image(&self, alloc: Global, moment: u32, keep: u32) -> Result<Vec<u8>, NoMemory>
         requires { moment ≤ length (disk_calls self.now) }
         ensures kept { IfOk result (λ image. image.items
@@ -70,8 +70,8 @@ impl MemoryDisk {
         image_of(alloc, self.history.first(), calls, keep)
     }
 
-    /// An image that a crash after so many of the calls might have left: that in which, of each write since the last sync,
-    /// the first `reached` bytes reached the disk. A write that begins past the image's end is lost.
+    /// An image that a crash after `moment` calls might have left: the one in which the first `reached` bytes of each
+    /// write since the last sync reached the disk. A write that begins past the image's end is lost.
     pub fn torn_image(
         &self,
         alloc: Global,

@@ -1,5 +1,4 @@
-//! An honest disk in memory, which keeps every call and answers for what a crash at each moment
-//! might have left.
+//! An honest disk in memory. It keeps every call, and makes each image that a crash at any moment might have left.
 #![tactic(auto)]
 
 mod disk_call;

@@ -1,4 +1,4 @@
-// One image of a moment in which writes are torn, made by going through the calls up to then.
+// One image of a moment in which writes are torn, made by replaying the calls up to then.
 ghost use Rattle.std.specs.Prelude.{◌≡◌, ◌∷◌, ℕ, List, take, IfOk, OnOk};
 ghost use Rattle.memory_disk.specs.History.{put_within, reaching, torn_after};
 ghost use Rattle.outside_io.specs.Disks.{put};
@@ -10,7 +10,7 @@ use memory_requests::{copied, extend};
 use policy_types::NoMemory;
 use std::alloc::Global;
 
-// The image in which, of each write since the last sync, the first `reached` bytes reached the disk.
+// The image in which the first `reached` bytes of each write since the last sync reached the disk.
 pub(crate) fn torn_image_of(
     alloc: Global,
     first: &[u8],
@@ -56,7 +56,7 @@ fn go_on(
     }
 }
 
-// Puts as many bytes as are kept on a disk that is long enough for them to begin.
+// Puts the first `reached` of the bytes on a disk that is long enough for them to begin.
 fn put_front(image: &mut Vec<u8>, at: usize, bytes: &[u8], reached: usize) -> Result<(), NoMemory>
     ensures { OnOk result (image.new.items ≡ put_within image.old.items at (take reached bytes.now)) }
 {

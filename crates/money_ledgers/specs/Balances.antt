@@ -12,6 +12,6 @@ balances ledger = record {
   payable = ledger.payable;
 }
 
--- every account has room for one more booking, which is of 4 * 10^10 cents at most
+-- every account can take one more booking, which is at most 4 * 10^10 cents
 abbrev pub HasRoom : Ledger → Type 0
 HasRoom ledger = AreWithin (2 ^ 63 - 1 - 40000000000) (balances ledger)

@@ -8,7 +8,8 @@ ghost use Rattle.money_ledgers.specs.Balances.{balances, HasRoom};
 
 use policy_types::{Command, Policy, Status};
 
-/// The balances of the four accounts, in cents. What an account has received is above 0, what it has given below.
+/// The balances of the four accounts, in cents. What an account has received counts above 0, what it has given counts
+/// below.
 #[derive(Clone, Copy, PartialEq, Eq, Debug)]
 pub struct Ledger {
     /// Premiums received less benefits paid out.
@@ -22,7 +23,7 @@ pub struct Ledger {
 }
 
 impl Ledger {
-    /// The accounts of an office that has accepted nothing.
+    /// The accounts of an office that has accepted no command.
     pub fn new() -> Ledger
         ensures { balances result ≡ nothing_booked }
     {
@@ -34,7 +35,8 @@ impl Ledger {
         }
     }
 
-    /// Books an accepted command, which left the policy that it names as `after`. An upgrade books nothing.
+    /// Books an accepted command. `after` is the policy that it names, as the command has left it. An upgrade books
+    /// nothing.
     pub fn post(&mut self, command: &Command, after: &Policy)
         requires valid { IsValid command.now }
         requires named { is_upgrade command.now ≡ false }

@@ -1,4 +1,4 @@
--- What worked files are told by.
+-- What worked files are stated by.
 use Rattle.posting_journal.proofs.Names.{◌≡◌, ◌≢◌, ◌≤◌, ℕ, List, length, take, drop, slice_index, inl, inr, header, IsUnfinished}
 
 pub not_unfinished : (bytes : List ℕ) → (length bytes ≤ 1 → ⊥) → ((length bytes ≤ 18) × (slice_index bytes 0 ≡ 0) → ⊥)

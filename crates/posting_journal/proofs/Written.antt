@@ -15,7 +15,7 @@ records_stay bodies old new same records n lt =
       same_part (gate_place (length bodies)) (body_place n) 64 old new same (omega arith) ∙ was.1,
     )
 
--- Whatever is written behind the closed gate, the journal stays.
+-- Whatever is written after the closed gate, the journal stays.
 pub torn_stage : (bodies : List (List ℕ)) (old new : List ℕ) → IsJournal old bodies → Torn (body_place (length bodies)) 65 old new → IsJournal new bodies
 torn_stage bodies old new journal torn =
     let n = length bodies in
@@ -28,7 +28,7 @@ torn_stage bodies old new journal torn =
       few = journal.few;
     }
 
--- Whatever is written over the gate, the body stays staged behind it.
+-- Whatever is written over the gate, the body stays staged after it.
 pub torn_gate : (bodies : List (List ℕ)) (body old new : List ℕ) → IsStaged old bodies body → Torn (gate_place (length bodies)) 1 old new → IsStaged new bodies body
 torn_gate bodies body old new staged torn =
     let n = length bodies in
@@ -44,7 +44,7 @@ torn_gate bodies body old new staged torn =
       fewer = staged.fewer;
     }
 
--- The body was written whole behind the closed gate, and a closed gate behind it.
+-- The body was written whole after the closed gate, and a closed gate after it.
 pub written_stage : (bodies : List (List ℕ)) (body old new : List ℕ) → length bodies < 4000000 → length body ≡ 64 → IsJournal old bodies → Holds old (body_place (length bodies)) (body ++ 0 ∷ []) new → IsStaged new bodies body
 written_stage bodies body old new fewer size journal holds =
     let n = length bodies in

@@ -3,7 +3,7 @@ use Rattle.std.specs.Prelude.{◌≡◌, ◌≢◌, ◌⊎◌, ℕ, ◌+◌, ◌
 use Rattle.posting_journal.specs.Layout.{empty_journal, header, gate_place, most_records}
 use Rattle.posting_journal.specs.Files.{IsMade, IsJournal}
 
--- An unfinished creation: no more than byte 0 is there; or byte 0 says that it goes on, and nothing stands behind the first
+-- An unfinished creation: no more than byte 0 is there; or byte 0 says that it goes on, and nothing stands after the first
 -- gate; or all but byte 0 is that of an empty journal, and byte 0 doesn't say yet that it is made.
 abbrev pub IsUnfinished : List ℕ → Type 0
 IsUnfinished bytes =
@@ -20,7 +20,7 @@ pub record IsForeign (bytes : List ℕ) : Type 0 where
   pub finished : ¬ IsUnfinished bytes
   pub other : (length bytes < 18) ⊎ (slice_index bytes 0 ≢ 1) ⊎ (take 16 (drop 1 bytes) ≢ header)
 
--- The gates up to that of record n are there and open, and n is the first record that can't stand: its body or the gate behind
+-- The gates up to that of record n are there and open, and n is the first record that can't stand: its body or the gate after
 -- it lies past the end, or it is one too many.
 pub record IsBadAt (bytes : List ℕ) (n : ℕ) : Type 0 where
   pub made : IsMade bytes
@@ -29,7 +29,7 @@ pub record IsBadAt (bytes : List ℕ) (n : ℕ) : Type 0 where
   pub few : n ≤ most_records
   pub here : (length bytes ≤ gate_place (n + 1)) ⊎ (n ≡ most_records)
 
--- Byte 0 says that the creation goes on, and nothing stands behind the first gate.
+-- Byte 0 says that the creation goes on, and nothing stands after the first gate.
 pub record IsBegun (bytes : List ℕ) : Type 0 where
   pub some : 0 < length bytes
   pub short : length bytes ≤ 18
@@ -47,7 +47,7 @@ pub record IsNearlyMade (bytes : List ℕ) : Type 0 where
 abbrev pub IsReadyAndBegun : List ℕ → Type 0
 IsReadyAndBegun bytes = bytes ≡ 0 ∷ header ++ 0 ∷ []
 
--- it has no bodies, and nothing stands behind its first gate
+-- it has no bodies, and nothing stands after its first gate
 abbrev pub IsEmptyJournal : List ℕ → Type 0
 IsEmptyJournal bytes = IsJournal bytes [] × (bytes ≡ empty_journal)
 

@@ -1,4 +1,4 @@
--- What calls tell of the disk's faults.
+-- What calls say of the disk's faults.
 use Rattle.std.specs.Prelude.{◌≡◌, ◌≤◌, Result, IfErr, OnOk}
 use Rattle.posting_journal.specs.Names.{HasDiskCause, Rose, Ghosts}
 use Rattle.posting_journal.specs.declared.faults.DiskFault.{DiskFault}

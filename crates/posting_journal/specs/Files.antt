@@ -1,4 +1,4 @@
--- The journal of a list of bodies, as a whole file. What stands behind the first gate that is closed has no meaning.
+-- The journal of a list of bodies, as a whole file. What stands after the first gate that is closed has no meaning.
 use Rattle.std.specs.Prelude.{◌≡◌, ◌≢◌, ◌⊎◌, ℕ, ◌+◌, ◌<◌, ◌≤◌, List, [], ◌∷◌, ◌++◌, length, take, drop, slice_index, slice_index_or}
 use Rattle.posting_journal.specs.Layout.{header, gate_place, body_place, most_records}
 
@@ -26,7 +26,7 @@ abbrev pub IsClosed : List ℕ → ℕ → Type 0
 IsClosed bytes n = (gate_place n < length bytes) × (slice_index bytes (gate_place n) ≢ 1)
 
 -- It is that of these bodies, or of these and one more, by whether the gate of this one is open: the body stands whole
--- behind that gate, and a closed gate behind the body.
+-- after that gate, and a closed gate after the body.
 pub record IsStaged (bytes : List ℕ) (bodies : List (List ℕ)) (body : List ℕ) : Type 0 where
   pub made : IsMade bytes
   pub records : HasRecords bytes bodies

@@ -17,7 +17,7 @@ of_sevens = replicate 64 7
 abbrev pub of_zeros_and_nine : List ℕ
 of_zeros_and_nine = replicate 63 0 ++ 9 ∷ []
 
--- two records and a closed gate, and behind it what has no meaning
+-- two records and a closed gate, and after it what has no meaning
 abbrev pub two_records : List ℕ
 two_records = 1 ∷ header_by_hand ++ 1 ∷ of_sevens ++ 1 ∷ of_zeros_and_nine ++ 0 ∷ 5 ∷ []
 
@@ -46,7 +46,7 @@ ForeignFiles = IsForeign (replicate 18 65)
     × IsForeign (1 ∷ 0x4c ∷ 0x49 ∷ 0x46 ∷ 0x45 ∷ 0x4a ∷ 0x52 ∷ 0x4e ∷ 0x4c ∷ 0 ∷ 2 ∷ 0 ∷ 0x40 ∷ 0 ∷ 0 ∷ 0 ∷ 0 ∷ 0 ∷ [])
     × (IsForeign two_records → ⊥)
 
--- the first record lacks the gate behind it, which would be byte 82; of two records the second lacks a byte
+-- the first record lacks the gate after it, which would be byte 82; of two records the second lacks a byte
 abbrev pub RecordsCutShort : Type 0
 RecordsCutShort = IsBadAt (1 ∷ header_by_hand ++ 1 ∷ of_sevens) 0
     × IsBadAt (1 ∷ header_by_hand ++ 1 ∷ of_sevens ++ 1 ∷ replicate 63 0) 1

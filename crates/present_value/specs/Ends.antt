@@ -1,5 +1,5 @@
 -- Values by the age at which a stream of payments ends. What is paid from an age on until the end depends on nothing
--- that was before: so all covers that end at one age have their values in one column, by the attained age.
+-- before that age. So all covers that end at one age have their values in one column, by the attained age.
 use Rattle.std.specs.Prelude.{◌≡◌, ℕ, ◌+◌, ◌-◌, ◌≤◌, Bool, true, false, length}
 use Rattle.rate_table.specs.Rates.{Rates}
 use Rattle.present_value.specs.Sums.{Cover, cover_of}

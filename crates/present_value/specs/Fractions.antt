@@ -1,6 +1,6 @@
 use Rattle.std.specs.Prelude.{ℕ, ◌+◌, ◌-◌, ◌*◌, ◌<◌, ◌≤◌, nat_le, if◌then◌else◌}
 
--- a fraction of whole numbers of any length; its value is the quotient, where the denominator isn't 0
+-- a fraction of whole numbers of any size; its value is the quotient, if the denominator isn't 0
 pub record Fraction : Type 0 where
   pub num : ℕ
   pub den : ℕ
@@ -11,7 +11,7 @@ whole n = record { num = n; den = 1 }
 unfoldable pub plus : Fraction → Fraction → Fraction
 plus a b = record { num = a.num * b.den + b.num * a.den; den = a.den * b.den }
 
--- the excess of a over b, which is 0 where b is the greater
+-- the excess of a over b, which is 0 if b is greater
 unfoldable pub less : Fraction → Fraction → Fraction
 less a b = record { num = a.num * b.den - b.num * a.den; den = a.den * b.den }
 

@@ -23,7 +23,7 @@ cap_of table age bp = cover_of table (cap_shape table age) bp
 unfoldable pub term_premium : Cover → Fraction
 term_premium c = record { num = death c 0; den = year c }
 
--- (A) before its limit: the benefits after the first year over the premiums after the first
+-- (A) before its limit: the benefits after the first year divided by the premiums after the first
 unfoldable pub renewal_premium : Cover → Fraction
 renewal_premium c = over (less (ben c 0) (term_premium c)) (less (ann c 0) (whole 1))
 
@@ -35,6 +35,6 @@ level_premium c = over (ben c 0) (ann c 0)
 unfoldable pub excess : Cover → Cover → Fraction
 excess c cap = less (lesser (renewal_premium c) (level_premium cap)) (term_premium c)
 
--- the modified net premium: its value at issue is that of the benefits and the excess
+-- the modified net premium: its value at issue is that of the benefits plus the excess
 unfoldable pub beta : Cover → Cover → Fraction
 beta c cap = over (plus (ben c 0) (excess c cap)) (ann c 0)

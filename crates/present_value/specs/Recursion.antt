@@ -3,7 +3,7 @@ use Rattle.rate_table.specs.Rates.{ONE}
 use Rattle.present_value.specs.Sums.{Cover, year}
 use Rattle.present_value.specs.Rounding.{UNIT, down, up}
 
--- The rounded values at year t: each year's from the next year's, from the end of the cover back, every quotient
+-- The rounded values at year t, from the end of the cover back: each year's from the next year's. Every quotient is
 -- rounded down for a lower value and up for an upper one, in units of 10^-16.
 
 -- the benefits from year t on

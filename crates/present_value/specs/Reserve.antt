@@ -8,7 +8,7 @@ use Rattle.present_value.specs.Premium.{beta}
 unfoldable pub reserve : Cover → Cover → ℕ → Fraction
 reserve c cap t = less (ben c t) (times (beta c cap) (ann c t))
 
--- the bounds enclose the amount times the value, and lie at most 2 apart
+-- the bounds enclose the amount times the value, and differ by at most 2
 pub record Encloses (low high amount : ℕ) (value : Fraction) : Type 0 where
   pub between : Between low high amount value
   pub narrow : high ≤ low + 2

@@ -1,6 +1,6 @@
 use Rattle.std.specs.Prelude.{ℕ, ◌+◌, ◌-◌, ◌/◌}
 
--- the units of a rounded value in 1
+-- how many units of a rounded value make 1
 abbrev pub UNIT : ℕ
 UNIT = 10000000000000000
 

@@ -34,8 +34,8 @@ year c = ONE * (10000 + c.interest)
 abbrev pub death : Cover → ℕ → ℕ
 death c k = 10000 * c.rates k
 
--- v^k times the part of those alive at year t who are alive k years on, over the k-th power of the year: each year's
--- factor is v p, where p = 1 - q
+-- v^k times the part of those alive at year t who are alive k years later, multiplied by the k-th power of the year
+-- to clear the denominators: each year's factor is v p, where p = 1 - q
 unfoldable pub survivors : Cover → ℕ → ℕ → ℕ
 survivors c t zero = 1
 survivors c t (suc k) = survivors c t k * (10000 * (ONE - c.rates (t + k)))

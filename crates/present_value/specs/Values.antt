@@ -8,8 +8,8 @@ use Rattle.present_value.specs.Recursion.{ben_lo, ben_hi, ann_lo, ann_hi}
 use Rattle.present_value.specs.declared.pair.Pair.{Pair}
 use Rattle.present_value.specs.declared.pair.Columns.{Columns}
 
--- a shape can be valued: premiums in at least one year and at most the years of cover, the ages of which
--- the table holds, and interest of at most 20 percent
+-- a shape can be valued: premiums are due in at least one year and at most in the years of cover, the table holds the
+-- ages of those years, and interest is at most 20 percent
 pub record CanValue (table : Rates) (shape : Shape) (bp : ℕ) : Type 0 where
   pub paid : 1 ≤ shape.h
   pub covered : shape.h ≤ shape.n
@@ -24,7 +24,7 @@ pair_of lo hi = record { lo = lo; hi = hi }
 abbrev pub pair_at : List Pair → ℕ → Pair
 pair_at pairs t = slice_index_or pairs t (pair_of 0 0)
 
--- each year's pair is the rounded value of the benefits, or of the premiums, and a place above n holds zeros
+-- each year's pair is the rounded value of the benefits, or of the premiums; places above n hold zeros
 pub record AreBenefits (c : Cover) (pairs : List Pair) : Type 0 where
   pub within : (t : ℕ) → t ≤ c.n → pair_at pairs t ≡ pair_of (ben_lo c t) (ben_hi c t)
   pub rest : (t : ℕ) → c.n < t → pair_at pairs t ≡ pair_of 0 0
@@ -40,7 +40,7 @@ pub record AreColumns (c : Cover) (columns : Columns) : Type 0 where
   pub benefits : AreBenefits c columns.ben
   pub premiums : ArePremiums c columns.ann
 
--- a pair encloses a value, and its bounds lie at most 131 units apart
+-- a pair encloses a value, and its bounds differ by at most 131 units
 pub record IsPairOf (value : Fraction) (pair : Pair) : Type 0 where
   pub between : Between pair.lo pair.hi UNIT value
   pub narrow : pair.hi ≤ pair.lo + 131

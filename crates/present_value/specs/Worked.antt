@@ -1,4 +1,4 @@
--- Mean reserves worked by hand, over a table whose rates of the ages 0 to 4 are 0.1, 0.2, 0.25, 0.5 and 1.
+-- Mean reserves worked by hand, over a table whose rates for the ages 0 to 4 are 0.1, 0.2, 0.25, 0.5 and 1.
 use Rattle.std.specs.Prelude.{ℕ, true, false, [], ◌∷◌}
 use Rattle.rate_table.specs.Rates.{Rates}
 use Rattle.present_value.specs.Fractions.{Fraction, Between}
@@ -13,8 +13,8 @@ five_ages = record { first_age = 0; rates = 100000000 ∷ 200000000 ∷ 25000000
 abbrev pub IsQuotient : ℕ → ℕ → Fraction → Type 0
 IsQuotient number divisor value = Between number number divisor value
 
--- an endowment of three years with a premium in each, without interest: (A) is 5/9, but
--- at most the 10/27 of the cap, and (B) is 1/10
+-- an endowment of three years with a premium in each, without interest: (A) is 5/9, but at most the 10/27 of the cap,
+-- and (B) is 1/10
 abbrev pub endowment : Cover
 endowment = cover_of five_ages (record { age = 0; n = 3; h = 3; matures = true }) 0
 
@@ -26,7 +26,7 @@ limited = cover_of five_ages (record { age = 0; n = 5; h = 2; matures = true }) 
 abbrev pub term : Cover
 term = cover_of five_ages (record { age = 0; n = 3; h = 3; matures = false }) 500
 
--- the modified net premium of the endowment is 1715/3537, its excess 73/270
+-- the modified net premium of the endowment is 1715/3537, and its excess is 73/270
 pub record NetPremiums : Type 0 where
   pub first : IsQuotient 281 1310 (net_premium endowment (cap_of five_ages 0 0) 0)
   pub second : IsQuotient 1715 3537 (net_premium endowment (cap_of five_ages 0 0) 1)

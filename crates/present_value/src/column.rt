@@ -9,10 +9,10 @@ use crate::reciprocal::Reciprocal;
 use crate::year::{benefits_before, premiums_before, year_reciprocal};
 use rate_table::RateTable;
 
-/// What is paid until an age, of an amount of 1.
+/// What is paid until an age, for an amount of 1.
 #[derive(Clone, Copy, PartialEq, Eq, Debug)]
 pub enum Stream {
-    /// 1 at the end of the year of death.
+    /// 1 at the end of the year of death, if the insured dies before the end.
     Insurance,
     /// The same, and 1 to a survivor at the end.
     Endowment,
@@ -21,7 +21,7 @@ pub enum Stream {
 }
 
 impl Stream {
-    /// The benefits of a cover that pays a survivor at its end, or not.
+    /// The benefits of a cover that pays a survivor at its end, or of one that doesn't.
     pub fn of_benefits(matures: bool) -> Stream
         ensures { result ≡ benefit_stream matures }
     {
@@ -35,19 +35,19 @@ impl Stream {
 
 /// The present values of a stream of payments that ends at an age, at each attained age, in units of 10^-16.
 ///
-/// All covers that end at one age share it, whatever their ages at issue. It holds the values from its lowest age on,
-/// and goes down to a lower one when that is asked for.
+/// All covers that end at one age share a column, whatever their ages at issue. It holds the values from its lowest
+/// age on, and is extended to a lower age when that is asked for.
 #[derive(Clone, Copy)]
 pub struct Column {
     stream: Stream,
     end: u8,
-    /// The lowest age of which the value is known.
+    /// The lowest age whose value is known.
     from: u8,
     pairs: [Pair; 132],
 }
 
 impl Column {
-    /// The column of a stream until an age, which knows no value but the last.
+    /// The column of a stream until an age. Only its last value is known.
     pub fn new(stream: Stream, end: u8) -> Column
         requires { end ≤ 131 }
         ensures { IsStarted stream end result }
@@ -62,7 +62,7 @@ impl Column {
         column
     }
 
-    /// Becomes the column of another stream, which knows no value but the last.
+    /// Becomes the column of another stream. Only its last value is known.
     pub fn restart(&mut self, stream: Stream, end: u8)
         requires { end ≤ 131 }
         ensures { IsStarted stream end self.new }
@@ -74,7 +74,8 @@ impl Column {
         self.pairs[end as usize] = Pair { lo: paid, hi: paid };
     }
 
-    /// The value at an attained age, by the table and at the interest of the column.
+    /// The value at an attained age, by the table and at the interest of the column. The column is extended if it has
+    /// to be.
     pub fn at(&mut self, table: &RateTable, bp: u16, age: u8) -> Pair
         requires column { IsColumn table.now bp self.old }
         requires can { CanEnd table.now bp self.old.end age }
@@ -88,7 +89,7 @@ impl Column {
         self.pairs[age as usize]
     }
 
-    /// Goes down to an age.
+    /// Extends the column down to an age.
     fn extend(&mut self, table: &RateTable, bp: u16, age: u8)
         requires column { IsColumn table.now bp self.old }
         requires can { CanEnd table.now bp self.old.end age }
@@ -113,7 +114,7 @@ impl Column {
     }
 }
 
-/// The value a year earlier.
+/// The value one year earlier.
 pub(crate) fn value_before(stream: Stream, rate: u32, year: &Reciprocal, later: Pair) -> Pair
     requires rate { rate ≤ ONE }
     requires lo { later.lo ≤ most stream }

@@ -2,12 +2,12 @@
 
 ghost use Rattle.present_value.specs.MeanLaws.{LiesBetweenLaw, TerminalAtTheEndLaw, NoPremiumLaw};
 
-/// The mean reserve lies between the terminal reserves around it, with the net premium's half added to each.
+/// The mean reserve lies between the terminal reserves around it, each with half of the net premium added.
 pub fn mean_lies_between_the_terminals()
     ensures { LiesBetweenLaw }
 {}
 
-/// At the end of cover the mean reserve is the terminal one.
+/// At the end of cover the mean reserve is the terminal reserve.
 pub fn mean_at_the_end_is_terminal()
     ensures { TerminalAtTheEndLaw }
 {}

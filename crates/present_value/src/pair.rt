@@ -3,7 +3,7 @@ ghost use Rattle.present_value.specs.Sums.{Cover};
 ghost use Rattle.present_value.specs.Values.{AreColumns};
 ghost use Rattle.present_value.specs.Ends.{AreValuesAt};
 
-/// The units of 10^-16 that make 1.
+/// How many units of 10^-16 make 1.
 pub const UNITS_IN_ONE: u64 = 10_000_000_000_000_000;
 
 /// A lower and an upper bound of one value, in units of 10^-16.
@@ -18,7 +18,7 @@ pub struct Pair {
 pub struct Values {
     /// The benefits from this year on.
     pub ben: Pair,
-    /// 1 at the start of each year from this one on in which a premium is due.
+    /// The value of 1 at the start of each year, from this one on, in which a premium is due.
     pub ann: Pair,
 }
 
@@ -34,7 +34,7 @@ pub struct Columns {
     pub h: u8,
     /// The benefits from year `t` on.
     pub ben: [Pair; 132],
-    /// 1 at the start of each year from `t` on in which a premium is due.
+    /// The value of 1 at the start of each year, from `t` on, in which a premium is due.
     pub ann: [Pair; 132],
 }
 

@@ -1,7 +1,8 @@
 ghost use Rattle.std.specs.Prelude.{◌≡◌, ◌+◌, ◌*◌, ◌/◌, ◌<◌, ◌^◌};
 ghost use Rattle.present_value.specs.Rounding.{down, up};
 
-/// A divisor beside 2^93 over it, rounded down, by which quotients are found without dividing.
+/// A divisor, together with 2^93 divided by it and rounded down, from which quotients are computed without a
+/// division.
 #[derive(Clone, Copy)]
 pub struct Reciprocal {
     divisor: u64,
@@ -40,7 +41,7 @@ impl Reciprocal {
         if rest == 0 { quotient } else { quotient + 1 }
     }
 
-    /// The quotient, rounded down, and what is left.
+    /// The quotient, rounded down, and the remainder.
     fn divide(&self, number: u128) -> (u64, u64)
         requires { number < 2 ^ 91 }
         ensures whole { number ≡ result.0 * self.now.divisor + result.1 }

@@ -23,7 +23,7 @@ pub fn columns(table: &RateTable, shape: &Shape, bp: u16) -> Columns
     }
 }
 
-/// The values of a stream of so many years from an age on: at the start of each of them, and at their end.
+/// The values of a stream for `years` years from an age on: at the start of each of these years, and at their end.
 fn values_from(table: &RateTable, bp: u16, stream: Stream, age: u8, years: u8) -> [Pair; 132]
     requires { CanEnd table.now bp (age + years) age × (1 ≤ years) }
     ensures ages { age + years ≤ 131 }

@@ -6,7 +6,7 @@ ghost use Rattle.present_value.specs.inside.Earlier.{benefit_dividend, annuity_d
 use crate::pair::{Pair, UNITS_IN_ONE};
 use crate::reciprocal::Reciprocal;
 
-/// 10^5 times what 10,000 has grown to after a year.
+/// 10^5 times what 10,000 grows to in a year.
 pub fn year_reciprocal(bp: u16) -> Reciprocal
     requires { bp ≤ 2000 }
     ensures { result.divisor ≡ 100000 * (10000 + bp) }
@@ -14,9 +14,9 @@ pub fn year_reciprocal(bp: u16) -> Reciprocal
     Reciprocal::of(100_000 * (10_000 + bp as u64))
 }
 
-/// The benefits a year earlier: what a death in that year pays, and the value of a survivor's.
+/// The benefits one year earlier: what a death in that year pays, and the value for a survivor.
 ///
-/// The rate is in units of 10^-9, and the year is 10^5 times what 10,000 has grown to after a year.
+/// The rate is in units of 10^-9, and `year` is 10^5 times what 10,000 grows to in a year.
 pub fn benefits_before(rate: u32, year: &Reciprocal, later: Pair) -> Pair
     requires rate { rate ≤ ONE }
     requires lo { later.lo ≤ UNIT }
@@ -32,7 +32,7 @@ pub fn benefits_before(rate: u32, year: &Reciprocal, later: Pair) -> Pair
     }
 }
 
-/// The premiums a year earlier, of 1 each: one paid at once, and the value of a survivor's.
+/// The premiums one year earlier, of 1 each: one that is paid at once, and the value for a survivor.
 pub fn premiums_before(rate: u32, year: &Reciprocal, later: Pair) -> Pair
     requires rate { rate ≤ ONE }
     requires lo { later.lo ≤ UNIT * 131 }

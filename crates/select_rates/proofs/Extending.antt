@@ -1,4 +1,4 @@
--- Select rates alone, and with ultimate ones behind them.
+-- Select rates alone, and with ultimate ones after them.
 use Rattle.select_rates.proofs.Names.{◌≡◌, ℕ, ◌+◌, ◌-◌, ◌<◌, ◌++◌, List, length, arith, ◌∙◌, sym, ap, inl, inr, slice_index, slice_index_or, Rates, last_age_of, rate_at, AreRatesFrom, AreJoined}
 use Rattle.std.proofs.lemmas.Bool.{cases_lt}
 use Rattle.std.proofs.lemmas.Grind.{common_steps}

@@ -5,7 +5,7 @@ use Rattle.std.proofs.lemmas.Grind.{common_steps}
 use Rattle.std.proofs.lemmas.List.{ext_get_or, get_or-drop, get_or_default, get_or_past, get_or-append_right, get_or_append_left, length-append, length-drop}
 use Rattle.select_rates.specs.Table.{select_table}
 
--- select rates, and behind them the ultimate ones of the attained ages
+-- select rates, and after them the ultimate ones of the attained ages
 abbrev joined_rates : Rates → ℕ → List ℕ → List ℕ
 joined_rates ultimate age select = select ++ drop (age + length select - ultimate.first_age) ultimate.rates
 

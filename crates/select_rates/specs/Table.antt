@@ -15,7 +15,7 @@ pub record IsTableOf (table : Selected) (age : ℕ) (given : Rates) : Type 0 whe
       → last_age_of given ≡ max (age + length (select_rates table age) - 1) (last_age_of table.ultimate)
   pub above : table.first_age + length table.rows ≤ age → given ≡ table.ultimate
 
--- that table: the select rates of a select age, and behind them the ultimate ones of the attained ages
+-- that table: the select rates of a select age, and after them the ultimate ones of the attained ages
 abbrev pub select_table : Selected → ℕ → Rates
 select_table table age =
     let select = select_rates table age in

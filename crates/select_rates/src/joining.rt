@@ -55,7 +55,7 @@ fn join(alloc: Global, age: u8, select: &[u32], ultimate: &RateTable) -> Result<
     }
 }
 
-/// The rates of an issue age: the select ones, and behind them the ultimate ones.
+/// The rates of an issue age: the select ones, and after them the ultimate ones.
 fn join_rates(
     alloc: Global,
     age: u8,

@@ -2,8 +2,8 @@ ghost use Rattle.std.specs.Prelude.{◌≡◌, ◌<◌, [], map, length, slice_i
 
 use std::marker::Model;
 
-/// The select rates of consecutive issue ages, in units of 10^-9: of each age those of its select period, by duration.
-/// Contracts see them as a list of lists.
+/// The select rates of consecutive issue ages, in units of 10^-9: for each age those of its select period, by
+/// duration. Contracts see them as a list of lists.
 #[derive(Drop)]
 pub struct SelectRows {
     rows: Vec<Vec<u32>>,

@@ -35,8 +35,8 @@ impl Model for SelectTable {
 }
 
 impl SelectTable {
-    /// The table of these select rates, of which the first are those of issue age `first_age`, and of an ultimate table.
-    /// It prepares the table of each select age.
+    /// The table of these select rates, the first of which are those of issue age `first_age`, and of an ultimate
+    /// table. It prepares the table of each select age.
     pub fn new(
         alloc: Global,
         first_age: u8,
@@ -57,7 +57,7 @@ impl SelectTable {
         })
     }
 
-    /// The table of an issue age, or `None` below the first select age.
+    /// The table of an issue age, or `None` if the age is below the first select age.
     pub fn along(&self, age: u8) -> Option<&RateTable>
         ensures below { IsNone result ↔ (age < self.now.first_age) }
         ensures table { IfSome result (λ table. IsTableOf self.now age table.now) }

@@ -1,4 +1,4 @@
--- Name, take, compare and give keep the rule, and tell what they tell.
+-- Name, take, compare and give keep the rule, and state what they report.
 use Rattle.turn_lock.proofs.Names.{◌≡◌, ℕ, ◌+◌, ◌%◌, ◌^◌, ◌<◌, ◌≤◌, ◌≢◌, Bool, cond, eqb, List, [], ◌∷◌, ◌++◌, length, get_or, set, sym, refl, ap, ◌∙◌, subst, inl, inr, arith, Option, Some, None, eq-eqb, ne_eqb, length-append, dite, some, none, some-injective, ℕ_discrete, get_elem?, set_here, set_again, exchanged, AllByRecursion, Contains, State, step, Act, keeps, takes, gives, stepped, Allows, Entry, StartsWith, entries_of, Kept, View, Unnamed, Idle, Inside, IsLive, IsNamed, units_at, units, shares, own, pages, numbers, SeatFacts, named, inside, handed_on, compared, PageStands, StageStands, SeatStands, SlotStands, LockRule}
 use mathlib.Core.Option as maybe
 use prog.Atomic.{either}

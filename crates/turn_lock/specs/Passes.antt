@@ -36,7 +36,8 @@ module _ {Opening : Type 0} where
   abbrev pub callers : Holding Opening → List ℕ
   callers pass = map (λ page. page.0) (pages pass)
 
-  -- what it has seen is legal and has of its caller, and of each ended one, just that page; and these callers all differ
+  -- what it has seen is legal; the entries in it of its caller, and of each ended one, are exactly those of that
+  -- page; and these callers all differ
   pub record PassFacts (legal : Opening → List Entry → Type 0) (pass : Holding Opening) : Type 0 where
     pub lawful : (opening : Opening) × (pass.opening ≡ Some opening) × legal opening pass.seen
     pub paged : AllByRecursion (λ page. entries_of pass.seen page.0 ≡ page.1) (pages pass)
@@ -52,15 +53,16 @@ module _ {Opening : Type 0} where
     pub made : pass.made ≡ []
     pub ended : pass.ended ≡ []
 
-  -- A pass gives a part of what it has to a new one. One unit is spent; the new pass gets half of the rest and half of the shares,
-  -- rounded down, and a new number. It has seen what the old one has, and made nothing. The lists of the old one stay
+  -- A pass gives a part of what it has to a new pass. One unit is spent. The new pass gets half of the rest and half
+  -- of the shares, rounded down, and a new number. It has seen what the old pass has, and has made nothing. The lists
+  -- of the old pass stay.
   pub record Enters (old kept given : Holding Opening) : Type 0 where
     pub kept_is : kept ≡ record old { left = old.left - 1 - (old.left - 1) / 2; shares = old.shares - old.shares / 2 }
     pub given_is : given ≡ record old { caller = given.caller; left = (old.left - 1) / 2; shares = old.shares / 2; made = []; ended = [] }
     pub new_number : AllByRecursion (λ number. number ≢ given.caller) (callers old)
 
-  -- A pass takes another back: what it has left, its shares, and the pages that it vouches for.
-  -- It has then seen the longer of the two lists, and both are beginnings of that
+  -- A pass takes another one back: the turns that it has left, its shares, and the pages that it vouches for. Then it
+  -- has seen the longer of the two lists, of which both are beginnings.
   pub record LeavesLock (gone old new : Holding Opening) : Type 0 where
     pub new_is : new ≡ record old {
       left = old.left + gone.left;
@@ -71,8 +73,9 @@ module _ {Opening : Type 0} where
     pub begins_old : StartsWith new.seen old.seen
     pub begins_gone : StartsWith new.seen gone.seen
 
-  -- A turn: what the pass has seen begins with what it had seen and ends, at this place, with this entry, which is its caller's.
-  -- No entry between the two is. It made this one entry more, and has one turn less left
+  -- A turn: what the pass has seen now begins with what it had seen before, and ends, at this place, with this entry,
+  -- which is its caller's. No entry in between is its caller's. The pass has made this one entry more, and has one
+  -- turn less left.
   pub record TakesTurn (turn : ℕ) (entry : Entry) (old new : Holding Opening) : Type 0 where
     pub between : List Entry
     pub new_is : new ≡ record old { left = old.left - 1; seen = (old.seen ++ between) ++ entry ∷ []; made = old.made ++ entry ∷ [] }

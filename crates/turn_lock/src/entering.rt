@@ -9,7 +9,7 @@ use crate::stands::Stands;
 use crate::steps::take;
 use std::sync::Wait;
 
-/// Takes the lock where it is free; else comes behind those that wait, and sleeps until it is let in.
+/// Takes the lock if it is free; else queues after those that wait, and sleeps until it is let in.
 pub(crate) fn enter<T: Stands, R: Wait>(
     rt: &R,
     queues: &Queues,
@@ -45,7 +45,7 @@ pub(crate) fn enter<T: Stands, R: Wait>(
     unreachable!()
 }
 
-/// Takes the lock where it is kept for this caller, or where it is free and the caller is the first of its queue.
+/// Takes the lock if it is kept for this caller, or if it is free and the caller is the first of its queue.
 fn let_in<T: Stands>(
     board: &SharedBoard<T>,
     place: &mut CallerSeat<T>,

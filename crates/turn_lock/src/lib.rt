@@ -1,5 +1,5 @@
-//! A lock round a value that stands for a history of turns. Each turn is one entry of the history, and each
-//! caller's pass knows, in contracts alone, which entries it has seen and made.
+//! A lock around a value that stands for a history of turns. Each turn adds one entry to the history. Each caller's
+//! pass knows, in contracts alone, which entries it has seen and which it has made.
 #![tactic(auto)]
 
 mod entering;

@@ -4,7 +4,7 @@ use crate::seats::CallerSeat;
 use crate::stands::Stands;
 use std::marker::Model;
 
-/// One caller's right to take turns. Contracts see it as what it has, has seen and has made.
+/// One caller's right to take turns. Contracts see it as what it has left, what it has seen and what it has made.
 pub struct Pass<T: Stands> {
     pub(crate) place: CallerSeat<T>,
     pub(crate) caller: u64,
@@ -27,7 +27,7 @@ impl<T: Stands> Pass<T> {
     ghost use Rattle.turn_lock.specs.Passes.{PassFacts};
     ghost use Rattle.turn_lock.specs.inside.Places.{IsPass, holding};
 
-    /// The caller's number. What is known of every pass is known of this one.
+    /// The caller's number. The facts that hold of every pass hold of this one.
     pub fn caller(&self) -> u64
         ensures number { result ≡ self.now.caller }
         ensures facts { PassFacts T.legal self.now }
@@ -42,7 +42,7 @@ impl<T: Stands> Pass<T> {
         self.left
     }
 
-    /// Its shares, of 2^32 in all: whoever has them all has the only pass.
+    /// Its shares, of which there are 2^32 in all: whoever has all of them has the only pass.
     pub fn shares(&self) -> u64
         ensures { result ≡ self.now.shares }
     {

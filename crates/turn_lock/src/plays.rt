@@ -1,4 +1,4 @@
-//! What each kind of step does and tells.
+//! What each kind of step does and establishes.
 
 use crate::seats::{Kept, View};
 use crate::stands::Stands;
@@ -39,7 +39,7 @@ impl<T: Stands> Play<Option<Kept<T>>, View<T::Opening>> for Names<T> {
     ghost then = { steps.Names T.legal };
 }
 
-/// A seat takes the lock, and with it the value, where it finds the word that it looks for.
+/// A seat takes the lock, and with it the value, if it finds the word that it looks for.
 pub(crate) struct TakesLock<T> {
     value: PhantomData<T>,
 }
@@ -50,7 +50,7 @@ impl<T: Stands> Play<Option<Kept<T>>, View<T::Opening>> for TakesLock<T> {
     ghost then = { steps.TakesLock T.opening T.legal T.stands };
 }
 
-/// A seat sees that the lists of the last join are beginnings of one history.
+/// A seat sees that both lists of the last join are beginnings of one history.
 pub(crate) struct Compares<T> {
     value: PhantomData<T>,
 }
@@ -61,7 +61,7 @@ impl<T: Stands> Play<Option<Kept<T>>, View<T::Opening>> for Compares<T> {
     ghost then = { steps.Compares T.legal };
 }
 
-/// The entry that a hand on adds, picked where the step is called.
+/// The entry that a hand-on adds, chosen where the step is called.
 pub(crate) trait Appended {
     ghost use Rattle.policy_types.specs.declared.entry.Entry.{Entry};
 
@@ -75,7 +75,7 @@ impl Appended for Brand {
     ghost appended = { record { caller = 0; call = Trim; reply = Blank } };
 }
 
-/// A seat gives the value back, and its turn is one entry more of the history.
+/// A seat gives the value back, and its turn adds one entry to the history.
 pub(crate) struct HandsOn<T, E> {
     value: PhantomData<(T, E)>,
 }

@@ -1,4 +1,4 @@
-//! Callers that wait for the lock: in which order they come, and where they sleep. No contract rests on it.
+//! Callers that wait for the lock: in which order they are let in, and where they sleep. No contract depends on it.
 ghost use Rattle.std.specs.Prelude.{◌≢◌};
 
 use crate::seats::{FREE, Streak, Streaks};
@@ -6,24 +6,24 @@ use std::sync::Wait;
 use std::sync::atomic::AtomicU64;
 use std::sync::atomic::Ordering::SeqCst;
 
-/// A light turn takes about as long as the eighth part of another one, and much less than a wake-up.
+/// A light turn takes about an eighth of the time of another turn, and much less than waking a thread.
 const LIGHT: u64 = 1;
 
 const HEAVY: u64 = 8;
 
-/// Turns of this weight on end may pass the brief turn that waits longest.
+/// Consecutive turns of this total weight may pass the brief turn that has waited longest.
 const MOST_BEFORE_BRIEF: u64 = 5 * HEAVY;
 
-/// Turns of this weight on end may pass the other turn that waits longest.
+/// Consecutive turns of this total weight may pass the other turn that has waited longest.
 const MOST_BEFORE_OTHERS: u64 = 8 * HEAVY;
 
-/// For whom the lock is, once it is given.
+/// For whom the lock is, once it is given back.
 #[derive(Clone, Copy, Drop)]
 pub(crate) enum Next {
     Anybody,
-    /// The brief turn that came as number n.
+    /// The brief turn with this number in its queue.
     Brief(u64),
-    /// The other turn that came as number n.
+    /// The other turn with this number in its queue.
     Other(u64),
 }
 
@@ -40,8 +40,8 @@ impl Next {
     }
 }
 
-/// Those that wait. A free lock is anybody's; but it is kept for who waits longest once as many turns on end as may be
-/// have passed, by their weight.
+/// The callers that wait. A free lock may be taken by anybody. Once the consecutive turns that passed the caller who
+/// has waited longest reach the weight that is allowed, the lock is kept for that caller.
 #[derive(Drop)]
 pub(crate) struct Queues {
     brief: Queue,
@@ -51,16 +51,16 @@ pub(crate) struct Queues {
 /// Callers that wait, in the order in which they came.
 #[derive(Drop)]
 pub(crate) struct Queue {
-    /// Turns of this weight on end may pass the first.
+    /// Consecutive turns of this total weight may pass the first of the queue.
     most: u64,
     came: AtomicU64,
-    /// How many of these were let in. Who has the lock writes it.
+    /// How many of these were let in. Whoever has the lock writes it.
     let_in: AtomicU64,
-    /// The caller that came as number n sleeps at bell n % 8.
+    /// The caller with number n in the queue sleeps at bell n % 8.
     bells: [Bell; 8],
 }
 
-/// A number that only rises. It is odd where somebody may sleep at it.
+/// A number that only rises. It is odd while somebody may be asleep at it.
 #[derive(Drop)]
 pub(crate) struct Bell {
     rung: AtomicU64,
@@ -78,7 +78,7 @@ impl Queues {
         if is_brief { &self.brief } else { &self.others }
     }
 
-    /// Counts the turn that ends, and says for whom the lock is next.
+    /// Counts the turn that ends, and returns for whom the lock is next.
     pub(crate) fn next(&self, passed: &mut Streaks, is_light: bool) -> Next {
         let weight = if is_light { LIGHT } else { HEAVY };
         let other_is_due = self.others.is_due(&mut passed.others, weight);
@@ -92,7 +92,8 @@ impl Queues {
         }
     }
 
-    /// Wakes the one for whom the lock was given. Where it is anybody's, one that waits looks whether it finds it free.
+    /// Wakes the caller for whom the lock was given. If it is anybody's, one caller that waits checks whether it is
+    /// still free.
     pub(crate) fn ring(&self, next: Next) {
         match next {
             Next::Other(number) => self.others.bell(number).ring(),
@@ -127,7 +128,7 @@ impl Queue {
         }
     }
 
-    /// Comes behind the others, and gets its number.
+    /// Queues after the others, and returns the caller's number.
     pub(crate) fn come(&self) -> u64 {
         self.came.fetch_add(1, SeqCst)
     }
@@ -140,7 +141,7 @@ impl Queue {
         self.let_in.load(SeqCst) == number
     }
 
-    /// Lets the first in, by who has the lock, and gives its number.
+    /// Lets the first of the queue in, which only the caller that has the lock may do, and returns its number.
     pub(crate) fn let_first_in(&self) -> u64 {
         self.let_in.fetch_add(1, SeqCst)
     }
@@ -149,7 +150,7 @@ impl Queue {
         self.let_in.load(SeqCst) != self.came.load(SeqCst)
     }
 
-    /// Counts a turn of this weight that passed the first of the queue, and tells whether these are as many as may be.
+    /// Counts a turn of this weight that passed the first of the queue, and returns whether the limit is reached.
     fn is_due(&self, passed: &mut Streak, turn: u64) -> bool {
         let first = self.let_in.load(SeqCst);
         let before = if passed.first == first {
@@ -182,8 +183,8 @@ impl Bell {
         }
     }
 
-    /// Says that somebody is about to sleep, and gives the number to sleep at. Who looks behind this whether it has to sleep
-    /// misses no ring.
+    /// Announces that somebody is about to sleep, and returns the number to sleep at. A caller that checks only after
+    /// this call whether it has to sleep misses no ring.
     pub(crate) fn lie_down(&self) -> u64 {
         let rung = self.rung.load(SeqCst);
         let asleep = rung | 1;
@@ -195,7 +196,7 @@ impl Bell {
         self.rung.park(rt, (asleep & 0xffff_ffff) as u32);
     }
 
-    /// Wakes those that sleep here. Where nobody does, this costs a look.
+    /// Wakes the callers that sleep here. If there is none, this costs one look.
     fn ring(&self) {
         let asleep = self.rung.load(SeqCst);
         let next = asleep.wrapping_add(1);

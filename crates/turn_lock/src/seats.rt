@@ -8,38 +8,38 @@ use std::collections::LinkedList;
 use std::marker::PhantomData;
 use std::snapshot::Snapshot;
 
-/// Where a seat stands.
+/// The stage of a seat.
 pub enum Stage {
-    /// It was taken back into another.
+    /// It was taken back into another seat.
     Spent,
-    /// It has no number yet, and a unit put by for one.
+    /// It has no number yet, and has set aside one unit for it.
     Unnamed,
     Idle,
     /// It has the value out.
     Inside,
 }
 
-/// What a seat knows, for contracts alone: no value of it is made.
+/// What a seat knows. Only contracts read it: no value of it is made.
 pub struct View<O> {
     pub stage: Stage,
     pub number: u64,
-    /// So many names were given, and its own and the ended ones are among them.
+    /// The count of numbers given, among which are its own and those of the ended seats.
     pub names: u64,
     pub left: u64,
     pub shares: u64,
-    /// `None` only where the seat is spent.
+    /// `None` only if the seat is spent.
     pub opened: Option<O>,
     pub seen: LinkedList<Entry>,
     pub made: LinkedList<Entry>,
-    /// The shorter list of the last join, until a look has told that both are beginnings of the history.
+    /// The shorter list of the last join, until a step has shown that both are beginnings of the history.
     pub also: LinkedList<Entry>,
     pub ended: LinkedList<(u64, LinkedList<Entry>)>,
 }
 
-/// What lies under the lock.
+/// What is in the lock's slot.
 pub struct Kept<T> {
     pub value: T,
-    /// So many turns were taken.
+    /// How many turns were taken.
     pub turns: u64,
     pub passed: Streaks,
 }
@@ -77,21 +77,21 @@ impl<T> Kept<T> {
     }
 }
 
-/// Turns on end that passed who waits, of each line. No contract rests on it.
+/// For each queue, the consecutive turns that passed those who wait. No contract depends on it.
 #[derive(Clone, Copy, Drop)]
 pub struct Streaks {
     pub brief: Streak,
     pub others: Streak,
 }
 
-/// Turns of this weight on end passed this number while it was the first of its line.
+/// The total weight of consecutive turns that passed the caller with this number while it was the first of its queue.
 #[derive(Clone, Copy, Drop)]
 pub struct Streak {
     pub first: u64,
     pub weight: u64,
 }
 
-/// The lock's rule, at the opening of the value that the table was made with.
+/// The lock's rule, for the opening of the value with which the table was made.
 pub struct Law<T> {
     value: PhantomData<T>,
 }
@@ -105,7 +105,7 @@ impl<T: Stands> TableRule<Option<Kept<T>>, View<T::Opening>, Snapshot<T>> for La
     ghost first = { λ key. first_view (T.opening key.value) };
 }
 
-/// Word 0 is the lock, word 1 counts the names given. The one slot holds the value.
+/// Word 0 is the lock, word 1 counts the numbers given. The only slot holds the value.
 pub(crate) type Board<T> = Table<
     Option<Kept<T>>,
     View<<T as Stands>::Opening>,
@@ -114,7 +114,7 @@ pub(crate) type Board<T> = Table<
     Global,
 >;
 
-/// The table as threads see it.
+/// The table as several threads share it.
 pub(crate) type SharedBoard<T> = Shared<
     Option<Kept<T>>,
     View<<T as Stands>::Opening>,
@@ -124,11 +124,11 @@ pub(crate) type SharedBoard<T> = Shared<
 
 pub(crate) type CallerSeat<T> = Seat<Option<Kept<T>>, View<<T as Stands>::Opening>>;
 
-/// The word of the lock: free, taken, or kept for one that waits.
+/// The word of the lock: free, taken, or kept for a caller that waits.
 pub(crate) const LOCK: usize = 0;
-/// The word of the names given.
+/// The word that counts the numbers given.
 pub(crate) const NAMES: usize = 1;
-/// The lock is anybody's.
+/// Anybody may take the lock.
 pub(crate) const FREE: u64 = 0;
 /// A seat is inside.
 pub(crate) const TAKEN: u64 = 1;

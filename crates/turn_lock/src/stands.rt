@@ -5,7 +5,7 @@ pub trait Stands {
     ghost use Rattle.std.specs.Prelude.{◌≡◌, List};
     ghost use Rattle.policy_types.specs.declared.entry.Entry.{Entry};
 
-    /// What the value was opened on. No value of it need ever be made.
+    /// What the value was opened on. No value of this type need ever be made.
     type Opening;
 
     // What this value was opened on, which no turn changes.

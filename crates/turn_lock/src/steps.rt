@@ -32,7 +32,7 @@ pub(crate) fn name<T: Stands>(board: &SharedBoard<T>, place: &mut CallerSeat<T>)
     board.fetch_add::<Names<T>>(place, NAMES, 1)
 }
 
-/// Take: where the lock's word is this one, the seat takes the value out; else nothing changes.
+/// Take: if the lock's word is this one, the seat takes the value out; else nothing changes.
 pub(crate) fn take<T: Stands>(
     board: &SharedBoard<T>,
     place: &mut CallerSeat<T>,
@@ -78,7 +78,7 @@ pub(crate) fn give<T: Stands, E: Appended, C: Turn<T>>(
     board.store::<HandsOn<T, E>>(place, LOCK, word);
 }
 
-/// Join: a seat takes another back, and looks whether the lists of both are beginnings of one history.
+/// Join: a seat takes another back, and checks that the lists of both are beginnings of one history.
 pub(crate) fn join<T: Stands>(
     board: &SharedBoard<T>,
     place: &mut CallerSeat<T>,

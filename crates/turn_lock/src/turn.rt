@@ -14,23 +14,23 @@ pub trait Turn<T: Stands> {
     // The entry that the call adds, by its caller and its answer.
     ghost entry: { Self → ℕ → Self.Answer → Entry };
 
-    // What the answer tells, by what the value was opened on and its history before the call.
+    // What the answer says, given what the value was opened on and its history before the call.
     ghost tells: { Self → T.Opening → List Entry → Self.Answer → Type 0 };
 
-    /// Does the call on the value, and answers.
+    /// Runs the call on the value, and returns its answer.
     fn run(self, value: &mut T, caller: u64) -> Self::Answer
         requires lent { (history : List Entry) × (seen : List Entry) × (made : List Entry) × IsLent T.stands (needs self) value.old caller history seen made }
         ensures stood { (history seen made : List Entry) → IsLent T.stands (needs self) value.old caller history seen made → T.stands value.new (history ++ entry self caller result ∷ []) }
         ensures opening { T.opening value.new ≡ T.opening value.old }
         ensures tells { (history seen made : List Entry) → IsLent T.stands (needs self) value.old caller history seen made → tells self (T.opening value.old) history result };
 
-    /// Whether the call is over so soon that others lose little by waiting for it. No contract rests on the answer.
+    /// Whether the call is over so soon that others lose little by waiting for it. No contract depends on the answer.
     fn is_brief(&self) -> bool {
         false
     }
 
-    /// Whether the call takes much less time than a wake-up, so that more of its like may pass who waits. No contract
-    /// rests on the answer.
+    /// Whether the call takes much less time than waking a thread, so that more calls of this kind may pass a caller
+    /// that waits. No contract depends on the answer.
     fn is_light(&self) -> bool {
         false
     }

@@ -18,10 +18,10 @@ use std::marker::{Brand, Model};
 use std::snapshot::Snapshot;
 use std::sync::Wait;
 
-/// A lock round a value, whose turns are one history. Contracts see which turnstile it is.
+/// A lock around a value, whose turns form one history. Contracts see which turnstile it is.
 pub struct Turnstile<T: Stands> {
     board: Board<T>,
-    /// Those that wait.
+    /// The callers that wait.
     queues: Queues,
 }
 
@@ -36,7 +36,7 @@ impl<T: Stands> Model for Turnstile<T> {
     ghost invariant = { λ t. IsBoard t.board.shared.table_id };
 }
 
-/// There was no memory. The value comes back.
+/// Memory was refused. The value comes back.
 #[derive(Drop)]
 pub struct NoRoom<T> {
     pub value: T,
@@ -46,7 +46,7 @@ pub struct NoRoom<T> {
 impl<T: Stands> Turnstile<T> {
     ghost use Rattle.turn_lock.specs.Passes.{PassFacts, all_shares, IsFirst, Enters, LeavesLock, TakesTurn, OwnsAll};
 
-    /// A turnstile round this value, and its first pass, which has all turns and all shares.
+    /// A turnstile around this value, and its first pass, which has all turns and all shares.
     pub fn new(alloc: Global, value: T) -> Result<(Turnstile<T>, Pass<T>), NoRoom<T>>
         requires { T.stands value [] }
         ensures ok { IfOk result (λ made. IsFirst (T.opening value) made.1 × (made.1.turnstile ≡ made.0)) }
@@ -81,7 +81,7 @@ impl<T: Stands> Turnstile<T> {
         }
     }
 
-    /// A new pass for another caller, with half of what this one has. It waits for nobody and takes no memory.
+    /// A new pass for another caller, with half of what this pass has. It waits for nobody and asks for no memory.
     pub fn enter(&self, pass: &mut Pass<T>) -> Pass<T>
         requires ours { pass.old.turnstile ≡ self.now }
         requires room { (3 ≤ pass.old.left) × (2 ≤ pass.old.shares) }
@@ -103,7 +103,7 @@ impl<T: Stands> Turnstile<T> {
         }
     }
 
-    /// Takes another pass back, with all that it has. It waits for nobody and takes no memory.
+    /// Takes another pass back, with all that it has. It waits for nobody and asks for no memory.
     pub fn leave(&self, gone: Pass<T>, pass: &mut Pass<T>)
         requires ours { (gone.turnstile ≡ self.now) × (pass.old.turnstile ≡ self.now) }
         ensures leaves { LeavesLock gone pass.old pass.new }
@@ -116,8 +116,8 @@ impl<T: Stands> Turnstile<T> {
         pass.shares += shares;
     }
 
-    /// Takes a turn: waits until nobody else is in one, runs the call on the value, and hands on. It takes no memory of
-    /// its own.
+    /// Takes a turn: waits until nobody else is in one, runs the call on the value, and hands the lock on. The
+    /// turnstile itself asks for no memory.
     pub fn turn<C: Turn<T>, R: Wait>(
         &self,
         rt: &R,
@@ -146,8 +146,8 @@ impl<T: Stands> Turnstile<T> {
         turned
     }
 
-    /// The value, where the pass has all shares: every other pass was taken back into it, and what it has seen is the whole
-    /// history. It waits for nobody.
+    /// The value, given the pass that has all shares: every other pass was taken back into it, and what it has seen
+    /// is the whole history. It waits for nobody.
     pub fn close(self, pass: Pass<T>) -> T
         requires ours { pass.turnstile ≡ self }
         requires all { pass.shares ≡ all_shares }
@@ -164,7 +164,7 @@ impl<T: Stands> Turnstile<T> {
     }
 }
 
-/// Runs the call on the value that is out with the seat, and hands on. Tells to whom.
+/// Runs the call on the value that is out with the seat, and hands the lock on. Returns to whom.
 fn serve<T: Stands, C: Turn<T>>(
     board: &SharedBoard<T>,
     queues: &Queues,

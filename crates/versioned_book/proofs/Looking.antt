@@ -64,7 +64,7 @@ module _ {V : Type 0} where
   rising-front low [] v h = tt
   rising-front low (x ∷ vs) v h = (h.0, rising-front x.0 vs v h.1)
 
-  -- what stands at the place that a key's entry tells are the key's older versions
+  -- what stands at the place that a key's entry states are the key's older versions
   pub older_read : (book : VersionedBook V) (sets : List (Setting V)) (key : ℕ) (chain : Chain V) → IsBookOf book sets → get nat_eq book.chains key ≡ Some chain
       → own_older key (slice_get (olders_in book.pasts) chain.past) ≡ older_of key (olders_in book.pasts)
   older_read book sets key chain h found =

@@ -37,7 +37,7 @@ not_there {X} key ps n h = by (slice_get ps n) refl
             let there : list_any (nat_eq key) (entry_keys ps) ≡ true = any-place key (entry_keys ps) n (key_there ps n p.0 p.1 e ∙ ap Some (eqb-true p.0 key is)) in cc
 
 module _ {V : Type 0} where
-  -- what an entry tells
+  -- what an entry states
   pub told_of : (o : Option (ℕ × Chain V)) (key n : ℕ) → place_by_entry o ≡ Some (key, n) → (chain : Chain V) × (o ≡ Some (key, chain)) × (chain.past ≡ n)
   told_of None key n h = cc
   told_of (Some e) key n h =
@@ -57,7 +57,7 @@ module _ {V : Type 0} where
             let both : Some (key, n) ≡ Some (key, m) = sym (tells n key i at) ∙ ap (λ k. place_by_entry (slice_get es k)) here ∙ tells m key j other in
             ap (λ x. x.1) (some_same (key, n) (key, m) both)
 
-    -- whether a key has a past is seen at the place that its entry tells
+    -- whether a key has a past is seen at the place that its entry states
     pub seen_there : (key : ℕ) (chain : Chain V) → lookup (nat_eq key) es ≡ Some chain → is_key key (slice_get places chain.past) ≡ list_any (nat_eq key) (entry_keys places)
     seen_there key chain found = by (list_any (nat_eq key) (entry_keys places)) refl
       where
@@ -201,7 +201,7 @@ module _ {V : Type 0} where
       apart false is = refl
       apart true is = let yes : nat_eq (suc j) (suc i) ≡ true = eq-eqb (suc j) (suc i) (ap suc (eqb-true j i is)) in cc
 
-  -- one older version more of an entry's key, and the place that it tells from then on
+  -- one older version more of an entry's key, and the place that it reports from then on
   pub told_after : (es : List (ℕ × Chain V)) (before after : List (ℕ × ℕ)) (key index : ℕ) (chain w : Chain V) → slice_get es index ≡ Some (key, chain)
       → AreWhereTold es before → PlacesAfter before after key index chain.past w.past → AreWhereTold (set_value_at es index w) after
   told_after es before after key index chain w entry tells step n k i at = by step

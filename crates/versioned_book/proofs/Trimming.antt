@@ -5,7 +5,7 @@ use Rattle.versioned_book.proofs.PastSteps.{older_at, older_in, olders-set, plac
 use Rattle.versioned_book.proofs.VersionSteps.{some_same}
 
 module _ {V : Type 0} (es : List (ℕ × Chain V)) (floor : ℕ) where
-  -- what a trim leaves of a past, behind which the newest version of its key stands
+  -- what a trim leaves of a past, after which the newest version of its key stands
   abbrev pub IsCut : ℕ × List (ℕ × V) → ℕ × List (ℕ × V) → Type 0
   IsCut past cut =
       (cut.0 ≡ past.0)

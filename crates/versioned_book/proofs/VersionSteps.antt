@@ -61,7 +61,7 @@ module _ {V : Type 0} where
   value_at-take p (suc i) low (v ∷ vs) e at past h =
       ap (λ o. or_else o (if nat_le v.0 p then Some v.1 else None)) (value_at-take p i v.0 vs e at past h.1)
 
-  -- the version at the end of a front is the value at any position from its own on
+  -- the version at the end of a prefix is the value at any position from its own on
   pub value_at-more : (p i : ℕ) (vs : List (ℕ × V)) (e : ℕ × V) → slice_get vs i ≡ Some e → e.0 ≤ p → value_at p (take (i + 1) vs) ≡ Some e.1
   value_at-more p i vs e at within =
       ap (value_at p) (take_more vs i e (slice_get_within vs i e at) ∙ ap (λ x. take i vs ++ x ∷ []) (get_or_from_slice_get vs i e e at))
@@ -102,7 +102,7 @@ module _ {V : Type 0} where
         by true rest = rest
         by false rest = refl
 
-    -- a version above the floor stays behind what a trim leaves
+    -- a version above the floor stays after what a trim leaves
     pub trimmed-push : (vs : List (ℕ × V)) (v : ℕ × V) → floor < v.0 → versions_from floor (vs ++ v ∷ []) ≡ versions_from floor vs ++ v ∷ []
     trimmed-push [] v h = refl
     trimmed-push (x ∷ vs) v h = trimmed_from-push x vs v h

@@ -15,7 +15,7 @@ module _ {V : Type 0} where
   abbrev pub kept_of : VersionedBook V → ℕ
   kept_of book = length book.chains.entries + older_total (olders_in book.pasts)
 
-  -- what is kept of a key, of which there may be nothing
+  -- what is kept of a key, which may be nothing
   abbrev pub kept_versions : List (ℕ × V) → Option (Chain V) → List (ℕ × V)
   kept_versions older None = []
   kept_versions older (Some chain) = older ++ newest chain ∷ []
@@ -39,15 +39,15 @@ module _ {V : Type 0} where
     pub told : AreWhereTold book.chains.entries (places_in book.pasts)
     pub few : length (places_in book.pasts) ≤ book.last
 
-  -- the book stands for some settings, as each book does that the calls have made
+  -- the book stands for some settings, which is true of each book that the calls have made
   abbrev pub IsSomeBook : VersionedBook V → Type 0
   IsSomeBook book = (sets : List (Setting V)) × IsBookOf book sets
 
-  -- the place is where its key stands among the keys of the book, if it is there
+  -- the place is that of the key among the keys of the book, if the key is there
   abbrev pub IsPlaceIn : VersionedBook V → KeyPlace → Type 0
   IsPlaceIn book place = place.index ≡ index_of nat_eq book.chains place.key
 
-  -- one more setting of this key needs no memory
+  -- one more setting of this key needs no further memory
   pub record CanSet (book : VersionedBook V) (key : ℕ) : Type 0 where
     pub fresh : get nat_eq book.chains key ≡ None → (0 < spare book.chains) × (vec_len book.firsts < vec_capacity book.firsts)
     pub more : (chain : Chain V) → get nat_eq book.chains key ≡ Some chain → HasPastRoom book.pasts key chain.past
@@ -56,6 +56,6 @@ IsRisingTo-prop : (low : ℕ) (qs : List ℕ) (last : ℕ) → IsProp (IsRisingT
 IsRisingTo-prop low [] last = Prim.hlevel props
 IsRisingTo-prop low (q ∷ qs) last = ×_prop (Prim.hlevel props) (IsRisingTo-prop q qs last)
 
--- that it does has one proof at most
+-- the property has at most one proof
 pub IsBookOf-prop : {V : Type 0} → IsSet V → (book : VersionedBook V) (sets : List (Setting V)) → IsProp (IsBookOf book sets)
 IsBookOf-prop is_set book sets = Prim.hlevel (props, is_set, IsRisingTo-prop)

@@ -10,7 +10,7 @@ abbrev pub is_key : {X : Type 0} → ℕ → Option (ℕ × X) → Bool
 is_key key None = false
 is_key key (Some past) = nat_eq past.0 key
 
--- the places once there is an older version more of a key, whose entry told a place and tells another
+-- the places after one more older version of a key, whose entry named one place and now names another
 abbrev pub PlacesAfter : List (ℕ × ℕ) → List (ℕ × ℕ) → ℕ → ℕ → ℕ → ℕ → Type 0
 PlacesAfter before after key index place now =
     ((after ≡ before) × (now ≡ place))
@@ -50,21 +50,21 @@ module _ {V : Type 0} where
     pub others : (k : ℕ) → nat_eq key k ≡ false → older_of k after ≡ older_of k before
     pub total : older_total after ≡ older_total before + 1
 
-  -- an entry's key, and the place that it tells
+  -- an entry's key, and the place that the entry names
   abbrev pub place_by_entry : Option (ℕ × Chain V) → Option (ℕ × ℕ)
   place_by_entry None = None
   place_by_entry (Some entry) = Some (entry.0, entry.1.past)
 
-  -- each past stands at the place that the entry of its key tells
+  -- each past is at the place that the entry of its key names
   abbrev pub AreWhereTold : List (ℕ × Chain V) → List (ℕ × ℕ) → Type 0
   AreWhereTold entries places = (n key index : ℕ) → slice_get places n ≡ Some (key, index) → place_by_entry (slice_get entries index) ≡ Some (key, n)
 
-  -- one older version more of the key needs no memory
+  -- one more older version of the key needs no further memory
   pub record HasPastRoom (pasts : Pasts V) (key place : ℕ) : Type 0 where
     pub own : (past : Past V) → slice_get pasts.list.items place ≡ Some past → nat_eq past.key key ≡ true → vec_len past.older < vec_capacity past.older
     pub fresh : is_key key (slice_get (places_in pasts) place) ≡ false → (vec_len pasts.list < vec_capacity pasts.list) × (0 < vec_capacity pasts.ready)
 
--- no key is equal to one after it
+-- no key is equal to a later one
 abbrev pub AreApart : List ℕ → Type 0
 AreApart [] = Unit {0}
 AreApart (key ∷ keys) = (list_any (nat_eq key) keys ≡ false) × AreApart keys

@@ -8,7 +8,7 @@ pub record Setting (V : Type 0) : Type 0 where
   pub position : ℕ
   pub value : V
 
--- the keys with this one, which goes last where it is new
+-- the keys with this one, which is added at the end if it is new
 abbrev pub with_key : List ℕ → ℕ → List ℕ
 with_key keys key = if list_any (nat_eq key) keys then keys else keys ++ key ∷ []
 
@@ -18,7 +18,7 @@ module _ {V : Type 0} where
   own key [] = []
   own key (s ∷ sets) = if nat_eq s.key key then (s.position, s.value) ∷ own key sets else own key sets
 
-  -- the keys, and behind them those of the settings that are new
+  -- the keys, and after them those of the settings that are new
   abbrev pub keys_after : List ℕ → List (Setting V) → List ℕ
   keys_after keys [] = keys
   keys_after keys (s ∷ sets) = keys_after (with_key keys s.key) sets

@@ -1,18 +1,18 @@
 -- A key's versions: the values that it took, each with its position, in the order of setting.
 use Rattle.std.specs.Prelude.{◌≡◌, ℕ, ◌+◌, ◌*◌, ◌^◌, ◌<◌, ◌≤◌, List, [], ◌∷◌, Option, None, Some, if◌then◌else◌, nat_le}
 
--- the positions rise, and stand above the first number and not above the last
+-- the positions rise; all are above the first number, and none is above the last
 abbrev pub IsRisingTo : ℕ → List ℕ → ℕ → Type 0
 IsRisingTo low [] last = low ≤ last
 IsRisingTo low (p ∷ ps) last = (low < p) × IsRisingTo p ps last
 
 module _ {V : Type 0} where
-  -- each position stands above the number and above the position before it
+  -- each position is above the number and above the position before it
   abbrev pub IsRising : ℕ → List (ℕ × V) → Type 0
   IsRising low [] = Unit {0}
   IsRising low (v ∷ vs) = (low < v.0) × IsRising v.0 vs
 
-  -- the first, where there is one, or else the second
+  -- the first, if there is one, or else the second
   abbrev pub or_else : Option V → Option V → Option V
   or_else (Some v) other = Some v
   or_else None other = other
@@ -32,7 +32,8 @@ module _ {V : Type 0} where
   newest_of [] = None
   newest_of (v ∷ vs) = or_else (newest_of vs) (Some v.1)
 
-  -- what is left of a version and those after it, once those are dropped whose successor's position isn't above the floor
+  -- what is left of a version and those after it, once each version is dropped whose successor's position isn't above
+  -- the floor
   abbrev pub trimmed_from : ℕ → (ℕ × V) → List (ℕ × V) → List (ℕ × V)
   trimmed_from floor v [] = v ∷ []
   trimmed_from floor v (w ∷ vs) = if nat_le w.0 floor then trimmed_from floor w vs else v ∷ w ∷ vs
@@ -42,6 +43,6 @@ module _ {V : Type 0} where
   versions_from floor [] = []
   versions_from floor (v ∷ vs) = trimmed_from floor v vs
 
--- a count of steps went on by so few that two to their number is at most twice n and one more
+-- a count of steps rose by so few that 2 to the power of their number is at most twice n, plus one
 abbrev pub AreFewSteps : ℕ → ℕ → ℕ → Type 0
 AreFewSteps before now n = (spent : ℕ) × (now ≡ before + spent) × (2 ^ spent ≤ 2 * n + 1)

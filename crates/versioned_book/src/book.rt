@@ -1,4 +1,4 @@
-// The book: a chain of versions for each key, in the order in which the keys were first set.
+// The book: a chain of versions for each key. The keys are in the order in which they were first set.
 ghost use Rattle.std.specs.Prelude.{◌≡◌, ℕ, ◌+◌, ◌<◌, ◌≤◌, [], ◌∷◌, ◌++◌, List, filter, length, min, nat_eq, nat_le, slice_get, Some, IfOk, OnOk, vec_len};
 ghost use Rattle.indexmap.specs.IndexMap.{keys, index_map_len};
 ghost use Rattle.versioned_book.specs.Books.{CanSet, IsBookOf, IsPlaceIn, IsSomeBook, kept_of};
@@ -15,7 +15,7 @@ use outside_io::Steps;
 use std::alloc::Global;
 use std::sync::ledger::Ledger;
 
-/// Values by key, with their past from the floor on.
+/// Values by key, with the past of each from the floor on.
 #[derive(Drop)]
 pub struct VersionedBook<V: Copy> {
     chains: IndexMap<u32, Chain<V>, KeyHashing>,
@@ -29,7 +29,7 @@ pub struct VersionedBook<V: Copy> {
 }
 
 impl<V: Copy> VersionedBook<V> {
-    /// A book with no keys and the floor 0. It takes no memory yet.
+    /// A book with no keys and the floor 0. It asks for no memory yet.
     pub fn new(alloc: Global) -> VersionedBook<V>
         ensures book { IsBookOf result [] }
         ensures floor { (result.floor ≡ 0) × (result.last ≡ 0) }
@@ -45,7 +45,7 @@ impl<V: Copy> VersionedBook<V> {
         }
     }
 
-    /// Where a key stands, or that it isn't there.
+    /// Where a key is in the book, or that it isn't there.
     pub fn place_of(&self, key: u32) -> KeyPlace
         ensures place { IsPlaceIn self.now result }
         ensures key { result.key ≡ key }
@@ -56,7 +56,7 @@ impl<V: Copy> VersionedBook<V> {
         }
     }
 
-    /// Makes room for one setting of the key. What the book holds stays, also on an error.
+    /// Takes the memory for one setting of the key. What the book holds stays, even after an error.
     pub fn reserve(&mut self, key: u32) -> Result<(), NoMemory>
         ensures room { OnOk result (CanSet self.new key) }
         ensures book { (sets : List (Setting V)) → IsBookOf self.old sets → IsBookOf self.new sets }
@@ -65,7 +65,7 @@ impl<V: Copy> VersionedBook<V> {
         self.reserve_at(self.place_of(key))
     }
 
-    /// The same of a key whose place is known. The key keeps it, also on an error.
+    /// The same for a key whose place is known. The key keeps its place, even after an error.
     pub fn reserve_at(&mut self, place: KeyPlace) -> Result<(), NoMemory>
         requires place { IsPlaceIn self.old place }
         ensures room { OnOk result (CanSet self.new place.key) }
@@ -85,7 +85,7 @@ impl<V: Copy> VersionedBook<V> {
         }
     }
 
-    /// Takes the memory for so many further keys at once, or none. What the book holds stays.
+    /// Takes the memory for `keys` further keys at once; if it is refused, for none. What the book holds stays.
     pub fn expect(&mut self, keys: u32)
         ensures book { (sets : List (Setting V)) → IsBookOf self.old sets → IsBookOf self.new sets }
         ensures floor { (self.new.floor ≡ self.old.floor) × (self.new.last ≡ self.old.last) }
@@ -95,7 +95,7 @@ impl<V: Copy> VersionedBook<V> {
         }
     }
 
-    /// Sets the value of a key, for which room was made, at a position above all before.
+    /// Sets the value of a key, for which memory was reserved, at a position above all earlier ones.
     pub fn set(&mut self, key: u32, position: u32, value: V)
         requires room { CanSet self.old key }
         requires rising { self.old.last < position }
@@ -106,7 +106,7 @@ impl<V: Copy> VersionedBook<V> {
         self.set_at(self.place_of(key), position, value);
     }
 
-    /// The same of a key whose place is known.
+    /// The same for a key whose place is known.
     pub fn set_at(&mut self, place: KeyPlace, position: u32, value: V)
         requires place { IsPlaceIn self.old place }
         requires room { CanSet self.old place.key }
@@ -142,7 +142,7 @@ impl<V: Copy> VersionedBook<V> {
         }
     }
 
-    /// A position above all before at which no key is set: it counts as the last.
+    /// Notes a position above all earlier ones at which no key is set; it then counts as the last position.
     pub fn pass(&mut self, position: u32)
         requires rising { self.old.last < position }
         ensures book { (sets : List (Setting V)) → IsBookOf self.old sets → IsBookOf self.new sets }
@@ -158,7 +158,7 @@ impl<V: Copy> VersionedBook<V> {
         self.newest_at(self.place_of(key))
     }
 
-    /// The same of a key whose place is known.
+    /// The newest value of a key whose place is known.
     pub fn newest_at(&self, place: KeyPlace) -> Option<V>
         requires { IsPlaceIn self.now place }
         ensures { (sets : List (Setting V)) → IsBookOf self.now sets → result ≡ newest_of (own place.key sets) }
@@ -172,7 +172,7 @@ impl<V: Copy> VersionedBook<V> {
         }
     }
 
-    /// How many keys were first set at or before a position, also below the floor.
+    /// How many keys were first set at or before a position, which may be below the floor.
     pub fn count_at(&self, p: u32) -> u32
         requires { IsSomeBook self.now }
         ensures { (sets : List (Setting V)) → IsBookOf self.now sets → result ≡ length (keys_of (until p sets)) }
@@ -180,8 +180,8 @@ impl<V: Copy> VersionedBook<V> {
         many_until(self.firsts.as_slice(), p) as u32
     }
 
-    /// The value of the index-th key at a position from the floor on, in few steps: two to their number is at most twice
-    /// the number of the key's kept versions and one more.
+    /// The value of the index-th key at a position from the floor on. It takes few steps: 2 to the power of their
+    /// number is at most twice the number of the key's kept versions, plus one.
     pub fn at<L: Ledger>(&self, index: u32, p: u32, steps: &mut Steps<L>) -> V
         requires stands { (sets : List (Setting V)) × IsBookOf self.now sets × (index < length (keys_of (until p sets))) }
         requires floor { self.now.floor ≤ p }
@@ -210,7 +210,7 @@ impl<V: Copy> VersionedBook<V> {
         self.kept
     }
 
-    /// Drops what no position from the floor on needs. A floor above the last position counts as that.
+    /// Drops what no position from the floor on needs. A floor above the last position counts as the last position.
     pub fn trim(&mut self, floor: u32)
         requires rising { self.old.floor ≤ floor }
         requires stands { IsSomeBook self.old }
@@ -226,13 +226,13 @@ impl<V: Copy> VersionedBook<V> {
         if self.kept as usize != self.chains.len() {
             return;
         }
-        // No older version is left, so what entries tell of pasts holds no more. Until then a past that was emptied keeps
-        // its place for its key's next version: 32 bytes, and a look of each trim.
+        // No older version is left, so the places that entries name mean nothing now. Until then a past that was
+        // emptied keeps its place for the key's next version: that costs 32 bytes, and one look in each trim.
         self.pasts.clear();
     }
 }
 
-// How many of rising positions are at or before p.
+// How many of these rising positions are at or before p.
 fn many_until(positions: &[u32], p: u32) -> usize
     requires { (last : ℕ) × IsRisingTo 0 positions.now last }
     ensures { result ≡ length (filter (λ first. nat_le first p) positions.now) }

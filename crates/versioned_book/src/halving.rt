@@ -1,4 +1,4 @@
-// A key's value at a position before its newest version, found by looks at its older ones.
+// A key's value at a position before its newest version, found by looking at some of its older versions.
 ghost use Rattle.std.specs.Prelude.{◌≡◌, length};
 ghost use Rattle.versioned_book.specs.Versions.{AreFewSteps, IsRising, value_at};
 
@@ -6,8 +6,8 @@ use crate::past::Past;
 use outside_io::Steps;
 use std::sync::ledger::Ledger;
 
-/// The value last set at or before a position. It takes few steps: two to their number is at most twice the number of
-/// versions and one more, since each look halves what is left.
+/// The value last set at or before a position. It takes few steps: 2 to the power of their number is at most twice
+/// the number of versions, plus one, since each look halves what is left.
 pub fn search<V: Copy, L: Ledger>(past: &Past<V>, p: u32, steps: &mut Steps<L>) -> Option<V>
     requires { IsRising 0 past.now.older.items }
     ensures value { result ≡ value_at p past.now.older.items }

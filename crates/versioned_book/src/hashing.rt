@@ -1,12 +1,13 @@
-// How keys are hashed. Keys are numbers that are mostly given in a row: so four neighbours stand side by side in the
-// map's index, and a key is looked up in memory that the one before it has just used. More than four would crowd there.
+// How keys are hashed. Keys are numbers that are mostly given in sequence. So four consecutive keys are neighbours in
+// the map's index, and a key is looked up in memory that the key before it has just used. More than four neighbours
+// would collide.
 ghost use Rattle.std.specs.Prelude.{◌≡◌, ◌+◌, ◌*◌, ◌/◌, ◌%◌, ◌^◌, bit_xor, fold};
 ghost use Rattle.versioned_book.specs.inside.Hashing.{spread};
 
 use std::hash::{BuildHasher, Hasher};
 
-/// A hasher of keys of four bytes, of which it knows those last written. It is fixed, as the kit's own hasher is: keys that
-/// are picked against either can make a map slow, and no answer wrong.
+/// A hasher of keys of four bytes; it uses the bytes written last. It is fixed, as the kit's own hasher is: keys
+/// chosen against it can make a map slow, but no answer wrong.
 #[derive(Clone, Copy)]
 pub struct KeyHasher {
     key: u32,
@@ -17,8 +18,8 @@ impl Hasher for KeyHasher {
 
     ghost finish = { λ h. bit_xor (spread (h.key / 4)) (h.key % 4 * 2 ^ 30) };
 
-    // The row of four in which a key is picks its place, and its number in the row is the highest bits of what the map
-    // keeps of a hash: these tell keys in one place apart.
+    // The group of four to which a key belongs picks its place in the index. Its number within the group becomes the
+    // highest bits of what the map keeps of a hash, which distinguish the keys in one place.
     #[inline(always)]
     fn finish(&self) -> u64 {
         spread((self.key / 4) as u64) ^ ((self.key % 4) as u64) * 0x4000_0000
@@ -33,7 +34,8 @@ impl Hasher for KeyHasher {
     }
 }
 
-// Rows that follow one another, or come at equal steps, lie far apart: a product by a fixed factor, and its halves joined.
+// Groups that follow one another, or come at equal steps, must lie far apart: the two halves of a product by a fixed
+// factor are joined by xor.
 #[inline(always)]
 fn spread(row: u64) -> u64
     ensures { result ≡ spread row }

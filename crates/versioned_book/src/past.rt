@@ -1,4 +1,5 @@
-// The older versions of the keys that have several. Nothing outside this file reads one but by a look, which is counted.
+// The older versions of the keys that have several. Code outside this file reads a version only by a look, which is
+// counted.
 ghost use Rattle.std.specs.Prelude.{◌≡◌, ℕ, ◌+◌, ◌^◌, ◌<◌, ◌≤◌, [], ◌∷◌, ◌++◌, drop, length, nat_eq, slice_get, Some, OnOk, vec_len, vec_capacity};
 ghost use Rattle.std.specs.List.{list_any};
 ghost use Rattle.std.specs.Map.{keys_of};
@@ -33,7 +34,7 @@ impl<V: Copy> Past<V> {
         self.older.len()
     }
 
-    /// The version at a place, the oldest at 0. It takes one step.
+    /// The version at an index, the oldest at 0. It takes one step.
     pub(crate) fn look<L: Ledger>(&self, i: usize, steps: &mut Steps<L>) -> (u32, V)
         requires { i < vec_len self.now.older }
         ensures version { slice_get self.now.older.items i ≡ Some result }
@@ -43,8 +44,8 @@ impl<V: Copy> Past<V> {
         self.older[i]
     }
 
-    // Drops the versions that no position from the floor on needs, behind which the newest stands, and says how many they
-    // were.
+    // Drops the versions that no position from the floor on needs, given the newest version, and returns how many
+    // there were.
     fn cut(&mut self, floor: u32, newest: (u32, V)) -> usize
         ensures place { (self.new.key ≡ self.old.key) × (self.new.index ≡ self.old.index) }
         ensures kept { versions_from floor (self.old.older.items ++ newest ∷ []) ≡ self.new.older.items ++ newest ∷ [] }
@@ -55,7 +56,7 @@ impl<V: Copy> Past<V> {
         count
     }
 
-    // How many of the oldest versions no position from the floor on needs.
+    // How many of the oldest versions are needed by no position from the floor on.
     fn unneeded(&self, floor: u32, newest: (u32, V)) -> usize
         ensures within { result ≤ vec_len self.now.older }
         ensures rest { versions_from floor (self.now.older.items ++ newest ∷ []) ≡ drop result (self.now.older.items ++ newest ∷ []) }
@@ -71,7 +72,8 @@ impl<V: Copy> Past<V> {
         count
     }
 
-    // The version at a place, where the newest is known. `unneeded` goes through the versions by it from the oldest on.
+    // The version at an index, or the newest one after the last. `unneeded` reads the versions by it, beginning with
+    // the oldest.
     fn version(&self, i: usize, newest: (u32, V)) -> (u32, V)
         requires { i ≤ vec_len self.now.older }
         ensures { slice_get (self.now.older.items ++ newest ∷ []) i ≡ Some result }
@@ -88,12 +90,12 @@ impl<V: Copy> Past<V> {
 #[derive(Drop)]
 pub struct Pasts<V: Copy> {
     list: Vec<Past<V>>,
-    // Room for the first older version of a key.
+    // Memory for the first older version of a key.
     ready: Vec<(u32, V)>,
 }
 
 impl<V: Copy> Pasts<V> {
-    /// No pasts. It takes no memory yet.
+    /// No pasts. It asks for no memory yet.
     pub(crate) fn new(alloc: Global) -> Pasts<V>
         ensures places { places_in result ≡ [] }
         ensures olders { olders_in result ≡ [] }
@@ -104,7 +106,8 @@ impl<V: Copy> Pasts<V> {
         }
     }
 
-    /// Makes room for one older version of the key whose entry tells this place. On an error all stays.
+    /// Takes the memory for one older version of the key whose entry names this place. After an error nothing has
+    /// changed.
     pub(crate) fn reserve(&mut self, key: u32, place: u32) -> Result<(), NoMemory>
         ensures places { places_in self.new ≡ places_in self.old }
         ensures olders { olders_in self.new ≡ olders_in self.old }
@@ -117,7 +120,8 @@ impl<V: Copy> Pasts<V> {
         reserve_exact(&mut self.ready, 1)
     }
 
-    /// Adds an older version of the key with this entry, which tells a place, and says the place from then on.
+    /// Adds an older version of the key whose entry names this place, and returns the place that the entry names from
+    /// then on.
     pub(crate) fn push(
         &mut self,
         alloc: Global,
@@ -145,8 +149,9 @@ impl<V: Copy> Pasts<V> {
         last
     }
 
-    /// The value that the key whose entry tells this place had last at or before a position, among its older versions. It
-    /// takes few steps: two to their number is at most twice the number of the older versions and one more.
+    /// The value that the key whose entry names this place had last at or before a position, among its older
+    /// versions. It takes few steps: 2 to the power of their number is at most twice the number of the older
+    /// versions, plus one.
     pub(crate) fn value_at<L: Ledger>(
         &self,
         key: u32,
@@ -165,7 +170,7 @@ impl<V: Copy> Pasts<V> {
         }
     }
 
-    /// Drops the versions that no position from the floor on needs, and says how many they were.
+    /// Drops the versions that no position from the floor on needs, and returns how many there were.
     pub(crate) fn cut(&mut self, chains: &IndexMap<u32, Chain<V>, KeyHashing>, floor: u32) -> u32
         requires told { AreWhereTold chains.now.entries (places_in self.old) }
         requires few { older_total (olders_in self.old) < 2 ^ 32 }
@@ -202,7 +207,7 @@ impl<V: Copy> Pasts<V> {
     }
 }
 
-// Makes room for one version more: just that much for a few, and a quarter more of many.
+// Takes the memory for one more version: for exactly one if there are few, and for a quarter more if there are many.
 fn reserve_one<V: Copy>(older: &mut Vec<(u32, V)>) -> Result<(), NoMemory>
     ensures items { older.new.items ≡ older.old.items }
     ensures room { OnOk result (vec_len older.new < vec_capacity older.new) }

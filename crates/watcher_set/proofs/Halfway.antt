@@ -1,4 +1,4 @@
--- A list that is gone through from its front: what holds on the way, and what that is at the end
+-- A list that is gone through from its start: what holds on the way, and what that is at the end
 use Rattle.std.proofs.Common.{◌≡◌, ℕ, zero, suc, ◌<◌, ◌≤◌, List, [], ◌∷◌, length, get_or, refl, sym, subst, arith}
 use Rattle.std.specs.Prelude.{slice_set}
 use Rattle.std.specs.List.{AllByRecursion, AllZip}

@@ -1,4 +1,4 @@
--- What one command more changes in what an auditor notes
+-- What one command more changes in what a watcher notes
 use Rattle.std.proofs.Common.{◌≡◌, ℕ, zero, suc, ◌<◌, Bool, true, false, List, [], ◌∷◌, ◌++◌, length, take, refl, ap, inl, inr, lit<, arith}
 use Rattle.std.specs.Prelude.{◌||◌, if◌then◌else◌}
 use Rattle.policy_types.specs.declared.command.Command.{Command}

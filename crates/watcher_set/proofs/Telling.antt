@@ -1,4 +1,4 @@
--- What the calls of one auditor, or of a whole round, mean for what has become of the auditors
+-- What the calls of one watcher, or of a whole round, mean for what has become of the watchers
 use Rattle.watcher_set.proofs.Names.{◌≡◌, ℕ, ◌+◌, ◌<◌, Bool, true, false, List, [], ◌∷◌, ◌++◌, length, length-append, map, refl, sym, ap, subst, ◌∙◌, arith, auditor_of, HasHeard, Listens, HasReported, HasSpareRoom, AreTold, MayBeTold, Stays, Hears, report_at}
 use Rattle.std.specs.List.{AllByRecursion, AllZip}
 use Rattle.policy_types.specs.declared.command.Command.{Command}
@@ -21,7 +21,7 @@ report_same a b f h same alike =
     ap (λ list. report_by (length list) (f list)) same ∙ ap (λ tally. report_by (length b) tally) (alike b)
 
 module _ {B : Type 0} (g : Ghosts B) where
-  -- what the call that readies one auditor leaves
+  -- what the call that readies one watcher leaves
   abbrev pub Readied : Place B → Place B → Type 0
   Readied old new = Stays g old new × HasSpareRoom g new
 
@@ -29,7 +29,7 @@ module _ {B : Type 0} (g : Ghosts B) where
   stays_same (Listening watcher) = (refl, refl, record { stops = λ list. refl; number = λ list. refl })
   stays_same (Reported report) = refl
 
-  -- positions are those right behind so many commands
+  -- positions are those directly after so many commands
   module _ (before : ℕ) where
     one_still : (commands : List Command) (auditor : Auditor) (old new : Place B) → HasHeard g before commands auditor old
         → Stays g old new → HasHeard g before commands auditor new
@@ -45,7 +45,7 @@ module _ {B : Type 0} (g : Ghosts B) where
     one_still commands auditor (Reported old) (Reported new) told stays =
         subst (λ report. HasReported g auditor commands report) (sym stays) told
 
-    -- what the test of an auditor that goes on says of the list with the next command
+    -- what the test of a watcher that goes on says of the list with the next command
     says : (commands : List Command) (command : Command) (auditor : Auditor) (watcher : B) (answer : Bool)
         → Listens g auditor before commands watcher → g.stops watcher (g.noted watcher ++ command ∷ []) ≡ answer
         → is_done auditor.stops (commands ++ command ∷ []) ≡ answer
@@ -109,7 +109,7 @@ module _ {B : Type 0} (g : Ghosts B) where
       each = AllZip-then (HasHeard g before commands) (Stays g) (HasHeard g before commands) (one_still commands) auditors old new told.each stay;
     }
 
-    -- a round that tells
+    -- a round that states
     pub AreTold-more : (commands : List Command) (command : Command) (position : ℕ) → position ≡ before + length commands + 1
         → (auditors : List Auditor) (old new : List (Place B)) → AreTold g before commands auditors old
         → AllZip (Hears g position command) old new → AreTold g before (commands ++ command ∷ []) auditors new
@@ -118,7 +118,7 @@ module _ {B : Type 0} (g : Ghosts B) where
           (one_more commands command position at) auditors old new told.each hear;
     }
 
-    -- each that goes on has noted what was told, so it may be told of the next
+    -- each that goes on has noted what was reported, so it may be reported of the next
     pub AreTold-next : (commands : List Command) (position : ℕ) → length commands < most_commands
         → position ≡ before + length commands + 1 → (auditors : List Auditor) (places : List (Place B))
         → AreTold g before commands auditors places → AllByRecursion (MayBeTold g position) places

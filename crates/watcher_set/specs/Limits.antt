@@ -1,4 +1,4 @@
--- How many auditors there may be
+-- How many watchers there may be
 use Rattle.std.specs.Prelude.{ℕ}
 
 abbrev pub most_watchers : ℕ

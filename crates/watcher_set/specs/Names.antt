@@ -1,4 +1,4 @@
--- The names from elsewhere that several rooms cite, passed on from one place. Declares nothing.
+-- The names from elsewhere that several modules cite, passed on from one place. Declares nothing.
 pub use Rattle.std.specs.List.{AllByRecursion, sum_by, AllZip}
 pub use Rattle.policy_types.specs.Limits.{most_commands}
 pub use Rattle.policy_types.specs.Valid.{IsValid}

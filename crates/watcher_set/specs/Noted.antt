@@ -1,8 +1,8 @@
--- What an auditor notes of the commands that it is told of, and the report that it gives of them
+-- What a watcher notes of the accepted commands, and the report that it gives of them
 use Rattle.std.specs.Prelude.{◌≡◌, ◌⊎◌, ℕ, ◌<◌, Bool, true, false, ◌||◌, if◌then◌else◌, List, [], ◌∷◌, ◌++◌, length, map, take}
 use Rattle.watcher_set.specs.Names.{Command, Report}
 
--- an auditor as it was handed in: of which lists it says that it is done, and its own number of a list
+-- a watcher as it was handed in: the lists after which it is done, and its own number for a list
 pub record Auditor : Type 0 where
   pub stops : List Command → Bool
   pub number : List Command → ℕ
@@ -18,8 +18,8 @@ abbrev pub is_done : (List Command → Bool) → List Command → Bool
 is_done stops [] = false
 is_done stops (command ∷ later) = stops (command ∷ []) || is_done (λ list. stops (command ∷ list)) later
 
--- The same by places: what is noted is a beginning of the commands. The test says done at none that is shorter, the empty one
--- aside, and it does so at what is noted, or no command is left
+-- The same by places: what is noted is a beginning of the commands. The watcher is done after no shorter one except
+-- the empty one, and it is done after what is noted, or no command is left
 pub record IsNoted (stops : List Command → Bool) (commands noted : List Command) : Type 0 where
   pub rest : List Command
   pub begins : commands ≡ noted ++ rest

@@ -2,7 +2,7 @@
 use Rattle.std.specs.Prelude.{ℕ, List}
 use Rattle.watcher_set.specs.Names.{sum_by, Command, Premium, Reinstate}
 
--- a premium when it is due, and those that are made up to put a policy in force again
+-- a premium that is due, and the premiums that are paid to put a policy in force again
 abbrev pub paid_by : Command → ℕ
 paid_by (Premium id day amount) = amount
 paid_by (Reinstate id day amount) = amount

@@ -1,4 +1,4 @@
--- What has become of the auditors that were handed in, each at its place
+-- What has become of the watchers that were handed in, each at its place
 use Rattle.std.specs.Prelude.{◌≡◌, ◌⊎◌, ℕ, ◌+◌, ◌≤◌, true, false, List, [], ◌∷◌, length}
 use Rattle.watcher_set.specs.Names.{AllByRecursion, AllZip, Command, Report, Ghosts}
 use Rattle.watcher_set.specs.Noted.{Auditor, is_done, report_of}
@@ -6,12 +6,12 @@ use Rattle.watcher_set.specs.declared.place.Place.{Place}
 use Rattle.watcher_set.specs.declared.place.Place.TheVariants.{Listening, Reported}
 
 module _ {B : Type 0} (g : Ghosts B) where
-  -- an auditor's test and its number, as they are now
+  -- a watcher's test and its number, as they are now
   abbrev pub auditor_of : B → Auditor
   auditor_of watcher = record { stops = g.stops watcher; number = g.number watcher }
 
-  -- One that goes on has noted all commands, which stand right behind so many others, and knows the position of the last.
-  -- It was done at none of them; its test and its number are what they were
+  -- A watcher that goes on has noted all these commands, whose positions are directly after so many others, and knows
+  -- the position of the last. It was done after none of them; its test and its number are what they were
   pub record Listens (auditor : Auditor) (before : ℕ) (commands : List Command) (watcher : B) : Type 0 where
     pub noted : g.noted watcher ≡ commands
     pub last : 1 ≤ length commands → g.last watcher ≡ before + length commands
@@ -19,7 +19,7 @@ module _ {B : Type 0} (g : Ghosts B) where
     pub stops : (list : List Command) → g.stops watcher list ≡ auditor.stops list
     pub number : (list : List Command) → g.number watcher list ≡ auditor.number list
 
-  -- one that was done is gone, and left the report of what it noted till then
+  -- a watcher that was done is gone, and left the report of what it noted until then
   pub record HasReported (auditor : Auditor) (commands : List Command) (report : Report) : Type 0 where
     pub done : is_done auditor.stops commands ≡ true
     pub left : report ≡ report_of commands auditor
@@ -33,12 +33,12 @@ module _ {B : Type 0} (g : Ghosts B) where
     where
       pub each : AllZip (HasHeard before commands) auditors places
 
-  -- there is room for one command more, if it goes on
+  -- if it goes on, it has capacity for one more command
   abbrev pub HasSpareRoom : Place B → Type 0
   HasSpareRoom (Listening watcher) = 1 ≤ g.spare watcher
   HasSpareRoom (Reported report) = Unit {0}
 
-  -- it goes on, and has room for no command
+  -- it goes on, and has no capacity for a command
   abbrev pub IsFull : Place B → Type 0
   IsFull (Listening watcher) = g.spare watcher ≡ 0
   IsFull (Reported report) = ⊥

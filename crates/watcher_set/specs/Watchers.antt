@@ -1,4 +1,4 @@
--- What contracts see of the auditors of this crate
+-- What contracts see of the watchers of this crate
 use Rattle.std.specs.Prelude.{ℕ, List}
 use Rattle.policy_types.specs.declared.command.Command.{Command}
 use Rattle.watcher_set.specs.declared.counting.CountWatcher.{CountWatcher}
@@ -21,6 +21,6 @@ premium_commands watcher = watcher.heard
 abbrev pub tight_commands : TightWatcher → List Command
 tight_commands watcher = watcher.noted.items
 
--- how many calls of `ready` there are up to the one without memory, with it; 0 where that is past
+-- how many calls of `ready` there are up to and with the one that finds no memory; 0 once that one is past
 abbrev pub calls_left_of : TightWatcher → ℕ
 calls_left_of watcher = watcher.calls_left

@@ -1,4 +1,4 @@
--- What auditors note and report of four commands, worked by hand. Day 18262 is 2020-01-01
+-- What watchers note and report of four commands, worked by hand. Day 18262 is 2020-01-01
 use Rattle.std.specs.Prelude.{◌≡◌, ◌==◌, true, false, List, [], ◌∷◌, length, pos}
 use Rattle.watcher_set.specs.Names.{Command, Issue, Premium, Reinstate, Settle}
 use Rattle.policy_types.specs.declared.command.Plan.TheVariants.{Endowment}

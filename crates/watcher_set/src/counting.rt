@@ -4,7 +4,7 @@ use crate::heard::Heard;
 use policy_types::{Attention, Command, NotReady, Report, Watcher};
 use std::snapshot::Snapshot;
 
-/// Counts the commands, and is done at its limit-th.
+/// Counts the commands, and is done when its count reaches the limit.
 #[derive(Drop)]
 pub struct CountWatcher {
     limit: u32,
@@ -37,7 +37,7 @@ impl Watcher for CountWatcher {
 
     ghost last = { λ watcher. watcher.last.value };
 
-    // A count takes no memory.
+    // Counting asks for no memory.
     ghost spare = { λ _. 1 };
 
     ghost stops = { λ watcher list. length list == watcher.limit };

@@ -5,7 +5,7 @@ use crate::reports::Reports;
 use crate::watching::Watching;
 use policy_types::Command;
 
-/// The set without auditors.
+/// The set without watchers.
 #[derive(Drop)]
 pub struct NoWatchers;
 

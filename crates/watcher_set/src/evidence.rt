@@ -1,13 +1,13 @@
 use memory_requests::NoMemory;
 
-/// Memory was wanting for what was asked: a request for it was refused, or an auditor who was asked had no room.
+/// Memory was refused: a request was refused, or a watcher has no capacity for one more command.
 #[derive(Clone, Copy, PartialEq, Eq, Debug)]
 pub struct Lack {
     wanting: (),
 }
 
 impl Lack {
-    /// An auditor had no room.
+    /// A watcher has no capacity for one more command.
     pub(crate) fn of_auditor() -> Lack {
         Lack { wanting: () }
     }

@@ -5,7 +5,7 @@ use std::marker::Model;
 use std::mem;
 use std::snapshot::Snapshot;
 
-/// What an auditor was told of, from its last command back to its first.
+/// What a watcher has noted, from its last command back to its first.
 #[derive(Drop)]
 enum Told {
     Nothing,
@@ -15,7 +15,8 @@ enum Told {
     },
 }
 
-/// The commands that an auditor noted, as contracts see them, in order. It has no bytes: the auditor keeps numbers alone.
+/// The commands that a watcher noted, as contracts see them, in order. It takes no bytes: the watcher keeps only
+/// numbers.
 #[derive(Drop)]
 pub(crate) struct Heard {
     told: Snapshot<Told>,

@@ -6,7 +6,7 @@ ghost use Rattle.watcher_set.specs.inside.Calls.{MayBeTold, Stays, Hears, report
 use crate::evidence::Lack;
 use policy_types::{Attention, Command, NotReady, Report, Watcher};
 
-/// The place of an auditor: itself while it goes on, then its report.
+/// The place of a watcher: the watcher while it goes on, and afterwards its report.
 #[derive(Drop)]
 pub enum Place<B> {
     Listening(B),
@@ -19,7 +19,7 @@ impl<B> Default for Place<B> {
     }
 }
 
-/// Readies the auditor, if it goes on. This fails only where the auditor has no room.
+/// Readies the watcher, if it goes on. This fails only if the watcher has no capacity for one more command.
 pub(crate) fn ready_place<B: Watcher>(place: &mut Place<B>) -> Result<(), Lack>
     ensures stays { Stays B.Watcher place.old place.new }
     ensures ok { OnOk result (HasSpareRoom B.Watcher place.new) }
@@ -34,7 +34,8 @@ pub(crate) fn ready_place<B: Watcher>(place: &mut Place<B>) -> Result<(), Lack>
     }
 }
 
-/// Tells the auditor, if it goes on, of the command at this position. One that is then done gives its report and is dropped.
+/// Notifies the watcher, if it goes on, of the command at this position. A watcher that is then done gives its report
+/// and is dropped.
 pub(crate) fn note_place<B: Watcher>(place: &mut Place<B>, position: u32, command: &Command)
     requires room { HasSpareRoom B.Watcher place.old }
     requires next { MayBeTold B.Watcher position place.old }
@@ -52,7 +53,7 @@ pub(crate) fn note_place<B: Watcher>(place: &mut Place<B>, position: u32, comman
     }
 }
 
-/// The report: the one that was kept, or else the one that the auditor gives now.
+/// The report: the one that was kept, or else the one that the watcher gives now.
 pub(crate) fn report_of<B: Watcher>(place: &Place<B>) -> Report
     ensures { result ≡ report_at B.Watcher place.now }
 {

@@ -40,7 +40,7 @@ impl Watcher for PremiumWatcher {
 
     ghost last = { λ watcher. watcher.last.value };
 
-    // Numbers take no memory.
+    // Adding numbers asks for no memory.
     ghost spare = { λ _. 1 };
 
     ghost stops = { λ _ _. false };

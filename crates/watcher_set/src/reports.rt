@@ -4,10 +4,10 @@ ghost use Rattle.watcher_set.specs.Limits.{most_watchers};
 use policy_types::Report;
 use std::marker::Model;
 
-/// The most auditors that a set may have.
+/// The most watchers that a set may have.
 pub const MOST_WATCHERS: usize = 16;
 
-/// What the auditors have to say at the end: at most 16 reports, which contracts see as a list.
+/// What the watchers report at the end: at most 16 reports, which contracts see as a list.
 #[derive(Drop)]
 pub struct Reports {
     items: [Report; MOST_WATCHERS],

@@ -9,7 +9,7 @@ use crate::place::{Place, note_place, ready_place, report_of};
 use crate::reports::Reports;
 use policy_types::{Command, Watcher};
 
-/// Readies each auditor that goes on. This fails only where one of them has no room.
+/// Readies each watcher that goes on. This fails only if one of them has no capacity for one more command.
 pub(crate) fn ready_all<B: Watcher>(places: &mut [Place<B>]) -> Result<(), Lack>
     ensures told { (before : ℕ) (commands : List ACommand) (auditors : List Auditor)
         → AreTold B.Watcher before commands auditors places.old → AreTold B.Watcher before commands auditors places.new }
@@ -22,7 +22,7 @@ pub(crate) fn ready_all<B: Watcher>(places: &mut [Place<B>]) -> Result<(), Lack>
     Ok(())
 }
 
-/// Tells each auditor that goes on of the command at this position.
+/// Notifies each watcher that goes on of the command at this position.
 pub(crate) fn note_all<B: Watcher>(places: &mut [Place<B>], position: u32, command: &Command)
     requires room { HaveRoom B.Watcher places.old }
     requires valid { IsValid command.now }

@@ -4,11 +4,12 @@ use policy_types::{Attention, Command, NotReady, Report, Watcher};
 use std::alloc::Global;
 use std::snapshot::Snapshot;
 
-/// Counts the commands, and is never done. It takes memory for one command at a time, and finds none at one of the calls
-/// that need some.
+/// Counts the commands, and is never done. It takes memory for one command at a time, and one of the calls that need
+/// memory is refused it.
 #[derive(Drop)]
 pub struct TightWatcher {
-    /// The calls that need memory up to the one that finds none. It is 0 where that one is past, or where there is none.
+    /// How many calls that need memory are left, up to and with the one that is refused it. It is 0 once that one is
+    /// past, or if there is none.
     calls_left: u32,
     noted: Vec<Command>,
     last: Snapshot<u32>,
@@ -18,8 +19,8 @@ pub struct TightWatcher {
 impl TightWatcher {
     ghost use Rattle.watcher_set.specs.Watchers.{tight_commands, calls_left_of};
 
-    /// It has noted nothing. Of the calls of `ready` that need memory the one of this number, counted from 1, finds none.
-    /// There is no call 0.
+    /// It has noted nothing. Among the calls of `ready` that need memory, the one with this number, counted from 1,
+    /// is refused it. No call has the number 0.
     pub fn new(alloc: Global, refuse_at: u32) -> TightWatcher
         ensures noted { tight_commands result ≡ [] }
         ensures calls { calls_left_of result ≡ refuse_at }
@@ -50,7 +51,7 @@ impl Watcher for TightWatcher {
         ensures err { OnErr result (vec_capacity self.new.noted - vec_len self.new.noted
             ≡ vec_capacity self.old.noted - vec_len self.old.noted) }
         ensures full { OnErr result (vec_capacity self.old.noted - vec_len self.old.noted ≡ 0) }
-        // The call that finds no memory.
+        // The call that is refused memory.
         ensures refused { vec_capacity self.old.noted - vec_len self.old.noted ≡ 0
             → self.old.calls_left ≡ 1 → IsErr result }
         ensures counted { vec_capacity self.old.noted - vec_len self.old.noted ≡ 0

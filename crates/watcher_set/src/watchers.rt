@@ -12,7 +12,8 @@ use arrayvec::ArrayVec;
 use policy_types::{Command, Watcher};
 use std::snapshot::Snapshot;
 
-/// Auditors of one type that were handed in: at most 16. A box of an auditor is one, so they can be of many types.
+/// Watchers of one type that were handed in: at most 16. A box of a watcher is a watcher, so they can be of many
+/// types.
 #[derive(Drop)]
 pub struct Watchers<B> {
     handed: Snapshot<Vec<B>>,
@@ -20,7 +21,7 @@ pub struct Watchers<B> {
 }
 
 impl<B: Watcher> Watchers<B> {
-    /// Auditors who have noted nothing: nobody was told of anything yet.
+    /// Watchers that have noted nothing.
     pub fn new(auditors: Vec<B>) -> Watchers<B>
         requires few { length auditors.items ≤ most_watchers }
         requires fresh { AllByRecursion (λ b. B.noted b ≡ []) auditors.items }

@@ -6,30 +6,31 @@ use crate::evidence::Lack;
 use crate::reports::Reports;
 use policy_types::Command;
 
-/// A set of auditors, who are told of each accepted command.
+/// A set of watchers, which are notified of each accepted command.
 pub trait Watching: Drop {
-    /// The auditors as they were handed in, in their order.
+    /// The watchers as they were handed in, in their order.
     ghost handed: { Self → List Auditor };
 
-    /// Since it was handed in it was told of these commands, in this order, each at its position: those right behind
-    /// so many.
+    /// Since the set was handed in, it was notified of these commands, in this order, each at its position: the
+    /// positions directly after `before` others.
     ghost told: { Self → ℕ → List ACommand → Type 0 };
 
-    /// Each auditor that is left has room for one command.
+    /// Each watcher that is left has capacity for one more command.
     ghost has_room: { Self → Type 0 };
 
-    /// One auditor that is left has room for no command.
+    /// One watcher that is left has no capacity for one more command.
     ghost is_full: { Self → Type 0 };
 
-    /// Makes room for one command. It fails only where an auditor has none, and then nobody was told of anything.
+    /// Makes the watchers ready for one command. It fails only if one of them has no capacity for it; then none was
+    /// notified.
     fn ready(&mut self) -> Result<(), Lack>
         ensures handed { handed self.new ≡ handed self.old }
         ensures told { (before : ℕ) (commands : List ACommand) → told self.old before commands → told self.new before commands }
         ensures ok { OnOk result (has_room self.new) }
         ensures full { OnErr result (is_full self.old) };
 
-    /// Tells each auditor that is left of the command at this position among all that were accepted, counted from 1: right
-    /// behind the last of which the set was told. It takes no memory.
+    /// Notifies each watcher that is left of the command at this position among all that were accepted, counted from
+    /// 1: the position directly after the last of which the set was notified. It asks for no memory.
     fn note(&mut self, position: u32, command: &Command)
         requires room { has_room self.old }
         requires valid { IsValid command.now }
@@ -39,7 +40,7 @@ pub trait Watching: Drop {
         ensures told { (before : ℕ) (commands : List ACommand) → told self.old before commands
             → position ≡ before + length commands + 1 → told self.new before (commands ++ command.now ∷ []) };
 
-    /// The reports, in the order in which the auditors were handed in.
+    /// The reports, in the order in which the watchers were handed in.
     fn finish(self) -> Reports
         ensures { (before : ℕ) (commands : List ACommand) → told self before commands
             → result ≡ reports_of (handed self) commands };

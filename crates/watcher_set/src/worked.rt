@@ -1,8 +1,8 @@
-//! Worked cases of what auditors note, each a theorem over the definitions alone.
+//! Worked cases of what watchers note, each a theorem over the definitions alone.
 
 ghost use Rattle.watcher_set.specs.Worked.{NotedToTheThird, SixteenAuditors, ThreeReports};
 
-/// Auditors of four commands: one is done at the third, one is never, one is not yet.
+/// Watchers of four commands: one is done at the third, one is never done, and one isn't done yet.
 pub fn auditors_of_four_commands()
     ensures noted { NotedToTheThird }
     ensures reports { ThreeReports }

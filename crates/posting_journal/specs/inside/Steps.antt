@@ -44,7 +44,7 @@ pub record AnswersOpening {D : Type 0} (g : Ghosts D) (old new : D) (result : Re
   pub made : g.honest new → IsUnfinished (g.reads old) → IfOk result (λ n. g.reads new ≡ empty_journal)
   pub refused : g.honest new → IfErr result (λ cause. ShowsWhy (g.reads old) cause)
 
--- A clean journal with these bodies, whose next body was written behind its last gate, and made safe or failed.
+-- A clean journal with these bodies, whose next body was written after its last gate, and made safe or failed.
 pub record StagesOn {D T E : Type 0} {g : Ghosts D} (old new : Journal D g) (bodies : List (List ℕ)) (body : List ℕ)
     (result : Result T E) : Type 0 where
   pub stands : StandsFor new bodies body

@@ -19,7 +19,7 @@ pub record HasUnopenedCause {D T : Type 0} (g : Ghosts D) (old new : D) (result 
   pub succeeded : OnOk result (g.faults new ≡ g.faults old)
   pub honesty : g.honest new → g.honest old
 
--- an open record that can't stand: its body or the gate behind it lies past the end, or it is one too many
+-- an open record that can't stand: its body or the gate after it lies past the end, or it is one too many
 abbrev pub CannotStand : List ℕ → ℕ → Type 0
 CannotStand bytes n = (length bytes ≤ gate_place (n + 1)) ⊎ (n ≡ most_records)
 

@@ -7,7 +7,7 @@ use Rattle.present_value.specs.declared.pair.Pair.{Pair}
 use Rattle.present_value.specs.declared.column.Stream.{Stream}
 use Rattle.present_value.specs.declared.column.Stream.TheVariants.{Insurance, Endowment, Annuity}
 
--- a year's benefits at this rate before the value is divided by the year, the next year's value being given
+-- a year's benefits at this rate, before the value is divided by the year, from the next year's value
 abbrev pub benefit_dividend : ℕ → ℕ → ℕ
 benefit_dividend rate later = 10000 * (rate * UNIT + (ONE - rate) * later)
 

@@ -2,7 +2,7 @@ use Rattle.std.specs.Prelude.{◌≡◌, ℕ, ◌+◌, ◌<◌, List, [], max, l
 use Rattle.rate_table.specs.Rates.{Rates, rate_at}
 use Rattle.select_rates.specs.Select.{Selected, AreSelected}
 
--- the rates of an issue age by duration: the select ones, and behind them the ultimate ones of the attained ages
+-- the rates of an issue age by duration: the select ones, and after them the ultimate ones of the attained ages
 pub record AreJoined (ultimate : Rates) (age : ℕ) (select : List ℕ) (rates : List ℕ) : Type 0 where
   pub count : age + length rates ≡ max (age + length select) (ultimate.first_age + length ultimate.rates)
   pub each : (k : ℕ) → k < length rates → slice_index rates k ≡ slice_index_or select k (rate_at ultimate (age + k))

@@ -20,7 +20,7 @@ module _ {O : Type 0} (legal : O → List Entry → Type 0) (opening : O) (histo
     pub whole : entries_of history page.0 ≡ page.1
     pub shown : entries_of seen page.0 ≡ page.1
 
-  -- a seat inside is the one that holds the lock, which is taken, and has seen the whole history
+  -- a seat that is inside holds the lock, which is taken, and has seen the whole history
   abbrev pub StageStands : ℕ → ℕ → ℕ → List Entry → Stage → Type 0
   StageStands lock holder seat seen Inside = (lock ≡ 1) × (holder ≡ seat) × (seen ≡ history)
   StageStands lock holder seat seen _ = Unit {0}
@@ -39,7 +39,8 @@ module _ {O : Type 0} (legal : O → List Entry → Type 0) (opening : O) (histo
     pub staged : StageStands lock holder seat v.seen v.stage
 
 module _ {T O : Type 0} (opens : T → O) (legal : O → List Entry → Type 0) (stands : T → List Entry → Type 0) (opening : O) where
-  -- out the slot is with the seat that holds the lock; at home the lock isn't taken, and the value stands for the history
+  -- when the slot is out, it is with the seat that holds the lock; when it is home, the lock isn't taken, and the
+  -- value stands for the history
   abbrev pub SlotStands : List Entry → ℕ → ℕ → List (View O) → maybe.Option (Option (Kept T)) → Type 0
   SlotStands history lock holder views maybe.Option.none = (v : View O) × (get_elem? views holder ≡ some v) × (v.stage ≡ Inside)
   SlotStands history lock holder views (maybe.Option.some None) = ⊥

@@ -1,4 +1,4 @@
--- The place of a key in the map's index, on which no other contract rests
+-- The place of a key in the map's index; no other contract depends on it
 use Rattle.std.specs.Prelude.{ℕ, ◌*◌, ◌/◌, ◌%◌, ◌^◌, bit_xor}
 
 -- the two halves of the 128 bits of a product by a fixed factor, joined by xor

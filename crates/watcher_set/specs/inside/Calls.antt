@@ -1,11 +1,11 @@
--- What the calls of one auditor do at its place
+-- What the calls of one watcher do at its place
 use Rattle.std.specs.Prelude.{◌≡◌, ℕ, ◌+◌, ◌<◌, ◌≤◌, true, false, List, [], ◌∷◌, ◌++◌, length}
 use Rattle.watcher_set.specs.Names.{Command, Report, most_commands, Ghosts}
 use Rattle.watcher_set.specs.declared.place.Place.{Place}
 use Rattle.watcher_set.specs.declared.place.Place.TheVariants.{Listening, Reported}
 
 module _ {B : Type 0} (g : Ghosts B) where
-  -- if it goes on, it has noted fewer commands than there may be, and this is the position behind the last of them
+  -- if it goes on, it has noted fewer commands than there may be, and this is the position after the last of them
   abbrev pub MayBeTold : ℕ → Place B → Type 0
   MayBeTold position (Listening watcher) =
       (length (g.noted watcher) < most_commands) × (1 ≤ position)
@@ -17,7 +17,7 @@ module _ {B : Type 0} (g : Ghosts B) where
     pub stops : (list : List Command) → g.stops new list ≡ g.stops old list
     pub number : (list : List Command) → g.number new list ≡ g.number old list
 
-  -- all stays but the room
+  -- nothing changes but the capacity
   abbrev pub Stays : Place B → Place B → Type 0
   Stays (Listening old) (Listening new) =
       (g.noted new ≡ g.noted old) × (g.last new ≡ g.last old) × SameAuditor old new
@@ -28,7 +28,7 @@ module _ {B : Type 0} (g : Ghosts B) where
   abbrev pub report_by : B → List Command → Report
   report_by watcher list = record { seen = length list; tally = g.number watcher list }
 
-  -- it notes the command at its position; where it is then done it leaves its report
+  -- it notes the command at its position; if it is then done, it leaves its report
   abbrev pub Hears : ℕ → Command → Place B → Place B → Type 0
   Hears position command (Listening old) (Listening new) =
       (g.noted new ≡ g.noted old ++ command ∷ []) × (g.last new ≡ position)
@@ -38,7 +38,7 @@ module _ {B : Type 0} (g : Ghosts B) where
   Hears position command (Reported old) (Reported new) = new ≡ old
   Hears position command (Reported old) (Listening new) = ⊥
 
-  -- the report that was kept, or the one that the auditor gives now
+  -- the report that was kept, or the one that the watcher gives now
   abbrev pub report_at : Place B → Report
   report_at (Listening watcher) = report_by watcher (g.noted watcher)
   report_at (Reported report) = report

@@ -1,4 +1,4 @@
--- The commands of which an auditor was told, in order
+-- The commands that a watcher has noted, in order
 use Rattle.std.specs.Prelude.{List, [], ◌∷◌, ◌++◌}
 use Rattle.policy_types.specs.declared.command.Command.{Command}
 use Rattle.watcher_set.specs.declared.heard.Told.{Told, Nothing, Of'}
