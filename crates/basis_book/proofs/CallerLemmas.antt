@@ -17,7 +17,7 @@ pub none_picked : (basis : List Dated) (issued : ℤ) (index : ℕ) (entry : Dat
 none_picked basis issued index entry all h =
     later_cannot_begin h.before h.after entry issued (subst (λ (xs : List Dated). All (λ (other : Dated). issued <ℤ other.from_day) xs) h.split all) h.begun
 
--- the second of two entries lies among those behind the first
+-- the second of two entries lies among those after the first
 second_later : (before : List Dated) (first : Dated) (after between : List Dated) (second : Dated) (rest : List Dated) → before ++ first ∷ after ≡ (before ++ first ∷ between) ++ second ∷ rest
     → (issued : ℤ) → All (λ (other : Dated). issued <ℤ other.from_day) after → second.from_day ≤ℤ issued → ⊥
 second_later before first after between second rest same issued later begun =

@@ -88,7 +88,7 @@ cut_at (g ∷ good) fields rest (x ∷ xs) h =
     let c = cut_at good fields rest xs h.1 in
     record { before = x ∷ c.before; row = c.row; after = c.after; split = ap (λ t. x ∷ t) c.split; right = (h.0, c.right); is_row = c.is_row }
 
--- what is wrong with a row behind right ones
+-- what is wrong with a row after right ones
 abbrev IsBad : List BasisRow → List (List ℕ) → Type 0
 IsBad before fields = (row : BasisRow) → IsRow fields row → ⊥
 
@@ -112,7 +112,7 @@ right_not_wrong good fields rest before found h k wrong =
           fall.2 (DaysRise-push before fall.0 k.rise (subst (λ (r : BasisRow). IsAfter before r.from_day) row (subst (λ xs. IsAfter xs c.row.from_day) same after)))
     ]
 
--- two wrong rows behind right ones are one row
+-- two wrong rows after right ones are one row
 one_stop : (rows : List (List (List ℕ))) (n m : ℕ) (W V : List BasisRow → List (List ℕ) → Type 0) (h : StopsAt rows n W) (k : StopsAt rows m V)
     → IsWrong h.before h.fields → IsWrong k.before k.fields → (n ≡ m) × ((h.fields ≡ k.fields) × (h.before ≡ k.before))
 one_stop rows n m W V h k w v =

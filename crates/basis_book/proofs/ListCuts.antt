@@ -1,4 +1,4 @@
--- Two cuts of a list are at one place, or the one lies in the front of the other.
+-- Two cuts of a list are at one place, or the one lies in the prefix of the other.
 use Rattle.std.proofs.Common.{◌≡◌, ◌⊎◌, inl, inr, List, [], ◌∷◌, ◌++◌, refl}
 
 abbrev pub Compares : {X : Type 0} → List X → X → List X → X → Type 0

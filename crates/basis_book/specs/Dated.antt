@@ -4,22 +4,22 @@ use Rattle.select_rates.specs.declared.any.AnyTable.{AnyTable}
 use Rattle.select_rates.specs.declared.any.AnyTable.TheVariants.{Aggregate}
 use Rattle.basis_book.specs.declared.row.BasisRow.{BasisRow}
 
--- from a day on: a table, and basis points
+-- what holds from a day on: a table, and basis points
 pub record Dated : Type 0 where
   pub from_day : ℤ
   pub table : AnyTable
   pub bp : ℕ
 
--- the row with its table, as the tables have it by its name
+-- the row together with its table, as the tables have it under its name
 abbrev pub dated : (List ℕ → Option AnyTable) → BasisRow → Dated
 dated table_of row = record { from_day = row.from_day; table = unwrap_or (table_of row.table) (Aggregate (record { first_age = 0; rates = [] })); bp = row.bp }
 
--- the rows have so many at most, each with at most 2000 basis points
+-- there are at most so many rows, each with at most 2000 basis points
 pub record AreBounded (rows : List BasisRow) : Type 0 where
   pub few : length rows ≤ 1000
   pub points : All (λ (row : BasisRow). row.bp ≤ 2000) rows
 
--- the n-th row is the first whose name isn't among the tables
+-- the n-th row is the first whose table isn't among the tables
 pub record IsFirstMissing (table_of : List ℕ → Option AnyTable) (rows : List BasisRow) (n : ℕ) : Type 0 where
   pub before : List BasisRow
   pub row : BasisRow

@@ -12,16 +12,16 @@ use Rattle.basis_book.specs.Rows.{AreRows, IsRowsFault}
 abbrev pub HasRows : List ℕ → List (List (List ℕ)) → Type 0
 HasRows bytes rows = AreRecords default_config st.StartRecord (strip_bom bytes) rows
 
--- the file is a right basis file, and these are its rows
+-- the file is a valid basis file, and these are its rows
 abbrev pub IsBasisFile : List ℕ → List BasisRow → Type 0
 IsBasisFile bytes found = (rows : List (List (List ℕ))) × HasRows bytes rows × (length rows ≤ 1000) × AreRows rows found
 
--- the file has this fault. Memory may always be refused.
+-- the file has this fault. Memory may be refused for any file.
 abbrev pub IsFileFault : List ℕ → BasisFault → Type 0
 IsFileFault bytes (NoMemory lack) = ⊤
 IsFileFault bytes fault = (rows : List (List (List ℕ))) × HasRows bytes rows × IsRowsFault rows fault
 
--- the one answer to a file, where memory isn't refused
+-- the only result for a file, if memory isn't refused
 abbrev pub IsBookAnswer : List ℕ → Result (List BasisRow) BasisFault → Type 0
 IsBookAnswer bytes (Ok found) = IsBasisFile bytes found
 IsBookAnswer bytes (Err (NoMemory lack)) = ⊥

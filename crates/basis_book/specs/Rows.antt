@@ -6,7 +6,7 @@ use Rattle.basis_book.specs.declared.fault.BasisFault.{BasisFault}
 use Rattle.basis_book.specs.declared.fault.BasisFault.TheVariants.{TooManyRows, BadBasisRow, NotRising, NoMemory}
 use Rattle.basis_book.specs.Row.{IsRow}
 
--- each day is after the one before
+-- each day is after the one before it
 abbrev pub DaysRise : List BasisRow → Type 0
 DaysRise [] = ⊤
 DaysRise (row ∷ []) = ⊤
@@ -23,7 +23,8 @@ pub record AreRows (rows : List (List (List ℕ))) (found : List BasisRow) : Typ
   pub each : AllZip IsRow rows found
   pub rise : DaysRise found
 
--- the rows before the n-th are right and these basis rows, and the n-th has these fields, with which this is wrong
+-- the rows before the n-th are valid and spell these basis rows, and the n-th row has these fields, which are wrong
+-- in this way
 pub record StopsAt (rows : List (List (List ℕ))) (n : ℕ) (IsWrong : List BasisRow → List (List ℕ) → Type 0) : Type 0 where
   pub before : List BasisRow
   pub fields : List (List ℕ)
@@ -41,8 +42,8 @@ pub record Falls (rows : List BasisRow) (day : ℤ) : Type 0 where
   pub split : rows ≡ before ++ last ∷ []
   pub falls : day ≤ℤ last.from_day
 
--- The fault of the rows: that they are more than 1,000 comes before all others, and then the first row that is no basis row,
--- or whose day isn't after the one before. Memory may always be refused.
+-- The fault of the rows. That there are more than 1,000 comes before all other faults; then comes the first row that
+-- is no basis row, or whose day isn't after the day before it. Memory may be refused for any rows.
 abbrev pub IsRowsFault : List (List (List ℕ)) → BasisFault → Type 0
 IsRowsFault rows TooManyRows = 1000 < length rows
 IsRowsFault rows (BadBasisRow n) =

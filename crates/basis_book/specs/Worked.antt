@@ -25,11 +25,11 @@ BadBasisRows = IsFileFault (codes "2000-01-01,q.xml,0\n2010-01-01,q.xml\n") (Bad
     × IsFileFault (codes "2000-01-01,q.xml,2001\n") (BadBasisRow 1)
     × IsFileFault (codes "2000-01-01,.xml,0\n") (BadBasisRow 1)
 
--- the same day again
+-- the same day twice
 abbrev pub FallingDays : Type 0
 FallingDays = IsFileFault (codes "2000-01-01,q.xml,0\n2010-01-01,q.xml,1\n2010-01-01,q.xml,2\n") (NotRising 3)
 
--- a thousand and one rows, of which each is bad, and a thousand
+-- a thousand and one rows, each of which is bad, and a thousand such rows
 abbrev pub ManyRows : Type 0
 ManyRows = IsRowsFault (replicate 1001 []) TooManyRows × (IsRowsFault (replicate 1000 []) TooManyRows → ⊥)
     × (IsRowsFault (replicate 1001 []) (BadBasisRow 1) → ⊥) × IsRowsFault (replicate 1000 []) (BadBasisRow 1)

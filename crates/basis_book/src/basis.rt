@@ -14,7 +14,8 @@ use std::marker::Model;
 pub struct Basis {
     rows: BasisRows,
     tables: IndexMap<String, AnyTable>,
-    /// For each row where its table stands among the tables. They lie here, since a basis is made without memory.
+    /// For each row, the index of its table among the tables. It is an array, since a basis is made without a request
+    /// for memory.
     places: ArrayVec<usize, MOST_ROWS>,
 }
 
@@ -55,8 +56,8 @@ impl Basis {
         })
     }
 
-    /// The place, counted from 0, the table and the basis points of the last row whose day isn't after
-    /// a day of issue.
+    /// For a day of issue, the last row whose day isn't after it: the row's place, counted from 0, its table and its
+    /// basis points.
     pub fn pick(&self, issued: i32) -> Option<(u16, &AnyTable, u16)>
         ensures picked { MatchOption result (All (λ entry. issued <ℤ entry.from_day) self.now)
             (λ p. (entry : Dated) × IsPicked self.now issued p.0 entry

@@ -5,9 +5,9 @@ use policy_types::NoMemory;
 pub enum BasisFault {
     /// There are more than 1,000 rows.
     TooManyRows,
-    /// The first row that doesn't fit.
+    /// This row is the first that isn't a basis row.
     BadBasisRow(u32),
-    /// The first row that doesn't fit, since its day isn't after that of the row before.
+    /// This row is the first that doesn't fit, since its day isn't after that of the row before it.
     NotRising(u32),
     /// Memory was refused.
     NoMemory(NoMemory),

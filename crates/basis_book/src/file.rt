@@ -20,13 +20,13 @@ use std::alloc::Global;
 /// The longest basis file that is read, in bytes.
 pub const LONGEST_FILE: usize = 4_194_304;
 
-/// The rows of a basis file, whose bytes these are.
+/// The rows of a basis file with these bytes.
 pub fn read_basis(alloc: Global, bytes: &[u8]) -> Result<BasisRows, BasisFault>
     requires { length bytes.now ≤ LONGEST_FILE }
     ensures rows { IfOk result (IsBasisFile bytes.now) }
     ensures bounded { IfOk result AreBounded }
     ensures faults { IfErr result (IsFileFault bytes.now) }
-    // Whatever answer is due is given, unless memory is refused.
+    // Whatever result is due is returned, unless memory is refused.
     ensures due { (answer : Result (List BasisRow) AFault)
         → IsBookAnswer bytes.now answer → GivesBook result answer }
 {
@@ -65,8 +65,8 @@ fn most_fields(bytes: &[u8]) -> usize
     bytes.iter().filter(|byte| **byte == b',').count() + 1
 }
 
-/// Reads all rows. One record serves for all of them,
-/// and has room for the fields of each from the start, so that it never grows to twice what is needed.
+/// Reads all rows. One record serves for all of them, and has the capacity for the fields of each from the start, so
+/// that it never grows to twice what is needed.
 fn judge_rows(alloc: Global, bytes: &[u8]) -> Result<Reading, NoMemory>
     requires { length bytes.now ≤ LONGEST_FILE }
     ensures { IfOk result (λ reading.

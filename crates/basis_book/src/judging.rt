@@ -48,7 +48,7 @@ fn is_after(rows: &[BasisRow], next: &BasisRow) -> bool
     last.from_day < next.from_day
 }
 
-/// Judges the next row, whose number, counted from 1, and fields these are.
+/// Judges the next row, given its number, counted from 1, and its fields.
 fn judge(
     alloc: Global,
     found: &mut Vec<BasisRow>,

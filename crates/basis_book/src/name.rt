@@ -46,7 +46,7 @@ fn is_name(bytes: &[u8]) -> bool
 }
 
 impl Name {
-    /// The name that the bytes are, or `None` where they are no name.
+    /// The name that the bytes spell, or `None` if they spell no name.
     pub fn of(alloc: Global, bytes: &[u8]) -> Result<Option<Name>, NoMemory>
         ensures { IfOk result (λ found.
             MatchOption found (IsName bytes.now → ⊥) (λ name. IsName bytes.now × (name ≡ bytes.now))) }

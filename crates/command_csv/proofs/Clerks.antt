@@ -32,7 +32,7 @@ one_first false line others = omega arith
 pub valuations-cons : (line : Line) (lines : List Line) → valuations_in (line ∷ lines) ≡ valuations_in (line ∷ []) + valuations_in lines
 valuations-cons line lines = one_first (is_valuation line) line (filter is_valuation lines)
 
--- a line that may stand behind so many valuations leaves no more than there may be
+-- a line that may stand after so many valuations leaves no more than there may be
 pub room_counted : (valued : ℕ) (line : Line) → valued ≤ most_valuations → MayStandBehind valued line → valued + valuations_in (line ∷ []) ≤ most_valuations
 room_counted valued (Post c) few h = omega (arith, few)
 room_counted valued (Value on at workers) few h = let room : valued < most_valuations = h refl in omega arith

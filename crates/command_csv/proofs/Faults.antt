@@ -3,7 +3,7 @@ use Rattle.command_csv.proofs.Names.{◌≡◌, ℕ, ◌+◌, ◌-◌, ◌≤◌
 use Rattle.command_csv.proofs.Clerks.{valuations-cons, room_first, room_behind}
 use Rattle.command_csv.proofs.OneReading.{one_entry}
 
--- so many valuations on these lines, behind others
+-- so many valuations on these lines, after others
 abbrev counted : ℕ → List ClerkLine → ℕ
 counted valued entries = valued + valuations_in (all_lines entries)
 

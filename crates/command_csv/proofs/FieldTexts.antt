@@ -5,7 +5,7 @@ use Rattle.std.proofs.lemmas.Option.{none-some}
 use Rattle.csv.specs.Records.{field_at}
 use Rattle.life_dates.proofs.TextLemmas.{IsDayText-day_text, day_text-only}
 
--- the field at a place, and those behind it
+-- the field at a place, and those after it
 field_some : (xs : List (List ℕ)) (i : ℕ) (text : List ℕ) → Some text ≡ field_at xs i → drop i xs ≡ text ∷ drop (suc i) xs
 unfolding field_at
 field_some [] i text e = absurd (none-some text (sym e))

@@ -254,7 +254,7 @@ judge_row valued =
     judge IsClerk decimal (λ clerk. KindForm valued) clerk_decides (row_possible valued) (λ x h. carries_all IsClerk decimal (KindForm valued) x)
     (λ x h. judge (KindMayStandBehind valued) kind_spelling form_of (kind_decides valued) (any_kind_possible valued) (λ k t. kind_carries valued k) (λ k t. judge_kind k))
 
--- behind so many valuations all rows are lines'
+-- after so many valuations all rows are lines'
 record Goes (valued : ℕ) (rows : List (List (List ℕ))) : Type 0 where
   entries : List ClerkLine
   right : AllZip IsLineRow rows entries

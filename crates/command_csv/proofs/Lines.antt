@@ -26,7 +26,7 @@ kind_of (Post c) = kind_in c
 kind_of (Value on at workers) = kind.Value
 kind_of Trim = kind.Trim
 
--- how many fields a line of a kind has behind the clerk's number
+-- how many fields a line of a kind has after the clerk's number
 abbrev pub size_of : Kind → ℕ
 size_of kind.Issue = 8
 size_of kind.Premium = 4
@@ -124,7 +124,7 @@ line_form valued Trim h room = then_is kind.Trim tt refl
 row_form : (valued : ℕ) (entry : ClerkLine) → IsClerkLine entry → MayStandBehind valued entry.line → RowForm valued (row_fields entry)
 row_form valued entry h room = then_is entry.clerk h.clerk_in (line_form valued entry.line h.right room)
 
--- the fields are those of a line that may stand behind so many valuations
+-- the fields are those of a line that may stand after so many valuations
 record IsBehind (valued : ℕ) (fields : List (List ℕ)) : Type 0 where
   line : Line
   right : IsScriptLine line

@@ -1,4 +1,4 @@
--- How far a script is read: these rows are behind, and these lines were on them
+-- How far a script is read: these rows are after, and these lines were on them
 use Rattle.command_csv.proofs.Names.{◌≡◌, ℕ, ◌+◌, List, [], ◌∷◌, ◌++◌, length, Option, Some, Bor, true, false, inl, Bool, ◌≤◌, ap, sym, ◌∙◌, append_assoc, length-append, arith, subst, AllZip, filter, map-append, Reached, ReadRecord, Ready, default_config, is_flexible, strip_bom, source_of, reader_config, reader_state, reader_trim, took_first, Line, Lane, rows_of, ClerkLine, IsLineRow, AreLineRows, IsFirstBadField, IsFirstScriptFault, Reads, is_valuation, valuations_in, all_lines, most_valuations, lanes_of, IsNextRow}
 use Rattle.std.specs.Prelude.{Result, IfOk}
 use Rattle.std.proofs.lemmas.List.Elements.{filter-append}
@@ -11,7 +11,7 @@ use Rattle.command_csv.specs.declared.fault.ScriptFault.{ScriptFault}
 use Rattle.command_csv.proofs.Clerks.{room_counted}
 use Rattle.command_csv.proofs.Records.{rows_begin, rows_end, rows_few}
 
--- the reader of rows stands behind these rows, each of which is a line's
+-- the reader of rows stands after these rows, each of which is a line's
 pub record IsReadTo (bytes : List ℕ) (rows : Reader (Bor (List ℕ))) (count valuations : ℕ) (entries : List ClerkLine) : Type 0 where
   pub plain : reader_trim rows ≡ trim.None
   pub ready : Ready rows
@@ -96,7 +96,7 @@ pub few_valued : (bytes : List ℕ) (old : Reader (Bor (List ℕ))) (count valua
 few_valued bytes old count valuations share entries row entry h is shared =
     omega (arith, room_counted valuations entry.line (omega (arith, h.valued, h.right.few)) is.room, shared)
 
--- the row behind those that are right is the first fault
+-- the row after those that are right is the first fault
 pub row_faulty : (bytes : List ℕ) (old new : Reader (Bor (List ℕ))) (count valuations field : ℕ) (entries : List ClerkLine) (row : List (List ℕ)) → IsReadTo bytes old count valuations entries → ReadRecord left_in old new true row
     → IsFirstBadField valuations row field → IsFirstScriptFault bytes (count + 1) field
 row_faulty bytes old new count valuations field entries row h r bad =

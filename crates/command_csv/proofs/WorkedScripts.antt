@@ -62,14 +62,14 @@ pub rows_again : (n : ℕ) (row : List (List ℕ)) (entry : ClerkLine) → IsLin
 rows_again zero row entry h = tt
 rows_again (suc n) row entry h = (h, rows_again n row entry h)
 
--- rows, and others behind them
+-- rows, and others after them
 pub rows_both : (rows others : List (List (List ℕ))) (entries more : List ClerkLine) → AllZip IsLineRow rows entries → AllZip IsLineRow others more → AllZip IsLineRow (rows ++ others) (entries ++ more)
 rows_both [] others [] more h g = g
 rows_both [] others (e ∷ es) more h g = absurd h
 rows_both (x ∷ xs) others [] more h g = absurd h
 rows_both (x ∷ xs) others (e ∷ es) more h g = (h.0, rows_both xs others es more h.1 g)
 
--- a valuation behind as many as there may be
+-- a valuation after as many as there may be
 pub no_room : (clerk : ℕ) (rest : List (List ℕ)) → IsClerk clerk → IsFirstBadField most_valuations (decimal clerk ∷ codes "value" ∷ rest) 2
 no_room clerk rest clerk_in =
     bad_field most_valuations (decimal clerk ∷ codes "value" ∷ rest) 1 2 refl

@@ -1,4 +1,4 @@
--- How a clerk's line is written: the fields of its row
+-- How a line of a script is written: the fields of its row
 use Rattle.std.specs.Prelude.{ℕ, List, [], ◌∷◌, codes, decimal}
 use Rattle.policy_types.specs.Valid.{id_of}
 use Rattle.policy_types.specs.Words.{kind_word}
@@ -6,13 +6,13 @@ use Rattle.text_lines.specs.Fields.{entry_fields}
 use Rattle.command_csv.specs.Names.{Upgrade, Now, Position, Line, Post, Value, Trim, day_text}
 use Rattle.command_csv.specs.declared.row.ClerkLine.{ClerkLine}
 
--- a line of clerk 1
+-- a line of lane 1
 abbrev pub by_first : Line → ClerkLine
 by_first line = record { clerk = 1; line = line }
 
--- The fields of a line behind the clerk's number. Of a posting these are the kind, and where the command names a policy, its
--- number, the day, and what else it holds: whole numbers without leading zeros, days as YYYY-MM-DD, amounts with a point and
--- two digits. Of a valuation they are the day, the position and the workers.
+-- The fields of a line after the lane's number. For a posting these are the kind, the policy's number if the command
+-- names a policy, the day, and the rest of the command: whole numbers without leading zeros, days as YYYY-MM-DD,
+-- amounts with a point and two digits. For a valuation they are the day, the position and the workers.
 abbrev pub line_fields : Line → List (List ℕ)
 line_fields (Post Upgrade) = codes "upgrade" ∷ []
 line_fields (Post command) = kind_word command ∷ decimal (id_of command) ∷ entry_fields command
@@ -20,6 +20,6 @@ line_fields (Value on at workers) =
     codes "value" ∷ day_text on ∷ elim at [ Now ↦ codes "now" | Position n ↦ decimal n ] ∷ decimal workers ∷ []
 line_fields Trim = codes "trim" ∷ []
 
--- the fields of a row: the clerk's number before those of the line
+-- the fields of a row: the lane's number, and then those of the line
 abbrev pub row_fields : ClerkLine → List (List ℕ)
 row_fields entry = decimal entry.clerk ∷ line_fields entry.line

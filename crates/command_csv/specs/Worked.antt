@@ -1,11 +1,11 @@
--- Scripts, and what they say: each kind of line as a clerk writes it, and some first faults
+-- Scripts, and how they are read: each kind of line as a script has it, and some first faults
 use Rattle.std.specs.Prelude.{ℕ, List, [], ◌∷◌, ◌++◌, pos, codes, replicate}
 use Rattle.command_csv.specs.Names.{flat_map, Now, Position, Line, Post, Value, Trim, Issue, Premium, Alter, Lapse, Reinstate, Claim, Settle, Mature, PaidUp, Upgrade}
 use Rattle.policy_types.specs.declared.command.Plan.TheVariants.{Endowment}
 use Rattle.command_csv.specs.Reads.{Reads, IsFirstScriptFault}
 use Rattle.command_csv.specs.inside.Words.{lane_of}
 
--- the script says these lines, all of clerk 1
+-- the script is read as these lines, all of lane 1
 abbrev pub SaysLines : List ℕ → List Line → Type 0
 SaysLines script lines = Reads script (lane_of 1 lines)
 
@@ -55,22 +55,23 @@ abbrev pub OddScript : Type 0
 OddScript = SaysLines (239 ∷ 187 ∷ 191 ∷ codes "\"1\",\"lapse\",7001,2022-02-02\r\n\r\n1,claim,7001,\"2022-12-31\"\r1,lapse,7002,2022-02-02\n")
     (Post (Lapse 7001 (pos 19025)) ∷ Post (Claim 7001 (pos 19357)) ∷ Post (Lapse 7002 (pos 19025)) ∷ [])
 
--- three clerks, one among the others, and the last one first: the lanes stand by number, and each has its rows in order
+-- lines of three lanes, mixed, and those of the last lane first: the lanes are in the order of their numbers, and
+-- each has its lines in order
 abbrev pub ThreeClerks : Type 0
 ThreeClerks = Reads (codes "8,trim\n3,lapse,7001,2022-02-02\n1,claim,7002,2022-12-31\n3,trim\n8,value,2020-01-01,now,64\n1,lapse,7003,2022-02-02\n")
     (record { number = 1; lines = Post (Claim 7002 (pos 19357)) ∷ Post (Lapse 7003 (pos 19025)) ∷ [] }
     ∷ record { number = 3; lines = Post (Lapse 7001 (pos 19025)) ∷ Trim ∷ [] }
     ∷ record { number = 8; lines = Trim ∷ Value (pos 18262) Now 64 ∷ [] } ∷ [])
 
--- clerk 9 isn't one
+-- there is no lane 9
 abbrev pub NoClerk : Type 0
 NoClerk = IsFirstScriptFault (codes "9,lapse,1,2020-01-01") 1 1
 
--- nor is clerk 0
+-- nor a lane 0
 abbrev pub NoClerkBefore : Type 0
 NoClerkBefore = IsFirstScriptFault (codes "8,trim\n0,trim") 2 1
 
--- the clerk is judged before the kind
+-- the lane is checked before the kind
 abbrev pub NoClerkNorKind : Type 0
 NoClerkNorKind = IsFirstScriptFault (codes "9,lapsed") 1 1
 
@@ -82,7 +83,7 @@ NoDay = IsFirstScriptFault (codes "\n1,lapse,1,2020-01-01\n\n1,lapse,1\n") 2 4
 abbrev pub OneTooMany : Type 0
 OneTooMany = IsFirstScriptFault (codes "1,lapse,1,2020-01-01,\n") 1 5
 
--- a trim has no third field, be it empty
+-- a trim has no third field, not even an empty one
 abbrev pub TrimOfSomething : Type 0
 TrimOfSomething = IsFirstScriptFault (codes "1,trim,") 1 3
 
@@ -90,14 +91,14 @@ TrimOfSomething = IsFirstScriptFault (codes "1,trim,") 1 3
 abbrev pub NoWorkers : Type 0
 NoWorkers = IsFirstScriptFault (codes "1,value,2021-01-01,now") 1 5
 
--- sixteen valuations, the half of them by clerk 1 and the half by clerk 8
+-- sixteen valuations, half of them in lane 1 and half in lane 8
 abbrev pub sixteen : List ℕ
 sixteen = flat_map (λ row. row) (replicate 8 (codes "1,value,2020-01-01,now,1\n") ++ replicate 8 (codes "8,value,2020-01-01,now,1\n"))
 
--- a seventeenth doesn't fit in its kind, whoever's it is
+-- a seventeenth valuation doesn't fit at its kind, in whichever lane it is
 abbrev pub OneValuationTooMany : Type 0
 OneValuationTooMany = IsFirstScriptFault (sixteen ++ codes "5,value,2020-01-01,now,1\n") 17 2
 
--- but for a clerk that isn't one, who doesn't fit before
+-- except in a lane that doesn't exist, where the lane's number is what doesn't fit
 abbrev pub OneTooManyOfNoClerk : Type 0
 OneTooManyOfNoClerk = IsFirstScriptFault (sixteen ++ codes "9,value,2020-01-01,now,1\n") 17 1

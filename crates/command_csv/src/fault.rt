@@ -3,7 +3,7 @@ ghost use Rattle.command_csv.specs.declared.fault.ScriptFault.TheVariants as fau
 
 use policy_types::NoMemory;
 
-/// Why a script isn't read.
+/// Why a script wasn't read.
 #[derive(Clone, Copy, PartialEq, Eq, Debug)]
 pub enum ScriptFault {
     /// The first row, counted from 1, that is no line, and its first field, counted from 1, that doesn't fit.

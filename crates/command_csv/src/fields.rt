@@ -1,4 +1,4 @@
-// The next field of a row, where it is what it has to be.
+// The next field of a row, if it is what has to come.
 ghost use Rattle.std.specs.Prelude.{◌≡◌, ◌≢◌, ℕ, ℤ, ◌≤◌, ◌<◌, ◌+◌, ◌∷◌, [], ⊤, take, decimal, ◌↔◌, IsTrue, IfSome, IfNone};
 ghost use Rattle.command_csv.specs.Names.{fields_of, IsId, IsCommandDay, IsAmount, IsReinstatement, IsIssueAge, AreYears, APosition, day_text, cents_text, plan_word, APlan};
 ghost use Rattle.command_csv.specs.declared.kind.Kind.{Kind as AKind};
@@ -14,18 +14,18 @@ use policy_types::{
     are_years,
 };
 
-/// The clerks are numbered from 1 to this.
+/// The lanes are numbered from 1 to this.
 pub const LAST_LANE: u8 = 8;
-/// A script asks for so many valuations at most.
+/// The most valuations that a script may ask for.
 const MOST_VALUATIONS: u32 = 16;
-/// A valuation is split among so many workers at most.
+/// The most workers among which a valuation may be split.
 const MOST_WORKERS: u64 = 64;
 
 /// A row that is read field by field.
 #[derive(Drop)]
 pub struct LineFields<'a> {
     pub row: &'a ByteRecord,
-    /// How many fields were asked for; so the last of them is the one of this number.
+    /// How many fields were asked for, which is also the number of the last of them.
     pub asked: u32,
 }
 
@@ -51,7 +51,7 @@ impl<'a> LineFields<'a> {
         field
     }
 
-    /// The number of the clerk whose line it is.
+    /// The number of the line's lane.
     pub fn clerk(&mut self) -> Option<u8>
         requires few { self.old.asked < 16 }
         ensures some { IfSome result (λ clerk. Took (IsClerk clerk) (decimal clerk) self.old self.new) }
@@ -61,7 +61,7 @@ impl<'a> LineFields<'a> {
         if clerk == 0 { None } else { Some(clerk as u8) }
     }
 
-    /// The kind of a line behind so many valuations.
+    /// The kind of a line that comes after so many valuations.
     pub fn kind(&mut self, valuations: u32) -> Option<Kind>
         requires few { self.old.asked < 16 }
         ensures some { IfSome result (λ kind. Took (KindMayStandBehind valuations kind) (kind_spelling kind) self.old self.new) }
@@ -195,7 +195,7 @@ fn plan_of(word: &[u8]) -> Option<Plan>
     }
 }
 
-// Whether a line of the kind may stand behind so many valuations.
+// Whether a line of the kind may stand after so many valuations.
 fn may_follow(valuations: u32, kind: Kind) -> bool
     ensures { IsTrue result ↔ KindMayStandBehind valuations kind }
 {

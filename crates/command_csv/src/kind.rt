@@ -2,7 +2,7 @@ ghost use Rattle.std.specs.Prelude.{◌≡◌, ◌≢◌, IfSome, IfNone};
 ghost use Rattle.command_csv.specs.inside.Forms.{kind_spelling};
 ghost use Rattle.command_csv.specs.declared.kind.Kind.{Kind as AKind};
 
-/// The kinds of line.
+/// The kinds of lines.
 #[derive(Clone, Copy, PartialEq, Eq, Debug)]
 pub enum Kind {
     Issue,
@@ -19,7 +19,7 @@ pub enum Kind {
     Trim,
 }
 
-/// The kind of this word.
+/// The kind with this word.
 pub fn kind_of(word: &[u8]) -> Option<Kind>
     ensures some { IfSome result (λ kind. word.now ≡ kind_spelling kind) }
     ensures none { IfNone result ((kind : AKind) → word.now ≢ kind_spelling kind) }

@@ -1,4 +1,4 @@
-//! The reader of clerks' scripts: the rows of a script, and the lines that they spell.
+//! The reader of scripts: the rows of a script, and the lines that they spell.
 #![tactic(auto)]
 
 mod fault;

@@ -1,4 +1,4 @@
-// The fields behind the kind of a line.
+// The fields after the kind of a line.
 ghost use Rattle.std.specs.Prelude.{◌≡◌, IfSome, IfNone};
 ghost use Rattle.command_csv.specs.declared.kind.Kind.TheVariants.{Issue, Premium, Alter, Lapse, Reinstate, Claim, Settle, Mature, PaidUp, Value};
 ghost use Rattle.command_csv.specs.inside.Forms.{form_of};
@@ -9,7 +9,7 @@ use crate::kind::Kind;
 use policy_types::{Command, Line};
 
 impl LineFields<'_> {
-    /// The line of a kind, which stands behind the kind's word.
+    /// The line of a kind, from the fields after the kind's word.
     pub fn of_kind(&mut self, kind: Kind) -> Option<Line>
         requires head { self.old.asked ≡ 2 }
         ensures some { IfSome result (HoldsLine kind self.old self.new) }

@@ -16,13 +16,17 @@ use memory_requests::{next_row, push, rows_of};
 use policy_types::{Lane, Line, Lines, Script};
 use std::alloc::Global;
 
-/// Reads a script of at most 16 MiB: the lanes of the clerks with their lines, or the first row and field that don't
-/// fit. Memory is taken for one row at a time and for the lines, twice while they are dealt out to the lanes.
+/// Reads a script of at most 16 MiB: its lanes with their lines. Memory is asked for one row at a time and for the
+/// lines, twice for these while they are distributed to the lanes.
+///
+/// # Errors
+///
+/// The first row, and its first field, that don't fit; or that memory was refused.
 pub fn read_script(alloc: Global, bytes: &[u8]) -> Result<Script, ScriptFault>
     requires { length bytes.now ≤ 16777216 }
     ensures ok { IfOk result (Reads bytes.now) }
     ensures fault { IfErr result (HasScriptCause bytes.now) }
-    // Whatever answer is due is given, unless memory is refused.
+    // Whatever result is due is returned, unless memory is refused.
     ensures due { (answer : Result (List ALane) AFault) → IsScriptAnswer bytes.now answer
         → GivesScript result answer }
 {
@@ -73,7 +77,7 @@ fn valuations_of(line: &Line) -> u32
     }
 }
 
-// The script of all clerks.
+// The script with all lanes.
 fn script_of(alloc: Global, entries: &[ClerkLine]) -> Result<Script, ScriptFault>
     ensures ok { IfOk result (λ script. script ≡ lanes_up_to last_lane entries.now) }
     ensures fault { IfErr result (λ fault. fault ≡ (ScriptFault.NoMemory a_refusal)) }
@@ -95,7 +99,7 @@ fn script_of(alloc: Global, entries: &[ClerkLine]) -> Result<Script, ScriptFault
     Ok(Script::new(lanes))
 }
 
-// A clerk's lines.
+// A lane's lines.
 fn lines_of(alloc: Global, entries: &[ClerkLine], clerk: u8) -> Result<Vec<Line>, ScriptFault>
     ensures ok { IfOk result (λ lines. lines.items ≡ lines_among clerk entries.now) }
     ensures fault { IfErr result (λ fault. fault ≡ (ScriptFault.NoMemory a_refusal)) }

@@ -8,14 +8,15 @@ use crate::fields::LineFields;
 use csv::ByteRecord;
 use policy_types::Line;
 
-/// A line, and the number of the clerk whose line it is.
+/// A line, and the number of its lane.
 #[derive(Clone, Copy)]
 pub struct ClerkLine {
     pub clerk: u8,
     pub line: Line,
 }
 
-/// The line of a row behind so many valuations, or the place, counted from 1, of the first field that doesn't fit.
+/// The line of a row that comes after so many valuations, or the place, counted from 1, of the first field that
+/// doesn't fit.
 pub fn read_row(row: &ByteRecord, valuations: u32) -> Result<ClerkLine, u32>
     ensures ok { IfOk result (IsNextRow valuations (fields_of row.now)) }
     ensures fault { IfErr result (IsFirstBadField valuations (fields_of row.now)) }
@@ -28,7 +29,7 @@ pub fn read_row(row: &ByteRecord, valuations: u32) -> Result<ClerkLine, u32>
 }
 
 impl LineFields<'_> {
-    /// The line that all fields are. Where they are none, the field that was asked for last is the first that
+    /// The line that all fields spell. If they spell none, the field that was asked for last is the first that
     /// doesn't fit.
     fn line(&mut self, valuations: u32) -> Option<ClerkLine>
         requires start { self.old.asked ≡ 0 }

@@ -23,12 +23,12 @@ pub fn odd_scripts_are_read()
     ensures { OddScript }
 {}
 
-/// Rows of several clerks, one among the others.
+/// Rows of several lanes, mixed.
 pub fn lanes_are_dealt()
     ensures { ThreeClerks }
 {}
 
-/// The place of a clerk's number that is none, of a field that is missing, of one too many, and of the kind of a
+/// The place of a lane's number that is none, of a field that is missing, of a field too many, and of the kind of a
 /// valuation too many.
 pub fn faults_are_placed()
     ensures clerk { NoClerk }

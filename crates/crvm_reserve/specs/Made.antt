@@ -7,8 +7,8 @@ use Rattle.crvm_reserve.specs.Rounded.{excess_bound, beta_bound, reserve_bound}
 use Rattle.crvm_reserve.specs.declared.premium.Premium.{Premium}
 use Rattle.crvm_reserve.specs.declared.premium.PremiumParts.{PremiumParts}
 
--- a shape has a modified net premium: it can be valued, has a premium after the first, and the rate of death
--- in the first year is at most one half
+-- a shape has a modified net premium: it can be valued, a premium is due after the first, and the rate of death in
+-- the first year is at most one half
 pub record CanReserve (table : Rates) (shape : Shape) (bp : ℕ) : Type 0 where
   pub value : CanValue table shape bp
   pub renewed : 2 ≤ shape.h
@@ -26,7 +26,7 @@ pub record IsReserved (c cap : Cover) : Type 0 where
   pub cap_years : cap.n ≤ 131
   pub cap_rates : (k : ℕ) → k < cap.n → cap.rates k ≤ ONE
 
--- the premium is that of a cover and its cap, rounded, beside the excess that it rests on
+-- the premium is that of a cover and its cap, rounded, with the excess from which it is computed
 abbrev pub premium_of : Cover → Cover → Premium
 premium_of c cap = record {
   lo = beta_bound down up c cap;
@@ -50,7 +50,7 @@ pub record ArePremiumParts (parts : PremiumParts) : Type 0 where
   pub cap : Cover
   pub are : ArePremiumPartsOf cover cap parts
 
--- values and premium are those of one cover at year t, and its cap
+-- the values and the premium are those of one cover at year t, and of its cap
 pub record IsMadeFor (c cap : Cover) (t : ℕ) (values : Values) (premium : Premium) : Type 0 where
   pub reserved : IsReserved c cap
   pub within : t ≤ c.n
@@ -109,7 +109,7 @@ pub record ArePaidUp (columns : Columns) : Type 0 where
   pub cover : Cover
   pub made : ArePaidUpFor cover columns
 
--- each bound lies within 100,000 units of the value that the two enclose
+-- each bound differs by at most 100,000 units from the value that the two enclose
 pub record AreClose (lo hi : ℕ) (value : Fraction) : Type 0 where
   pub between : Between lo hi UNIT value
   pub low : UNIT * value.num ≤ (lo + 100000) * value.den

@@ -1,4 +1,4 @@
--- The names from elsewhere that several rooms cite, passed on from one place. Declares nothing.
+-- The names from elsewhere that several modules cite, passed on from one place. Declares nothing.
 pub use Rattle.present_value.specs.Ends.{AreValuesAt}
 pub use Rattle.present_value.specs.Fractions.{Between, Fraction}
 unfoldable pub use Rattle.present_value.specs.Mean.{mean_reserve, net_premium, paid_up_mean}

@@ -2,10 +2,11 @@ use Rattle.std.specs.Prelude.{ℕ, ◌-◌, ◌+◌, ◌*◌, min}
 use Rattle.crvm_reserve.specs.Names.{Cover, year, death, UNIT, down, up, ben_bound, ann_bound}
 
 -- The rounded premium and reserve per unit of amount, in units of 10^-16, from the rounded values of the benefits and
--- of the premiums. Each is a lower bound where `this` rounds down and `other` up, and an upper one where it is the other
--- way round: what makes it greater is bounded and rounded as it is itself, and what makes it less the other way.
+-- of the premiums. Each is a lower bound if `this` rounds down and `other` rounds up, and an upper bound the other
+-- way round: what makes the result greater is rounded in the direction of `this`, and what makes it less in that of
+-- `other`.
 
--- a level premium from year t on: the benefits from then on over the premiums from then on
+-- a level premium from year t on: the benefits from then on divided by the premiums from then on
 unfoldable pub level_bound : (this other : ℕ → ℕ → ℕ) → Cover → ℕ → ℕ
 level_bound this other c t = this (ben_bound this c t * UNIT) (ann_bound other c t)
 
@@ -19,7 +20,7 @@ excess_bound this other c cap =
 unfoldable pub beta_bound : (this other : ℕ → ℕ → ℕ) → Cover → Cover → ℕ
 beta_bound this other c cap = this ((ben_bound this c 0 + excess_bound this other c cap) * UNIT) (ann_bound other c 0)
 
--- the reserve at year t, 0 where the premiums are worth more than the benefits
+-- the reserve at year t; 0 if the premiums are worth more than the benefits
 unfoldable pub reserve_bound : (this other : ℕ → ℕ → ℕ) → Cover → Cover → ℕ → ℕ
 reserve_bound this other c cap t = ben_bound this c t - other (beta_bound other this c cap * ann_bound other c t) UNIT
 
@@ -31,6 +32,6 @@ low_and_high bound = (bound down up, bound up down)
 abbrev pub rounded : Cover → Cover → ℕ → ℕ → ℕ × ℕ
 rounded c cap amount t = low_and_high (λ this other. this (amount * reserve_bound this other c cap t) UNIT)
 
--- the same of a paid-up amount, of which no premium is due: the benefits alone
+-- the same for a paid-up amount, for which no premium is due: the benefits alone
 abbrev pub rounded_paid_up : Cover → ℕ → ℕ → ℕ × ℕ
 rounded_paid_up c amount t = low_and_high (λ this other. this (amount * ben_bound this c t) UNIT)

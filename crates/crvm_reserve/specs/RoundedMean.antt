@@ -2,8 +2,8 @@ use Rattle.std.specs.Prelude.{ℕ, zero, suc, ◌+◌, ◌-◌, ◌*◌, nat_lt,
 use Rattle.crvm_reserve.specs.Names.{Cover, UNIT, ben_bound}
 use Rattle.crvm_reserve.specs.Rounded.{excess_bound, beta_bound, reserve_bound, low_and_high, rounded, rounded_paid_up}
 
--- The rounded mean reserve: the terminal reserves around it and the net premium are added up as they are rounded,
--- and half of an amount's sum is rounded once more.
+-- The rounded mean reserve: the two terminal reserves and the net premium are added as they are rounded, and half of
+-- the sum for an amount is rounded once more.
 
 -- the net premium of year t per unit of amount, in units of 10^-16
 unfoldable pub net_bound : (this other : ℕ → ℕ → ℕ) → Cover → Cover → ℕ → ℕ
@@ -18,7 +18,7 @@ rounded_mean c cap amount t =
     this (amount * (reserve_bound this other c cap t + net_bound this other c cap t + reserve_bound this other c cap (t + 1))) (2 * UNIT))
     else rounded c cap amount t
 
--- the same of a paid-up amount, of which no premium is due
+-- the same for a paid-up amount, for which no premium is due
 abbrev pub rounded_paid_up_mean : Cover → ℕ → ℕ → ℕ × ℕ
 rounded_paid_up_mean c amount t =
     if nat_lt t c.n

@@ -19,7 +19,7 @@ pub fn basis_premium(table: &RateTable, shape: &Shape, bp: u16, columns: &Column
     premium_with_cap(table, table, shape, bp, columns)
 }
 
-/// The same with a cap by another table: that of the next issue age, where the rates depend on the duration too. That
+/// The same with a cap by another table: that of the next issue age, if the rates depend on the duration too. That
 /// table holds the next age.
 pub fn premium_with_cap(
     table: &RateTable,

@@ -23,8 +23,8 @@ pub fn reserve_bounds(columns: &Columns, premium: &Premium, amount: u64, t: u8) 
     bounds_by(&columns.at(t), premium, amount)
 }
 
-/// A lower and an upper bound of the reserve of an amount, in the amount's cents, by the values of a cover at a year
-/// and its modified net premium.
+/// A lower and an upper bound of the reserve of an amount, in the amount's cents, from the values of a cover at a
+/// year and its modified net premium.
 pub fn bounds_by(values: &Values, premium: &Premium, amount: u64) -> (u64, u64)
     requires made { IsMadeAt values.now premium.now }
     requires amount { amount ≤ 10000000000 }
@@ -39,7 +39,7 @@ pub fn bounds_by(values: &Values, premium: &Premium, amount: u64) -> (u64, u64)
     bounds_by_unit(unit_reserve(values, premium), amount)
 }
 
-/// The same by the reserve per unit of amount.
+/// The same from the reserve per unit of amount.
 pub fn bounds_by_unit(unit: Pair, amount: u64) -> (u64, u64)
     requires made { IsUnitAt unit }
     requires amount { amount ≤ 10000000000 }

@@ -1,5 +1,5 @@
-//! The modified net premium of the Commissioners Reserve Valuation Method, and the reserve that rests on
-//! it, as proved lower and upper bounds.
+//! The modified net premium of the Commissioners Reserve Valuation Method, and the reserve that is computed from it,
+//! as proved lower and upper bounds.
 #![tactic(auto)]
 
 mod basis;

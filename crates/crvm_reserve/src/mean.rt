@@ -9,7 +9,7 @@ use crate::bounds::{reserve_bounds, unit_reserve};
 use crate::premium::Premium;
 use present_value::{Columns, Pair, UNITS_IN_ONE, Values, quotient_down, quotient_up};
 
-/// What the mean reserve of year `t` rests on, where that is before the end of cover.
+/// What the mean reserve of year `t` is computed from, if the year is before the end of cover.
 #[derive(Clone, Copy, PartialEq, Eq, Debug)]
 pub struct MeanParts {
     /// The policy year, from 0.
@@ -24,8 +24,8 @@ pub struct MeanParts {
     pub premium: Premium,
 }
 
-/// A lower and an upper bound of the mean reserve of an amount in year `t`, in the amount's cents. At the end of cover
-/// it is the terminal reserve.
+/// A lower and an upper bound of the mean reserve of an amount in year `t`, in the amount's cents. At the end of
+/// cover the mean reserve is the terminal reserve.
 pub fn mean_bounds(columns: &Columns, premium: &Premium, amount: u64, t: u8) -> (u64, u64)
     requires made { AreMade columns.now premium.now }
     requires amount { amount ≤ 10000000000 }
@@ -53,8 +53,8 @@ pub fn mean_bounds(columns: &Columns, premium: &Premium, amount: u64, t: u8) -> 
     )
 }
 
-/// The same before the end of cover, by the values of a cover at the start and at the end of the year and its modified
-/// net premium.
+/// The same before the end of cover, from the values of a cover at the start and at the end of the year and its
+/// modified net premium.
 pub fn mean_by(parts: MeanParts, amount: u64) -> (u64, u64)
     requires made { AreMeanParts parts }
     requires amount { amount ≤ 10000000000 }
@@ -67,8 +67,8 @@ pub fn mean_by(parts: MeanParts, amount: u64) -> (u64, u64)
     half_of(double_mean(&parts), amount)
 }
 
-/// The terminal reserves at the start and at the end of the year and the net premium, added up, per unit of amount, in
-/// units of 10^-16.
+/// The sum of the terminal reserves at the start and at the end of the year and of the net premium, per unit of
+/// amount, in units of 10^-16.
 fn double_mean(parts: &MeanParts) -> Pair
     requires { AreMeanParts parts.now }
     ensures lo { (c cap : Cover) → (t : ℕ) → AreMeanPartsOf c cap t parts.now → result.lo ≡ reserve_bound down up c cap t + net_bound down up c cap t + reserve_bound down up c cap (t + 1) }
@@ -85,7 +85,7 @@ fn double_mean(parts: &MeanParts) -> Pair
     }
 }
 
-/// The net premium of year `t` per unit of amount, in units of 10^-16, where a premium is due in `h` years.
+/// The net premium of year `t` per unit of amount, in units of 10^-16, if a premium is due in `h` years.
 fn net_premium_of(premium: &Premium, t: u8, h: u8) -> Pair
     requires lo { premium.now.lo ≤ 2 * UNIT }
     requires hi { premium.now.hi ≤ 2 * UNIT }
@@ -110,7 +110,7 @@ fn net_premium_of(premium: &Premium, t: u8, h: u8) -> Pair
     }
 }
 
-/// Half of a sum for an amount, in the amount's cents, of a sum per unit of amount.
+/// Half of a sum for an amount, in the amount's cents, from the sum per unit of amount.
 pub fn half_of(sum: Pair, amount: u64) -> (u64, u64)
     requires amount { amount ≤ 10000000000 }
     requires lo { sum.lo ≤ 4 * UNIT }

@@ -1,4 +1,4 @@
-// The reserve of a paid-up policy: no premium is taken off.
+// The reserve of a paid-up policy: no premiums are subtracted.
 ghost use Rattle.std.specs.Prelude.{◌≡◌, ◌≤◌, ℕ};
 ghost use Rattle.crvm_reserve.specs.Names.{Encloses, Cover, ben};
 ghost use Rattle.crvm_reserve.specs.Made.{ArePaidUp, ArePaidUpFor, IsPaidUpAt, IsPaidUpFor};
@@ -20,7 +20,7 @@ pub fn paid_up_bounds(columns: &Columns, amount: u64, t: u8) -> (u64, u64)
     paid_up_by(&columns.at(t), amount)
 }
 
-/// The same by the values of a cover at a year.
+/// The same from the values of a cover at a year.
 pub fn paid_up_by(values: &Values, amount: u64) -> (u64, u64)
     requires made { IsPaidUpAt values.now }
     requires amount { amount ≤ 10000000000 }

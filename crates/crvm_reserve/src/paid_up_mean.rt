@@ -9,8 +9,8 @@ use crate::mean::half_of;
 use crate::paid_up::paid_up_bounds;
 use present_value::{Columns, Pair, Values};
 
-/// A lower and an upper bound of the mean reserve of a paid-up amount in year `t`, in the amount's cents. At the end of
-/// cover it is the terminal reserve.
+/// A lower and an upper bound of the mean reserve of a paid-up amount in year `t`, in the amount's cents. At the end
+/// of cover the mean reserve is the terminal reserve.
 pub fn paid_up_mean_bounds(columns: &Columns, amount: u64, t: u8) -> (u64, u64)
     requires made { ArePaidUp columns.now }
     requires amount { amount ≤ 10000000000 }
@@ -26,7 +26,7 @@ pub fn paid_up_mean_bounds(columns: &Columns, amount: u64, t: u8) -> (u64, u64)
     paid_up_mean_by(&columns.at(t), &columns.at(t + 1), amount)
 }
 
-/// The same before the end of cover, by the values of a cover at the start and at the end of the year.
+/// The same before the end of cover, from the values of a cover at the start and at the end of the year.
 pub fn paid_up_mean_by(start: &Values, end: &Values, amount: u64) -> (u64, u64)
     requires made { ArePaidUpMean start.now end.now }
     requires amount { amount ≤ 10000000000 }

@@ -10,13 +10,13 @@ use present_value::{Pair, UNITS_IN_ONE, Values, quotient_down, quotient_up};
 pub struct Premium {
     pub lo: u64,
     pub hi: u64,
-    /// A lower bound of the excess that it rests on, by which the first year's net premium is less.
+    /// A lower bound of the excess from which it is computed, and by which the first year's net premium is lower.
     pub excess_lo: u64,
-    /// An upper bound of it.
+    /// An upper bound of the excess.
     pub excess_hi: u64,
 }
 
-/// What the modified net premium of a cover rests on.
+/// What the modified net premium of a cover is computed from.
 #[derive(Clone, Copy, PartialEq, Eq, Debug)]
 pub struct PremiumParts {
     /// The rate of death in the first year, in units of 10^-9.
@@ -31,7 +31,7 @@ pub struct PremiumParts {
     pub limit: Values,
 }
 
-/// The modified net premium of a cover by its values and those of its cap, which may be by another table.
+/// The modified net premium of a cover, from its values and those of its cap, which may be by another table.
 pub fn premium_by(parts: PremiumParts) -> Premium
     requires { ArePremiumParts parts }
     ensures rounded { (c cap : Cover) → ArePremiumPartsOf c cap parts → result ≡ premium_of c cap }
@@ -83,7 +83,7 @@ fn first_year_premium(rate: u32, bp: u16) -> Pair
     }
 }
 
-/// The benefits over the premiums.
+/// The level premium: the value of the benefits divided by that of the premiums.
 fn level_premium(benefits: Pair, premiums: Pair) -> Pair
     requires due { UNIT ≤ premiums.lo }
     requires due_most { UNIT ≤ premiums.hi }

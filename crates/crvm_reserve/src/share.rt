@@ -1,11 +1,12 @@
-// So many units of 10^-16 of an amount, by divisions of 64 bits: first by the lower half of the digits, then by the upper.
+// An amount times `units` of 10^-16, by divisions of 64 bits: first for the lower half of the digits, then for the
+// upper.
 ghost use Rattle.std.specs.Prelude.{◌≡◌, ◌*◌, ◌≤◌};
 ghost use Rattle.present_value.specs.Rounding.{UNIT, down, up};
 
-/// By so many the units are divided at a time, which is twice.
+/// The divisor of each of the two divisions.
 const UNITS_AT_A_TIME: u64 = 100_000_000;
 
-/// Rounded down.
+/// The share, rounded down.
 pub fn share_down(amount: u64, units: u64) -> u64
     requires amount { amount ≤ 10000000000 }
     requires units { units ≤ UNIT }
@@ -15,7 +16,7 @@ pub fn share_down(amount: u64, units: u64) -> u64
     (amount * (units / UNITS_AT_A_TIME) + lower) / UNITS_AT_A_TIME
 }
 
-/// Rounded up.
+/// The share, rounded up.
 pub fn share_up(amount: u64, units: u64) -> u64
     requires amount { amount ≤ 10000000000 }
     requires units { units ≤ UNIT }

@@ -1,4 +1,4 @@
--- What a test by the bounds of a net premium tells of it.
+-- What a test by the bounds of a net premium says of it.
 use Rattle.deficiency_reserve.proofs.Names.{ℕ, ◌+◌, ◌*◌, ◌<◌, ◌≤◌, arith, Fraction, Between}
 use Rattle.std.proofs.Math.Nat.{mul-le-mul_left, mul-le-mul_right, le_of_mul-le-mul_right, lt_of_mul-lt-mul_right}
 use Rattle.present_value.specs.Rounding.{UNIT}

@@ -1,12 +1,12 @@
 use Rattle.std.specs.Prelude.{ℕ, ◌*◌, nat_le, if◌then◌else◌}
 use Rattle.deficiency_reserve.specs.Names.{Fraction, less, times, lesser, Cover, ben, ann, beta, reserve}
 
--- The minimum reserve where the premium that is charged is below the modified net premium (NAIC Standard Valuation
--- Law, Model 820, on minimum reserves where the gross premium is less than the valuation net premium): the reserve is
--- calculated anew with the gross premium in the place of the net premium, and the greater of both holds.
+-- The minimum reserve if the premium that is charged is below the modified net premium (NAIC Standard Valuation Law,
+-- Model 820, on minimum reserves when the gross premium is less than the valuation net premium): the reserve is
+-- calculated again with the gross premium in place of the net premium, and the greater of the two is the minimum.
 
--- the minimum reserve at year t per unit of amount: each year is counted to bring in the net premium, and no more than
--- is charged
+-- the minimum reserve at year t per unit of amount: each year is counted to bring in the net premium, but no more
+-- than is charged
 unfoldable pub minimum : Cover → Cover → ℕ → ℕ → ℕ → Fraction
 minimum c cap amount premium t =
     let counted = lesser (beta c cap) (record { num = premium; den = amount }) in

@@ -1,4 +1,4 @@
--- What holds of the minimum reserve, by its definition.
+-- Laws of the minimum reserve that follow from its definition.
 use Rattle.std.specs.Prelude.{◌≡◌, ℕ, zero, suc, ◌+◌, ◌-◌, ◌*◌, ◌^◌, ◌<◌, ◌≤◌}
 use Rattle.deficiency_reserve.specs.Names.{Fraction, whole, plus, times, Cover, year, survivors, ben, ann, beta, reserve}
 use Rattle.deficiency_reserve.specs.Minimum.{minimum}
@@ -27,7 +27,7 @@ total_below part (suc count) = plus (total_below part count) (part count)
 unfoldable pub value_of_dues : Cover → (ℕ → Fraction) → ℕ → Fraction
 value_of_dues c due t = total_below (λ k. times (due (t + k)) (deferred c t k)) (c.h - t)
 
--- the same premium each year is worth the premium times the annuity: so counted year by year it takes off as much
+-- the same premium each year is worth the premium times the annuity, so counted year by year it subtracts as much
 abbrev pub LevelDuesLaw : Type 0
 LevelDuesLaw = (c : Cover) (premium : Fraction) (t : ℕ)
     → AreEqual (value_of_dues c (λ k. premium) t) (times premium (ann c t))
@@ -36,7 +36,7 @@ LevelDuesLaw = (c : Cover) (premium : Fraction) (t : ℕ)
 abbrev pub NeverBelowOrdinaryLaw : Type 0
 NeverBelowOrdinaryLaw = (c cap : Cover) (amount premium t : ℕ) → IsAtMost (reserve c cap t) (minimum c cap amount premium t)
 
--- where the premium isn't short both are equal
+-- if the premium isn't short, both are equal
 abbrev pub EqualWhereEnoughLaw : Type 0
 EqualWhereEnoughLaw = (c cap : Cover) (amount premium t : ℕ) → IsAtMost (beta c cap) (gross amount premium)
     → AreEqual (minimum c cap amount premium t) (reserve c cap t)

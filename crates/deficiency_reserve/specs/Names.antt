@@ -1,4 +1,4 @@
--- The names from elsewhere that several rooms cite, passed on from one place. Declares nothing.
+-- The names from elsewhere that several modules cite, passed on from one place. Declares nothing.
 pub use Rattle.crvm_reserve.specs.Made.{ArePaidUpFor, IsPaidUpFor, IsPaidUpAt}
 unfoldable pub use Rattle.present_value.specs.Fractions.{times, whole, plus, less, lesser}
 pub use Rattle.crvm_reserve.specs.Rounded.{low_and_high}

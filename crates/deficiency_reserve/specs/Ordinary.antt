@@ -1,4 +1,4 @@
--- What the minimum rests on: the values of a cover, and the bounds of its ordinary reserve.
+-- What the minimum reserve is computed from: the values of a cover, and the bounds of its ordinary reserve.
 use Rattle.std.specs.Prelude.{ℕ, ◌≤◌}
 use Rattle.deficiency_reserve.specs.Names.{Cover, reserve, Encloses, ArePaidUpFor, IsPaidUpFor}
 use Rattle.present_value.specs.declared.pair.Columns.{Columns}

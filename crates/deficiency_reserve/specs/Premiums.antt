@@ -4,15 +4,15 @@ use Rattle.deficiency_reserve.specs.Names.{Fraction, UNIT}
 use Rattle.deficiency_reserve.specs.declared.answer.Adequacy.{Adequacy}
 use Rattle.deficiency_reserve.specs.declared.answer.Adequacy.TheVariants.{Short, Enough, Close}
 
--- what an answer says of a net premium and of the premium that is charged: it is less than the amount's net premium, or
--- it isn't, or it is less than one cent from it
+-- what an answer says of a net premium and of the premium that is charged: the premium charged is less than the
+-- amount's net premium, or it isn't, or it differs from it by less than one cent
 abbrev pub Tells : Adequacy → Fraction → ℕ → ℕ → Type 0
 Tells Short net amount premium = premium * net.den < amount * net.num
 Tells Enough net amount premium = amount * net.num ≤ premium * net.den
 Tells Close net amount premium =
     (premium * net.den < amount * net.num + net.den) × (amount * net.num < premium * net.den + net.den)
 
--- the answer by the bounds of the net premium
+-- the answer from the bounds of the net premium
 abbrev pub adequacy_by : ℕ → ℕ → ℕ → ℕ → Adequacy
 adequacy_by lo hi amount premium =
     if nat_lt (premium * UNIT) (amount * lo) then Short

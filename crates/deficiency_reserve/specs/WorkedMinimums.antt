@@ -45,19 +45,20 @@ abbrev pub EnoughAfterAYear : Type 0
 EnoughAfterAYear = (bounds_after_a_year 50000 ≡ (12722, 12723)) × (adequacy_of_yearly 100000 50000 ≡ Enough)
     × AreEqual (minimum_after_a_year 50000) (record { num = 450; den = 3537 })
 
--- the net premium is 1715 / 3537: for 35.37 it is 17.15, which no bounds tell from more or less
+-- the net premium is 1715 / 3537: for 35.37 it is 17.15, and no bounds decide whether it is more or less
 abbrev pub PremiumsAroundTheNetPremium : Type 0
 PremiumsAroundTheNetPremium = AreEqual (beta (endowment_paid_in 3) cap_of_age_one) (record { num = 1715; den = 3537 })
     × (adequacy_of_yearly 3537 1714 ≡ Short) × (adequacy_of_yearly 3537 1715 ≡ Close)
     × (adequacy_of_yearly 3537 1716 ≡ Enough)
 
--- bounds that meet tell: a net premium of one half
+-- bounds that are equal decide: a net premium of one half
 abbrev pub PremiumsAroundOneHalf : Type 0
 PremiumsAroundOneHalf = (adequacy_by 5000000000000000 5000000000000000 200 99 ≡ Short)
     × (adequacy_by 5000000000000000 5000000000000000 200 100 ≡ Enough)
     × (adequacy_by 5000000000000000 5000000000000000 200 101 ≡ Enough)
 
--- with premiums in the first two years: 0.01 a year less than 1 before the last premium, and nothing off from then on
+-- with premiums in the first two years: 0.01 a year less than 1 before the last premium, and nothing is subtracted
+-- from then on
 abbrev pub MinimumsOncePaid : Type 0
 MinimumsOncePaid =
     AreEqual (minimum (endowment_paid_in 2) cap_of_age_one 100 1 1) (record { num = 99; den = 100 })

@@ -1,10 +1,10 @@
-/// How the premium that is charged lies to the modified net premium of the amount.
+/// How the premium that is charged compares with the modified net premium of the amount.
 #[derive(Clone, Copy, PartialEq, Eq, Debug)]
 pub enum Adequacy {
-    /// It is below it.
+    /// It is below the net premium.
     Short,
-    /// It isn't.
+    /// It isn't below the net premium.
     Enough,
-    /// The bounds don't tell: it is less than one cent from it.
+    /// The bounds don't decide: it differs from the net premium by less than one cent.
     Close,
 }

@@ -1,8 +1,9 @@
-//! What holds of the minimum reserve, by its definition alone: a function that does nothing, whose contract is the laws.
+//! Laws of the minimum reserve, proved from its definition alone: a function that does nothing, whose contract states
+//! the laws.
 
 ghost use Rattle.deficiency_reserve.specs.MinimumLaws.{EqualWhereEnoughLaw, FallsAsPremiumRisesLaw, LevelDuesLaw, NeverBelowOrdinaryLaw, PremiumsPaidLaw};
 
-/// How the minimum lies to the ordinary reserve, to the premium and to the benefits.
+/// How the minimum reserve compares with the ordinary reserve, with the premium and with the benefits.
 pub fn minimum_laws()
     ensures level { LevelDuesLaw }
     ensures floor { NeverBelowOrdinaryLaw }

@@ -1,4 +1,4 @@
-//! The minimum reserve where the premium that is charged is below the modified net premium, as proved bounds, and
+//! The minimum reserve if the premium that is charged is below the modified net premium, as proved bounds, and
 //! whether the premium is below it.
 #![tactic(auto)]
 

@@ -28,7 +28,7 @@ pub fn minimum_bounds(
     minimum_by(&columns.at(t), ordinary, amount, premium)
 }
 
-/// The same by the values of a cover at a year.
+/// The same from the values of a cover at a year.
 pub fn minimum_by(values: &Values, ordinary: (u64, u64), amount: u64, premium: u64) -> (u64, u64)
     requires made { HasOrdinary values.now ordinary amount }
     requires insured { 1 ≤ amount }
@@ -44,7 +44,7 @@ pub fn minimum_by(values: &Values, ordinary: (u64, u64), amount: u64, premium: u
     (ordinary.0.max(by_gross.0), ordinary.1.max(by_gross.1))
 }
 
-/// The reserve that counts on the premium that is charged.
+/// The reserve computed with the premium that is charged.
 fn reserve_by_gross(values: &Values, amount: u64, premium: u64) -> (u64, u64)
     requires made { IsPaidUpAt values.now }
     requires amount { amount ≤ 10000000000 }

@@ -2,7 +2,7 @@
 
 ghost use Rattle.deficiency_reserve.specs.WorkedMinimums.{EnoughAfterAYear, MinimumsOncePaid, PremiumsAroundOneHalf, PremiumsAroundTheNetPremium, ShortAfterAYear};
 
-/// Of one endowment: a premium that is short and one that is enough, and years without a premium.
+/// One endowment: a premium that is short and one that is enough, and years without a premium.
 pub fn minimums_by_hand()
     ensures short { ShortAfterAYear }
     ensures enough { EnoughAfterAYear }

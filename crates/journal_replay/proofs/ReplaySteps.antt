@@ -1,4 +1,4 @@
--- One record more behind those that were replayed, and what is known where it isn't kept
+-- One record more after those that were replayed, and what is known where it isn't kept
 use Rattle.std.proofs.Common.{◌≡◌, ℕ, ◌+◌, ◌<◌, ◌≤◌, List, [], ◌∷◌, ◌++◌, length, take, get_or, slice_index_or, refl, ap, sym, ◌∙◌, arith}
 use Rattle.std.proofs.Math.Seq.{take-length}
 use Rattle.std.proofs.lemmas.List.{take_more, length_push, map-append}
@@ -59,7 +59,7 @@ module _ {D : Type 0} {g : Ghosts D} (start : Journal D g) (commands : List Comm
       },
     )
 
-    -- it would be, but for want of memory
+    -- it would be, unless memory is refused
     pub wants_here : (now : D) (n : ℕ) (command : Command) → Kept commands → length commands ≡ n → n < count_of start
         → IsValid command → Follows commands command
         → ((bodies : List (List ℕ)) (last : List ℕ) → g.honest now → StandsFor start bodies last
@@ -79,7 +79,7 @@ module _ {D : Type 0} {g : Ghosts D} (start : Journal D g) (commands : List Comm
     same_later bodies last honest is same =
         ap (λ m. take m bodies) so_far.counted ∙ so_far.front bodies last (honesty honest) is same
 
-    -- what is replayed behind the records so far is replayed behind the first
+    -- what is replayed after the records so far is replayed after the first
     pub replays_on : (Kept : List Command → Type 0) (m : ℕ) → Replays Kept mid now m so_far.later → Replays Kept start now m commands
     replays_on Kept m more = record {
       later = more.later;

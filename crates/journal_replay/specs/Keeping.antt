@@ -4,11 +4,11 @@ use Rattle.policy_types.specs.declared.command.Command.{Command}
 use Rattle.journal_replay.specs.declared.keeper.Unkept.{Unkept}
 use Rattle.journal_replay.specs.declared.keeper.Unkept.TheVariants.{Refused, NoMemory}
 
--- some keeper keeps just these commands
+-- some keeper keeps exactly these commands
 abbrev pub AreKept : {K : Type 0} → (K → List Command → Type 0) → List Command → Type 0
 AreKept {K} stands commands = (keeper : K) × stands keeper commands
 
--- the command can't follow these, or it can and there is no memory
+-- the command can't follow these; or it can, and memory was refused
 abbrev pub IsUnkept : (List Command → Command → Type 0) → List Command → Command → Unkept → Type 0
 IsUnkept follows commands command Refused = follows commands command → ⊥
 IsUnkept follows commands command (NoMemory lack) = follows commands command

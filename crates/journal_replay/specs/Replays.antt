@@ -1,4 +1,4 @@
--- What replaying a journal's records tells of the journal, its disk and the keeper
+-- What replaying a journal's records says of the journal, its disk and the keeper
 use Rattle.std.specs.Prelude.{◌≡◌, ℕ, ◌<◌, ◌≤◌, List, [], ◌∷◌, ◌++◌, length, map, take, slice_index_or, Result, Ok, Err}
 use Rattle.outside_io.specs.Faults.{Rose}
 use Rattle.outside_io.specs.declared.disks.Disk.{Ghosts}
@@ -20,28 +20,28 @@ bodies_of commands = map spelling_of commands
 abbrev pub IsQuiet : {D : Type 0} {g : Ghosts D} → Journal D g → D → Type 0
 IsQuiet {g = g} journal disk = g.faults disk ≡ g.faults (disk_of journal)
 
--- it did, and this is its count
+-- it did fail, and this is its count of faults
 abbrev pub HasFailed : {D : Type 0} {g : Ghosts D} → Journal D g → D → ℕ → Type 0
 HasFailed {g = g} journal disk count = (count ≡ g.faults disk) × Rose (g.faults (disk_of journal)) (g.faults disk)
 
--- a fault of the disk has its count, which rose; all else leaves it
+-- a fault of the disk has its count, which rose; any other outcome leaves the count as it was
 abbrev pub HasReplayCause : {D T : Type 0} {g : Ghosts D} → Journal D g → D → Result T ReplayFault → Type 0
 HasReplayCause journal disk (Ok done) = IsQuiet journal disk
 HasReplayCause journal disk (Err (DiskFault count)) = HasFailed journal disk count
 HasReplayCause journal disk (Err (BadRecord n)) = IsQuiet journal disk
 HasReplayCause journal disk (Err (NoMemory lack)) = IsQuiet journal disk
 
--- the bodies of a journal have P, where its disk is honest now, later on
+-- the bodies of a journal have P, provided its disk is honest now, later on
 abbrev pub BodiesHave : {D : Type 0} {g : Ghosts D} → Journal D g → D → (List (List ℕ) → Type 0) → Type 0
 BodiesHave {g = g} journal now P =
     (bodies : List (List ℕ)) (last : List ℕ) → g.honest now → StandsFor journal bodies last → P bodies
 
--- they do where the first of them are those of these commands
+-- they do, provided the first of them are those of these commands
 abbrev pub BodiesBehind : {D : Type 0} {g : Ghosts D} → Journal D g → D → List Command → (List (List ℕ) → Type 0) → Type 0
 BodiesBehind journal now commands P =
     BodiesHave journal now (λ bodies. take (length commands) bodies ≡ bodies_of commands → P bodies)
 
--- The first n bodies are those of commands that have Kept, where the first of them were those of these commands.
+-- The first n bodies are those of commands that have Kept, provided the first of them were those of these commands.
 pub record Replays {D : Type 0} {g : Ghosts D} (Kept : List Command → Type 0) (journal : Journal D g) (now : D) (n : ℕ)
     (commands : List Command) : Type 0 where
   pub later : List Command
@@ -49,7 +49,7 @@ pub record Replays {D : Type 0} {g : Ghosts D} (Kept : List Command → Type 0) 
   pub counted : length later ≡ n
   pub front : BodiesBehind journal now commands (λ bodies. take n bodies ≡ bodies_of later)
 
--- The bodies before body n are those of commands that have Kept, and it spells none that follows them.
+-- The bodies before body n are those of commands that have Kept, and body n spells no command that can follow them.
 pub record IsStoppedAt (Kept : List Command → Type 0) (Follows : List Command → Command → Type 0) (n : ℕ)
     (bodies : List (List ℕ)) : Type 0 where
   pub commands : List Command
@@ -69,14 +69,15 @@ pub record IsKeptAndOne (Kept : List Command → Type 0) (Follows : List Command
   pub valid : IsValid last
   pub follows : Follows before last
 
--- the first bodies are those of commands that are kept and of one that follows, where those of these commands stand before it
+-- the first bodies are those of commands that are kept and of one more that can follow, provided the bodies of these
+-- commands come before it
 pub record IsWanting {D : Type 0} {g : Ghosts D} (Kept : List Command → Type 0) (Follows : List Command → Command → Type 0)
     (journal : Journal D g) (now : D) (commands : List Command) : Type 0 where
   pub n : ℕ
   pub behind : length commands < n
   pub replays : Replays (IsKeptAndOne Kept Follows) journal now n commands
 
--- what the bodies show of a fault, behind those of these commands
+-- what the bodies show of a fault, after those of these commands
 abbrev pub Stops : {D : Type 0} {g : Ghosts D} → (List Command → Type 0) → (List Command → Command → Type 0)
     → Journal D g → D → List Command → ReplayFault → Type 0
 Stops Kept Follows journal now commands (DiskFault count) = Unit {0}

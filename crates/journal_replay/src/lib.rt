@@ -1,4 +1,4 @@
-//! A journal's records are replayed: each spells a command, and a keeper keeps them, one after the other.
+//! The replay of a journal's records: each spells a command, and a keeper keeps the commands, one after the other.
 #![tactic(auto)]
 
 mod keeper;

@@ -1,4 +1,4 @@
-// The records of a journal are replayed. They are read by pieces.
+// The records of a journal are replayed. They are read in pieces of several records.
 ghost use Rattle.std.specs.Prelude.{◌≡◌, ℕ, ◌+◌, ◌-◌, ◌<◌, ◌≤◌, List, [], length, MatchResult, OnOk};
 ghost use Rattle.policy_types.specs.declared.command.Command.{Command as ACommand};
 ghost use Rattle.posting_journal.specs.Pieces.{IsPartOf};
@@ -14,9 +14,9 @@ use record_codec::decode;
 use std::marker::Brand;
 use std::sync::ledger::{Blank, Ledger};
 
-/// Why a journal's records aren't all replayed: its disk failed, and this is the disk's count of faults, which rose;
-/// record `n`, from 0, is the first that spells no command which can follow; or one spells such a command, as all before
-/// it do, and there is no memory for it.
+/// Why not all records of a journal were replayed. Either its disk failed, and this is the disk's count of faults,
+/// which rose; or record `n`, counted from 0, is the first that spells no command which can follow; or each record up
+/// to some one spells such a command, and memory for that one was refused.
 #[derive(Drop)]
 pub enum ReplayFault {
     DiskFault(u64),
@@ -24,8 +24,8 @@ pub enum ReplayFault {
     NoMemory(NoMemory),
 }
 
-/// Hands the keeper each record's command, from record `from` on, in order. Each record that is read is a step. Nothing
-/// is written.
+/// Hands the keeper each record's command, from record `from` on, in order. Each record that is read counts as one
+/// step. Nothing is written.
 pub fn replay<D: Disk, K: Keeper, L: Ledger>(
     journal: &mut Journal<D>,
     from: u32,
@@ -103,7 +103,7 @@ pub fn replay_all<D: Disk, K: Keeper>(
     replay_by::<D, K, Brand>(journal, keeper, Blank::new(1))
 }
 
-// The same, with a ledger for the steps that the blank becomes.
+// The same, with a ledger for the steps, which the blank becomes.
 fn replay_by<D: Disk, K: Keeper, L: Ledger>(
     journal: &mut Journal<D>,
     keeper: &mut K,

@@ -1,4 +1,4 @@
-/// Why a policy has no value. The first that applies is the answer.
+/// Why a policy has no value. If several reasons apply, the first in this order is returned.
 #[derive(Clone, Copy, PartialEq, Eq, Debug)]
 pub enum NotValued {
     /// No table is named for the day of issue.

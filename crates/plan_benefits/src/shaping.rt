@@ -7,8 +7,8 @@ use rate_table::{RateTable, Shape};
 
 /// The shape of a plan's benefits and premiums for an age at issue by a table.
 ///
-/// The years are those of cover for a term or an endowment, and those of premiums for a limited plan;
-/// whole life takes none.
+/// The years are the years of cover for a term or an endowment, and the years of premiums for a limited plan. Whole
+/// life ignores them.
 pub fn shape(plan: Plan, age: u8, years: u8, table: &RateTable) -> Result<Shape, NotValued>
     ensures exact { result ≡ shape_by plan age years table.now }
     ensures fits { IfOk result (λ shape. FitsTable plan years table.now shape) }

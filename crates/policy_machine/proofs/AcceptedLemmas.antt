@@ -1,4 +1,4 @@
--- What an accepted command tells
+-- What an accepted command states
 use Rattle.policy_machine.proofs.Names.{◌≡◌, ◌+◌, ◌-◌, ◌==◌, Bool, true, false, if◌then◌else◌, sym, ap, ◌∙◌, refl, subst, List, [], ◌∷◌, ℤ, Some, None, Option, Ok, Err, Result, IfOk, IfSome, ℕ, ◌⊎◌, inl, inr, AllByRecursion, Command, Issue, Premium, Alter, Lapse, Reinstate, Claim, Settle, Mature, MakePaidUp, Upgrade, Plan, Term, Whole, Endowment, Limited, Policy, Status, Refusal, Unknown, id_of, day_of, Check, checks_of, changed, first_refusal, decided, matured, premiums_missed, issued, next, IsSameContract, issue_id}
 use Rattle.policy_types.specs.declared.policy.Status.TheVariants.{InForce, Lapsed, Claimed, Matured, Expired, Settled, PaidUp}
 

@@ -205,7 +205,7 @@ distinct_after before (command ∷ rest) distinct accepted =
 pub distinct_issues : (commands : List Command) → IsAccepted commands → IsDistinct nat_eq (filter_map issue_id commands)
 distinct_issues commands accepted = distinct_after [] commands IsDistinct-nil accepted
 
--- a number among others, and the ones before it and behind it
+-- a number among others, and the ones before it and after it
 pub record Among (ids : List ℕ) (id : ℕ) : Type 0 where
   pub front : List ℕ
   pub back : List ℕ
@@ -254,7 +254,7 @@ was_issued (command ∷ commands) id p found = split (was_issued commands id p) 
             among_more (issue_id command) (filter_map issue_id commands) id
             (rest (sym (start ∙ ap (λ o. fold (λ policy command. kept policy (next policy command)) o (own commands id)) none) ∙ found))
 
--- the numbers before one of distinct numbers and behind it are others
+-- the numbers before one of distinct numbers and after it are others
 apart_around : (front back : List ℕ) (id : ℕ) → IsDistinct nat_eq (front ++ id ∷ back)
     → AllByRecursion (λ other. nat_eq id other ≡ false) front × AllByRecursion (λ other. nat_eq id other ≡ false) back
 unfolding IsDistinct

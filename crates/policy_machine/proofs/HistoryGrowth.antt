@@ -9,7 +9,7 @@ use Rattle.policy_types.specs.declared.entry.Reply.{Reply}
 use Rattle.policy_types.specs.declared.entry.Entry.{Entry}
 use Rattle.policy_machine.proofs.LeastLemmas.{least_bounded, least_member, member_of_range}
 
--- a front of legal turns
+-- a prefix of legal turns
 pub IsLegalAfter-front : (opening : Opening) (before front rest : List Entry) → IsLegalAfter opening before (front ++ rest)
     → IsLegalAfter opening before front
 IsLegalAfter-front opening before [] rest legal = tt

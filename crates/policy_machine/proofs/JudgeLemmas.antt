@@ -1,4 +1,4 @@
--- What it tells that the rules accept a command, and where the upgrade stands
+-- What it reports that the rules accept a command, and where the upgrade stands
 use Rattle.policy_machine.proofs.Names.{◌≡◌, ℕ, ◌+◌, ◌≤◌, ◌==◌, Bool, true, false, if◌then◌else◌, ◌⊎◌, inl, inr, List, [], ◌∷◌, ◌++◌, length, refl, sym, ap, ◌∙◌, append_assoc, append-nil, ne_eqb, Some, None, Option, Ok, Err, Result, ℤ, arith, cases_lt, Command, Issue, Premium, Alter, Lapse, Reinstate, Claim, Settle, Mature, PaidUp, Upgrade, Policy, Refusal, Unknown, NotUpgraded, Upgraded, id_of, is_upgrade, next, policy_of, upgrade_from, upgrade_of, left_by, judged, refusal_in, judge, IsAccepted, IsAcceptedAfter}
 
 -- an upgrade names no policy
@@ -165,7 +165,7 @@ upgrade_from-more place (first ∷ before) rest some = by_first (is_upgrade firs
     by_first true some onward = refl
     by_first false some onward = onward some
 
--- the first upgrade has the place behind the commands before it
+-- the first upgrade has the place after the commands before it
 pub upgrade_from-first : (place : ℕ) (before rest : List Command) (command : Command) → 1 ≤ place → is_upgrade command ≡ true
     → upgrade_from place before ≡ 0 → upgrade_from place (before ++ command ∷ rest) ≡ place + length before
 upgrade_from-first place [] rest command some is none =
@@ -180,7 +180,7 @@ upgrade_from-first place (first ∷ before) rest command some is none =
     by_first true none onward = absurd (omega arith)
     by_first false none onward = let e = onward none in omega arith
 
--- behind an upgrade there is one
+-- after an upgrade there is one
 pub upgrade_from-some : (place : ℕ) (before rest : List Command) → 1 ≤ place → 1 ≤ upgrade_from place (before ++ Upgrade ∷ rest)
 upgrade_from-some place [] rest some = some
 upgrade_from-some place (first ∷ before) rest some =

@@ -1,11 +1,12 @@
--- The rules as they were before a policy could be made paid up, kept for one law: old journals mean what they meant. Their
--- numbers, days and bookings are their own: a rule that changes doesn't change them.
+-- The rules before policies could be made paid up. They are kept for one law: old journals mean what they meant.
+-- Their numbers, days and bookings are stated independently of the present rules: a change of those doesn't change
+-- these.
 use Rattle.std.specs.Prelude.{◌≡◌, ◌+◌, ◌-◌, ◌*◌, ◌&&◌, ◌==◌, true, not, nat_lt, nat_le, int_lt, int_le, if◌then◌else◌, List, [], ◌∷◌, ◌++◌, ℕ, ℤ, pos, ◌+ℤ◌, ◌-ℤ◌, Some, None, Option, Ok, Err, Result}
 use Rattle.policy_machine.specs.Names.{count_by, filter, filter_map, fold, option_map_or, option_or, range_with_len, result_ok, result_err, status_eq, Command, Issue, Premium, Alter, Lapse, Reinstate, Claim, Settle, Mature, PaidUp, Upgrade, Term, Whole, Endowment, Limited, Policy, InForce, Lapsed, Claimed, Matured, Expired, Settled, Refusal, Taken, Unknown, BeforeLast, WrongStatus, TermOver, NothingDue, TooEarly, GraceOver, NotInArrears, TooLate, WrongAmount, NotAReduction, NotMatured, OverSettled, Booking, nothing_booked, premium_received, benefit_incurred, benefit_paid, added, id_of, Plan, anniversary_of}
 use Rattle.policy_machine.specs.Rules.{Check, refuse, first_refusal, awaits_settlement}
 use Rattle.policy_machine.specs.Book.{issue_id}
 
--- the commands that there were
+-- the commands that existed then
 abbrev pub IsOldCommand : Command → Type 0
 IsOldCommand (PaidUp id day amount) = ⊥
 IsOldCommand Upgrade = ⊥
@@ -62,7 +63,7 @@ abbrev pub old_grace_over : Policy → ℤ → Check
 old_grace_over p day =
     refuse (nat_lt p.paid (old_payments_of p) && int_lt (old_grace_end_of p) day) (GraceOver (old_due_of p))
 
--- the checks of a command by the rules of before, in their order
+-- the checks of a command by the earlier rules, in their order
 abbrev pub old_checks : Policy → Command → List Check
 old_checks p (Issue id day plan age years amount premium) = refuse true Taken ∷ []
 old_checks p (Premium id day amount) =
@@ -144,7 +145,7 @@ WereAcceptedAfter before (command ∷ rest) = (old_refusal before command ≡ No
 abbrev pub WereAccepted : List Command → Type 0
 WereAccepted commands = WereAcceptedAfter [] commands
 
--- what a command booked that left this policy, or none
+-- what a command booked that left this policy, or that left none
 abbrev pub old_booked : Option Policy → Command → Booking
 old_booked (Some after) (Premium id day amount) = premium_received amount
 old_booked (Some after) (Reinstate id day amount) = premium_received amount

@@ -3,7 +3,8 @@ use Rattle.std.specs.Prelude.{◌≡◌, ℕ, ◌+◌, ◌==◌, if◌then◌els
 use Rattle.policy_machine.specs.Names.{filter, filter_map, fold, option_or, result_ok, result_err, result_map_both, Command, Issue, PaidUp, Upgrade, Policy, Refusal, NotUpgraded, Upgraded, id_of, is_upgrade}
 use Rattle.policy_machine.specs.Rules.{next}
 
--- none, changed in turn by each command of the list that names the number; a refused one leaves what was there
+-- none at first, then changed in turn by each command of the list that names the number; a refused command changes
+-- nothing
 abbrev pub policy_of : List Command → ℕ → Option Policy
 policy_of commands id =
     fold (λ policy command. option_or (result_ok (next policy command)) policy) None
@@ -18,7 +19,7 @@ issue_id _ = None
 abbrev pub book : List Command → List Policy
 book commands = filter_map (policy_of commands) (filter_map issue_id commands)
 
--- the place of the first upgrade, counted from 1; 0 where there is none
+-- the place of the first upgrade, counted from 1; 0 if there is none
 abbrev pub upgrade_of : List Command → ℕ
 upgrade_of commands = from 1 commands
   where
@@ -26,9 +27,9 @@ upgrade_of commands = from 1 commands
     from place [] = 0
     from place (command ∷ rest) = if is_upgrade command then place else from (place + 1) rest
 
--- What the rules make of a command, by the place of the upgrade before it, or 0, and by the policy that it names: the
--- refusal that is due, or the policy that it leaves, and none where it is an upgrade. A second upgrade is refused with the
--- place of the first, and before the first no policy is made paid up.
+-- What the rules make of a command, given the place of the upgrade before it, or 0, and the policy that it names: the
+-- refusal that is due, or the policy that the command leaves, which is none for an upgrade. A second upgrade is
+-- refused with the place of the first, and before the first no policy can be made paid up.
 abbrev pub judged : ℕ → Option Policy → Command → Result (Option Policy) Refusal
 judged upgrade policy Upgrade = if upgrade == 0 then Ok None else Err (Upgraded upgrade)
 judged upgrade policy (PaidUp id day amount) =
@@ -39,7 +40,7 @@ judged upgrade policy command = result_map_both Some (λ refusal. refusal) (next
 abbrev pub judge : List Command → Command → Option Refusal
 judge before command = result_err (judged (upgrade_of before) (policy_of before (id_of command)) command)
 
--- what they make of it, as an office keeps it
+-- what the rules make of the command, as an office keeps it
 abbrev pub judged_after : List Command → Command → Result (Option Policy) Refusal
 judged_after before command = judged (upgrade_of before) (policy_of before (id_of command)) command
 

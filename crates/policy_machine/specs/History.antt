@@ -1,4 +1,4 @@
--- The histories of the office that are legal: every reply is the one due after the turns before it
+-- The legal histories of the office: every reply is the one that is due after the earlier turns
 use Rattle.std.specs.Prelude.{◌≡◌, ℕ, ◌+◌, ◌-◌, ◌^◌, ◌<◌, ◌≤◌, min, Bool, true, not, ◌==◌, if◌then◌else◌, List, [], ◌∷◌, ◌++◌, length, take, drop, slice_get, Some, None, Option}
 use Rattle.policy_machine.specs.Names.{AllByRecursion, filter_map, list_any, last_or, option_map, option_and_then, range_with_len, unwrap_or, Command, Refusal, Full, Call, Post, Pin, PinAt, Read, Unpin, Trim, Reply, Accepted, Refused, Faulted, Pinned, PinRefused, Policies, Unpinned, Floor, Blank, Ahead, Trimmed, PinsFull, Entry, IsValid, most_commands}
 use Rattle.policy_machine.specs.Book.{book, judge, IsAccepted}
@@ -19,7 +19,7 @@ accepted_of history = filter_map (λ entry. accepted_by entry.call entry.reply) 
     accepted_by (Post command) (Accepted position) = Some command
     accepted_by _ _ = None
 
--- all accepted commands after the turns before
+-- all accepted commands: those of the opening, and those of these turns
 abbrev pub commands_after : Opening → List Entry → List Command
 commands_after opening before = opening.commands ++ accepted_of before
 
@@ -28,8 +28,8 @@ abbrev pub fault_of : Reply → Option ℕ
 fault_of (Faulted count) = Some count
 fault_of _ = None
 
--- A fault that no earlier turn answered, nor the opening met: its count is above theirs. Where an earlier count is the last
--- value of a count, 2 ^ 64 - 1, nothing is above it: the count is that value again, so there two faults have one number
+-- A fault that neither an earlier turn reported nor the opening met: its count is above theirs. The count stands
+-- still at 2 ^ 64 - 1, the last value of its type; there two faults have the same count
 abbrev pub IsFreshFault : Opening → List Entry → ℕ → Type 0
 IsFreshFault opening before count =
     IsBelow opening.faults × AllByRecursion IsBelow (filter_map (λ entry. fault_of entry.reply) before)
@@ -41,7 +41,8 @@ abbrev pub gives_up : ℕ → Call → Bool
 gives_up pin (Unpin n) = n == pin
 gives_up pin _ = not true
 
--- the pin that the turn at this place took, its position and number of policies, where it did and no later turn gave it up
+-- the position and the number of policies of the pin that the turn at this place took, if it took one and no later
+-- turn gave it up
 abbrev pub live_pin : List Entry → ℕ → Option (ℕ × ℕ)
 live_pin before pin =
     if list_any (λ entry. gives_up pin entry.call) (drop (pin + 1) before) then None
@@ -59,7 +60,7 @@ live_positions before = filter_map (λ pin. option_map (λ held. held.0) (live_p
 abbrev pub IsOwnPin : List Entry → ℕ → ℕ → Type 0
 IsOwnPin before caller pin = (entry : Entry) × (slice_get before pin ≡ Some entry) × (entry.caller ≡ caller)
 
--- the floor is that of the last turn that set one, else 0
+-- the floor set by the last turn that set one, else 0
 abbrev pub floor_of : List Entry → ℕ
 floor_of before = unwrap_or (last_or None (filter_map (λ entry. floor_set entry.reply) before)) 0
   where
@@ -67,7 +68,7 @@ floor_of before = unwrap_or (last_or None (filter_map (λ entry. floor_set entry
     floor_set (Floor floor) = Some floor
     floor_set _ = None
 
--- the least of the numbers, or another where there is none
+-- the least of the numbers, or another number if there is none
 abbrev pub least_or : ℕ → List ℕ → ℕ
 least_or other [] = other
 least_or other (n ∷ []) = n
@@ -79,7 +80,7 @@ most_pins = 16
 abbrev pub policies_per_read : ℕ
 policies_per_read = 256
 
--- why a command can't be posted after these, if there is a reason: a rule's refusal, or a full journal
+-- why a command can't be posted after these, if there is a reason: a rule refuses it, or the journal is full
 abbrev pub refusal_due : List Command → Command → Option Refusal
 refusal_due commands command = or_full (judge commands command)
   where
@@ -87,7 +88,7 @@ refusal_due commands command = or_full (judge commands command)
     or_full (Some refusal) = Some refusal
     or_full None = if length commands == most_commands then Some Full else None
 
--- the reply is the one due to a caller's call after the turns before
+-- the reply is the one that is due to a caller's call after the earlier turns
 abbrev pub IsDue : Opening → List Entry → ℕ → Call → Reply → Type 0
 IsDue opening before caller (Post command) (Refused refusal) =
     refusal_due (commands_after opening before) command ≡ Some refusal
@@ -122,7 +123,7 @@ IsDue opening before caller Trim (Floor floor) =
     floor ≡ least_or (length (commands_after opening before)) (live_positions before)
 IsDue _ _ _ _ _ = ⊥
 
--- each turn of rest has the reply due after the turns before it
+-- each turn of rest has the reply that is due after the turns before it
 abbrev pub IsLegalAfter : Opening → List Entry → List Entry → Type 0
 IsLegalAfter opening before [] = Unit {0}
 IsLegalAfter opening before (entry ∷ rest) =
@@ -134,7 +135,7 @@ pub record IsOpening (opening : Opening) : Type 0 where
   pub valid : AllByRecursion IsValid opening.commands
   pub few : length opening.commands ≤ most_commands
 
--- a history of the office from its opening on
+-- a legal history of the office from its opening on
 pub record IsLegal (opening : Opening) (history : List Entry) : Type 0 where
   pub opens : IsOpening opening
   pub due : IsLegalAfter opening [] history

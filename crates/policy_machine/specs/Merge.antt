@@ -1,4 +1,4 @@
--- How the turns of several clerks make one history: each clerk's lines are answered once, in order
+-- How the turns of several lanes make one history: each lane's lines are answered once, in order
 use Rattle.std.specs.Prelude.{◌≡◌, ℕ, ◌+◌, ◌*◌, ◌/◌, ◌==◌, nat_eq, map, List, [], ◌∷◌, ◌++◌, take}
 use Rattle.policy_machine.specs.Names.{AllByRecursion, Contains, IsDistinct, enumerate_from, filter, range_with_len, Call, Post, Pin, PinAt, Read, Unpin, TrimCall, Reply, Pinned, PinRefused, Entry, Now, Position, Lane}
 use Rattle.policy_types.specs.declared.entry.At.{At}
@@ -6,11 +6,11 @@ use Rattle.policy_types.specs.declared.script.Line.{Line}
 use Rattle.policy_types.specs.declared.script.Line.TheVariants.{Post as PostLine, Value, Trim}
 use Rattle.policy_machine.specs.History.{policies_per_read}
 
--- a turn beside its place in the history
+-- a turn, with its place in the history
 abbrev pub Placed : Type 0
 Placed = ℕ × Entry
 
--- the turns of one caller, each beside its place in the history
+-- the turns of one caller, each with its place in the history
 abbrev pub turns_of : List Entry → ℕ → List Placed
 turns_of history caller = filter (λ placed. placed.1.caller == caller) (enumerate_from 0 history)
 
@@ -18,13 +18,13 @@ abbrev pub pin_call : At → Call
 pin_call Now = Pin
 pin_call (Position p) = PinAt p
 
--- the reads of a pin: one from each multiple of 256 that is below its policies, in order
+-- the reads of a pin: one from each multiple of 256 that is below the number of its policies, in order
 abbrev pub reads_of : ℕ → ℕ → List Call
 reads_of pin policies =
     map (λ k. Read pin (policies_per_read * k)) (range_with_len 0 ((policies + 255) / policies_per_read))
 
--- what follows a valuation's pin: nothing where it was refused, else its reads, all of them unless the valuation
--- found no memory and its pin is among the dry ones, and then the pin is given up
+-- what follows a valuation's pin. If the pin was refused, nothing follows. Else the reads follow, all of them unless
+-- the valuation was refused memory and its pin is in the list of those; and then the pin is given up
 abbrev pub FollowsPin : List ℕ → ℕ → Reply → List Call → Type 0
 FollowsPin dry pin (PinRefused refusal) calls = calls ≡ []
 FollowsPin dry pin (Pinned position policies) calls =

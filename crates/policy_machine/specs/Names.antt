@@ -1,4 +1,4 @@
--- The names from elsewhere that several rooms cite, passed on from one place. Declares nothing.
+-- The names from elsewhere that several modules cite, passed on from one place. Declares nothing.
 unfoldable pub use Rattle.std.specs.List.{IsDistinct}
 pub use Rattle.std.specs.List.{AllByRecursion, range_with_len, fold, filter_map, count_by, filter, list_any, last_or, Contains, enumerate_from, repeat}
 pub use Rattle.std.specs.Option.{option_copied, option_and_then, option_map, option_map_or, option_or, unwrap_or}

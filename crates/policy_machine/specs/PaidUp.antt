@@ -1,4 +1,4 @@
--- What becomes of a paid-up policy
+-- What can become of a paid-up policy
 use Rattle.std.specs.Prelude.{◌≡◌, false}
 use Rattle.policy_types.specs.declared.policy.Policy.{Policy}
 use Rattle.policy_machine.specs.Names.{status_eq, InForce, Lapsed}

@@ -27,7 +27,7 @@ payments_of p = by_plan p.plan
 abbrev pub end_of : Policy → ℤ
 end_of p = anniversary_of p.issued (years_of p)
 
--- a further premium falls due, which it does no more once the policy is paid up
+-- a further premium falls due; none does once the policy is paid up
 abbrev pub has_due : Policy → Bool
 has_due p = not (status_eq.it p.status PaidUp) && nat_lt p.paid (payments_of p)
 
@@ -39,7 +39,7 @@ due_of p = anniversary_of p.issued p.paid
 abbrev pub grace_end_of : Policy → ℤ
 grace_end_of p = due_of p +ℤ pos 31
 
--- the last day on which a lapsed policy can be reinstated, where its term isn't over before
+-- the last day on which a lapsed policy can be reinstated, if its term doesn't end before
 abbrev pub reinstatement_end_of : Policy → ℤ
 reinstatement_end_of p = anniversary_of p.issued (p.paid + 3)
 
@@ -54,7 +54,7 @@ awaits_settlement Claimed = true
 awaits_settlement Matured = true
 awaits_settlement _ = not true
 
--- one check: whether it refuses, and with what
+-- one check: whether it refuses, and with which reason
 pub record Check : Type 0 where
   pub applies : Bool
   pub refusal : Refusal
@@ -62,7 +62,7 @@ pub record Check : Type 0 where
 abbrev pub refuse : Bool → Refusal → Check
 refuse applies refusal = record { applies = applies; refusal = refusal }
 
--- the refusal of the first check that applies
+-- the reason of the first check that refuses
 abbrev pub first_refusal : List Check → Option Refusal
 first_refusal [] = None
 first_refusal (check ∷ checks) = if check.applies then Some check.refusal else first_refusal checks
@@ -87,7 +87,7 @@ grace_over p day = refuse (has_due p && int_lt (grace_end_of p) day) (GraceOver 
 abbrev pub nothing_due : Policy → Check
 nothing_due p = refuse (p.paid == payments_of p) NothingDue
 
--- the checks of a command on a policy that there is, in their order
+-- the checks of a command on an existing policy, in their order
 abbrev pub checks_of : Policy → Command → List Check
 checks_of p (Issue id day plan age years amount premium) = refuse true Taken ∷ []
 checks_of p (Premium id day amount) =

@@ -1,4 +1,4 @@
-// The commands about benefits: one falls due at a death or at the end of the term, and is paid out.
+// The commands about benefits: a benefit falls due at a death or at the end of the term, and is then paid out.
 ghost use Rattle.std.specs.Prelude.{◌≡◌, Some};
 ghost use Rattle.policy_types.specs.declared.command.Command.TheVariants.{Claim, Settle, Mature};
 ghost use Rattle.policy_machine.specs.Rules.{IsSound, matured, next};

@@ -1,4 +1,4 @@
-// The checks that several commands make.
+// The checks that several commands share.
 ghost use Rattle.policy_machine.specs.Rules.{IsSound, day_before_last, not_in_force, not_insured, term_over, grace_over, nothing_due};
 ghost use Rattle.policy_machine.specs.inside.Passing.{IsAnswerOf};
 

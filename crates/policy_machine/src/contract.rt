@@ -1,4 +1,4 @@
-// The commands that make a contract of insurance: its issue, and its alteration.
+// The commands that make a contract of insurance or change it: an issue, and an alteration.
 ghost use Rattle.std.specs.Prelude.{◌≡◌, Some};
 ghost use Rattle.policy_types.specs.declared.command.Command.TheVariants.{Alter};
 ghost use Rattle.policy_machine.specs.Rules.{IsSound, issued, next};

@@ -8,8 +8,12 @@ use crate::premiums::{lapse, pay, reinstate};
 use crate::reduction::paid_up;
 use policy_types::{Command, Policy, Refusal};
 
-/// What a command makes of the policy of its number, or why it is refused: the first of its checks that applies. With
-/// no policy of the number all but an issue is `Unknown`. An upgrade names no policy: see `judge`.
+/// What a command makes of the policy with its number. An upgrade names no policy: see `judge`.
+///
+/// # Errors
+///
+/// The first of the command's checks that applies. If there is no policy with the number, every command but an issue
+/// is `Unknown`.
 pub fn decide(policy: Option<&Policy>, command: &Command) -> Result<Policy, Refusal>
     requires valid { IsValid command.now }
     requires named { is_upgrade command.now ≡ false }
@@ -24,7 +28,7 @@ pub fn decide(policy: Option<&Policy>, command: &Command) -> Result<Policy, Refu
     }
 }
 
-// A policy where the command issues one.
+// A new policy, if the command issues one.
 fn begin(command: Command) -> Result<Policy, Refusal>
     ensures { result ≡ next None command }
 {

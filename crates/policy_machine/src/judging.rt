@@ -7,9 +7,13 @@ ghost use Rattle.policy_machine.specs.Rules.{IsSound};
 use crate::decision::decide;
 use policy_types::{Command, Policy, Refusal};
 
-/// What the rules make of a command after those before it: the policy that it leaves, none where it is an upgrade, or
-/// why it is refused. `upgrade` is the place of the upgrade among the commands before, or 0; `policy` is the one that
-/// the command names, if there is one.
+/// What the rules make of a command after those before it: the policy that it leaves, which is none for an upgrade.
+/// `upgrade` is the place of the upgrade among the earlier commands, or 0; `policy` is the policy that the command
+/// names, if there is one.
+///
+/// # Errors
+///
+/// Why the command is refused.
 pub fn judge(
     upgrade: u32,
     policy: Option<&Policy>,
@@ -33,7 +37,7 @@ pub fn judge(
     }
 }
 
-// A journal is upgraded once.
+// A journal is upgraded only once.
 fn once(upgrade: u32) -> Result<Option<Policy>, Refusal>
     ensures judged { result ≡ judged upgrade None Upgrade }
     ensures none { IfOk result (λ left. left ≡ None) }
@@ -53,8 +57,8 @@ fn leaving(decision: Result<Policy, Refusal>) -> Result<Option<Policy>, Refusal>
     }
 }
 
-/// The place of the upgrade after one more command, or 0: `upgrade` is that before it, and `count` is how many commands
-/// stand before it.
+/// The place of the upgrade after one more command, or 0. `upgrade` is the place before that command, and `count` is
+/// the number of commands before it.
 pub fn upgrade_place(upgrade: u32, count: u32, command: &Command) -> u32
     requires few { count < most_commands }
     ensures { (before : List ACommand) → upgrade ≡ upgrade_of before → count ≡ length before

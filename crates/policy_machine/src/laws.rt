@@ -13,7 +13,7 @@ pub fn contracts_are_kept()
         → day_of command ≡ Some after.last }
 {}
 
-/// Valid commands leave sound policies, and each under its own number.
+/// Valid commands leave sound policies, each under its own number.
 pub fn books_are_sound()
     ensures sound { (commands : List Command) (id : ℕ) → AllByRecursion IsValid commands
         → IfSome (policy_of commands id) IsSound }

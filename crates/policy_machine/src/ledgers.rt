@@ -17,7 +17,7 @@ pub fn ledgers_add_up()
     ensures { (commands : List Command) → sum_of (ledger_of commands) ≡ pos 0 }
 {}
 
-/// No balance is above 4 * 10^10 cents for each command, on either side.
+/// No balance is more than 4 * 10^10 cents for each command, on either side.
 pub fn ledgers_stay_within()
     ensures { (commands : List Command) → AllByRecursion IsValid commands
         → AreWithin (40000000000 * length commands) (ledger_of commands) }

@@ -1,4 +1,4 @@
-// The commands about premiums: one is paid, none comes, and missed ones are made up for.
+// The commands about premiums: one is paid, none is paid in time, and missed premiums are paid later.
 ghost use Rattle.std.specs.Prelude.{◌≡◌, Some};
 ghost use Rattle.policy_types.specs.declared.command.Command.TheVariants.{Premium, Lapse, Reinstate};
 ghost use Rattle.policy_machine.specs.Rules.{IsSound, next};

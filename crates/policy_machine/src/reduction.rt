@@ -1,4 +1,4 @@
-// A policy goes on for less, and without premiums.
+// The command that makes a policy paid up: it goes on for a lower amount, without premiums.
 ghost use Rattle.std.specs.Prelude.{◌≡◌, Some};
 ghost use Rattle.policy_types.specs.declared.command.Command.TheVariants.{PaidUp};
 ghost use Rattle.policy_machine.specs.Rules.{IsSound, next};

@@ -6,8 +6,8 @@ ghost use Rattle.policy_machine.specs.Before.{IsOldCommand, WereAccepted, old_bo
 ghost use Rattle.policy_machine.specs.Book.{IsAccepted, book, judge, policy_of, upgrade_of};
 ghost use Rattle.policy_machine.specs.PaidUp.{StaysPaidUp};
 
-/// A journal from before means what it meant: the same commands of it are accepted, and each other is refused for the
-/// same reason; they leave the same policies, book and balances.
+/// A journal without an upgrade means what it meant under the earlier rules: the same commands are accepted, each
+/// other one is refused for the same reason, and the policies, the book and the balances are the same.
 pub fn old_journals_mean_the_same()
     ensures accepted { (commands : List Command) → AllByRecursion IsOldCommand commands
         → IsAccepted commands ↔ WereAccepted commands }
@@ -28,8 +28,8 @@ pub fn upgrades_change_nothing()
     ensures balances { (commands : List Command) → ledger_of (commands ++ Upgrade ∷ []) ≡ ledger_of commands }
 {}
 
-/// A journal is upgraded once: after an upgrade a further one is refused, with the place of the first, and among accepted
-/// commands it stands before all that make a policy paid up.
+/// A journal is upgraded only once: after an upgrade a further one is refused, with the place of the first. Among
+/// accepted commands the upgrade comes before all commands that make a policy paid up.
 pub fn upgrades_come_once()
     ensures place { (front rest : List Command) → upgrade_of front ≡ 0
         → upgrade_of (front ++ Upgrade ∷ rest) ≡ length front + 1 }
@@ -40,8 +40,8 @@ pub fn upgrades_come_once()
         → IsAccepted (front ++ PaidUp id day amount ∷ rest) → 1 ≤ upgrade_of front }
 {}
 
-/// What a policy covers never rises, and a paid-up policy's stays as it is: the policy takes no premium and isn't in force
-/// again, whatever commands follow.
+/// The amount that a policy covers never rises, and a paid-up policy's amount stays as it is: the policy takes no
+/// premium and is never in force again, whatever commands follow.
 pub fn cover_never_rises()
     ensures amount { (before rest : List Command) (id : ℕ) (p q : Policy) → policy_of before id ≡ Some p
         → policy_of (before ++ rest) id ≡ Some q → q.amount ≤ p.amount }

@@ -33,7 +33,7 @@ abbrev OwesIf : Option Policy → Type 0
 OwesIf None = Unit {0}
 OwesIf (Some p) = Owes p
 
--- a check that doesn't refuse, and those behind it
+-- a check that doesn't refuse, and those after it
 passes : (applies : Bool) (refusal : Refusal) (rest : Option Refusal) → (if applies then Some refusal else rest) ≡ None
     → (applies ≡ false) × (rest ≡ None)
 passes true refusal rest none = grind arith

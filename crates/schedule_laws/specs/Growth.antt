@@ -7,7 +7,7 @@ use Rattle.schedule_laws.specs.Prefixes.{IsFrontOf}
 abbrev pub book_ids : List Command → List ℕ
 book_ids commands = map (λ policy. policy.id) (book commands)
 
--- they are those of the issues, in their order
+-- they are the numbers of the issues, in their order
 abbrev pub IssuedIdsLaw : Type 0
 IssuedIdsLaw = (commands : List Command) → book_ids commands ≡ filter_map issue_id commands
 

@@ -1,4 +1,4 @@
--- The names from elsewhere that several rooms cite, passed on from one place. Declares nothing.
+-- The names from elsewhere that several modules cite, passed on from one place. Declares nothing.
 pub use Rattle.std.specs.List.{sum_by, filter_map, AllByRecursion, flat_map}
 pub use Rattle.policy_machine.specs.Book.{book, IsAccepted, issue_id}
 pub use Rattle.policy_machine.specs.History.{Opening, IsLegal, live_pin, commands_after, floor_of, policies_per_read, accepted_of, IsDue, IsOwnPin}

@@ -1,6 +1,6 @@
 ghost use Rattle.schedule_laws.specs.PinnedReads.{LivePinLaw, PinnedReadLaw, ReadLaw, WholePinnedReadLaw};
 
-/// A live pin's position lies from the floor up to the count of commands.
+/// A live pin's position is from the floor up to the count of commands.
 pub fn live_pin_law()
     ensures { LivePinLaw }
 {}
@@ -10,7 +10,7 @@ pub fn read_law()
     ensures { ReadLaw }
 {}
 
-/// The reads of a pin, put together, are the book at its position, and the first of them a front of it.
+/// The reads of a pin, put together, are the book at its position, and the first of them are a prefix of it.
 pub fn pinned_read_law()
     ensures front { PinnedReadLaw }
     ensures whole { WholePinnedReadLaw }

@@ -1,6 +1,6 @@
 ghost use Rattle.schedule_laws.specs.Replies.{OnePositionLaw, OneRefusalLaw, OneReplyLaw, RefusedOrNotLaw, SomeReplyLaw};
 
-/// A call but a posting has one reply; a posting has one position or one refusal.
+/// Every call except a posting has one reply; a posting has one position or one refusal.
 pub fn one_reply_law()
     ensures reply { OneReplyLaw }
     ensures position { OnePositionLaw }

@@ -10,14 +10,14 @@ unfoldable pub entry_text : ℕ → Command → List ℕ
 entry_text position command =
     line_of (codes "entry") (decimal position ∷ kind_word command ∷ entry_fields command)
 
--- the line of a policy as it is: its terms, when it was issued, how many premiums were paid, and what is still to be paid out
+-- the line of a policy: its terms, its day of issue, the number of premiums paid, and what is still to be paid out
 unfoldable pub policy_text : Policy → List ℕ
 policy_text p =
     line_of (codes "policy")
     (decimal p.id ∷ status_word p.status ∷ insurance_fields p.plan p.age p.years p.amount p.premium
     ++ day_text p.issued ∷ decimal p.paid ∷ cents_text p.outstanding ∷ [])
 
--- a policy's commands, in order, and then what they made of it
+-- a policy's commands, in order, and then the policy as they left it
 abbrev pub statement_text : List (ℕ × Command) → Policy → List ℕ
 statement_text entries policy =
     flat_map (λ (entry : ℕ × Command). entry_text entry.0 entry.1) entries ++ policy_text policy

@@ -31,7 +31,7 @@ pub fn write_entry(lines: &mut LineWriter, position: u32, command: &Command) -> 
     lines.end()
 }
 
-// Adds what a command holds beside its kind and its policy's number: its day, where it has one, and its terms.
+// Adds what a command holds besides its kind and its policy's number: its day, if it has one, and its terms.
 fn write_fields(lines: &mut LineWriter, command: &Command) -> Result<(), NoMemory>
     requires { IsValid command.now }
     ensures { OnOk result (lines.new ≡ lines.old ++ behind_commas (entry_fields command.now)) }

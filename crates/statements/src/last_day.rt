@@ -1,4 +1,4 @@
-// The text of a day, kept for the next one who asks: policies that follow one another are often issued on the same day.
+// The text of a day, kept for the next call: consecutive policies are often issued on the same day.
 ghost use Rattle.std.specs.Prelude.{◌≡◌};
 ghost use Rattle.life_dates.specs.Calendar.{IsTermDay};
 ghost use Rattle.life_dates.specs.DayText.{day_text};
@@ -14,7 +14,7 @@ pub(crate) struct LastDay {
 }
 
 impl LastDay {
-    /// As if 1970-01-01 had been asked for.
+    /// The state as if 1970-01-01 had been asked for.
     pub(crate) fn new() -> LastDay {
         LastDay {
             day: 0,

@@ -32,8 +32,8 @@ pub fn statement(
     Ok(policies.into_text())
 }
 
-/// Lines of policies in the making. Contracts see the bytes written so far. A million of them are written one after the
-/// other, each in room of its own and then at once behind those before it.
+/// Writes lines of policies. Contracts see the bytes written so far. A million of them are written one after the
+/// other: each is put together in an array of its own, and then added at the end in one piece.
 #[derive(Drop)]
 pub struct PolicyLines {
     bytes: Vec<u8>,
@@ -56,7 +56,7 @@ impl PolicyLines {
         PolicyLines::behind(Text::new(Vec::new(alloc)))
     }
 
-    /// Lines behind a text.
+    /// Lines that are added to a text.
     pub fn behind(text: Text) -> PolicyLines
         ensures { result ≡ text }
     {
@@ -101,7 +101,7 @@ fn write_policy(line: &mut LineEnd, policy: &Policy, issued: &[u8; 10])
     line.put(b"policy");
 }
 
-// When a policy was issued, how many premiums were paid, and what is still to be paid out.
+// The day of issue, the number of premiums paid, and what is still to be paid out.
 fn write_progress(line: &mut LineEnd, policy: &Policy, issued: &[u8; 10])
     requires issued { issued.now ≡ day_text policy.now.issued }
     requires room { 56 + length line.old ≤ 256 }

@@ -12,7 +12,7 @@ abbrev pub insurance_fields : (plan : Plan) (age years amount premium : ℕ) →
 insurance_fields plan age years amount premium =
     plan_word plan ∷ decimal age ∷ decimal years ∷ cents_text amount ∷ cents_text premium ∷ []
 
--- what a command holds beside its kind and its policy's number: its day, where it has one, and its terms
+-- what a command holds besides its kind and its policy's number: its day, if it has one, and its terms
 abbrev pub entry_fields : Command → List (List ℕ)
 entry_fields (Issue id day plan age years amount premium) = day_text day ∷ insurance_fields plan age years amount premium
 entry_fields (Premium id day amount) = day_text day ∷ cents_text amount ∷ []

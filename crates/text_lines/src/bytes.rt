@@ -17,7 +17,7 @@ impl Model for Text {
 }
 
 impl Text {
-    /// The text of these bytes, which it takes as they are.
+    /// The text of these bytes, which are taken as they are.
     pub fn new(bytes: Vec<u8>) -> Text
         ensures { result ≡ bytes.items }
     {
@@ -38,7 +38,8 @@ impl Text {
     }
 }
 
-/// Adds more to a text. Memory may be wanting only where it has no room for it, and then it stays as it was.
+/// Adds more to a text. Memory is asked for only if the text has no capacity for it; if it is refused, the text stays
+/// as it was.
 pub fn add(text: &mut Vec<u8>, more: &[u8]) -> Result<(), NoMemory>
     ensures written { OnOk result (text.new.items ≡ text.old.items ++ more.now) }
     ensures refused { OnErr result (text.new.items ≡ text.old.items) }

@@ -1,4 +1,4 @@
-//! Lines of text in the making: a line is a first field, and further fields after commas.
+//! Writers of lines of text: a line is a first field, and further fields after commas.
 #![tactic(auto)]
 
 mod bytes;

@@ -1,4 +1,4 @@
-// Lines of output.
+// A writer of lines of output.
 ghost use Rattle.std.specs.Prelude.{◌≡◌, ◌≤◌, ◌++◌, [], ◌∷◌, OnErr, OnOk, decimal};
 ghost use Rattle.life_dates.specs.Calendar.{IsTermDay};
 ghost use Rattle.life_dates.specs.DayText.{day_text};
@@ -17,9 +17,10 @@ use policy_types::{NoMemory, Plan};
 use std::alloc::Global;
 use std::marker::Model;
 
-/// Lines of output in the making, field by field. Contracts see the bytes written so far.
+/// Writes lines of output, field by field. Contracts see the bytes written so far.
 ///
-/// A call that writes a field finds its memory as it goes, so after `NoMemory` a part of the line may have been written.
+/// A call that writes a field asks for memory as it goes, so after `NoMemory` a part of the line may have been
+/// written.
 #[derive(Drop)]
 pub struct LineWriter {
     bytes: Vec<u8>,
@@ -42,14 +43,14 @@ impl LineWriter {
         }
     }
 
-    /// The first field of a line, a word.
+    /// Writes the first field of a line, a word.
     pub fn first(&mut self, word: &str) -> Result<(), NoMemory>
         ensures { OnOk result (self.new ≡ self.old ++ word.now) }
     {
         self.add(word.as_bytes())
     }
 
-    /// A further field, a word.
+    /// Writes a further field, a word.
     pub fn word(&mut self, word: &str) -> Result<(), NoMemory>
         ensures { OnOk result (self.new ≡ self.old ++ (44 ∷ word.now)) }
     {
@@ -57,7 +58,7 @@ impl LineWriter {
         self.add(word.as_bytes())
     }
 
-    /// A further field, a whole number.
+    /// Writes a further field, a whole number.
     pub fn number(&mut self, number: u32) -> Result<(), NoMemory>
         ensures { OnOk result (self.new ≡ self.old ++ (44 ∷ decimal number)) }
     {
@@ -66,7 +67,7 @@ impl LineWriter {
         self.add(buffer.format(number).as_bytes())
     }
 
-    /// A further field, an amount of cents, as `-400.00`.
+    /// Writes a further field, an amount in cents, such as `-400.00`.
     pub fn cents(&mut self, cents: i64) -> Result<(), NoMemory>
         ensures { OnOk result (self.new ≡ self.old ++ (44 ∷ signed_cents_text cents)) }
     {
@@ -76,7 +77,7 @@ impl LineWriter {
         self.add(&buffer[..length])
     }
 
-    /// A further field, a day, as `2020-01-01`.
+    /// Writes a further field, a day, such as `2020-01-01`.
     pub fn day(&mut self, day: i32) -> Result<(), NoMemory>
         requires { IsTermDay day }
         ensures { OnOk result (self.new ≡ self.old ++ (44 ∷ day_text day)) }
@@ -85,7 +86,7 @@ impl LineWriter {
         self.add(&print_day(day))
     }
 
-    /// Further fields, the terms of a policy's insurance, with its amounts in cents.
+    /// Writes further fields, the terms of a policy's insurance, with its amounts in cents.
     pub fn insurance(
         &mut self,
         plan: Plan,
@@ -105,7 +106,7 @@ impl LineWriter {
         self.cents(premium as i64)
     }
 
-    /// A whole line. After `NoMemory` none of it is written.
+    /// Writes a whole line. After `NoMemory` none of it is written.
     pub fn line(&mut self, line: &LineEnd) -> Result<(), NoMemory>
         ensures written { OnOk result (self.new ≡ self.old ++ line.now) }
         ensures refused { OnErr result (self.new ≡ self.old) }

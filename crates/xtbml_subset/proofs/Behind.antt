@@ -1,4 +1,4 @@
--- What is left of the bytes after something was taken from their front.
+-- What is left of the bytes after something was taken from their start.
 use Rattle.xtbml_subset.proofs.Names.{◌≡◌, ℕ, ◌-◌, ◌<◌, List, ◌∷◌, ◌++◌, length, arith, length-append}
 
 -- rest is what is left of the bytes after one byte or more

@@ -39,7 +39,7 @@ pub left_issues : (total : ℕ) (next : Option Element) (found : List Found)
 left_issues total None found h = ap (λ (es : List Found). map (λ e. issue_age_of (found_asks total) e) es) h
 left_issues total (Some e) found h = ap (λ (es : List Found). map (λ x. issue_age_of (found_asks total) x) es) h
 
--- a place that was told, before those of the issue ages behind it
+-- a place that was reported, before those of the issue ages after it
 pub place_told : (places : List ℕ) (at : ℕ) (more all : List ℕ) → places ++ at ∷ more ≡ all → (places ++ at ∷ []) ++ more ≡ all
 place_told places at more all e = append_assoc places (at ∷ []) more ∙ e
 

@@ -74,7 +74,7 @@ start_no_white b h =
 starts_in : (b : ℕ) → starts_name b ≡ true → is_in Name b ≡ true
 starts_in b h = rw h refl
 
--- behind white space comes something else
+-- after white space comes something else
 pub stops_white : (space : List ℕ) (b : ℕ) (rest : List ℕ) → InClass White space → is_in Name b ≡ false → Stops Name (space ++ b ∷ rest)
 stops_white [] b rest h other = other
 stops_white (w ∷ space) b rest h other = white_no_name w h.0

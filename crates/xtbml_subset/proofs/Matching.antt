@@ -93,7 +93,7 @@ start_hit name tag e = rw e refl
 start_miss : (name : List ℕ) (tag : Tag) → bytes_eq tag.name name ≡ false → on 1 ≡ step_of 0 (Some name) (start tag)
 start_miss name tag e = rw e refl
 
--- the bytes of an element before those behind it
+-- the bytes of an element before those after it
 record Lies (levels total at : ℕ) (tag : Tag) (inner : Content) (text behind : List ℕ) : Type 0 where
   is_element : IsElement (λ place inside. IsContent levels inner place inside) at at tag inner text
   place_is : at + length (text ++ behind) ≡ total

@@ -41,7 +41,7 @@ fold_white names (first ∷ before) are =
 none_open : (before : List Piece) → AreWhite before → open_after before ≡ None
 none_open before are = fold_white None before are
 
--- ---- the state behind some pieces
+-- ---- the state after some pieces
 
 -- a tag stood
 abbrev IsBegun : List Piece → Type 0

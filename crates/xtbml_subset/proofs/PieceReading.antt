@@ -6,7 +6,7 @@ use Rattle.xtbml_subset.proofs.Lexing.{byte_takes, spaces_takes, name_takes, att
 use Rattle.xtbml_subset.proofs.Behind.{IsBehind, behind_shorter}
 use Rattle.xtbml_subset.proofs.AttributeRuns.{attribute_behind, attributes_step, attributes_stop}
 
--- what was taken from the front of the bytes, as a piece
+-- what was taken from the start of the bytes, as a piece
 pub record TakesPiece (bytes : List ℕ) (piece : Piece) (rest : List ℕ) : Type 0 where
   pub text : List ℕ
   pub parts : bytes ≡ text ++ rest

@@ -6,7 +6,7 @@ abbrev pub behind : {B : Type 0} → List B → Result (List B) TableFault → R
 behind values (Ok more) = Ok (values ++ more)
 behind values (Err fault) = Err fault
 
--- whatever the items to come are read as, all items are read as that behind the values so far
+-- whatever the items to come are read as, all items are read as that after the values so far
 abbrev pub AllSoFar : {S A B : Type 0} → (S → A → Result (S × B) TableFault → Type 0) → S → List A → List B → S → List A → Type 0
 AllSoFar {S} {A} {B} One begin all values due items =
     (rest : Result (List B) TableFault) → ReadsAll One due items rest → ReadsAll One begin all (behind values rest)

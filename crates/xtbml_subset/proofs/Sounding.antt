@@ -116,7 +116,7 @@ whole_document bytes e =
     let nests : Steps (outside Opening) w.pieces (outside Epilog) = subst (Steps (outside Opening) w.pieces) p.1 w.nests in
     document_of bytes m.mark rest m.parts m.is_mark (opens w.pieces (length m.mark) rest spelled nests)
 
--- ---- the longest front that nests
+-- ---- the longest prefix that nests
 
 nests_walk : (pieces : List Piece) (text more : List ℕ) (state end : State) → Spell pieces text → Steps state pieces end → walk_at state (text ++ more) ≡ walk_at end more
 nests_walk [] text more state end spelled nests = ap (λ (s : List ℕ). walk_at state (s ++ more)) spelled ∙ ap (λ (s : State). walk_at s more) nests
@@ -137,7 +137,7 @@ piece_no_mark (start tag) text rest next is goes = begins_no_mark text (tag.name
 piece_no_mark (whole tag) text rest next is goes = begins_no_mark text (tag.name ++ (is.attributes ++ (is.space ++ 47 ∷ 62 ∷ []))) rest is.parts
 piece_no_mark (finish name) text rest next is goes = begins_no_mark text (47 ∷ (name ++ (is.space ++ 62 ∷ []))) rest is.parts
 
--- what follows a front that nests is not shorter than what follows the walk
+-- what follows a prefix that nests is not shorter than what follows the walk
 not_shorter : (bytes mark text more : List ℕ) (pieces : List Piece) (end : State) → bytes ≡ mark ++ (text ++ more) → IsMark mark → Spell pieces text
     → Steps (outside Opening) pieces end → length (walk_at (outside Opening) (after_mark bytes)).1 ≤ length more
 not_shorter bytes (b ∷ mark) text more pieces end parts is_mark spelled nests =

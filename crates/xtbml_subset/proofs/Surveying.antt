@@ -4,7 +4,7 @@ use Rattle.xtbml_subset.specs.declared.search.Passed.{Passed}
 use Rattle.xtbml_subset.proofs.Options.{chosen}
 use Rattle.xtbml_subset.proofs.Searching.{elements_by}
 
--- ---- how many elements are open behind a piece
+-- ---- how many elements are open after a piece
 
 abbrev Moves : Piece → ℕ → ℕ → Type 0
 Moves (byte b) depth next = next ≡ depth
@@ -244,7 +244,7 @@ gate level name p above s = by_gate (opens above)
 
 -- ---- a count
 
--- the level of what was found begins where the bytes behind it are left
+-- the level of what was found begins where the bytes after it are left
 hit_place : (level depth next : ℕ) (wanted : Option (List ℕ)) (p : Passing) (f : Found) → p.depth ≡ depth → Moves p.piece depth next → sought_at level wanted p seeking ≡ hit f
     → (level ≤ next) × (f.rest ≡ p.rest) × (depth_in f.is_open ≡ next - level)
 hit_place level depth next wanted p f at move is =

@@ -28,11 +28,11 @@ first_age rows = age_of_first rows (λ row. row.label)
 abbrev pub first_issue_age : List Issue → ℕ
 first_issue_age issues = age_of_first issues (λ issue. issue.label)
 
--- what is read behind a value, or the fault before it
+-- what is read after a value, or the fault before it
 abbrev pub Further : {A B : Type 0} → (A → Result B TableFault → Type 0) → Result A TableFault → Result B TableFault → Type 0
 Further Rest one read = MatchResult one (λ value. Rest value read) (λ fault. read ≡ Err fault)
 
--- a rate with what is due behind it, or that it is bad
+-- a rate with what is due after it, or that it is bad
 abbrev pub rated : {S : Type 0} → ℕ → S → Option ℕ → Result (S × ℕ) TableFault
 rated at next rate = ok_or (option_map (λ value. (next, value)) rate) (Bad at BadRate)
 
@@ -42,7 +42,7 @@ IsAged due row age read =
     MatchOption age (read ≡ Err (Bad row.at BadAge))
     (λ found. MatchBool (is_due due found) (ReadsRated row (Some (found + 1)) read) (read ≡ Err (Bad row.at AgeGap)))
 
--- what is due behind a duration
+-- what is due after a duration
 abbrev pub timed : ℕ → ℕ → Attained
 timed age duration = record { duration = Some (duration + 1); age = age + 1 }
 

@@ -7,7 +7,7 @@ crossed : IsLongestNested (codes "<XTbML></Table>") 7
 unfolding fault_at walk_from piece_at marked_at tag_at name_at attributes_from attribute_at spaces_at quoted_at closed_at end_tag_at comment_at declaration_at
 crossed = longest_nested (codes "<XTbML></Table>") 7 refl
 
--- a tag behind the end of the root
+-- a tag after the end of the root
 two_roots : IsLongestNested (codes "<A/> <B/>") 5
 unfolding fault_at walk_from piece_at marked_at tag_at name_at attributes_from attribute_at spaces_at quoted_at closed_at end_tag_at comment_at declaration_at
 two_roots = longest_nested (codes "<A/> <B/>") 5 refl
@@ -17,7 +17,7 @@ stray : IsLongestNested (codes "<A></A>x") 7
 unfolding fault_at walk_from piece_at marked_at tag_at name_at attributes_from attribute_at spaces_at quoted_at closed_at end_tag_at comment_at declaration_at
 stray = longest_nested (codes "<A></A>x") 7 refl
 
--- a declaration behind a comment
+-- a declaration after a comment
 late : IsLongestNested (codes "<!----><?xml v?><A/>") 7
 unfolding fault_at walk_from piece_at marked_at tag_at name_at attributes_from attribute_at spaces_at quoted_at closed_at end_tag_at comment_at declaration_at
 late = longest_nested (codes "<!----><?xml v?><A/>") 7 refl

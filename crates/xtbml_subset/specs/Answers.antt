@@ -8,7 +8,7 @@ use Rattle.xtbml_subset.specs.Nesting.{IsNested}
 use Rattle.xtbml_subset.specs.Documents.{Node, IsDocument, node_asks}
 use Rattle.xtbml_subset.specs.Checks.{IsTable}
 
--- the longest front of the bytes that is a sequence of pieces that nests has this length
+-- the longest prefix of the bytes that is a sequence of pieces that nests has this length
 pub record IsLongestNested (bytes : List ℕ) (at : ℕ) : Type 0 where
   pub within : at ≤ length bytes
   pub nested : IsNested (take at bytes)
@@ -37,7 +37,7 @@ Gives (Ok table) answer = answer ≡ Ok table
 Gives (Err (Bad at kind)) answer = answer ≡ Err (Bad at kind)
 Gives (Err (NoMemory lack)) answer = Unit {0}
 
--- a fault that isn't want of memory says this
+-- a fault that isn't a refusal of memory says this
 abbrev pub Unless : TableFault → Type 0 → Type 0
 Unless (NoMemory lack) P = Unit {0}
 Unless (Bad at kind) P = P

@@ -86,13 +86,13 @@ ReadsRate None rate = rate ≡ None
 ReadsRate (Some text) None = (rate : ℕ) → IsRate (trimmed text) rate → ⊥
 ReadsRate (Some text) (Some rate) = IsRate (trimmed text) rate
 
--- a row is read as its rate, with what is due behind it, or refused for its rate
+-- a row is read as its rate, with what is due after it, or refused for its rate
 abbrev pub ReadsRated : {S : Type 0} → RateElement → S → Result (S × ℕ) TableFault → Type 0
 ReadsRated row next read =
     (rate : Option ℕ) × ReadsRate row.text rate
     × (read ≡ ok_or (option_map (λ value. (next, value)) rate) (Bad row.at BadRate))
 
--- Rows are read as rates from the age of the first on. Each is read as its rate, behind which the next age is due, or refused
+-- Rows are read as rates from the age of the first on. Each is read as its rate, after which the next age is due, or refused
 -- for its age or for its rate.
 abbrev pub ReadsRates : List RateElement → Result Rates TableFault → Type 0
 ReadsRates rows answer =

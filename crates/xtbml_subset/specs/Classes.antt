@@ -25,7 +25,7 @@ abbrev pub InClass : Class → List ℕ → Type 0
 InClass class [] = Unit {0}
 InClass class (b ∷ bytes) = (is_in class b ≡ true) × InClass class bytes
 
--- the bytes of a class at the front, and the bytes after these
+-- the bytes of a class at the start, and the bytes after these
 abbrev pub front : Class → List ℕ → List ℕ
 front class [] = []
 front class (b ∷ bytes) = if is_in class b then b ∷ front class bytes else []

@@ -1,4 +1,4 @@
--- The names from elsewhere that several rooms cite, passed on from one place. Declares nothing.
+-- The names from elsewhere that several modules cite, passed on from one place. Declares nothing.
 pub use Rattle.std.specs.Option.{unwrap_or, option_map_or}
 pub use Rattle.std.specs.Str.{bytes_eq}
 pub use Rattle.rate_table.specs.Rates.{Rates, last_age_of}

@@ -32,7 +32,7 @@ MayFollow before (start tag) = MayStart (open_after before)
 MayFollow before (whole tag) = MayStart (open_after before)
 MayFollow before comment = Unit {0}
 
--- the bytes are pieces, behind EF BB BF or nothing, and each of them may follow those before it
+-- the bytes are pieces, after EF BB BF or nothing, and each of them may follow those before it
 pub record IsNested (bytes : List ℕ) : Type 0 where
   pub mark : List ℕ
   pub rest : List ℕ

@@ -18,7 +18,7 @@ pub data Piece : Type 0 where
   whole : Tag → Piece
   finish : List ℕ → Piece
 
--- the bytes are the texts of these, one behind the other
+-- the bytes are the texts of these, one after the other
 abbrev pub AreSpelled : {A : Type 0} → (A → List ℕ → Type 0) → List A → List ℕ → Type 0
 AreSpelled IsText [] bytes = bytes ≡ []
 AreSpelled IsText (one ∷ more) bytes =

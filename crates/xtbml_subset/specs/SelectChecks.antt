@@ -29,7 +29,7 @@ durations_of asks axis =
     then asks.children (codes "Y") axis
     else in_first asks (codes "Y") (asks.children (codes "Axis") axis)
 
--- without the blank rows behind the last that isn't blank: a blank one's content is text of white space alone, or nothing
+-- without the blank rows after the last that isn't blank: a blank one's content is text of white space alone, or nothing
 abbrev pub filled : List RateElement → List RateElement
 filled [] = []
 filled (row ∷ rows) =
@@ -74,7 +74,7 @@ ReadsUltimate at [] read = read ≡ Err (Bad at NoUltimate)
 ReadsUltimate at (row ∷ rows) read = ReadsRates (row ∷ rows) read
 
 -- The place of the first issue age with a gap between its select rates and the ultimate ones: the ultimate table goes on
--- from the age right behind the select period, but begins above it.
+-- from the age directly after the select period, but begins above it.
 abbrev pub first_gap : Rates → ℕ → List ℕ → List (List ℕ) → Option ℕ
 first_gap ultimate age [] rows = None
 first_gap ultimate age (at ∷ places) [] = None
@@ -90,8 +90,8 @@ IsJoinedBy issues rows ultimate answer =
     answer ≡ option_map_or (λ at. Err (Bad at UltimateGap)) (first_gap ultimate first (map (λ issue. issue.at) issues) rows)
     (Ok (record { first_age = first; rows = rows; ultimate = ultimate }))
 
--- The answer for a first table with its first axis, by the tables behind it. An issue age is read, or refused for its age or
--- for its rates. The ultimate rates are the `Y` of the first axis of the first values of the first table behind.
+-- The answer for a first table with its first axis, by the tables after it. An issue age is read, or refused for its age or
+-- for its rates. The ultimate rates are the `Y` of the first axis of the first values of the first table after.
 abbrev pub IsSelectTable : {N : Type 0} → Asks N → List N → N → N → Result Selected TableFault → Type 0
 IsSelectTable {N} asks others table axis answer =
     let issues : List Issue = map (λ node. issue_age_of asks node) (issue_axes asks table axis) in

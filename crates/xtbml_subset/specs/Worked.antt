@@ -15,7 +15,7 @@ ThreeRates = SpellsTable
 abbrev pub IsRefusedAt : List ℕ → ℕ → TableKind → Type 0
 IsRefusedAt bytes at kind = IsTableAnswer bytes (Err (Bad at kind))
 
--- an empty file, an end tag of another name, a second root, text behind the root, an end that lacks
+-- an empty file, an end tag of another name, a second root, text after the root, an end that lacks
 abbrev pub NoDocuments : Type 0
 NoDocuments = IsRefusedAt [] 0 NotDocument × IsRefusedAt (codes "<XTbML></Table>") 7 NotDocument
     × IsRefusedAt (codes "<A/> <B/>") 5 NotDocument × IsRefusedAt (codes "<A></A>x") 7 NotDocument

@@ -6,7 +6,7 @@ use Rattle.xtbml_subset.specs.declared.fault.TableKind.TheVariants.{BadDuration,
 use Rattle.xtbml_subset.specs.declared.fault.TableFault.TheVariants.{Bad}
 use Rattle.xtbml_subset.specs.AnyChecks.{IsAnyAnswer, SpellsAny}
 
--- issue age 3 with two select rates, behind them a `Y` without one, and the ultimate rate of age 5
+-- issue age 3 with two select rates, after them a `Y` without one, and the ultimate rate of age 5
 abbrev pub OneIssueAge : Type 0
 OneIssueAge = SpellsAny
     (codes "<XTbML><Table><Values><Axis t='3'><Axis><Y t='1'>.5</Y><Y t='2'>1</Y><Y/></Axis></Axis></Values></Table><Table><Values><Axis><Y t='5'>0.1</Y></Axis></Values></Table></XTbML>")

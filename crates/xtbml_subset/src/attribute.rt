@@ -33,7 +33,7 @@ pub struct Attribute<'a> {
     pub value: &'a [u8],
 }
 
-/// The attribute at the front, and the bytes after it.
+/// The attribute at the start, and the bytes after it.
 #[tactic(auto, unfolding(crate::specs::inside::Reading::attribute_at))]
 pub fn next_attribute(bytes: &[u8]) -> Option<(Attribute<'_>, &[u8])>
     ensures { option_map (λ x. ((x.0.name.now, x.0.value.now), x.1.now)) result ≡ attribute_at bytes.now }
@@ -44,7 +44,7 @@ pub fn next_attribute(bytes: &[u8]) -> Option<(Attribute<'_>, &[u8])>
     Some((Attribute { name, value }, rest))
 }
 
-/// The bytes after the attributes at the front, as many as there are.
+/// The bytes after the attributes at the start, as many as there are.
 pub fn after_attributes(bytes: &[u8]) -> &[u8]
     ensures { result.now ≡ (attributes_at bytes.now).1 }
 {
@@ -55,7 +55,7 @@ pub fn after_attributes(bytes: &[u8]) -> &[u8]
     rest
 }
 
-/// The value of the first attribute of the name, of those at the front.
+/// The value of the first attribute of the name, of those at the start.
 pub fn attribute_value<'a>(bytes: &'a [u8], name: &[u8]) -> Option<&'a [u8]>
     ensures { option_copied result ≡ value_of name.now (attributes_at bytes.now).0 }
 {

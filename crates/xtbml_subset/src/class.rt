@@ -7,7 +7,7 @@ ghost use Rattle.xtbml_subset.specs.declared.class.Class.TheVariants.{White, Nam
 pub enum Class {
     /// A blank, a tab, a line feed or a carriage return.
     White,
-    /// A byte that a name goes on with.
+    /// A byte that may stand in a name after its first.
     Name,
     /// What may stand in a value between two `"`.
     DoubleQuoted,

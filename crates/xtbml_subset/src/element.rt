@@ -24,7 +24,7 @@ impl<'a> Element<'a> {
         }
     }
 
-    /// The next element of this name behind this one, with the same parent.
+    /// The next element of this name after this one, with the same parent.
     pub fn next_sibling(&self, name: &[u8]) -> Option<Element<'a>>
         ensures shorter { IfSome result (λ e. length e.rest.now < length self.now.rest.now) }
         ensures siblings { MatchOption result
@@ -41,7 +41,7 @@ impl<'a> Element<'a> {
         attribute_value(self.tag.attributes, name)
     }
 
-    /// The content, where it is text alone.
+    /// The content, if it is text alone.
     #[tactic(auto, unfolding(crate::specs::inside::Elements::text_at))]
     pub fn text(&self) -> Option<&'a [u8]>
         ensures text { option_copied result ≡ text_at (found_of self.now) }
@@ -55,7 +55,7 @@ impl<'a> Element<'a> {
         Some(text)
     }
 
-    /// The place of its `<` in a file of so many bytes.
+    /// The place of its `<`, given the length of the file.
     pub fn place(&self, total: u32) -> u32
         ensures { result ≡ total - length (found_of self.now).from }
     {

@@ -4,38 +4,38 @@ ghost use Rattle.xtbml_subset.specs.declared.fault.TableFault.TheVariants.{NoMem
 
 use memory_requests::NoMemory;
 
-/// What is wrong with a table file, in the order in which it is looked for.
+/// What is wrong with a table file, in the order in which it is checked.
 #[derive(Clone, Copy, PartialEq, Eq, Debug)]
 pub enum TableKind {
     /// The file isn't a document.
     NotDocument,
-    /// The root isn't `XTbML`, or the path to the rates breaks off.
+    /// The root isn't `XTbML`, or an element on the path to the rates is missing.
     NoTable,
     /// The rates depend on the duration too.
     Select,
     /// The rates are to be multiplied by a factor other than 1.
     Scaled,
-    /// An age is absent, or isn't a whole number from 0 to 130.
+    /// An age is missing, or isn't a whole number from 0 to 130.
     BadAge,
-    /// An age isn't one more than the age before.
+    /// An age isn't the age before it plus one.
     AgeGap,
-    /// A rate isn't a number from 0 to 1 of at most nine places.
+    /// A rate isn't a number from 0 to 1 with at most nine decimal places.
     BadRate,
-    /// An issue age has no rate, or a rate of it has no duration, one that is neither 0 nor 1 at first or isn't one more
-    /// than the duration before, or one past age 130.
+    /// An issue age has no rate; or one of its rates has no duration, has a first duration that is neither 0 nor 1,
+    /// has a duration that isn't the one before it plus one, or has one that goes past age 130.
     BadDuration,
-    /// There are no ultimate rates behind the select ones.
+    /// There are no ultimate rates after the select ones.
     NoUltimate,
-    /// The ultimate rates begin later than right behind a select period that they go on after.
+    /// The ultimate rates begin later than directly after a select period although they go on after it.
     UltimateGap,
 }
 
-/// Why a file is no table.
+/// Why a file isn't read as a table.
 #[derive(Clone, Copy, PartialEq, Eq, Debug)]
 pub enum TableFault {
-    /// The fault, and the place in bytes from the start of the file.
+    /// What is wrong, and its place in bytes from the start of the file.
     Bad { at: u32, kind: TableKind },
-    /// There is no memory for the rates.
+    /// Memory for the rates was refused.
     NoMemory(NoMemory),
 }
 

@@ -13,9 +13,9 @@ use crate::token::{Tag, Token, next_token};
 pub enum Seen<'a> {
     /// To a depth below the level that is searched.
     On(usize),
-    /// To an element of this level that is wanted, and whether content follows.
+    /// To an element of this level that is searched for, and whether it has content.
     Wanted(Tag<'a>, bool),
-    /// Behind this level.
+    /// Past the end of this level.
     Closed,
 }
 
@@ -62,7 +62,7 @@ pub fn look<'a>(token: Token<'a>, depth: usize, wanted: Option<&[u8]>) -> Seen<'
     }
 }
 
-/// The first element that is wanted, of a level that lies `depth` levels above the first byte.
+/// The first element that is searched for, in a level that is `depth` levels above the first byte.
 pub fn next_element<'a>(bytes: &'a [u8], depth: usize, wanted: Option<&[u8]>) -> Option<Element<'a>>
     requires level { depth ≤ 1 }
     requires short { length bytes.now ≤ 4194304 }

@@ -8,9 +8,9 @@ pub struct Element<'a> {
     /// From its `<` to the end of the file.
     pub from: &'a [u8],
     pub tag: Tag<'a>,
-    /// Whether content and an end tag follow the tag.
+    /// Whether the tag is followed by content and an end tag.
     pub is_open: bool,
-    /// The bytes behind the tag.
+    /// The bytes after the tag.
     pub rest: &'a [u8],
     ghost small: { length rest.now ≤ 4194304 },
 }

@@ -20,9 +20,9 @@ use std::alloc::Global;
 #[derive(Drop)]
 pub struct Issues {
     pub first_age: u8,
-    /// The place of each one's axis.
+    /// The place of each issue age's axis.
     pub places: Vec<u32>,
-    /// The rates of each by duration, in units of 10^-9.
+    /// The rates of each issue age by duration, in units of 10^-9.
     pub rows: SelectRows,
 }
 
@@ -39,7 +39,7 @@ fn first_duration<'a>(axis: &Element<'a>) -> Option<Element<'a>>
     axis.first_child(b"Axis")?.first_child(b"Y")
 }
 
-/// The rates of an issue age, of which there may be none.
+/// The rates of an issue age; there may be none.
 fn all_rates(alloc: Global, axis: &Element<'_>, age: u8, total: u32) -> Result<Vec<u32>, TableFault>
     ensures read { IfOk result (λ rates.
         ReadsAll ReadsDuration (record { duration = None; age = age }) (issue_age_of (found_asks total) (found_of axis.now)).rates (Ok rates.items)) }
@@ -52,7 +52,7 @@ fn all_rates(alloc: Global, axis: &Element<'_>, age: u8, total: u32) -> Result<V
     }
 }
 
-/// The rates of an issue age, of which there is one at least.
+/// The rates of an issue age, which has at least one.
 fn rates_of_issue(
     alloc: Global,
     axis: &Element<'_>,
@@ -76,7 +76,7 @@ fn rates_of_issue(
     Ok(rates)
 }
 
-/// The age and the rates of an issue age, where the age that is due is none at the first.
+/// The age and the rates of an issue age. The age that is due is `None` for the first one.
 fn read_issue(
     alloc: Global,
     axis: &Element<'_>,
@@ -106,7 +106,7 @@ fn read_issue(
     Ok((age, rates))
 }
 
-/// The issue ages whose axes are the first and those of its siblings that come behind it.
+/// The issue ages whose axes are `first` and those of its siblings that come after it.
 pub fn read_issues(alloc: Global, first: &Element<'_>, total: u32) -> Result<Issues, TableFault>
     ensures rows { IfOk result (λ issues. ReadsAll ReadsIssue None (issues_from total (found_of first.now)) (Ok issues.rows)) }
     ensures first { IfOk result (λ issues. issues.first_age ≡ age_of_first (issues_from total (found_of first.now)) (λ issue. issue.label)) }
@@ -132,7 +132,7 @@ pub fn read_issues(alloc: Global, first: &Element<'_>, total: u32) -> Result<Iss
     })
 }
 
-/// The axis of the first issue age, where the first axis of a table has an axis in it.
+/// The axis of the first issue age, if the first axis of a table has an axis in it.
 #[tactic(auto, unfolding(crate::specs::SelectChecks::issue_axes))]
 pub fn first_issue<'a>(axis: &Element<'a>, inner: &Element<'a>) -> Element<'a>
     requires inner { children_at (codes "Axis") (found_of axis.now) ≡ found_of inner.now ∷ siblings_at (codes "Axis") (found_of inner.now) }

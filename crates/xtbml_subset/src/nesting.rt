@@ -26,7 +26,7 @@ impl<'a> Nesting<'a> {
         }
     }
 
-    /// Opens an element in another one, where there is room.
+    /// Opens an element in another one, if the depth allows it.
     fn push(&mut self, name: &'a [u8])
         requires { self.old.depth < 64 }
         ensures { state_of self.new ≡ record { phase = self.old.phase; names = name.now ∷ (state_of self.old).names } }
@@ -146,7 +146,7 @@ impl<'a> Nesting<'a> {
         }
     }
 
-    /// Whether the piece may stand here, and if so what is open after it.
+    /// Whether the piece may stand here; if so, the state after it is noted.
     fn take(&mut self, token: Token<'a>) -> bool
         ensures { MatchBool result
             (after_piece (state_of self.old) (piece_of token.entry) ≡ Some (state_of self.new))
@@ -159,8 +159,8 @@ impl<'a> Nesting<'a> {
         }
     }
 
-    /// The bytes after those at the front that may stand here and change nothing: text in an element, white
-    /// space elsewhere.
+    /// Skips the bytes at the start that may stand here and change nothing: text in an element, white space
+    /// elsewhere. The rest is returned.
     fn after_run(&self, bytes: &'a [u8]) -> &'a [u8]
         ensures walk { walk_at (state_of self.now) result.now ≡ walk_at (state_of self.now) bytes.now }
         ensures elements { (depth : ℕ) (wanted : Option (List ℕ)) → elements_at depth wanted result.now ≡ elements_at depth wanted bytes.now }
@@ -194,7 +194,7 @@ fn past(phase: Phase) -> Phase
     }
 }
 
-/// The bytes behind the mark of UTF-8, or all of them.
+/// The bytes after the byte order mark, or all of them if there is none.
 fn after_mark(bytes: &[u8]) -> &[u8]
     ensures rest { result.now ≡ after_mark bytes.now }
     ensures length { length result.now ≤ length bytes.now }
@@ -205,7 +205,7 @@ fn after_mark(bytes: &[u8]) -> &[u8]
     }
 }
 
-/// The answer where the pieces end.
+/// The result at the end of the pieces.
 fn place_at_end(bytes: &[u8], rest: &[u8], nesting: &Nesting) -> Option<usize>
     requires { length rest.now ≤ length bytes.now }
     ensures within { IfSome result (λ at. at ≤ length bytes.now) }
@@ -221,8 +221,8 @@ fn place_at_end(bytes: &[u8], rest: &[u8], nesting: &Nesting) -> Option<usize>
     }
 }
 
-/// The elements that a document's table is read from, or the place up to which the pieces of the bytes nest,
-/// which are none.
+/// The elements from which a document's table is read. If the pieces of the bytes don't nest to the end, the result
+/// is the place up to which they do.
 #[tactic(auto, unfolding(crate::specs::inside::Walk::fault_at))]
 pub fn survey(bytes: &[u8]) -> Result<ElementPath<'_>, usize>
     requires short { length bytes.now ≤ 4194304 }

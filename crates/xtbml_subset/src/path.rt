@@ -5,7 +5,7 @@ ghost use Rattle.xtbml_subset.specs.inside.Views.{path_of, passing_of};
 use crate::passing::Passing;
 use crate::search::{Passed, Search};
 
-/// The elements that a table is read from, each the first of its name in the one before it.
+/// The elements from which a table is read, each the first with its name in the one before it.
 #[derive(Clone, Copy)]
 pub struct ElementPath<'a> {
     pub root: Search<'a>,
@@ -13,7 +13,7 @@ pub struct ElementPath<'a> {
     pub about: Search<'a>,
     pub values: Search<'a>,
     pub axis: Search<'a>,
-    /// An axis in the axis.
+    /// The axis in the axis.
     pub inner: Search<'a>,
     /// The first rate of the axis.
     pub first: Search<'a>,

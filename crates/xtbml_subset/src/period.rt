@@ -17,16 +17,16 @@ use crate::text::skip;
 use memory_requests::push;
 use std::alloc::Global;
 
-/// How far the rates of an issue age were read.
+/// How far the rates of an issue age have been read.
 #[derive(Clone, Copy)]
 pub struct Attained {
-    /// The duration that is due, and none before the first rate.
+    /// The duration that is due; `None` before the first rate.
     pub duration: Option<u16>,
     /// The age at which the next rate holds.
     pub age: u8,
 }
 
-/// Whether the content of a `Y` is white space alone, or nothing.
+/// Whether the content of a `Y` is only white space, or nothing.
 fn is_blank(row: &Element<'_>) -> bool
     ensures { result ≡ is_blank (text_at (found_of row.now)) }
 {
@@ -39,7 +39,7 @@ fn is_blank(row: &Element<'_>) -> bool
     }
 }
 
-/// Whether a `Y` or one behind it isn't blank.
+/// Whether a `Y`, or one after it, isn't blank.
 fn has_filled(first: &Element<'_>) -> bool
     ensures { (total : ℕ) → result ≡ has_filled (rows_from total (found_of first.now)) }
 {
@@ -76,7 +76,7 @@ fn is_duration(due: Attained, duration: u16) -> bool
     follows(due.duration, duration) && due.age <= 130
 }
 
-/// The rate of a `Y`, in units of 10^-9, and what is due behind it.
+/// The rate of a `Y`, in units of 10^-9, and what is due after it.
 fn read_duration(
     row: &Element<'_>,
     due: Attained,
@@ -112,8 +112,8 @@ fn read_duration(
     }
 }
 
-/// The rates of an issue age from its first `Y` on, in units of 10^-9. The blank ones behind the last that isn't are passed
-/// over.
+/// The rates of an issue age from its first `Y` on, in units of 10^-9. Blank ones after the last that isn't blank are
+/// skipped.
 pub fn read_period(
     alloc: Global,
     first: &Element<'_>,

@@ -21,40 +21,46 @@ use rate_table::RateTable;
 use select_rates::AnyTable;
 use std::alloc::Global;
 
-/// The table that a file spells: the rates, in units of 10^-9, for the ages of its `Y`.
+/// The table that a file spells: the rates, in units of 10^-9, for the ages of its `Y`. Memory is asked for only for
+/// the rates.
 ///
-/// A fault says what is wrong and the place, in bytes from the start of the file. Memory is taken for
-/// the rates alone.
+/// # Errors
+///
+/// What is wrong first, and its place in bytes from the start of the file; or that memory was refused.
 pub fn read_table(alloc: Global, bytes: &[u8]) -> Result<RateTable, TableFault>
     requires { length bytes.now ≤ 4194304 }
-    // What is read is spelled so.
+    // What is read is spelled by the file.
     ensures table { IfOk result (λ table. SpellsTable bytes.now table) }
-    // What is spelled so is read, unless memory runs out.
+    // What the file spells is read, unless memory is refused.
     ensures read { (table : Rates) → SpellsTable bytes.now table → Gives result (Ok table) }
     // A fault is the one that is due.
     ensures fault { IfErr result (λ fault. Unless fault (IsTableAnswer bytes.now (Err fault))) }
-    // Whatever answer is due is given, unless memory runs out.
+    // Whatever result is due is returned, unless memory is refused.
     ensures due { (answer : Result Rates TableFault) → IsTableAnswer bytes.now answer → Gives result answer }
 {
     let (root, path) = document_of(bytes)?;
     table_of(alloc, &root, &path, bytes.len() as u32)
 }
 
-/// The table that a file spells, by age alone or by issue age and duration: the rates, in units of 10^-9, of the `Y` of its
-/// first `Table`, and where the first axis of that has an axis in it, the ultimate rates of its second `Table`.
+/// The table that a file spells, by age alone or by issue age and duration: the rates, in units of 10^-9, of the `Y`
+/// of its first `Table`, and, if the first axis of that has an axis in it, the ultimate rates of its second `Table`.
+/// Memory is asked for only for the table.
 ///
-/// A fault says what is wrong and the place, in bytes from the start of the file. Memory is taken for the table alone.
+/// # Errors
+///
+/// What is wrong first, and its place in bytes from the start of the file; or that memory was refused.
 pub fn read_any(alloc: Global, bytes: &[u8]) -> Result<AnyTable, TableFault>
     requires { length bytes.now ≤ 4194304 }
-    // What is read is spelled so.
+    // What is read is spelled by the file.
     ensures table { IfOk result (λ table. SpellsAny bytes.now table) }
-    // What is spelled so is read, unless memory runs out.
+    // What the file spells is read, unless memory is refused.
     ensures read { (table : AnyTable) → SpellsAny bytes.now table → GivesAny result (Ok table) }
     // A fault is the one that is due.
     ensures fault { IfErr result (λ fault. Unless fault (IsAnyAnswer bytes.now (Err fault))) }
-    // Whatever answer is due is given, unless memory runs out.
+    // Whatever result is due is returned, unless memory is refused.
     ensures due { (answer : Result AnyTable TableFault) → IsAnyAnswer bytes.now answer → GivesAny result answer }
-    // What is due from `read_table` is given here too, unless it is that the rates depend on the duration.
+    // The result that is due from `read_table` is returned here too, unless it is that the rates depend on the
+    // duration.
     ensures aggregate { (answer : Result Rates TableFault) → IsTableAnswer bytes.now answer
         → SaysSelect answer ⊎ GivesAny result (aggregated answer) }
 {
@@ -62,7 +68,7 @@ pub fn read_any(alloc: Global, bytes: &[u8]) -> Result<AnyTable, TableFault>
     any_of(alloc, &root, &path, bytes.len() as u32)
 }
 
-// The root of the document that a file is, and the elements on the way to its table.
+// The root of the document that a file is, and the elements on the path to its table.
 fn document_of(bytes: &[u8]) -> Result<(Element<'_>, ElementPath<'_>), TableFault>
     requires { length bytes.now ≤ 4194304 }
     ensures document { OnOk result (None ≡ fault_at bytes.now) }

@@ -50,7 +50,7 @@ pub fn age_of(label: Option<&[u8]>) -> Option<u8>
     if age <= 130 { Some(age as u8) } else { None }
 }
 
-/// The rate that is written in a content, in units of 10^-9.
+/// The rate that a content spells, in units of 10^-9.
 pub fn rate_in(text: Option<&[u8]>) -> Option<u32>
     requires { ForSome text (λ t. length t.now ≤ 4194304) }
     ensures { ReadsRate (option_copied text.entry) result }
@@ -73,7 +73,7 @@ pub fn is_due(due: Option<u8>, age: u8) -> bool
     }
 }
 
-/// The age and the rate of a row, where the age that is due is none at the first row.
+/// The age and the rate of a row. The age that is due is `None` for the first row.
 pub fn read_row(row: &Element<'_>, due: Option<u8>, total: u32) -> Result<(u8, u32), TableFault>
     ensures row { MatchResult result
         (λ read. ReadsRow due (row_of total (found_of row.now)) (Ok (Some (read.0 + 1), read.1)))
@@ -102,7 +102,7 @@ pub fn read_row(row: &Element<'_>, due: Option<u8>, total: u32) -> Result<(u8, u
     }
 }
 
-/// The next `Y` behind one, where so many are left.
+/// The next `Y` after one, if `left` isn't 0.
 fn next_row<'a>(row: &Element<'a>, left: usize) -> Option<Element<'a>>
     requires { length (siblings_at (codes "Y") (found_of row.now)) ≡ left }
     ensures shorter { IfSome result (λ e. length e.rest.now < length row.now.rest.now) }
@@ -116,7 +116,7 @@ fn next_row<'a>(row: &Element<'a>, left: usize) -> Option<Element<'a>>
     row.next_sibling(b"Y")
 }
 
-/// The rates of a `Y` and of those behind it, in order, which are so many together.
+/// The rates of a `Y` and of those after it, in order; how many there are is given.
 pub fn read_rows(
     alloc: Global,
     first: &Element<'_>,
@@ -141,7 +141,7 @@ pub fn read_rows(
     Ok(rates)
 }
 
-/// The age of a `Y`, or 0 where it has none.
+/// The age of a `Y`, or 0 if it has none.
 pub fn age_at(row: &Element<'_>) -> u8
     ensures { (total : ℕ) → result ≡ age_of_first (rows_from total (found_of row.now)) (λ row. row.label) }
 {

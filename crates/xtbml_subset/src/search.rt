@@ -7,7 +7,7 @@ use crate::finder::{Seen, look};
 use crate::found::Element;
 use crate::passing::Passing;
 
-/// The search for the first element of a level that is wanted, as the pieces pass.
+/// The search for the first element of a level that matches, while the pieces go past.
 #[derive(Clone, Copy)]
 pub enum Search<'a> {
     /// None came so far.
@@ -18,7 +18,7 @@ pub enum Search<'a> {
 }
 
 impl<'a> Search<'a> {
-    /// Takes the next piece. The level is how many elements are open where its elements start.
+    /// Takes the next piece. The level is the number of open elements where its elements start.
     pub fn pass(&mut self, passing: &Passing<'a>, level: usize, wanted: Option<&[u8]>)
         ensures { sought_of self.new ≡ sought_at level (option_copied wanted.entry) (passing_of passing.now) (sought_of self.old) }
     {
@@ -41,7 +41,7 @@ impl<'a> Search<'a> {
         }
     }
 
-    /// Whether an element was found in whose content others may lie.
+    /// Whether an element was found that has content.
     fn opens(&self) -> bool
         ensures { result ≡ opens (sought_of self.now) }
     {
@@ -51,7 +51,7 @@ impl<'a> Search<'a> {
         }
     }
 
-    /// Takes the next piece where the search lies in the element that another one found.
+    /// Takes the next piece of a search within the element that another search found.
     pub fn pass_under(
         &mut self,
         above: &Search<'a>,
@@ -67,7 +67,7 @@ impl<'a> Search<'a> {
     }
 }
 
-/// How many elements of a level that are wanted passed so far.
+/// How many matching elements of a level have gone past.
 #[derive(Clone, Copy)]
 pub struct Passed {
     pub count: usize,
@@ -93,7 +93,7 @@ impl Passed {
         }
     }
 
-    /// Takes the next piece where the level lies in the element that a search found.
+    /// Takes the next piece, if the level is within the element that a search found.
     pub fn pass_under(
         &mut self,
         above: &Search<'_>,

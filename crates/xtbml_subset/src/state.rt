@@ -1,20 +1,20 @@
 ghost use Rattle.std.specs.Prelude.{◌≤◌};
 
-/// What may stand where no element is open.
+/// What may stand outside of all elements.
 #[derive(Clone, Copy)]
 pub enum Phase {
-    /// Nothing stood before but white space.
+    /// At the start, with nothing before but white space.
     Opening,
     /// Between the start and the root.
     Prolog,
-    /// Behind the root's start.
+    /// After the root's start.
     Epilog,
 }
 
-/// Elements lie at most so deep.
+/// The greatest depth of elements.
 pub const DEEPEST: usize = 64;
 
-/// The names of the elements that are open, as they stand in the file.
+/// The names of the open elements, as the file spells them.
 #[derive(Drop)]
 pub struct Nesting<'a> {
     pub phase: Phase,

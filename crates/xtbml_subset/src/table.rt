@@ -18,7 +18,7 @@ use crate::text::skip;
 use rate_table::RateTable;
 use std::alloc::Global;
 
-/// The element that was found, or that the path breaks off at the one before it.
+/// The element that was found, or a fault at the element in which it is missing.
 fn within<'a>(
     parent: &Element<'a>,
     search: &Search<'a>,
@@ -138,7 +138,7 @@ pub fn check_scale(table: &Element<'_>, about: &Search<'_>, total: u32) -> Resul
     }
 }
 
-/// The rates from the first of an axis on, which are so many, as a table.
+/// The rates from the first of an axis on, as a table; how many there are is given.
 pub fn rates_table(
     alloc: Global,
     first: &Element<'_>,

@@ -9,7 +9,7 @@ ghost use Rattle.xtbml_subset.specs.declared.class.Class.TheVariants.{Text};
 use crate::class::{Class, is_in, starts_name};
 use memchr::memchr;
 
-/// The bytes of the class at the front, and the bytes after these.
+/// The bytes of the class at the start, and the bytes after these.
 pub fn split(bytes: &[u8], class: Class) -> (&[u8], &[u8])
     ensures front { result.0.now ≡ front class bytes.now }
     ensures after { result.1.now ≡ after class bytes.now }
@@ -22,7 +22,7 @@ pub fn split(bytes: &[u8], class: Class) -> (&[u8], &[u8])
     bytes.split_at(count)
 }
 
-/// The bytes after the front bytes of the class.
+/// The bytes after those of the class at the start.
 pub fn skip(bytes: &[u8], class: Class) -> &[u8]
     ensures after { result.now ≡ after class bytes.now }
     ensures shorter { length result.now ≤ length bytes.now }
@@ -41,7 +41,7 @@ pub fn from_byte(bytes: &[u8], byte: u8) -> &[u8]
     }
 }
 
-/// The bytes after the text at the front.
+/// The bytes after the text at the start.
 pub fn after_text(bytes: &[u8]) -> &[u8]
     ensures after { result.now ≡ after Text bytes.now }
     ensures shorter { length result.now ≤ length bytes.now }
@@ -52,7 +52,7 @@ pub fn after_text(bytes: &[u8]) -> &[u8]
     }
 }
 
-/// The bytes after the byte, where it stands first.
+/// The bytes after the byte, if they begin with it.
 pub fn after_byte(bytes: &[u8], byte: u8) -> Option<&[u8]>
     ensures { option_copied result ≡ byte_at byte bytes.now }
 {
@@ -73,7 +73,7 @@ pub fn after_spaces(bytes: &[u8]) -> Option<&[u8]>
     }
 }
 
-/// The name at the front, and the bytes after it.
+/// The name at the start, and the bytes after it.
 #[tactic(auto, unfolding(crate::specs::inside::Reading::name_at))]
 pub fn name(bytes: &[u8]) -> Option<(&[u8], &[u8])>
     ensures { option_map (λ x. (x.0.now, x.1.now)) result ≡ name_at bytes.now }

@@ -7,7 +7,7 @@ use crate::attribute::after_attributes;
 use crate::class::Class;
 use crate::text::{after_byte, after_spaces, from_byte, name, skip};
 
-/// A tag's name, and the bytes behind the name, with which its attributes begin.
+/// A tag's name, and the bytes after the name, with which its attributes begin.
 #[derive(Clone, Copy)]
 pub struct Tag<'a> {
     pub name: &'a [u8],
@@ -104,7 +104,7 @@ fn marked(bytes: &[u8]) -> Option<(Token<'_>, &[u8])>
     }
 }
 
-/// The piece at the front, and the bytes after it.
+/// The piece at the start, and the bytes after it.
 #[tactic(auto, unfolding(crate::specs::inside::Reading::piece_at))]
 pub fn next_token(bytes: &[u8]) -> Option<(Token<'_>, &[u8])>
     ensures { option_map (λ x. (piece_of x.0, x.1.now)) result ≡ piece_at bytes.now }

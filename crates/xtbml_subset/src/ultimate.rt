@@ -17,7 +17,7 @@ use rate_table::RateTable;
 use select_rates::SelectRows;
 use std::alloc::Global;
 
-/// The first child of a name, as a search for it.
+/// The first child with a name, as a search for it.
 fn sought<'a>(parent: &Element<'a>, name: &[u8]) -> Search<'a>
     ensures { IsFirstIn name.now (found_of parent.now) (sought_of result) }
 {
@@ -40,7 +40,7 @@ pub fn check_ultimate_scale(table: Option<Element<'_>>, total: u32) -> Result<()
     }
 }
 
-/// The first ultimate rate, which stands in the first axis of the first values of the first of some tables.
+/// The first ultimate rate: in the first axis of the first values of the first of some tables.
 #[tactic(auto, unfolding(crate::specs::inside::Steps::ultimate_of))]
 pub fn first_ultimate<'a>(table: Option<Element<'a>>) -> Option<Element<'a>>
     ensures { (total : ℕ) (tables : List Found)
@@ -53,7 +53,7 @@ pub fn first_ultimate<'a>(table: Option<Element<'a>>) -> Option<Element<'a>>
     values.first_child(b"Axis")?.first_child(b"Y")
 }
 
-/// How many `Y` there are from one on.
+/// How many `Y` there are, from one on.
 fn count_rows(first: &Element<'_>) -> usize
     ensures { 1 + length (siblings_at (codes "Y") (found_of first.now)) ≡ result }
 {
@@ -66,7 +66,7 @@ fn count_rows(first: &Element<'_>) -> usize
     count
 }
 
-/// The ultimate rates from the first on, or that there are none, which is told at a place.
+/// The ultimate rates from the first on, or the place at which there are none.
 pub fn read_ultimate(
     alloc: Global,
     first: Option<Element<'_>>,
@@ -89,7 +89,7 @@ pub fn read_ultimate(
     }
 }
 
-/// Whether the ultimate rates go on from an age, which lies right behind a select period, but begin above it.
+/// Whether the ultimate rates go on from an age, which is directly after a select period, but begin above it.
 fn leaves_gap(ultimate: &RateTable, age: usize) -> bool
     ensures { result ≡ leaves_gap ultimate.now age }
 {

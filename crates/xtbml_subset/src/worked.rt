@@ -21,7 +21,7 @@ pub fn a_select_table_by_hand()
     ensures { OneIssueAge }
 {}
 
-/// A select table of each fault that others don't have.
+/// A select table for each fault that only select tables have.
 pub fn refused_select_tables_by_hand()
     ensures { SelectFaults }
 {}

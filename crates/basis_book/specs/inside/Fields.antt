@@ -1,4 +1,4 @@
--- The three fields of a row, where it has three.
+-- The three fields of a row, if it has three.
 use Rattle.std.specs.Prelude.{◌≡◌, ℕ, List, [], ◌∷◌, Option, Some, None}
 use Rattle.basis_book.specs.declared.fields.BasisFields.{BasisFields}
 

@@ -1,4 +1,4 @@
--- Where the table of each row stands among the tables.
+-- Where the table of each row is among the tables.
 use Rattle.std.specs.Prelude.{◌≡◌, ℕ, List, map, Option}
 use Rattle.select_rates.specs.declared.any.AnyTable.{AnyTable}
 use Rattle.basis_book.specs.declared.row.BasisRow.{BasisRow}

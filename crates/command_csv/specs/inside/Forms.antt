@@ -28,7 +28,7 @@ Reinstatement = Then IsReinstatement cents_text (λ cents. Ends)
 abbrev pub PolicyAndDay : (List (List ℕ) → Type 0) → List (List ℕ) → Type 0
 PolicyAndDay More = Then IsId decimal (λ id. Then IsCommandDay day_text (λ day. More))
 
--- what an issue holds behind the day: the years rest on the plan and the age
+-- what an issue holds after the day: the years rest on the plan and the age
 abbrev pub YearsOn : Plan → ℕ → List (List ℕ) → Type 0
 YearsOn plan age = Then (AreYears plan age) decimal (λ years. Amount (Amount Ends))
 
@@ -78,7 +78,7 @@ form_of Upgrade = Ends
 form_of Value = ValuationOn
 form_of Trim = Ends
 
--- a line of the kind may stand behind so many valuations
+-- a line of the kind may stand after so many valuations
 abbrev pub KindMayStandBehind : ℕ → Kind → Type 0
 KindMayStandBehind valued Value = valued < most_valuations
 KindMayStandBehind valued _ = ⊤
@@ -87,7 +87,7 @@ KindMayStandBehind valued _ = ⊤
 abbrev pub KindForm : ℕ → List (List ℕ) → Type 0
 KindForm valued = Then (KindMayStandBehind valued) kind_spelling form_of
 
--- a row behind so many valuations
+-- a row after so many valuations
 abbrev pub RowForm : ℕ → List (List ℕ) → Type 0
 RowForm valued = Then IsClerk decimal (λ clerk. KindForm valued)
 

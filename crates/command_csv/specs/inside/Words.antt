@@ -1,4 +1,4 @@
--- Short words of what single functions promise, and of the proofs
+-- Abbreviations for the promises of single functions, and for the proofs
 use Rattle.std.specs.Prelude.{◌≡◌, ℕ, ◌<◌, ◌≤◌, List, [], ◌∷◌, map, codes, decimal, ⊤, IsTrue}
 use Rattle.std.specs.Int.{IsInRange}
 use Rattle.policy_types.specs.Limits.{most_commands}
@@ -27,14 +27,14 @@ command_fields command = line_fields (Post command)
 abbrev pub IsLineRow : List (List ℕ) → ClerkLine → Type 0
 IsLineRow row entry = IsClerkLine entry × (row ≡ row_fields entry)
 
--- a line may stand behind so many valuations
+-- a line may stand after so many valuations
 abbrev pub MayStandBehind : ℕ → Line → Type 0
 MayStandBehind valued line = IsTrue (is_valuation line) → valued < most_valuations
 
 abbrev pub all_lines : List ClerkLine → List Line
 all_lines entries = map (λ (entry : ClerkLine). entry.line) entries
 
--- a clerk's lane; a clerk without lines has none
+-- a lane with these lines; without lines there is no lane
 abbrev pub lane_of : ℕ → List Line → List Lane
 lane_of clerk lines = elim lines [
   | [] ↦ []

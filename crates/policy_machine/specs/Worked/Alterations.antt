@@ -1,4 +1,4 @@
--- Worked cases of alterations. Where a refusal is due, reasons that come after it in order apply as well
+-- Worked cases of alterations. In each case of a refusal, reasons that come later in the order apply as well
 use Rattle.std.specs.Prelude.{[], ◌∷◌, pos}
 use Rattle.policy_machine.specs.Names.{Premium, Alter, Endowment, InForce, Lapsed, Unknown, BeforeLast, WrongStatus, TermOver, GraceOver, WrongAmount, NotAReduction}
 use Rattle.policy_machine.specs.Worked.Cases.{Accepts, Refuses, LeavePolicies, policy_issue, premium_on, unpaid, paid_once, paid_up, lapsed_once}
@@ -7,7 +7,7 @@ use Rattle.policy_machine.specs.Worked.Cases.{Accepts, Refuses, LeavePolicies, p
 abbrev pub AlterUnknown : Type 0
 AlterUnknown = Refuses [] (Alter 7001 (pos 18262) 50000 20000) Unknown × Refuses unpaid (Alter 7002 (pos 18262) 50000 20000) Unknown
 
--- the day before the lapse, though the policy has lapsed
+-- the day before the lapse, although the policy has lapsed
 abbrev pub AlterBeforeLast : Type 0
 AlterBeforeLast = Refuses lapsed_once (Alter 7001 (pos 18659) 50000 20000) (BeforeLast (pos 18660))
 
@@ -15,13 +15,14 @@ AlterBeforeLast = Refuses lapsed_once (Alter 7001 (pos 18659) 50000 20000) (Befo
 abbrev pub AlterWrongStatus : Type 0
 AlterWrongStatus = Refuses lapsed_once (Alter 7001 (pos 19358) 50000 20000) (WrongStatus Lapsed)
 
--- the term is over on 2023-01-01, though the grace of the second premium is over too; with all premiums paid it may be
--- altered on the day before
+-- the term is over on 2023-01-01, although the grace of the second premium is over too; if all premiums are paid, the
+-- policy may be altered on the day before
 abbrev pub AlterTermOver : Type 0
 AlterTermOver = Refuses paid_once (Alter 7001 (pos 19358) 50000 20000) (TermOver (pos 19358))
     × Accepts paid_up (Alter 7001 (pos 19357) 50000 20000)
 
--- the days of grace end on 2021-02-01; on the day after it is refused for them, though the amount isn't reduced
+-- the days of grace end on 2021-02-01; on the next day the alteration is refused for them, although the amount isn't
+-- reduced
 abbrev pub AlterGraceOver : Type 0
 AlterGraceOver = Accepts paid_once (Alter 7001 (pos 18659) 50000 20000)
     × Refuses paid_once (Alter 7001 (pos 18660) 100000 20000) (GraceOver (pos 18628))

@@ -39,7 +39,7 @@ ExpiryBooked = Books
 abbrev pub LapseBooked : Type 0
 LapseBooked = Books (unpaid ++ Lapse 7001 (pos 18294) ∷ []) (pos 0) (pos 0) (pos 0) (pos 0)
 
--- of two policies each claim is booked with its own amount, 500.00 and 1000.00
+-- each of two claims is booked with its own policy's amount, 500.00 and 1000.00
 abbrev pub TwoPoliciesBooked : Type 0
 TwoPoliciesBooked = Books
     (policy_issue ∷ Issue 7002 (pos 18262) Whole 0 0 50000 1000 ∷ Claim 7002 (pos 18262) ∷ Claim 7001 (pos 18262) ∷ [])

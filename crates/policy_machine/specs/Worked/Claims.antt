@@ -1,9 +1,10 @@
--- Worked cases of claims and their settlement. Where a refusal is due, reasons that come after it in order apply as well
+-- Worked cases of claims and their settlement. In each case of a refusal, reasons that come later in the order apply
+-- as well
 use Rattle.std.specs.Prelude.{[], ◌∷◌, pos}
 use Rattle.policy_machine.specs.Worked.Names.{Claim, Settle, InForce, Lapsed, Claimed, Settled, Unknown, BeforeLast, WrongStatus, TermOver, GraceOver, OverSettled, Accepted, Refused, IsLegalAfter}
 use Rattle.policy_machine.specs.Worked.Cases.{Accepts, Refuses, LeavePolicies, policy_issue, policy_with, premium_on, unpaid, paid_once, paid_up, lapsed_once, claimed, empty_office, posting}
 
--- after a death on 2020-06-01 the amount is paid out in parts, and no more than is outstanding
+-- after a death on 2020-06-01 the amount is paid out in parts, and no more than what is outstanding
 abbrev pub ClaimAndSettle : Type 0
 ClaimAndSettle = IsLegalAfter empty_office []
     (posting policy_issue (Accepted 1)
@@ -16,7 +17,7 @@ ClaimAndSettle = IsLegalAfter empty_office []
 abbrev pub ClaimUnknown : Type 0
 ClaimUnknown = Refuses [] (Claim 7001 (pos 18262)) Unknown × Refuses unpaid (Claim 7002 (pos 18262)) Unknown
 
--- the day before the lapse, though the policy has lapsed
+-- the day before the lapse, although the policy has lapsed
 abbrev pub ClaimBeforeLast : Type 0
 ClaimBeforeLast = Refuses lapsed_once (Claim 7001 (pos 18659)) (BeforeLast (pos 18660))
 
@@ -24,8 +25,8 @@ ClaimBeforeLast = Refuses lapsed_once (Claim 7001 (pos 18659)) (BeforeLast (pos 
 abbrev pub ClaimWrongStatus : Type 0
 ClaimWrongStatus = Refuses lapsed_once (Claim 7001 (pos 19358)) (WrongStatus Lapsed)
 
--- a death on 2023-01-01 is after the term, though the grace of the second premium is over too; on the day before it
--- is in it
+-- a death on 2023-01-01 is after the term, although the grace of the second premium is over too; a death on the day
+-- before is within the term
 abbrev pub ClaimTermOver : Type 0
 ClaimTermOver = Refuses paid_once (Claim 7001 (pos 19358)) (TermOver (pos 19358))
     × Refuses paid_up (Claim 7001 (pos 19358)) (TermOver (pos 19358))
@@ -44,12 +45,12 @@ ClaimedOnce = LeavePolicies claimed (policy_with (pos 18414) 1 Claimed 100000 �
 abbrev pub SettleUnknown : Type 0
 SettleUnknown = Refuses [] (Settle 7001 (pos 18414) 100000) Unknown × Refuses claimed (Settle 7002 (pos 18414) 100000) Unknown
 
--- the day before the death, though the amount is too much; the day before the last of a policy that is in force
+-- the day before the death, although the amount is too much; the day before the last day of a policy that is in force
 abbrev pub SettleBeforeLast : Type 0
 SettleBeforeLast = Refuses claimed (Settle 7001 (pos 18413) 100001) (BeforeLast (pos 18414))
     × Refuses unpaid (Settle 7001 (pos 18261) 1) (BeforeLast (pos 18262))
 
--- nothing is settled of a policy in force, of a lapsed one, or of one that is settled
+-- nothing can be settled on a policy in force, on a lapsed one, or on one that is settled
 abbrev pub SettleWrongStatus : Type 0
 SettleWrongStatus = Refuses unpaid (Settle 7001 (pos 18262) 1) (WrongStatus InForce)
     × Refuses lapsed_once (Settle 7001 (pos 18660) 1) (WrongStatus Lapsed)

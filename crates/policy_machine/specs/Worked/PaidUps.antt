@@ -48,7 +48,7 @@ reduced_with last status outstanding = record {
 abbrev pub MadePaidUp : Type 0
 MadePaidUp = LeavePolicies reduced (reduced_with (pos 18597) IsPaidUp 0 ∷ [])
 
--- there is no policy, or one of another number; without an upgrade that isn't told
+-- there is no policy, or one of another number; without an upgrade that isn't reported
 abbrev pub PaidUpUnknown : Type 0
 PaidUpUnknown = Refuses (upgraded []) (PaidUp 7001 (pos 18597) 30000) Unknown
     × Refuses (upgraded paid_once) (PaidUp 7002 (pos 18597) 30000) Unknown

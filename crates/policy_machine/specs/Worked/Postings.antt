@@ -15,7 +15,7 @@ abbrev pub NoPositionTwice : Type 0
 NoPositionTwice = IsDue (opened_on paid_once 0) [] 1 (Post (premium_on (pos 18628))) (Accepted 2) → ⊥
 
 -- the disk had counted 3 faults at the opening: a posting that meets a later one leaves the book as it was, and so does
--- one that is answered want of memory
+-- one that is answered a refusal of memory
 abbrev pub Faults : Type 0
 Faults = IsLegalAfter (opened_on [] 3) []
     (posting policy_issue (Faulted 4)

@@ -2,7 +2,7 @@
 
 ghost use Rattle.policy_machine.specs.Worked.Balances.{ClaimAndSettleBooked, ExpiryBooked, LapseBooked, MaturityBooked, ReducedClaimBooked, ReinstatementBooked, TwoPoliciesBooked};
 
-/// A death and what is paid out of it, at the amount of the policy then.
+/// A death and what is paid out for it, with the amount of the policy at the time.
 pub fn claims_booked()
     ensures settled { ClaimAndSettleBooked }
     ensures reduced { ReducedClaimBooked }

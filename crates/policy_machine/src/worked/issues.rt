@@ -2,7 +2,7 @@
 
 ghost use Rattle.policy_machine.specs.Worked.Issues.{FourPlans, IssuedTwice, TakenForGood};
 
-/// A first issue is accepted, the same again is taken.
+/// A first issue is accepted; the number of the same issue is then taken.
 pub fn issued_twice()
     ensures { IssuedTwice }
 {}

@@ -31,7 +31,7 @@ pub fn reinstate_refusals()
     ensures wrong_amount { ReinstateWrongAmount }
 {}
 
-/// What a reinstatement changes, and that it is paid for premiums alone.
+/// What a reinstatement changes, and that it is paid for with premiums alone.
 pub fn reinstated()
     ensures changes { Reinstated }
     ensures premiums { ReinstatedForPremiumsAlone }

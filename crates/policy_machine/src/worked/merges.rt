@@ -1,4 +1,4 @@
-//! Worked merges of two clerks' lanes.
+//! Worked merges of two lanes.
 
 ghost use Rattle.policy_machine.specs.Worked.Merges.{DryIsLegal, DryMerge, NoLineLeftOut, NoLineTwice, NoOtherCall, NoOtherOrder, NoOtherPosition, NoOthersLines, NoReadLeftOut, NoSharedCaller, NoStranger, ReadsByPolicies, RefusedMerge, WholeIsLegal, WholeMerge};
 
@@ -13,14 +13,14 @@ pub fn whole_merge()
     ensures merge { WholeMerge }
 {}
 
-/// The same for want of memory, and only then.
+/// The same if the valuation was refused memory, and only then.
 pub fn dry_merge()
     ensures legal { DryIsLegal }
     ensures merge { DryMerge }
     ensures left_out { NoReadLeftOut }
 {}
 
-/// Whose lines are whose: each clerk's, every one once and in order.
+/// Which lines belong to which lane: each lane's, every line once and in order.
 pub fn own_lines()
     ensures others { NoOthersLines }
     ensures left_out { NoLineLeftOut }

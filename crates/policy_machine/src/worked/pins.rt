@@ -7,7 +7,7 @@ pub fn pinned_reads()
     ensures { PinnedReads }
 {}
 
-/// Which reads and which givings up of a pin are never due.
+/// Reads of a pin, and commands that give one up, that are never due.
 pub fn pins_not_read()
     ensures newer { NoNewerRead }
     ensures anothers { NoReadOfAnothers }
@@ -22,7 +22,7 @@ pub fn floors()
     ensures { Floors }
 {}
 
-/// What isn't answered at a floor.
+/// Calls that have no reply at a floor.
 pub fn not_due_at_floors()
     ensures below { NoPinBelowTheFloor }
     ensures at_the_floor { NotTrimmedAtTheFloor }

@@ -17,7 +17,7 @@ pub fn faults()
     ensures last { FaultAtTheLastCount }
 {}
 
-/// What the rules refuse, and nothing else, is answered by their refusal.
+/// A refusal is the reply exactly to what the rules refuse.
 pub fn refusals()
     ensures fault { NoFaultOfARefusal }
     ensures other { NoOtherRefusal }

@@ -7,7 +7,7 @@ use Rattle.xtbml_subset.specs.inside.Reading.{byte_at, piece_at}
 use Rattle.xtbml_subset.specs.Texts.{◌>>=◌}
 use Rattle.xtbml_subset.specs.Classes.{front, after}
 
--- An element: the bytes from its `<` on, its tag, whether content and an end tag follow, and the bytes behind the tag.
+-- An element: the bytes from its `<` on, its tag, whether content and an end tag follow, and the bytes after the tag.
 pub record Found : Type 0 where
   pub from : List ℕ
   pub tag : Tag
@@ -53,7 +53,7 @@ found_by from rest (on depth) = []
 found_by from rest (found tag is_open) = record { from = from; tag = tag; is_open = is_open; rest = rest } ∷ []
 found_by from rest closed = []
 
--- behind the next k bytes, and so many levels below that which is searched: its elements that are wanted
+-- after the next k bytes, and so many levels below that which is searched: its elements that are wanted
 unfoldable pub elements_from : ℕ → ℕ → Option (List ℕ) → List ℕ → List Found
 elements_from k depth wanted [] = []
 elements_from (suc k) depth wanted (b ∷ bytes) = elements_from k depth wanted bytes
@@ -67,7 +67,7 @@ elements_from zero depth wanted (b ∷ bytes) =
 abbrev pub elements_at : ℕ → Option (List ℕ) → List ℕ → List Found
 elements_at depth wanted bytes = elements_from 0 depth wanted bytes
 
--- the elements of a name behind an element, at its level
+-- the elements of a name after an element, at its level
 abbrev pub siblings_at : List ℕ → Found → List Found
 siblings_at name element = elements_at (depth_in element.is_open) (Some name) element.rest
 

@@ -9,7 +9,7 @@ use Rattle.xtbml_subset.specs.Pieces.{Piece, byte, comment, declaration, start, 
 
 -- After some pieces: the names of the elements that are open, the innermost first. Where none is, the phase
 -- says what may come: Opening is the start, where nothing stood but white space, Prolog lies between this and
--- the root, Epilog behind the root's start.
+-- the root, Epilog after the root's start.
 pub record State : Type 0 where
   pub phase : Phase
   pub names : List (List ℕ)
@@ -67,7 +67,7 @@ abbrev pub Steps : State → List Piece → State → Type 0
 Steps state [] end = state ≡ end
 Steps state (piece ∷ pieces) end = (next : State) × (after_piece state piece ≡ Some next) × Steps next pieces end
 
--- EF BB BF may stand at the very start, and the machine goes through the pieces behind it
+-- EF BB BF may stand at the very start, and the machine goes through the pieces after it
 pub record IsWalked (bytes : List ℕ) (end : State) : Type 0 where
   pub mark : List ℕ
   pub rest : List ℕ

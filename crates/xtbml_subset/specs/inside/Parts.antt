@@ -70,7 +70,7 @@ pub record SelectParts : Type 0 where
   pub issues : List Issue
   pub ultimate : List RateElement
 
--- by the tables behind the first one, that one and its first axis
+-- by the tables after the first one, that one and its first axis
 abbrev pub select_parts : {N : Type 0} → Asks N → List N → N → N → SelectParts
 select_parts asks others table axis = record {
   at = (asks.row table).at;

@@ -1,4 +1,4 @@
--- What a reader finds at the front of the bytes, and the bytes after it.
+-- What a reader finds at the start of the bytes, and the bytes after it.
 use Rattle.std.specs.Prelude.{ℕ, zero, suc, ◌-◌, if◌then◌else◌, ◌==◌, List, [], ◌∷◌, length, Option, None, Some}
 use Rattle.xtbml_subset.specs.declared.class.Class.{Class}
 use Rattle.xtbml_subset.specs.declared.class.Class.TheVariants.{White, Name, DoubleQuoted, SingleQuoted, Declared}
@@ -48,7 +48,7 @@ attribute_at bytes = do
 abbrev pub with_attribute : Attribute → List Attribute × List ℕ → List Attribute × List ℕ
 with_attribute a read = (a ∷ read.0, read.1)
 
--- the attributes behind the next k bytes, as many as there are, and the bytes after them
+-- the attributes after the next k bytes, as many as there are, and the bytes after them
 unfoldable pub attributes_from : ℕ → List ℕ → List Attribute × List ℕ
 attributes_from k [] = ([], [])
 attributes_from (suc k) (b ∷ bytes) = attributes_from k bytes
@@ -107,13 +107,13 @@ tag_end_at name read =
 unfoldable pub tag_at : List ℕ → Option (Piece × List ℕ)
 tag_at bytes = name_at bytes >>= λ name. tag_end_at name.0 (attributes_at name.1)
 
--- the piece behind a `<`
+-- the piece after a `<`
 unfoldable pub marked_at : List ℕ → Option (Piece × List ℕ)
 marked_at [] = None
 marked_at (b ∷ bytes) =
     if b == 33 then comment_at bytes else (if b == 63 then declaration_at bytes else (if b == 47 then end_tag_at bytes else tag_at (b ∷ bytes)))
 
--- the piece at the front, and the bytes after it
+-- the piece at the start, and the bytes after it
 unfoldable pub piece_at : List ℕ → Option (Piece × List ℕ)
 piece_at [] = None
 piece_at (b ∷ bytes) = if b == 60 then marked_at bytes else Some (byte b, bytes)

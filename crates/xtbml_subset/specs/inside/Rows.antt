@@ -18,6 +18,6 @@ found_asks total = record {
   children = λ name element. children_at name element;
 }
 
--- the row of an element and those of the rates behind it
+-- the row of an element and those of the rates after it
 abbrev pub rows_from : ℕ → Found → List RateElement
 rows_from total element = row_of total element ∷ map (λ e. row_of total e) (siblings_at (codes "Y") element)

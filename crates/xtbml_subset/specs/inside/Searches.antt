@@ -4,7 +4,7 @@ use Rattle.xtbml_subset.specs.declared.search.Passed.{Passed}
 use Rattle.xtbml_subset.specs.Pieces.{Piece}
 use Rattle.xtbml_subset.specs.inside.Elements.{Found, Step, on, found, closed, step_of, depth_in, elements_at, children_at, siblings_at}
 
--- a piece, how many elements are open before it, and the bytes from it on and behind it
+-- a piece, how many elements are open before it, and the bytes from it on and after it
 pub record Passing : Type 0 where
   pub piece : Piece
   pub depth : ℕ

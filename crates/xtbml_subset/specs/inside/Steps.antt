@@ -52,6 +52,6 @@ follows due duration = option_map_or (λ next. duration == next) due (nat_le dur
 abbrev pub is_duration : Attained → ℕ → Bool
 is_duration due duration = follows due.duration duration && nat_le due.age 130
 
--- the ultimate table goes on from this age, which lies right behind a select period, but begins above it
+-- the ultimate table goes on from this age, which lies directly after a select period, but begins above it
 abbrev pub leaves_gap : Rates → ℕ → Bool
 leaves_gap ultimate age = nat_le age (last_age_of ultimate) && nat_lt age ultimate.first_age

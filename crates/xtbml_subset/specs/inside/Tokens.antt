@@ -4,7 +4,7 @@ use Rattle.xtbml_subset.specs.declared.token.Token.TheVariants as tokens
 use Rattle.xtbml_subset.specs.Pieces.{Tag, Piece, byte, comment, declaration, start, whole, finish}
 use Rattle.xtbml_subset.specs.inside.Reading.{attributes_at}
 
--- the tag that the reader keeps as its name and the bytes behind the name
+-- the tag that the reader keeps as its name and the bytes after the name
 abbrev pub tag_of : TokenTag → Tag
 tag_of tag = record { name = tag.name.now; attributes = (attributes_at tag.attributes.now).0 }
 

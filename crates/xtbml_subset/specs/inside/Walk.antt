@@ -1,4 +1,4 @@
--- How far the pieces at the front of the bytes nest.
+-- How far the pieces at the start of the bytes nest.
 use Rattle.std.specs.Prelude.{ℕ, zero, suc, ◌-◌, Bool, true, false, if◌then◌else◌, List, [], ◌∷◌, length, Option, None, Some, map, slice_index_or}
 use Rattle.std.specs.Option.{option_map_or, unwrap_or}
 use Rattle.xtbml_subset.specs.declared.state.Phase.{Phase}
@@ -16,7 +16,7 @@ names_of (suc depth) names = slice_index_or names depth [] ∷ names_of depth na
 abbrev pub state_of : Nesting → State
 state_of nesting = record { phase = nesting.phase; names = names_of nesting.depth (map (λ name. name.now) nesting.names) }
 
--- behind the next k bytes: the state after all pieces that nest, and the bytes after these
+-- after the next k bytes: the state after all pieces that nest, and the bytes after these
 unfoldable pub walk_from : ℕ → State → List ℕ → State × List ℕ
 walk_from k state [] = (state, [])
 walk_from (suc k) state (b ∷ bytes) = walk_from k state bytes
@@ -29,7 +29,7 @@ walk_from zero state (b ∷ bytes) =
 abbrev pub walk_at : State → List ℕ → State × List ℕ
 walk_at state bytes = walk_from 0 state bytes
 
--- the bytes behind EF BB BF, or all of them
+-- the bytes after EF BB BF, or all of them
 abbrev pub after_mark : List ℕ → List ℕ
 after_mark bytes = unwrap_or (byte_at 239 bytes >>= (λ rest. byte_at 187 rest) >>= λ rest. byte_at 191 rest) bytes
 

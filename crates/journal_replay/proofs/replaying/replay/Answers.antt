@@ -1,4 +1,4 @@
--- What stops at a record stops behind those so far.
+-- What stops at a record stops after those so far.
 use Rattle.std.proofs.Common.{arith}
 use Rattle.std.proofs.lemmas.Result.{err_from_is_err_and}
 use Rattle.journal_replay.specs.Keeping.{AreKept}

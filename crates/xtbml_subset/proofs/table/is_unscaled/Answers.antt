@@ -2,7 +2,7 @@ use Rattle.xtbml_subset.proofs.Names.{◌≡◌, ℕ, false, eqb, List, [], leng
 use Rattle.xtbml_subset.proofs.Scales.{all_white, white_is_nothing, unscaled_by, scaled_by_none}
 use Rattle.xtbml_subset.proofs.table.is_unscaled.Goals as goal
 
--- white space alone leaves nothing behind it
+-- white space alone leaves nothing after it
 filled : (content rest : List ℕ) → rest ≡ after White content → false ≡ eqb (length rest) 0 → InClass White content → ⊥
 filled content rest skipped e white =
     let none : rest ≡ [] = skipped ∙ white_is_nothing content white in
