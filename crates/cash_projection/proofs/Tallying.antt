@@ -199,7 +199,7 @@ cash_told basis on policies tally years most many each is =
       exact = λ j below. year_encloses ps j is.tallied.small (omega arith);
     }
 
--- one year more is told
+-- one year more is reported
 pushed_at : (xs : List Year) (y d : Year) (f : ℕ → Year) → ((k : ℕ) → k < length xs → get_or xs k d ≡ f k) → y ≡ f (length xs)
     → (k : ℕ) → k < length xs + 1 → get_or (xs ++ y ∷ []) k d ≡ f k
 pushed_at [] y d f each is zero below = is

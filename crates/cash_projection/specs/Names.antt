@@ -1,4 +1,4 @@
--- The names from elsewhere that several rooms cite, passed on from one place. Declares nothing.
+-- The names from elsewhere that several modules cite, passed on from one place. Declares nothing.
 pub use Rattle.std.specs.List.{AllByRecursion, AllZip, All, range_with_len, sum_by, flat_map, enumerate_from}
 pub use Rattle.basis_book.specs.Dated.{Dated, IsPicked}
 pub use Rattle.plan_benefits.specs.Shapes.{shape_of}

@@ -7,8 +7,8 @@ use Rattle.snapshot_value.specs.declared.valuation.ValueFault.{ValueFault}
 use Rattle.cash_projection.specs.Policies.{IsCashOf}
 use Rattle.cash_projection.specs.declared.printing.Projection.{Projection}
 
--- the position, the day, how many policies there are, not more than may be, and how many of them have a word, and their
--- cash in each of so many years
+-- the position, the day, the number of policies, which is no more than there may be, how many of them have a word,
+-- and their cash in each of so many years
 pub record IsProjectionAt (basis : List Dated) (on : ℤ) (years position : ℕ) (policies : List Policy)
     (projection : Projection) : Type 0 where
   pub pinned : projection.position ≡ position

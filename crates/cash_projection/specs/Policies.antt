@@ -9,7 +9,8 @@ use Rattle.cash_projection.specs.Prospects.{Prospect}
 use Rattle.cash_projection.specs.Cash.{EnclosesExpected, rounded_year}
 use Rattle.cash_projection.specs.declared.years.Year.{Year}
 
--- of an insured policy by the rates of its age at issue, in the policy year t; of a paid-up one no premium is charged
+-- for an insured policy, by the rates of its age at issue, in the policy year t; a paid-up policy is charged no
+-- premium
 abbrev pub prospect_of : Policy → Rates → Shape → ℕ → Prospect
 prospect_of policy table shape t = record {
   rates = λ j. rate_at table (shape.age + t + j);
@@ -27,7 +28,8 @@ prospect_of policy table shape t = record {
     charged InForce = policy.premium
     charged _ = 0
 
--- of a policy: one that isn't insured is neither paid nor pays, and so is one without a value, which has a word
+-- for a policy: one that isn't insured neither pays nor is paid, and neither does one without a value, which has a
+-- word
 abbrev pub IsProspect : List Dated → ℤ → Policy → Prospect → Type 0
 IsProspect basis on policy p = IsByEntry basis on policy (p ≡ nothing_ahead 0) (λ why. p ≡ nothing_ahead 1)
     (λ entry shape. (t : ℕ) × IsYear policy.issued on shape.n t × (p ≡ prospect_of policy (table_along entry.table shape.age) shape t))
@@ -38,7 +40,8 @@ IsProspect basis on policy p = IsByEntry basis on policy (p ≡ nothing_ahead 0)
 abbrev pub IsOfIssue : Policy → Type 0
 IsOfIssue p = IsIssue p.id p.issued p.plan p.age p.years p.amount p.premium
 
--- the years from the current one on are the rounded totals of the prospects of the policies, of whom so many have a word
+-- the years from the current one on are the rounded totals of the prospects of the policies, and so many policies
+-- have a word
 pub record IsCashOf (basis : List Dated) (on : ℤ) (policies : List Policy) (count unvalued : ℕ) (years : List Year) : Type 0 where
   pub prospects : List Prospect
   pub each : AllZip (IsProspect basis on) policies prospects

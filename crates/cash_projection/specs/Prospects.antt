@@ -2,9 +2,9 @@
 use Rattle.std.specs.Prelude.{ℕ, ◌+◌, ◌<◌, ◌≤◌, Bool, nat_le, nat_lt, nat_eq, if◌then◌else◌}
 use Rattle.rate_table.specs.Rates.{ONE}
 
--- in the current policy year t of n, with premiums in the years before h, of which so many were paid: the rate of death
--- in the j-th year from the current one, in units of 10^-9; the premium and the amount, in cents; whether a survivor of
--- all years is paid; and how many words there are why it has no value, one or none
+-- in the current policy year t of n, with premiums in the years before h, so many of which were paid: the rate of
+-- death in the j-th year from the current one, in units of 10^-9; the premium and the amount, in cents; whether a
+-- survivor of all years is paid; and the number of words that say why it has no value, one or none
 pub record Prospect : Type 0 where
   pub rates : ℕ → ℕ
   pub t : ℕ
@@ -16,7 +16,7 @@ pub record Prospect : Type 0 where
   pub matures : Bool
   pub words : ℕ
 
--- cents in the years from one on and before another
+-- the cents, in each year from `from` on and before `to`
 abbrev pub due : (from to cents year : ℕ) → ℕ
 due from to cents year = if nat_le from year then (if nat_lt year to then cents else 0) else 0
 

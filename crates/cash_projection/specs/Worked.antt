@@ -1,4 +1,4 @@
--- Projections worked by hand, over a table whose rates of the ages 0 to 4 are 0.1, 0.2, 0.25, 0.5 and 1.
+-- Projections worked by hand, over a table whose rates for the ages 0 to 4 are 0.1, 0.2, 0.25, 0.5 and 1.
 use Rattle.std.specs.Prelude.{◌≡◌, ℕ, ◌+◌, List, [], ◌∷◌, true, false}
 use Rattle.cash_projection.specs.Names.{rate_at, pair_of}
 use Rattle.present_value.specs.Worked.{five_ages}
@@ -15,7 +15,8 @@ pub record IsYearly (ps : List Prospect) (j premiums deaths maturities : ℕ) : 
   pub exact : EnclosesExpected ps j (exact_year premiums deaths maturities)
   pub rounded : rounded_year ps j ≡ exact_year premiums deaths maturities
 
--- an endowment of three years from the age 0 in its year t, with the premium 400.00 for 1000.00, of which so many are paid
+-- an endowment of three years from the age 0 in its year t, with the premium 400.00 for 1000.00; `paid` premiums are
+-- paid
 abbrev pub endowment_in : (t paid : ℕ) → Prospect
 endowment_in t paid = record {
   rates = λ j. rate_at five_ages (0 + t + j);
@@ -40,7 +41,7 @@ pub record PaidPremiumCash : Type 0 where
   pub first : IsYearly (endowment_in 0 1 ∷ []) 0 0 10000 0
   pub second : IsYearly (endowment_in 0 1 ∷ []) 1 36000 18000 0
 
--- a year on: those who are alive then
+-- a year later: those who are alive then
 pub record LaterCash : Type 0 where
   pub first : IsYearly (endowment_in 1 1 ∷ []) 0 40000 20000 0
   pub second : IsYearly (endowment_in 1 1 ∷ []) 1 32000 20000 60000

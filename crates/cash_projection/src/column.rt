@@ -28,7 +28,7 @@ impl YearSums {
         }
     }
 
-    /// Adds cents in the years from one on and before another, times the pair of each.
+    /// Adds cents times the pair of each year, in the years from `from` on and before `to`.
     pub fn add(&mut self, pairs: &[Pair], from: usize, to: usize, cents: u64)
         requires order { from ≤ to }
         requires within { (to ≤ 131) × (to ≤ length pairs.now) }
@@ -47,7 +47,7 @@ impl YearSums {
         }
     }
 
-    /// Adds the sums of another column in so many years.
+    /// Adds the sums of another column, for `years` years.
     pub fn join(&mut self, other: &YearSums, years: usize)
         requires years { years ≤ 131 }
         requires room { IsRoomy years self.old.sums }

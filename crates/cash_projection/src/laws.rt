@@ -7,7 +7,8 @@ pub fn survivors_never_rise()
     ensures { NeverRiseLaw }
 {}
 
-/// With all years to the end of cover the expected deaths and maturity of a policy that matures add up to its amount.
+/// Over all years to the end of cover, the expected deaths and maturity of a policy that matures add up to its
+/// amount.
 pub fn benefits_add_up_to_the_amount()
     ensures { AddUpLaw }
 {}

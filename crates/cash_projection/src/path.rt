@@ -9,22 +9,22 @@ use rate_table::RateTable;
 /// The rate of certain death, in units of 10^-9.
 const CERTAIN: u64 = 1_000_000_000;
 
-/// No path is of this age.
+/// The mark of a path that is of no age.
 const NO_AGE: u8 = 255;
 
-/// By which rates those of an age die, and of which age they are.
+/// Which path: the rates by which those of an age die, and the age.
 #[derive(Clone, Copy)]
 pub struct PathKey {
     /// The row of the basis that has the table.
     pub row: u16,
-    /// The age at issue; 0 where the rates are the same for all.
+    /// The age at issue; 0 if the rates are the same for all.
     pub issue: u8,
     /// The age now.
     pub age: u8,
 }
 
-/// The part of those of an age who are alive after so many years, and the part who die in the year behind it, to the end
-/// of the table, in units of 10^-16. A place after the end has no meaning.
+/// The part of those of an age who are alive after `t` years, and the part who die in the year after that, up to the
+/// end of the table, in units of 10^-16. A place after the end has no meaning.
 #[derive(Clone, Copy)]
 pub struct SurvivalPath {
     pub key: PathKey,
@@ -33,7 +33,7 @@ pub struct SurvivalPath {
 }
 
 impl PathKey {
-    /// Whether both are by the same rates and of the same age.
+    /// Whether both are by the same rates and for the same age.
     pub fn is(self, other: PathKey) -> bool
         ensures equal { IsTrue result → self ≡ other }
         ensures same { self ≡ other → IsTrue result }
@@ -87,7 +87,7 @@ impl SurvivalPath {
     }
 }
 
-/// A part of bounds, in units of 10^-9.
+/// A part, in units of 10^-9, of a value with bounds.
 fn part_of(whole: Pair, part: u32) -> Pair
     requires lo { whole.lo ≤ UNIT }
     requires hi { whole.hi ≤ UNIT }
@@ -101,8 +101,8 @@ fn part_of(whole: Pair, part: u32) -> Pair
     }
 }
 
-/// So many parts of 10^-9 of a number, rounded down. What its division by 10^9 gives and what that leaves go apart, so
-/// that 64 bits are enough: to divide 128 bits takes longer.
+/// `part` units of 10^-9 of a number, rounded down. The quotient of its division by 10^9 and the remainder are
+/// multiplied separately, so that 64 bits are enough: a division of 128 bits takes longer.
 fn part_down(whole: u64, part: u64) -> u64
     requires whole { whole ≤ UNIT }
     requires part { part ≤ ONE }

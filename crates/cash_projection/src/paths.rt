@@ -1,4 +1,4 @@
-// The paths that are kept for policies to come.
+// The paths that are kept for later policies.
 ghost use Rattle.std.specs.Prelude.{◌≡◌, ◌≤◌, ◌<◌, IfOk, List, length, slice_index_or};
 ghost use Rattle.cash_projection.specs.Names.{HoldsAge, Dated};
 ghost use Rattle.cash_projection.specs.inside.Paths.{ArePaths, AreRatesOf, IsPathKept, IsPathAt, path_slot};
@@ -11,15 +11,15 @@ use policy_types::NoMemory;
 use rate_table::RateTable;
 use std::alloc::Global;
 
-/// Those alive of each age, as they were computed for policies before. They serve policies of each day of issue, plan and
-/// year that have the age by the same table.
+/// Those alive of each age, as they were computed for earlier policies. They serve policies of every day of issue,
+/// plan and year that have the age by the same table.
 #[derive(Drop)]
 pub struct Paths {
     kept: Vec<SurvivalPath>,
 }
 
 impl Paths {
-    /// Room for so many paths, of some 4 kB each; those of one table are at most 131.
+    /// A store for at most `most` paths, of some 4 kB each; one table has at most 131.
     pub fn new(alloc: Global, most: u16) -> Result<Paths, NoMemory>
         requires { 1 ≤ most }
         ensures { IfOk result (λ paths. (basis : List Dated) → ArePaths basis paths) }
@@ -28,7 +28,7 @@ impl Paths {
         Ok(Paths { kept })
     }
 
-    /// Where the path of a key lies, by the rates of its row of the basis.
+    /// Where the path of a key is, by the rates of its row of the basis.
     pub fn place_of(&mut self, basis: &Basis, key: PathKey, rates: &RateTable) -> usize
         requires right { ArePaths basis.now self.old }
         requires rates { AreRatesOf basis.now key rates.now }
@@ -36,7 +36,7 @@ impl Paths {
         ensures right { ArePaths basis.now self.new }
         ensures here { IsPathAt rates.now key.age self.new.kept.items result }
         ensures slot { result ≡ path_slot key (length self.old.kept.items) }
-        // One that is found isn't made again.
+        // A path that is found isn't computed again.
         ensures found { IsPathKept self.old.kept.items key result → self.new ≡ self.old }
     {
         let place = slot_of(key, self.kept.len());
@@ -56,7 +56,7 @@ impl Paths {
     }
 }
 
-// The place of a key among so many: the ages of one table lie at places of their own where there are 131.
+// The place of a key, among `count`. With 131 places or more, the ages of one table have places of their own.
 fn slot_of(key: PathKey, count: usize) -> usize
     requires { 1 ≤ count }
     ensures is { result ≡ path_slot key count }

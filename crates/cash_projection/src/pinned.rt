@@ -19,11 +19,11 @@ use std::thread::Threads;
 use turn_lock::Turned;
 use watcher_set::Watching;
 
-/// What the policies of the book, at the newest position, are expected to pay and to be paid on a day, in days since
-/// 1970-01-01, in each of so many years from the current one; and the turn of the pin.
+/// What the policies of the book, at the newest position, are expected to pay and to be paid, from a day on (in days
+/// since 1970-01-01), in each of `years` policy years from the current one; and the turn of the pin.
 ///
-/// The policies are read by the turns of `policies`, and tallied by the workers at the same time, when there are 131,072
-/// or none is left to read. The bytes of the answer are the same for any number of workers.
+/// The policies are read by the turns of `policies`. They are tallied by the workers at the same time, whenever there
+/// are 131,072 of them or none is left to read. The bytes of the answer are the same for any number of workers.
 pub fn project<D: Disk, W: Watching, G: Gate, R: Threads + Wait + Sync>(
     rt: &R,
     alloc: Global,

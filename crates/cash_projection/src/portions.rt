@@ -6,16 +6,17 @@ use memory_requests::push;
 use policy_types::{NoMemory, Policy};
 use std::alloc::Global;
 
-/// The policies of a portion: so few that the last portions take no time, and so many that their tallies are few.
+/// The policies of a portion: few enough that the last portions take little time, and enough that there are few
+/// tallies.
 pub const POLICIES_IN_PORTION: usize = 4_096;
 
-/// Policies that stand together in a list.
+/// Consecutive policies of a list.
 #[derive(Clone, Copy)]
 pub struct Portion<'a> {
     pub policies: &'a [Policy],
 }
 
-/// Portions of so many policies, or a last of fewer, which are the policies one behind the other.
+/// Portions of equal length, except that the last may be shorter, which together are the policies in their order.
 pub fn portions_of<'a>(alloc: Global, policies: &'a [Policy]) -> Result<Vec<Portion<'a>>, NoMemory>
     ensures { IfOk result (λ portions. policies_of_portions portions.items ≡ policies.now) }
 {

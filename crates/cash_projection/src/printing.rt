@@ -12,7 +12,7 @@ use policy_types::NoMemory;
 use std::alloc::Global;
 use text_lines::{LineWriter, Text};
 
-/// What the policies after so many commands are expected to pay and to be paid.
+/// What the policies after `position` commands are expected to pay and to be paid.
 #[derive(Drop)]
 pub struct Projection {
     /// The position that was pinned.
@@ -21,12 +21,12 @@ pub struct Projection {
     pub on: i32,
     /// How many policies there are.
     pub policies: u32,
-    /// How many of them have a word why they have no value.
+    /// How many of them have no value, but a word that says why.
     pub unvalued: u32,
     pub years: Years,
 }
 
-/// The whole of a projection: a line like `project,2020-12-31,1,1,3`, one like
+/// The whole text of a projection: a line such as `project,2020-12-31,1,1,3`, one such as
 /// `year,0,400.00,400.00,100.00,100.00,0.00,0.00` for each year, and `unvalued,0`.
 pub fn print_projection(alloc: Global, projection: &Projection) -> Result<Text, NoMemory>
     requires on { IsTermDay projection.now.on }
@@ -84,7 +84,7 @@ fn write_bounds(lines: &mut LineWriter, year: &Year) -> Result<(), NoMemory>
     lines.cents(year.maturity.hi as i64)
 }
 
-// Adds how many have a word.
+// Adds how many policies have no value.
 fn write_words(lines: &mut LineWriter, unvalued: u32) -> Result<(), NoMemory>
     ensures { OnOk result (lines.new ≡ lines.old ++ line_of (codes "unvalued") (decimal unvalued ∷ [])) }
 {

@@ -10,7 +10,7 @@ use crate::tally::Tally;
 use basis_book::Basis;
 use policy_types::Policy;
 
-/// The tally of policies on a day, in days since 1970-01-01. It takes no memory.
+/// The tally of policies on a day, in days since 1970-01-01. It asks for no memory.
 pub fn tally_policies(
     policies: &[Policy],
     basis: &Basis,

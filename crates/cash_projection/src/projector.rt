@@ -9,7 +9,7 @@ use crate::tally::Tally;
 use basis_book::Basis;
 use parallel_value::Piece;
 
-/// It tallies one portion of policies after another by a basis on a day, and keeps paths from one to the next.
+/// It tallies one portion of policies after another by a basis on a day, and keeps paths for later portions.
 #[derive(Drop)]
 pub struct Projector<'a> {
     pub basis: &'a Basis,

@@ -23,24 +23,25 @@ use std::thread::Threads;
 /// The policies that are tallied together.
 pub const POLICIES_IN_ROOM: usize = 131_072;
 
-/// So many portions hold all policies that there may be.
+/// The most portions, enough for all policies that there may be.
 const MOST_PORTIONS: usize = 1_024;
 
-/// What all workers keep together, counted in paths.
+/// The number of paths that all workers keep together.
 const PATHS_TOGETHER: usize = 768;
 
-/// A worker keeps no more: there are 131 ages of a table.
+/// The most paths of one worker: a table has 131 ages.
 const MOST_PATHS: usize = 237;
 
-/// The tallies of a room's portions are there twice: as they were made, and in their order.
+/// The tallies of a room's portions are in memory twice: as they were made, and in their order.
 const TALLIES_OF_A_ROOM: usize = 2 * POLICIES_IN_ROOM / POLICIES_IN_PORTION;
 
-// So it stays below 4 MiB, with 128 KiB for all else.
+// So it stays below 4 MiB, with 128 KiB for everything else.
 const _: () = prove!(
     PATHS_TOGETHER * size_of::<SurvivalPath>() + TALLIES_OF_A_ROOM * size_of::<Tally>() <= 4_063_232
 );
 
-/// The tally of policies, by all workers, each of which takes the next portion that none has taken. It is the same for any
+/// The tally of policies, by all workers, each of which takes the next portion that none has taken. It is the same
+/// for any number of workers.
 /// number of them.
 pub fn tally_in<R: Threads + Sync>(
     rt: &R,

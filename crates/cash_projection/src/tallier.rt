@@ -1,4 +1,5 @@
-// The policies at a position are tallied as they are read, room after room.
+// The policies at a position are tallied as they are read. Those that were read and aren't tallied yet are in a list
+// of fixed capacity, which the code calls the room.
 ghost use Rattle.std.specs.Prelude.{◌≡◌, ◌≤◌, ◌<◌, ℕ, ℤ, List, [], ◌++◌, OnOk, length};
 ghost use Rattle.cash_projection.specs.Names.{AllByRecursion, Dated, APolicy};
 ghost use Rattle.policy_machine.specs.Rules.{IsSound};
@@ -16,19 +17,19 @@ use snapshot_value::{POLICIES_TO_A_WORKER, Reader};
 use std::alloc::Global;
 use std::thread::Threads;
 
-/// By what policies are projected.
+/// By what the policies are projected.
 #[derive(Clone, Copy)]
 pub struct CashQuery<'a> {
     pub basis: &'a Basis,
-    /// The day from which on, in days since 1970-01-01.
+    /// The day of the projection, in days since 1970-01-01.
     pub on: i32,
     pub years: u8,
     /// How many workers are asked for, from 1 to 64.
     pub workers: u8,
 }
 
-/// The workers, each with paths of its own for the whole projection; policies that were read and aren't tallied yet, in
-/// a room that is used again; and the tally of those before them.
+/// The workers, each with paths of its own for the whole projection; the policies that were read and aren't tallied
+/// yet, in a room that is used again; and the tally of those before them.
 #[derive(Drop)]
 pub struct Tallier<'a> {
     on: i32,
@@ -99,7 +100,7 @@ impl<'a> Reader for Tallier<'a> {
 }
 
 impl Tallier<'_> {
-    // Tallies the policies that were read, where the room is full.
+    // Tallies the policies that were read, if the room is full.
     fn make_room<R: Threads + Sync>(&mut self, rt: &R, alloc: Global) -> Result<(), NoMemory>
         requires can { CanTally self.old }
         ensures room { OnOk result (length self.new.room.items < 131072) }
@@ -129,7 +130,7 @@ impl Tallier<'_> {
         Ok(())
     }
 
-    // Puts policies behind those that were read.
+    // Adds policies after those that were read.
     fn put(&mut self, part: &[Policy]) -> Result<(), NoMemory>
         requires sound { AllByRecursion IsSound part.now }
         ensures { (basis : List Dated) (on : ℤ) (years : ℕ) (policies : List APolicy)

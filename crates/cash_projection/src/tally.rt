@@ -1,4 +1,4 @@
-// What a list of policies adds up to.
+// The sums over a list of policies.
 ghost use Rattle.std.specs.Prelude.{◌≡◌, ◌≤◌, ◌<◌, ◌≤ℤ◌, ◌+◌, ◌-◌, ◌++◌, if◌then◌else◌, ℕ, ℤ, [], List, IfOk};
 ghost use Rattle.cash_projection.specs.Names.{Dated, most_commands, APolicy, IsBelow, table_along, shape_of};
 ghost use Rattle.cash_projection.specs.Prospects.{IsSmall, Prospect as AProspect, due};
@@ -21,13 +21,13 @@ use rate_table::{RateTable, Shape};
 use select_rates::AnyTable;
 use std::alloc::Global;
 
-/// The sums of what policies pay and are paid, in each of so many years from the current one, and how many policies they
-/// are of. Sums of lists are the sums of their parts.
+/// The sums of what policies pay and are paid, in each of `years` years from the current one, and the number of these
+/// policies. The sums of a list are the sums of its parts.
 #[derive(Clone, Copy)]
 pub struct Tally {
     pub years: u8,
     pub policies: u32,
-    /// Those with a word why they have no value.
+    /// The policies without a value.
     pub unvalued: u32,
     pub premium: YearSums,
     pub death: YearSums,
@@ -35,7 +35,7 @@ pub struct Tally {
 }
 
 impl Tally {
-    /// Of no policy.
+    /// The tally of no policies.
     pub fn new(years: u8) -> Tally
         ensures { (basis : List Dated) (on : ℤ) → IsTallyOf basis on years [] result }
     {
@@ -70,7 +70,7 @@ impl Tally {
         }
     }
 
-    /// Adds a policy that neither pays nor is paid, with a word why or none.
+    /// Adds a policy that neither pays nor is paid. `words` is 1 if it has a word that says why, else 0.
     fn add_nothing(&mut self, words: u32)
         requires room { TakesOneMore self.old }
         requires words { words ≤ 1 }
@@ -108,7 +108,7 @@ impl Tally {
         }
     }
 
-    /// Adds an insured policy with a shape in its year `t`.
+    /// Adds an insured policy with a shape, in its year `t`.
     fn add_ahead(
         &mut self,
         policy: &Policy,
@@ -184,7 +184,7 @@ impl Tally {
         self.policies += 1;
     }
 
-    /// Adds the sums of policies behind these.
+    /// Adds the sums of policies that come after these.
     pub fn join(&mut self, other: &Tally)
         requires years { (self.old.years ≡ other.now.years) × (self.old.years ≤ 131) }
         requires few { self.old.policies + other.now.policies ≤ most_commands }
@@ -223,7 +223,7 @@ impl Tally {
     }
 }
 
-/// The age at issue by which paths are kept: 0 where the rates are the same for all.
+/// The age at issue by which paths are kept: 0 if the rates are the same for all.
 fn issue_of(table: &AnyTable, age: u8) -> u8
     ensures { table_along table.now result ≡ table_along table.now age }
 {
@@ -233,7 +233,7 @@ fn issue_of(table: &AnyTable, age: u8) -> u8
     }
 }
 
-/// The premium that is charged: none of a paid-up policy.
+/// The premium that is charged: none for a paid-up policy.
 fn charged(policy: &Policy) -> u64
     ensures { result ≡ charged policy.now.status policy.now.premium }
 {
@@ -244,7 +244,7 @@ fn charged(policy: &Policy) -> u64
     }
 }
 
-/// The year in which a survivor is paid, or the one behind the last.
+/// The year in which a survivor is paid, or the one after the last if none is.
 fn maturity_from(matures: bool, cover: u8) -> u8
     requires { 1 ≤ cover }
     ensures { result ≡ (if matures then cover - 1 else cover) }
@@ -252,7 +252,7 @@ fn maturity_from(matures: bool, cover: u8) -> u8
     if matures { cover - 1 } else { cover }
 }
 
-/// Those of so many years that lie from one on and before another, as the first and the one behind the last.
+/// Those of the first `years` years that are from one on and before another, as the first and the one after the last.
 fn within(from: u8, to: u8, years: u8) -> (usize, usize)
     ensures order { result.0 ≤ result.1 }
     ensures last { (result.1 ≤ years) × (result.1 ≤ to) }

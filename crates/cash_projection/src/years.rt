@@ -6,9 +6,9 @@ use present_value::Pair;
 pub struct Year {
     /// Premiums, at the start of the year.
     pub premium: Pair,
-    /// Amounts of those who die in the year, at its end.
+    /// Amounts paid for those who die in the year, at its end.
     pub death: Pair,
-    /// Amounts of those who survive the last year of their cover, at its end.
+    /// Amounts paid to those who survive the last year of their cover, at its end.
     pub maturity: Pair,
 }
 

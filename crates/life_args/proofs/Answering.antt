@@ -66,7 +66,7 @@ odd_refused verb words odd pieces spelling = true≢false (sym odd ∙ spelled_e
 
 -- ---- a mode
 
--- words ask for a mode of their verb, whose pieces spell them
+-- arguments ask for a mode of their verb, whose pieces spell them
 pub asked_of : (verb : Verb) (words : List Text) (one : Mode) → AreWords (verb_word verb ∷ words) one
     → (verb_of one ≡ verb) × ((pieces : List WordPiece) × Spelling (options_of verb) words pieces × SaysMode (values_of pieces) one)
 asked_of verb words one are =
@@ -75,7 +75,7 @@ asked_of verb words one are =
     (same, (asks.1.pieces, subst (λ v. Spelling (options_of v) words asks.1.pieces) same asks.1.spelling, asks.1.says))
 
 module _ (verb : Verb) (words : List Text) where
-  -- pieces that spell the words say what the words ask for
+  -- pieces that spell the words say what the arguments ask for
   pub asked_by : (pieces : List WordPiece) → Spelling (options_of verb) words pieces → (one : Mode) → AreWords (verb_word verb ∷ words) one
       → (verb_of one ≡ verb) × SaysMode (values_of pieces) one
   asked_by pieces spelling one are =
@@ -84,7 +84,7 @@ module _ (verb : Verb) (words : List Text) where
       let those = (spelled_taken (options_of verb) (good verb) words asks.1.0 asks.1.1).1 in
       (asks.0, subst (λ (v : Text → List Text). SaysMode v one) (λ i id. (sym (those id) ∙ these id) i) asks.1.2)
 
-  -- and the words ask for what they say
+  -- and the arguments ask for what they say
   pub asking_by : (pieces : List WordPiece) → Spelling (options_of verb) words pieces → (one : Mode) → verb_of one ≡ verb → SaysMode (values_of pieces) one
       → AreWords (verb_word verb ∷ words) one
   asking_by pieces spelling one is says =
@@ -106,11 +106,11 @@ module _ (verb : Verb) (words : List Text) where
 
 -- ---- the words
 
--- the words behind the first
+-- the arguments after the first
 abbrev pub behind : List (String Global) → List (String Global)
 behind words = take (length words - 1) (drop 1 words)
 
--- the words are the verb's and those behind it
+-- the words are the verb's and those after it
 pub split_words : (words : List (String Global)) (first : String Global) (word : Text) → 1 ≤ length words → first ≡ get_or words 0 first → string_bytes first ≡ word
     → word ∷ map string_bytes (behind words) ≡ map string_bytes words
 split_words [] first word some is same = absurd (omega arith)
@@ -142,7 +142,7 @@ unnamed words first some is none one asks =
     let there = split_words words first (string_bytes first) some is refl in
     none (verb_of one) (asked (string_bytes first) (map string_bytes (behind words)) one (subst (λ ws. AreWords ws one) (sym there) asks)).0
 
--- ---- words ask once
+-- ---- arguments ask once
 
 pub ask_once : (words : List Text) (one two : Mode) → AreWords words one → AreWords words two → one ≡ two
 ask_once [] one two first second = absurd first

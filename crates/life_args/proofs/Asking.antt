@@ -1,4 +1,4 @@
--- The words of a mode, as pieces whose values say the mode
+-- The arguments of a mode, as pieces whose values say the mode
 use Rattle.life_args.proofs.Names.{◌≡◌, ◌≤◌, ◌<◌, ◌^◌, ℕ, Bool, true, false, cond, List, [], ◌∷◌, Option, Some, None, refl, sym, ap, ◌∙◌, subst, arith, inl, inr, bytes_eq, codes, decimal, length, map, ⊤, has_byte, At, Now, Position, Mode, Verb, Run, Value, Project, State, Checkpoint, Generate, Load, WordPiece, bare, apart, joined, flag, spelled, bare_values, option_values, value_under, IsAmong, HasOnly, AtMostOne, IsPositionOr, AreWorkersOr, IsBasisOr, IsPolicyOr, IsInRange, AreWords, ArePlain, IsPlainText, OptionNames, Spelling, alone_id, line_app, values_of, SaysMode, options_of, verb_of, verb_word}
 use Rattle.clap.specs.Walk.{Text, arg_by_long}
 use Rattle.clap.specs.Faults.{is_simple_and_free}
@@ -109,7 +109,7 @@ are_plain names (joined one value ∷ pieces) only alone options =
 are_plain names (flag one ∷ pieces) only alone options =
     are_plain names pieces only.1 alone (λ name among. rest_plain name one [] (option_values name pieces) (options name among))
 
--- ---- the words of a mode
+-- ---- the arguments of a mode
 
 pub record Asked (mode : Mode) (words : List Text) : Type 0 where
   pub pieces : List WordPiece

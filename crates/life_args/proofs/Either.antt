@@ -173,7 +173,7 @@ said values Load = loaded (values alone_id)
 
 -- ---- the words
 
--- the words behind a verb ask for one of its modes, or for none
+-- the arguments after a verb ask for one of its modes, or for none
 pub said_of : (verb : Verb) (words : List Text) (pieces : List WordPiece) → Spelling (options_of verb) words pieces → (one : Mode) → AreWords (verb_word verb ∷ words) one
     → Said verb (values_of pieces)
 said_of verb words pieces spelling one are =

@@ -62,7 +62,7 @@ cut (x ∷ xs) = go (x == 61) refl (cut xs)
     go false is (inl none) = inl (lacks_more x xs is none)
     go false is (inr some) = inr (x ∷ some.0, some.1, ap (λ ys. x ∷ ys) some.2, lacks_more x some.0 is some.3)
 
--- behind two hyphens
+-- after two hyphens
 long_seen : (x : ℕ) (xs : Text) → Seen (45 ∷ 45 ∷ x ∷ xs)
 long_seen x xs = elim (cut (x ∷ xs)) [
   | inl none ↦ apart (x ∷ xs) refl (record { no_hyphens = refl; reads = ap Some (name_and_value-without (x ∷ xs) none) })

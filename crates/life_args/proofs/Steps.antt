@@ -59,7 +59,7 @@ module _ (names : OptionNames) where
   abbrev pub s : Shape
   s = leaf (rules names)
 
-  -- a word without fault, and where the walk stands behind it
+  -- a word without fault, and where the walk stands after it
   pub record Goes (w : Walk) (word : Text) (after : Walk) : Type 0 where
     pub fault : turn_fault s [] w word ≡ []
     pub walk : walked c [] w word ≡ after

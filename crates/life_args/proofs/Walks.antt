@@ -29,7 +29,7 @@ module _ (names : OptionNames) (good : AreGood names) where
   abbrev pub ends : Walk → List Text → Walk
   ends w words = fold (walked (c names) []) w words
 
-  -- the faults of words, and of what is pending behind them
+  -- the faults of words, and of what is pending after them
   abbrev pub total : Walk → List Text → Kinds
   total w words = or_else (walk_fault (s names) [] w words) (settle_fault (c names) false (ends w words).held)
 
@@ -49,7 +49,7 @@ module _ (names : OptionNames) (good : AreGood names) where
 
   -- ---- the words of pieces
 
-  -- the words are read without fault, and these are the rows then
+  -- the arguments are read without fault, and these are the rows then
   pub record Reads (w : Walk) (words : List Text) (rows : List Row) : Type 0 where
     pub fault : total w words ≡ []
     pub before : List Row

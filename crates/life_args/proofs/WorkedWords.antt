@@ -1,4 +1,4 @@
--- What worked words are told by.
+-- What worked words are stated by.
 use Rattle.life_args.proofs.Names.{◌≡◌, ◌≤◌, ◌∙◌, ℕ, List, [], ◌∷◌, refl, sym, subst, inl, inr, codes, decimal, lit≤, arith, pos, ℤ, decimal_injective, ints, IsName, IsNameByte, date_of, month_of, days_before_year, days_of_months, day_text, Mode, Verb, Run, WordPiece, spelled, HasOnly, IsDayValue, AreWords, ArePlain, line_app, values_of, AreDayAndYears, SaysMode, options_of, verb_of, verb_word, fault_of, Kinds}
 use Rattle.std.proofs.lemmas.List.Elements.{All-from_recursion}
 use Rattle.std.specs.Fmt.{digits}
@@ -64,7 +64,7 @@ b2_name = record {
   );
 }
 
--- behind the day stand years that are too few, or too many
+-- after the day stand years that are too few, or too many
 pub other_years : (text : List ℕ) (n : ℕ) → text ≡ decimal n → n ≤ 132 → (1 ≤ n → n ≤ 131 → ⊥) → (on : ℤ) (years : ℕ) → AreDayAndYears (codes "2021-01-01" ∷ text ∷ []) on years → ⊥
 other_years text n is small out on years are =
     let lists : codes "2021-01-01" ∷ text ∷ [] ≡ are.0 ∷ decimal years ∷ [] = are.1 in

@@ -1,4 +1,4 @@
--- The names from elsewhere that several rooms cite, passed on from one place. Declares nothing.
+-- The names from elsewhere that several modules cite, passed on from one place. Declares nothing.
 pub use Rattle.std.specs.Global.{Global}
 pub use Rattle.std.specs.List.{list_any, Contains}
 pub use Rattle.clap.specs.Words.{found_of, app_of, rule_of, App, Rule, Text, matched_of, new_app, new_rule, raw_values}

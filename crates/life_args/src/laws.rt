@@ -1,15 +1,15 @@
-// What the definitions have to mean, as functions that do nothing.
+// Laws that the definitions satisfy, as functions that do nothing.
 ghost use Rattle.std.specs.Prelude.{◌≡◌, ◌⊎◌, List, String};
 ghost use Rattle.std.specs.Global.{Global};
 ghost use Rattle.life_args.specs.declared.mode.Mode.{Mode};
 ghost use Rattle.life_args.specs.Words.{AskFor, AskForNothing};
 
-/// Words ask for one mode at most.
+/// Arguments ask for at most one mode.
 pub fn words_ask_once()
     ensures { (words : List (String Global)) (mode other : Mode) → AskFor words mode → AskFor words other → mode ≡ other }
 {}
 
-/// Words ask for a mode, or for nothing.
+/// Arguments ask for a mode, or for nothing.
 pub fn words_ask_or_not()
     ensures { (words : List (String Global)) → ((mode : Mode) × AskFor words mode) ⊎ AskForNothing words }
 {}

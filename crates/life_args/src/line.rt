@@ -1,4 +1,4 @@
-// What stands behind the first word: values that stand alone, and options with their values.
+// What comes after the first argument: values that stand alone, and options with their values.
 ghost use Rattle.std.specs.Prelude.{◌≡◌, IfOk, false, map, string_bytes};
 ghost use Rattle.life_args.specs.Names.{list_any, app_of, rule_of};
 ghost use Rattle.life_args.specs.inside.Lines as lines;
@@ -12,8 +12,8 @@ use memory_requests::{NoMatches, matches_of, with_arg};
 use policy_types::NoMemory;
 use std::alloc::Global;
 
-/// What `clap` makes of the words behind a verb: the values that stand alone, and those of each option. How many there
-/// may be is judged where they are read.
+/// What `clap` makes of the arguments after a verb: the values that stand alone, and those of each option. How many
+/// there may be is checked where they are read.
 pub fn read_line<'a>(
     alloc: Global,
     verb: Verb,
@@ -35,7 +35,7 @@ pub fn read_line<'a>(
     }
 }
 
-// Whether a word begins with a hyphen and is no option. `clap` would take `--`, and reads `-x` as a flag.
+// Whether an argument begins with a hyphen and is no option. `clap` would accept `--`, and reads `-x` as a flag.
 fn has_odd(words: &[String]) -> bool
     ensures { result ≡ list_any (λ word. lines.is_odd (string_bytes word)) words.now }
 {
@@ -52,7 +52,7 @@ fn is_odd(word: &str) -> bool
     }
 }
 
-// The command that takes values alone and the options of the verb.
+// The command that takes only values and the options of the verb.
 fn command_of<'a>(alloc: Global, verb: Verb) -> Result<Command<'a>, NoMemory>
     ensures { IfOk result (λ command. app_of command ≡ line_app (options_of verb)) }
 {
@@ -84,7 +84,7 @@ fn optionless<'a>(alloc: Global) -> Result<Command<'a>, NoMemory>
     with_arg(command, values)
 }
 
-// An option, which may have a value each time that it is used.
+// An option that has a value each time it is used.
 fn option<'a>(alloc: Global, name: &'a str) -> Arg<'a>
     ensures rule { rule_of result ≡ option_rule name.entry.now }
     ensures local { result.global ≡ false }
@@ -92,7 +92,7 @@ fn option<'a>(alloc: Global, name: &'a str) -> Arg<'a>
     Arg::new(alloc, name).long(name).action(ArgAction::Append)
 }
 
-// An option without a value. Each use is noted, so that repeated ones are judged with the other values.
+// An option without a value. Each use is noted, so that repeated flags are checked like other values.
 fn flag<'a>(alloc: Global, name: &'a str) -> Arg<'a>
     ensures rule { rule_of result ≡ flag_rule name.entry.now }
     ensures local { result.global ≡ false }

@@ -2,7 +2,7 @@ use basis_book::Name;
 use policy_types::At;
 use policy_value::Measure;
 
-/// What the words ask for.
+/// What the arguments ask for.
 #[derive(Drop)]
 pub enum Mode {
     /// To run the script on the input.
@@ -22,7 +22,8 @@ pub enum Mode {
         /// The reserve that is asked for.
         measure: Measure,
     },
-    /// To write what the policies are expected to pay and to be paid in so many years, by year from the one of this day on.
+    /// To write what the policies are expected to pay and to be paid, for `years` policy years from the one of this
+    /// day on.
     Project {
         /// The day, in days since 1970-01-01.
         on: i32,
@@ -37,13 +38,13 @@ pub enum Mode {
     },
     /// To save the books of the journal on the second disk.
     Checkpoint,
-    /// To write the script of so many policies drawn from the seed, dealt out to the lanes.
+    /// To write the script of `count` policies drawn from the seed, assigned to the lanes in turn.
     Generate {
         seed: u32,
         count: u32,
         lanes: u8,
     },
-    /// To run that script, and to value all policies then. The basis file is `basis.csv`.
+    /// To run that script, and then to value all policies. The basis file is `basis.csv`.
     Load {
         seed: u32,
         count: u32,

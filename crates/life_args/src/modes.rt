@@ -1,4 +1,4 @@
-// The mode of each verb, by the values behind it.
+// The mode of each verb, by the values after it.
 ghost use Rattle.clap.specs.Words.{found_of};
 ghost use Rattle.life_args.specs.inside.Lines.{GivesAsked};
 ghost use Rattle.life_args.specs.inside.Verbs.{AreDrawn, AsksFor};
@@ -13,7 +13,7 @@ use crate::verb::Verb;
 use clap::ArgMatches;
 use std::alloc::Global;
 
-/// The mode that a verb and what stands behind it ask for.
+/// The mode that a verb and what comes after it ask for.
 pub fn mode_of(alloc: Global, verb: Verb, line: &ArgMatches) -> Result<Mode, WordsFault>
     ensures { GivesAsked (AsksFor verb (found_of line.now)) result }
 {

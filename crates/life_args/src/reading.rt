@@ -11,17 +11,17 @@ use crate::modes::mode_of;
 use crate::verb::verb_named;
 use std::alloc::Global;
 
-/// What the words behind the program's name ask for.
+/// What the arguments after the program's name ask for.
 pub fn read_words(alloc: Global, words: &[String]) -> Result<Mode, WordsFault>
     ensures mode { IfOk result (AskFor words.now) }
     ensures fault { IfErr result (IsFaultOf words.now) }
-    // Whatever answer is due is given, unless memory is refused.
+    // Whatever result is due is returned, unless memory is refused.
     ensures due { (answer : Result AMode AFault) → IsWordsAnswer words.now answer → GivesMode result answer }
 {
     read_mode(alloc, words)
 }
 
-// The mode that the first word names, by the words behind it.
+// The mode that the first argument names, by the arguments after it.
 fn read_mode(alloc: Global, words: &[String]) -> Result<Mode, WordsFault>
     ensures mode { IfOk result (AskFor words.now) }
     ensures fault { IfErr result (IsFaultOf words.now) }

@@ -1,4 +1,4 @@
-// What the values of a command line say.
+// What the values of a command line mean.
 ghost use Rattle.std.specs.Prelude.{◌≡◌, ◌≢◌, ◌≤◌, ◌↔◌, ℕ, [], ◌∷◌, length, IsTrue, IfSome, IfNone, decimal};
 ghost use Rattle.life_args.specs.Pieces.{AtMostOne};
 ghost use Rattle.life_args.specs.Values.{IsPositionOr, AreWorkersOr, IsBasisOr, IsMeasureBy, IsPolicyOr};
@@ -20,7 +20,7 @@ pub fn day_of(value: &str) -> Result<i32, WordsFault>
     parse_day(value.as_bytes()).ok_or(WordsFault::Usage)
 }
 
-/// The position of a valuation: the end of the journal where none is given.
+/// The position of a valuation: the end of the journal if none is given.
 pub fn position_of(values: Option<&[&str]>) -> Result<At, WordsFault>
     ensures { GivesAsked (λ at. AtMostOne (texts_of values.entry) (λ given. IsPositionOr given at)) result }
 {
@@ -31,7 +31,7 @@ pub fn position_of(values: Option<&[&str]>) -> Result<At, WordsFault>
     }
 }
 
-/// The number of workers: 1 where none is given.
+/// The number of workers: 1 if none is given.
 pub fn workers_of(values: Option<&[&str]>) -> Result<u8, WordsFault>
     ensures { GivesAsked (λ workers. AtMostOne (texts_of values.entry) (λ given. AreWorkersOr given workers)) result }
 {
@@ -42,7 +42,7 @@ pub fn workers_of(values: Option<&[&str]>) -> Result<u8, WordsFault>
     }
 }
 
-/// The name of the basis file: `basis.csv` where none is given.
+/// The name of the basis file: `basis.csv` if none is given.
 pub fn basis_of(alloc: Global, values: Option<&[&str]>) -> Result<Name, WordsFault>
     ensures { GivesAsked (λ basis. AtMostOne (texts_of values.entry) (λ given. IsBasisOr given basis)) result }
 {
@@ -58,7 +58,8 @@ pub fn basis_of(alloc: Global, values: Option<&[&str]>) -> Result<Name, WordsFau
     }
 }
 
-/// The reserve that is asked for, by the uses of `--mean` and those of `--deficiency`: of both flags one at most, once.
+/// The reserve that is asked for, by the uses of `--mean` and those of `--deficiency`: at most one of the two flags,
+/// and only once.
 pub fn measure_of(mean: Option<&[&str]>, deficiency: Option<&[&str]>) -> Result<Measure, WordsFault>
     ensures { GivesAsked (IsMeasureBy (texts_of mean.entry) (texts_of deficiency.entry)) result }
 {
@@ -106,7 +107,7 @@ pub fn is_empty(values: Option<&[&str]>) -> bool
     }
 }
 
-/// The values, where there are three.
+/// The values, if there are three.
 pub fn three<'a>(values: Option<&[&'a str]>) -> Option<(&'a str, &'a str, &'a str)>
     ensures some { IfSome result (λ all. texts_of values.entry ≡ all.0.now ∷ all.1.now ∷ all.2.now ∷ []) }
     ensures none { IfNone result (length (texts_of values.entry) ≢ 3) }
@@ -117,7 +118,7 @@ pub fn three<'a>(values: Option<&[&'a str]>) -> Option<(&'a str, &'a str, &'a st
     }
 }
 
-/// The values, where there are four.
+/// The values, if there are four.
 pub fn four<'a>(values: Option<&[&'a str]>) -> Option<(&'a str, &'a str, &'a str, &'a str)>
     ensures some { IfSome result (λ all. texts_of values.entry ≡ all.0.now ∷ all.1.now ∷ all.2.now ∷ all.3.now ∷ []) }
     ensures none { IfNone result (length (texts_of values.entry) ≢ 4) }
@@ -128,7 +129,7 @@ pub fn four<'a>(values: Option<&[&'a str]>) -> Option<(&'a str, &'a str, &'a str
     }
 }
 
-// The value, where there is one at most.
+// The value, if there is at most one.
 fn lone<'a>(values: Option<&[&'a str]>) -> Result<Option<&'a str>, WordsFault>
     ensures { GivesLone (texts_of values.entry) result }
 {

@@ -2,7 +2,7 @@ ghost use Rattle.std.specs.Prelude.{◌≡◌, ◌≢◌, IfSome, IfNone};
 ghost use Rattle.life_args.specs.declared.verb.Verb.{Verb};
 ghost use Rattle.life_args.specs.inside.Verbs.{verb_word};
 
-/// What the first word may be.
+/// What the first argument may be.
 #[derive(Clone, Copy, PartialEq, Eq, Debug)]
 pub enum Verb {
     Run,
@@ -14,7 +14,7 @@ pub enum Verb {
     Load,
 }
 
-/// The verb that a word is, if it is one.
+/// The verb that an argument is, if it is one.
 pub fn verb_named(word: &str) -> Option<Verb>
     ensures some { IfSome result (λ verb. word.now ≡ verb_word verb) }
     ensures none { IfNone result ((verb : Verb) → word.now ≢ verb_word verb) }

@@ -1,8 +1,8 @@
-//! Worked words, each a theorem over the definitions alone.
+//! Worked arguments, each a theorem over the definitions alone.
 
 ghost use Rattle.life_args.specs.Worked.{CheckpointWords, LoadWords, MeasureNearWords, MeasureWords, NearWords, ProjectNearWords, ProjectWords, RunWords, StateWords, ValueWords};
 
-/// The words of each command, and words that are nearly one.
+/// The arguments of each command, and arguments that are nearly one.
 pub fn words_by_hand()
     ensures run { RunWords }
     ensures value { ValueWords }

@@ -18,7 +18,7 @@ abbrev pub IsValidPosting : Line → Type 0
 IsValidPosting (Post command) = IsValid command
 IsValidPosting _ = ⊥
 
--- what those who run the lanes rest on: no more lanes than asked for, with two lines for each policy
+-- what the run of the lanes relies on: no more lanes than asked for, with two lines for each policy
 pub record AreDealt (most policies : ℕ) (lanes : List Lane) : Type 0 where
   pub rising : AreRising (numbers_of lanes)
   pub few : length lanes ≤ most

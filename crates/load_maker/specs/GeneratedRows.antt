@@ -6,8 +6,8 @@ use Rattle.command_csv.specs.declared.row.ClerkLine.{ClerkLine}
 use Rattle.load_maker.specs.declared.generator.Drawn.{Drawn}
 use Rattle.load_maker.specs.Generator.{policy_drawn, state_after}
 
--- the rows of policies 1 to n, which are dealt out to the lanes in turn: a policy is issued, and its first premium is paid on
--- the same day
+-- the rows of policies 1 to n, which are assigned to the lanes in turn: a policy is issued, and its first premium is
+-- paid on the same day
 unfoldable pub generated_rows : (seed lanes n : ℕ) → List ClerkLine
 generated_rows seed lanes zero = []
 generated_rows seed lanes (suc n) =

@@ -1,4 +1,4 @@
--- The generator: policies drawn from one number below 2 ^ 31, which each draw renews
+-- The generator: policies drawn from a number below 2 ^ 31, which each draw renews
 use Rattle.std.specs.Prelude.{ℕ, zero, suc, ◌+◌, ◌*◌, ◌/◌, ◌%◌, ◌==◌, if◌then◌else◌, pos}
 use Rattle.policy_types.specs.declared.command.Plan.{Plan}
 use Rattle.policy_types.specs.declared.command.Plan.TheVariants.{Term, Whole, Endowment, Limited}
@@ -8,8 +8,8 @@ use Rattle.load_maker.specs.declared.generator.Drawn.{Drawn}
 abbrev pub renewed : ℕ → ℕ
 renewed x = (x * 1103515245 + 12345) % 2147483648
 
--- The policy of five draws: plan, age, years, amount and premium, day of issue from 2000-01-01 on. The years are from 2 to 21,
--- but none for whole life.
+-- The policy of five draws: plan, age, years, amount and premium, day of issue from 2000-01-01 on. The years are from
+-- 2 to 21, except that whole life has none.
 abbrev pub policy_of_draws : (for_plan for_age for_years for_amount for_day : ℕ) → Drawn
 policy_of_draws for_plan for_age for_years for_amount for_day =
     let plan : Plan = if for_plan == 0 then Term else if for_plan == 1 then Whole else if for_plan == 2 then Endowment else Limited in
@@ -22,7 +22,7 @@ policy_of_draws for_plan for_age for_years for_amount for_day =
       issued = pos (10957 + for_day);
     }
 
--- the policy that is drawn next: a draw is below its bound, from the number without its last eight bits
+-- the next policy: each draw gives a number below its bound, from the renewed number without its last eight bits
 unfoldable pub policy_drawn : ℕ → Drawn
 policy_drawn x =
     let first = renewed x in
@@ -32,7 +32,7 @@ policy_drawn x =
     let fifth = renewed fourth in
     policy_of_draws (first / 256 % 4) (second / 256 % 60) (third / 256 % 20) (fourth / 256 % 1000) (fifth / 256 % 3650)
 
--- the number after the five draws of each of so many policies; at first it is the seed
+-- the number after the five draws for each of so many policies; at first it is the seed
 unfoldable pub state_after : (seed policies : ℕ) → ℕ
 state_after seed zero = seed
 state_after seed (suc n) = renewed (renewed (renewed (renewed (renewed (state_after seed n)))))

@@ -1,4 +1,4 @@
--- The seed 1, worked outside of this repository
+-- The seed 1, computed outside of this repository
 use Rattle.std.specs.Prelude.{◌≡◌, [], ◌∷◌, ◌++◌, codes, pos}
 use Rattle.policy_types.specs.declared.command.Command.TheVariants.{Issue, Premium}
 use Rattle.policy_types.specs.declared.command.Plan.TheVariants.{Term, Endowment}
@@ -13,7 +13,7 @@ abbrev pub FirstNumbers : Type 0
 FirstNumbers = (renewed 1 ≡ 1103527590) × (renewed 1103527590 ≡ 377401575) × (renewed 377401575 ≡ 662824084)
     × (renewed 662824084 ≡ 1147902781) × (renewed 1147902781 ≡ 2035015474)
 
--- what they give
+-- the draws that they give
 abbrev pub FirstDraws : Type 0
 FirstDraws = (drawn_below 4 1103527590 ≡ 2) × (drawn_below 60 377401575 ≡ 24) × (drawn_below 20 662824084 ≡ 16)
     × (drawn_below 1000 1147902781 ≡ 995) × (drawn_below 3650 2035015474 ≡ 3229)
@@ -35,7 +35,7 @@ FirstRows = generated_text 1 1 1
     ≡ codes "1,issue,1,2008-11-03,endowment,44,18,996000.00,19920.00" ++ (10 ∷ [])
     ++ codes "1,premium,1,2008-11-03,19920.00" ++ (10 ∷ [])
 
--- three policies that are dealt out to two lanes
+-- three policies that are assigned to two lanes
 abbrev pub FirstLanes : Type 0
 FirstLanes = generated_lanes 1 2 3 ≡ record {
   number = 1;

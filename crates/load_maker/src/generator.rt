@@ -9,7 +9,7 @@ use policy_types::Plan;
 /// 2000-01-01, in days since 1970-01-01.
 const FIRST_ISSUE: i32 = 10_957;
 
-/// What is drawn of a policy; amount and premium are cents.
+/// What is drawn for a policy; amount and premium are in cents.
 #[derive(Clone, Copy)]
 pub struct Drawn {
     pub plan: Plan,
@@ -28,7 +28,7 @@ pub struct Generator {
 }
 
 impl Generator {
-    /// Begins with the seed.
+    /// A generator that begins with the seed.
     pub fn new(seed: u32) -> Generator
         requires { seed < 2 ^ 31 }
         ensures { result.state ≡ seed }
@@ -108,7 +108,7 @@ fn plan_of(draw: u64) -> Plan
     }
 }
 
-// The years of a draw, but none for whole life.
+// The years of a draw; whole life has none.
 fn years_of(plan: Plan, draw: u8) -> u8
     requires { draw < 20 }
     ensures drawn { result ≡ years_drawn plan draw }

@@ -30,7 +30,7 @@ pub fn make_lanes(alloc: Global, seed: u32, count: u32, lanes: u8) -> Result<Scr
     Ok(Script::new(dealt))
 }
 
-// The lines of one lane. All policies are drawn, since each is drawn from what the one before left.
+// The lines of one lane. All policies are drawn, since each draw begins from the number that the one before it left.
 #[tactic(auto, unfolding(crate::specs::Generator::state_after))]
 fn make_lines(
     alloc: Global,

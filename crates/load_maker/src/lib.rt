@@ -1,4 +1,5 @@
-//! Scripts made by a generator: so many policies, each issued and its first premium paid on the day of issue.
+//! Scripts made by a generator: a given number of policies, each issued and its first premium paid on the day of
+//! issue.
 #![tactic(auto)]
 
 mod generator;

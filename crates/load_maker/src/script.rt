@@ -8,8 +8,8 @@ use policy_types::NoMemory;
 use std::alloc::Global;
 use text_lines::LineWriter;
 
-/// The script of `count` policies drawn from the seed, numbered from 1 and dealt out to the lanes in turn: for each
-/// the row that issues it and the row of its first premium.
+/// The script of `count` policies drawn from the seed, numbered from 1 and assigned to the lanes in turn: for each
+/// policy the row that issues it and the row of its first premium.
 #[tactic(auto, unfolding(crate::specs::Generator::state_after, crate::specs::GeneratedRows::generated_rows, crate::specs::GeneratedScript::generated_text))]
 pub fn make_script(alloc: Global, seed: u32, count: u32, lanes: u8) -> Result<Vec<u8>, NoMemory>
     requires seed { seed < 2 ^ 31 }

@@ -1,4 +1,5 @@
--- How a mode begins that has an office, over the disk's file and the basis that it asks for; and how it ends, by that basis
+-- How a mode with an office begins, over the disk's file and the basis that it asks for; and how it ends, by that
+-- basis
 use Rattle.std.specs.Prelude.{◌≡◌, ◌⊎◌, ℕ, List, [], Option, Some, None}
 use Rattle.outside_io.specs.Shelves.{Files}
 use Rattle.outside_io.specs.declared.disks.Disk.{Ghosts}
@@ -21,13 +22,13 @@ pub record EndsByBasis (Ends : List Dated → Type 0) (name : List ℕ) (shelf :
   pub is : (files : Files) → shelf.Agrees files → IsBasis files name basis
   pub ends : Ends basis
 
--- how a mode ends that needs a basis; without one the disk isn't touched
+-- how a mode ends that needs a basis; without one it doesn't touch the disk
 abbrev pub EndsOverBasis : {D : Type 0} → D → D → (List Dated → Type 0) → List ℕ → Shelving → Stream → Ending → Type 0
 EndsOverBasis old new Ends name shelf output ending =
     EndsByBasis Ends name shelf ⊎ ((new ≡ old) × EndsNoBasis name shelf output ending)
 
--- whatever files agree with the shelf's answers make this basis under the name that is asked for; where none is asked for it
--- has no rows, and the shelf stays
+-- whatever files agree with the shelf's answers make this basis under the name that is asked for; if none is asked
+-- for, the basis has no rows, and the shelf isn't touched
 abbrev pub IsAskedBasis : Option (List ℕ) → Shelving → (ShelfStays : Type 0) → List Dated → Type 0
 IsAskedBasis (Some name) shelf ShelfStays basis = (files : Files) → shelf.Agrees files → IsBasis files name basis
 IsAskedBasis None shelf ShelfStays basis = ShelfStays × (basis ≡ [])
@@ -44,7 +45,7 @@ pub record IsUnopened {D : Type 0} (g : Ghosts D) (old new : D) (output : Stream
   pub refused : HasNotOpened g old new cause
   pub says : SaysUnopened cause output ending
 
--- there was no basis where one is asked for, or no office
+-- there was no basis although one is asked for, or no office
 abbrev pub HasNotBegun : {D : Type 0} → Ghosts D → D → D → Option (List ℕ) → Shelving → (ShelfStays : Type 0) → Stream → Ending
     → Type 0
 HasNotBegun g old new (Some name) shelf ShelfStays output ending =

@@ -1,4 +1,4 @@
-// A basis and an office, with which each mode begins that has one.
+// A basis and an office, with which each mode that has an office begins.
 ghost use Rattle.std.specs.Prelude.{◌≡◌, ◌<◌, ℕ, [], IfOk, IfErr, OnOk, MatchResult};
 ghost use Rattle.std.specs.Option.{option_copied};
 ghost use Rattle.moment_ring.specs.Ends.{HasRoomFor, told};
@@ -19,16 +19,16 @@ use shared_office::{Office, OfficePass, start_telling};
 use std::alloc::Global;
 use watcher_set::Watching;
 
-/// A basis, and an office at which nobody turned yet.
+/// A basis, and an office at which nobody has taken a turn yet.
 pub struct Begun<D: Disk, W: Watching> {
     pub basis: Basis,
     pub office: Office<D, W>,
     pub pass: OfficePass<D, W>,
 }
 
-/// Fetches the basis, and opens the office then, with these watchers and this outlet for its moments. Where no basis is asked
-/// for it is one without rows, and the shelf isn't touched. Where there is none the line that says why was written; without a
-/// basis the disk isn't touched.
+/// Fetches the basis, and then opens the office, with these watchers and this outlet for its moments. If no basis is
+/// asked for, the basis has no rows, and the shelf isn't touched. If there is no basis or no office, a line that says
+/// why was written; without a basis the disk isn't touched.
 pub fn begin<H: Shelf, K: Sink, D: Disk, W: Watching>(
     alloc: Global,
     basis: Option<&Name>,
@@ -50,7 +50,7 @@ pub fn begin<H: Shelf, K: Sink, D: Disk, W: Watching>(
     ensures ended { IfErr result (λ finished. HasNotBegun D.Disk disk finished.disk (option_copied basis.entry)
         (shelf_between H.faults H.agrees shelf.old shelf.new) (shelf.new ≡ shelf.old)
         (between K.faults K.written K.pieces output.old output.new) finished.ending) }
-    // Where the shelf failed this is told, and nothing else.
+    // If the shelf fails, that fault is returned and no other.
     ensures counted { H.faults shelf.old < H.faults shelf.new
         → MatchResult result (λ begun. ⊥) (λ finished. finished.ending ≡ ReadFault) }
     ensures files { H.files shelf.new ≡ H.files shelf.old }

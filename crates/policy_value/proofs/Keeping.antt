@@ -35,7 +35,7 @@ module _ {K V : Type 0} (P : K × V → Type 0) where
       pair_is : (e : K × V) → key ≡ e.0 → v ≡ e.1 → (key, v) ≡ e
       pair_is e k w = ap (λ (j : K). (j, v)) k ∙ ap (λ (x : V). (e.0, x)) w
 
-  -- put or not for want of memory
+  -- put or not because memory was refused
   pub All-after_put : {X E : Type 0} (eq : K → K → Bool) (c new : LruCache K V) (key : K) (v : V) (r : Result X E)
       → OnOk r (new ≡ lru_cache (put_entries eq c key v) c.cap) → OnErr r (new ≡ c) → ((k : K) → eq key k ≡ true → key ≡ k) → P (key, v) → All P c.entries → All P new.entries
   All-after_put eq c new key v (Ok x) put stays same right all = rw put (All-put eq c key v same right all)

@@ -1,4 +1,4 @@
--- The values of columns, one column's behind the other's.
+-- The values of columns, one column's after the other's.
 use Rattle.policy_value.proofs.Names.{◌≡◌, ℕ, ◌+◌, ◌-◌, ◌≤◌, ◌<◌, List, [], ◌∷◌, ◌++◌, length, get_or, All, refl, ap, ◌∙◌, inl, inr, arith, get_or_append_left, get_or_default, get_or_push, length_push, All-weaker, All-push, Rates, value_to, Dated, IsRightColumn, IsRowOf, HasAgeAt, HasPut}
 use Rattle.std.proofs.lemmas.Bool.{cases_lt}
 use Rattle.present_value.specs.Values.{pair_at, pair_of}
@@ -33,7 +33,7 @@ put_more table bp stream end lowest age old new pair first put is = record {
         let place : length old + (at - lowest) ≡ length new = omega (arith, put.count, same) in
         rw (place, same) (get_or_push new pair (pair_of 0 0) (length new) refl ∙ is)
 
--- a column stays right where others are put behind it
+-- a column stays right where others are put after it
 pub right_before : (basis : List Dated) (table : Rates) (bp : ℕ) (stream : Stream) (end lowest below : ℕ) (old new : List Pair)
     → HasPut table bp stream end lowest below old new → (kept : KeptColumn) → IsRightColumn basis old kept → IsRightColumn basis new kept
 right_before basis table bp stream end lowest below old new put kept right = record {

@@ -13,29 +13,29 @@ use Rattle.policy_value.specs.declared.key.CacheKey.{CacheKey}
 use Rattle.policy_value.specs.declared.units.KeptUnit.{KeptUnit}
 use Rattle.policy_value.specs.declared.units.UnitStore.{UnitStore}
 
--- the table of an age at issue and the interest, of the row of a basis at a place, counted from 0
+-- the row of a basis at a place, counted from 0: its table for an age at issue, and its interest
 abbrev pub IsRowOf : List Dated → ℕ → ℕ → Rates → ℕ → Type 0
 IsRowOf basis place issue table bp =
     (entry : Dated) × (slice_get basis place ≡ Some entry) × (table ≡ table_along entry.table issue) × (bp ≡ entry.bp)
 
--- the values of a column are those that this table and interest say, from its lowest age on
+-- the values of a column are those by this table and interest, from its lowest age on
 abbrev pub HoldsValues : Rates → ℕ → List Pair → KeptColumn → Type 0
 HoldsValues table bp pairs kept = (age : ℕ) → kept.lowest ≤ age → age ≤ kept.end
     → pair_at pairs (kept.first + (age - kept.lowest)) ≡ value_to table bp kept.stream kept.end age
 
--- a column lies among these values, and they are what its row of this basis says for its age at issue
+-- a column's values are among these, and are those by its row of this basis for its age at issue
 pub record IsRightColumn (basis : List Dated) (pairs : List Pair) (kept : KeptColumn) : Type 0 where
   pub ages : kept.lowest ≤ kept.end
   pub within : kept.first + (kept.end - kept.lowest) < length pairs
   pub by_row : (table : Rates) → (bp : ℕ) → IsRowOf basis kept.basis_row kept.issue table bp → HoldsValues table bp pairs kept
 
--- a premium is what its key says by this basis
+-- a premium is that of its key by this basis
 abbrev pub IsRightPremium : List Dated → CacheKey × Premium → Type 0
 IsRightPremium basis kept = (entry : Dated) → (shape : Shape) → slice_get basis kept.0.basis_row ≡ Some entry
     → shape_of kept.0.plan kept.0.age kept.0.years entry.table ≡ Ok shape
     → kept.1 ≡ premium_of (cover_along entry.table shape entry.bp) (cap_along entry.table shape.age entry.bp)
 
--- a unit is the reserve per unit of amount that its key says for its year by this basis
+-- a unit is the reserve per unit of amount of its key, for its year, by this basis
 abbrev pub IsRightUnit : List Dated → KeptUnit → Type 0
 IsRightUnit basis kept = (entry : Dated) → (shape : Shape) → slice_get basis kept.key.basis_row ≡ Some entry
     → shape_of kept.key.plan kept.key.age kept.key.years entry.table ≡ Ok shape
@@ -45,7 +45,7 @@ IsRightUnit basis kept = (entry : Dated) → (shape : Shape) → slice_get basis
 abbrev pub IsRightPlace : List Dated → Option KeptUnit → Type 0
 IsRightPlace basis place = IfSome place (IsRightUnit basis)
 
--- a store has a place, and room for as many as there may be
+-- a store has at least one place, and capacity for as many as there may be
 pub record IsUnitStore (store : UnitStore) : Type 0 where
   pub some : 1 ≤ length store.places.items
   pub few : length store.places.items ≤ store.most
@@ -56,7 +56,7 @@ pub record IsRightUnits (basis : List Dated) (given : UnitStore) : Type 0 where
   pub store : IsUnitStore given
   pub places : All (IsRightPlace basis) given.places.items
 
--- a store has room for its columns, and for the values of as many of all ages as it says
+-- a store has capacity for its columns, and for the values of as many columns of all ages as it states
 pub record IsStore (store : ColumnStore) : Type 0 where
   pub slots : length store.places.items ≡ 65536
   pub one : 1 ≤ store.most
@@ -69,7 +69,7 @@ pub record IsRightStore (basis : List Dated) (given : ColumnStore) : Type 0 wher
   pub store : IsStore given
   pub columns : All (IsRightColumn basis given.pairs.items) given.kept.items
 
--- each entry of a cache is what its key says by this basis
+-- each entry of a cache is right for its key by this basis
 pub record IsRightFor (basis : List Dated) (cache : ColumnCache) : Type 0 where
   pub premiums : All (IsRightPremium basis) cache.premiums.entries
   pub columns : IsRightStore basis cache.columns
@@ -83,23 +83,23 @@ kept_keys cache = keys_of cache.premiums.entries
 abbrev pub most_keys : ColumnCache → ℕ
 most_keys cache = cache.premiums.cap
 
--- all stays of the keys: which they are, how many there may be, and how many weren't kept
+-- the keys stay: which they are, how many there may be, and how many weren't kept
 pub record KeepsKeys (old new : ColumnCache) : Type 0 where
   pub most : most_keys new ≡ most_keys old
   pub keys : kept_keys new ≡ kept_keys old
   pub unkept : new.unkept ≡ old.unkept
 
--- a key is in front, and of as many keys as there may be the last has left
+-- a key is the first; if there were as many keys as there may be, the last has been dropped
 pub record TakesKey (key : CacheKey) (old new : ColumnCache) : Type 0 where
   pub keys : kept_keys new ≡ key ∷ take (most_keys old - 1) (kept_keys old)
   pub unkept : new.unkept ≡ old.unkept
 
--- memory was refused for a key: it is counted, up to the most that is counted, and the keys are as before
+-- memory was refused for a key: it is counted, unless the count stands still, and the keys are as before
 pub record MissesKey (old new : ColumnCache) : Type 0 where
   pub keys : kept_keys new ≡ kept_keys old
   pub unkept : new.unkept ≡ min (old.unkept + 1) (2 ^ 64 - 1)
 
--- a key was asked for. It is in front where it was among the keys. Where it wasn't, it was put in front, or memory was
+-- A key was asked for. If it was among the keys, it is now the first. If it wasn't, it was put first, or memory was
 -- refused for it.
 pub record HasAsked (key : CacheKey) (old new : ColumnCache) : Type 0 where
   pub most : most_keys new ≡ most_keys old

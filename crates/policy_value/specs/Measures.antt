@@ -16,8 +16,8 @@ use Rattle.policy_value.specs.declared.worth.Measure.TheVariants.{Terminal, Mean
 use Rattle.policy_value.specs.declared.worth.Worth.{Worth}
 use Rattle.policy_value.specs.declared.worth.Worth.TheVariants.{Bounds, Both, Word}
 
--- the exact reserve per unit of amount at year t by a measure; of a paid-up policy no premium is taken off, nor added to the
--- mean reserve
+-- the exact reserve per unit of amount at year t by a measure; for a paid-up policy no premium is subtracted, or
+-- added to the mean reserve
 abbrev pub exact_reserve : Measure → Status → Cover → Cover → ℕ → Fraction
 exact_reserve Mean PaidUp c cap t = paid_up_mean c t
 exact_reserve Mean _ c cap t = mean_reserve c cap t
@@ -31,7 +31,7 @@ rounded_reserve Mean _ c cap amount t = rounded_mean c cap amount t
 rounded_reserve _ PaidUp c cap amount t = rounded_paid_up c amount t
 rounded_reserve _ _ c cap amount t = rounded c cap amount t
 
--- of a policy that isn't insured
+-- the worth of a policy that isn't insured
 abbrev pub no_reserve : Measure → Worth
 no_reserve Deficiency = Both 0 0 0 0 Enough
 no_reserve _ = Bounds 0 0
@@ -40,8 +40,8 @@ no_reserve _ = Bounds 0 0
 abbrev pub IsPaying : Policy → Cover → ℕ → Type 0
 IsPaying policy c t = (policy.status ≡ InForce) × (t < c.h)
 
--- the reserve, the minimum reserve, and how the premium lies to the net premium; where no premium is due the reserve is
--- the minimum, and nothing is short
+-- the reserve, the minimum reserve, and how the premium compares with the net premium; if no premium is due, the
+-- minimum is the reserve, and nothing is short
 pub record IsBothOf (policy : Policy) (c cap : Cover) (t : ℕ) (worth : Worth) : Type 0 where
   pub paying : IsPaying policy c t → let ordinary = rounded c cap policy.amount t in
       let least = rounded_minimum c ordinary policy.amount policy.premium t in
@@ -56,9 +56,9 @@ IsWorthOf Deficiency policy c cap t worth = IsBothOf policy c cap t worth
 IsWorthOf measure policy c cap t worth =
     let bounds = rounded_reserve measure policy.status c cap policy.amount t in worth ≡ Bounds bounds.0 bounds.1
 
--- bounds enclose the exact reserve of the policy's amount by the measure, and others the exact minimum reserve, which is
--- another than the reserve only of a policy in force, each to at most two cents; and where a premium is due, the test says
--- how it lies to the amount's exact net premium
+-- bounds enclose the exact reserve of the policy's amount by the measure, and other bounds the exact minimum reserve,
+-- which differs from the reserve only for a policy in force; each pair of bounds differs by at most two cents; and if
+-- a premium is due, the test says how it compares with the amount's exact net premium
 abbrev pub IsExactFor : Measure → Policy → Cover → Cover → ℕ → Worth → Type 0
 IsExactFor measure policy c cap t (Bounds lo hi) =
     Encloses lo hi policy.amount (exact_reserve measure policy.status c cap t)
@@ -72,7 +72,7 @@ IsExactFor measure policy c cap t (Both lo hi min_lo min_hi test) =
     exact_minimum status = exact_reserve Terminal status c cap t
 IsExactFor measure policy c cap t (Word word) = ⊤
 
--- the most that a bound may be: the amount, and of a mean reserve, which has a premium in it, twice as much
+-- the most that a bound may be: the amount; for a mean reserve, which includes a premium, twice the amount
 abbrev pub most_worth : Measure → ℕ → ℕ
 most_worth Mean amount = 2 * amount
 most_worth _ amount = amount

@@ -1,4 +1,4 @@
--- The names from elsewhere that several rooms cite, passed on from one place. Declares nothing.
+-- The names from elsewhere that several modules cite, passed on from one place. Declares nothing.
 pub use Rattle.basis_book.specs.Dated.{Dated, IsPicked}
 pub use Rattle.crvm_reserve.specs.Made.{premium_of, IsUnitFor, IsMadeFor, IsPaidUpFor, CanReserve}
 pub use Rattle.plan_benefits.specs.Shapes.{shape_of}

@@ -1,4 +1,5 @@
--- The row of a policy in a valuation: its worth on a day by a basis and a measure, or the word why it has none
+-- The row of a policy in a valuation: its worth on a day by a basis and a measure, or the word that says why it has
+-- none
 use Rattle.std.specs.Prelude.{◌≡◌, ℕ, ◌≤◌, ◌⊎◌, min, ⊤, List, All, ℤ, ◌<ℤ◌, ◌≤ℤ◌, MatchResult}
 use Rattle.policy_value.specs.Names.{Policy, InForce, PaidUp, Shape, shape_of, Dated, IsPicked, NotValued}
 use Rattle.life_dates.specs.Anniversary.{IsCompleted}
@@ -18,8 +19,8 @@ IsInsured policy on = ((policy.status ≡ InForce) ⊎ (policy.status ≡ PaidUp
 abbrev pub IsYear : (issued on : ℤ) (n t : ℕ) → Type 0
 IsYear issued on n t = (years : ℕ) × IsCompleted issued on years × (t ≡ min years n)
 
--- What is told of a policy on a day: where it isn't insured then; why it has no value; or by an entry of the basis, which is
--- the last one that had begun on its day of issue, and its shape
+-- What is reported of a policy on a day: that it isn't insured then; or why it has no value; or its value by an entry
+-- of the basis, which is the last one that had begun on its day of issue, and its shape
 pub record IsByEntry (basis : List Dated) (on : ℤ) (policy : Policy) (Uninsured : Type 0) (Without : NotValued → Type 0)
     (With : Dated → Shape → Type 0) : Type 0 where
   pub uninsured : (IsInsured policy on → ⊥) → Uninsured
@@ -27,7 +28,7 @@ pub record IsByEntry (basis : List Dated) (on : ℤ) (policy : Policy) (Uninsure
   pub named : IsInsured policy on → (index : ℕ) → (entry : Dated) → IsPicked basis policy.issued index entry
       → MatchResult (shape_of policy.plan policy.age policy.years entry.table) (With entry) Without
 
--- The row of a policy on a day by a measure. Its bounds are those that are rounded by the rates of the age at issue and the
+-- The row of a policy on a day by a measure. Its bounds are the rounded ones by the rates of the age at issue and the
 -- duration, and enclose the exact reserve; or it has a word.
 pub record IsValuedRow (basis : List Dated) (on : ℤ) (measure : Measure) (policy : Policy) (row : Row) : Type 0 where
   pub id : row.id ≡ policy.id

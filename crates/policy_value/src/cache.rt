@@ -18,9 +18,9 @@ use rate_table::Shape;
 use std::alloc::Global;
 use std::num::NonZeroUsize;
 
-/// What was computed for policies and serves others: columns of present values by the age at which they end, premiums by
-/// the key of the policy, and reserves per unit of amount by the key and the year. The premiums last used are kept, and
-/// columns until there is no room for more.
+/// What was computed for policies and can be used for others: columns of present values by the age at which they end,
+/// premiums by the key of the policy, and reserves per unit of amount by the key and the year. The premiums that were
+/// used last are kept. Columns are kept until there is no capacity for more.
 #[derive(Drop)]
 pub struct ColumnCache {
     premiums: LruCache<CacheKey, Premium>,
@@ -41,7 +41,8 @@ impl ColumnCache {
         ColumnCache::with_room(alloc, 4 * capacity as u32, capacity as u32)
     }
 
-    /// A cache with room for so many columns of all ages, of some 2 kB each, and for the premiums of so many keys.
+    /// A cache with capacity for `columns` columns of all ages, of some 2 kB each, and for the premiums of `premiums`
+    /// keys.
     pub fn with_room(alloc: Global, columns: u32, premiums: u32) -> Result<ColumnCache, NoMemory>
         requires columns { (1 ≤ columns) × (columns ≤ 65535) }
         requires premiums { 1 ≤ premiums }
@@ -61,14 +62,14 @@ impl ColumnCache {
         })
     }
 
-    /// How many keys of policies it holds, or 255 where they are more.
+    /// How many keys of policies it holds, or 255 if there are more.
     pub fn len(&self) -> u8
         ensures { result ≡ min (length (kept_keys self.now)) 255 }
     {
         self.premiums.len().min(255) as u8
     }
 
-    /// How many keys were asked for and not kept, for want of memory.
+    /// How many keys were asked for and not kept, since memory was refused.
     pub fn unkept(&self) -> u64
         ensures { result ≡ self.now.unkept }
     {
@@ -107,7 +108,7 @@ impl ColumnCache {
         ensures right { IsRightFor basis.now self.new }
         ensures keys { HasAsked key self.old self.new }
         ensures holds { HoldsUnit self.new.units key t result }
-        // One that is found isn't made again.
+        // A unit that is found isn't computed again.
         ensures found { (unit : APair) → HoldsUnit self.old.units key t unit → Contains (kept_keys self.old) key
             → self.new.columns ≡ self.old.columns }
     {
@@ -132,7 +133,7 @@ impl ColumnCache {
         self.columns.values(basis, &covered.own, &covered.shape, t)
     }
 
-    /// The premium of a key, which is the last used from now on.
+    /// The premium of a key, which from now on counts as the one used last.
     fn premium(
         &mut self,
         basis: &Basis,
@@ -156,7 +157,8 @@ impl ColumnCache {
         premium
     }
 
-    /// Keeps the premium of a key that isn't kept, which is now the last used, or counts it where there is no memory.
+    /// Keeps the premium of a key that isn't kept yet, which then counts as the one used last. If memory is refused,
+    /// the key is counted.
     fn keep(&mut self, key: CacheKey, premium: Premium)
         requires missing { IsMissing key self.old }
         ensures columns { self.new.columns ≡ self.old.columns }
@@ -171,7 +173,7 @@ impl ColumnCache {
         }
     }
 
-    /// The premium of a key that is kept, which is now the last used.
+    /// The premium of a key, if it is kept; it then counts as the one used last.
     fn find(&mut self, key: CacheKey) -> Option<Premium>
         ensures columns { self.new.columns ≡ self.old.columns }
         ensures units { self.new.units ≡ self.old.units }
@@ -186,7 +188,7 @@ impl ColumnCache {
         self.premiums.get(&key).copied()
     }
 
-    /// The unit of a key at year `t` if both it and the key are kept, which is now the last used.
+    /// The unit of a key at year `t`, if both it and the key are kept; the key then counts as the one used last.
     fn find_unit(&mut self, key: CacheKey, t: u8) -> Option<Pair>
         requires store { IsUnitStore self.old.units }
         ensures units { self.new.units ≡ self.old.units }

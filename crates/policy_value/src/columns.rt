@@ -1,4 +1,4 @@
-// The columns that are kept for policies to come.
+// The columns that are kept for later policies.
 ghost use Rattle.std.specs.Prelude.{◌≡◌, ℕ, ◌+◌, ◌≤◌, ◌<◌, ◌↔◌, IsTrue, [], List, All, IfOk, length, vec_capacity};
 ghost use Rattle.policy_value.specs.Names.{AreRates, Dated, cover_of, cap_shape, premium_of, AreValuesAt, CanEnd, IsColumn, value_to, CanValue};
 ghost use Rattle.policy_value.specs.Caches.{IsRightStore, IsStore};
@@ -14,14 +14,15 @@ use present_value::{Column, Pair, Stream, Values};
 use rate_table::{RateTable, Shape};
 use std::alloc::Global;
 
-/// So many columns can be found at a time: those of all ages at issue of a row of the basis have slots of their own.
+/// The number of slots by which columns are found: those of all ages at issue of a row of the basis have slots of
+/// their own.
 const SLOTS: usize = 65_536;
 
-/// So far apart lie the slots of two rows of the basis, counted in ages at issue.
+/// The distance between the slots of two rows of the basis, in ages at issue.
 const AGES_APART: usize = 41;
 
-/// What a column depends on: the row of the basis, counted from 0, the age at issue by which its rates are kept, what is
-/// paid, and the age at which that ends.
+/// What a column depends on: the row of the basis, counted from 0, the age at issue by which its rates are kept, what
+/// is paid, and the age at which the payments end.
 #[derive(Clone, Copy, PartialEq, Eq, Debug)]
 pub struct ColumnKey {
     pub basis_row: u16,
@@ -30,20 +31,20 @@ pub struct ColumnKey {
     pub end: u8,
 }
 
-/// The ages that the values of a column can have: none is above 131.
+/// The number of ages for which a column can have values: none is above 131.
 const AGES: usize = 132;
 
-/// So many columns by select rates, of some sixteen values, lie in the room of one of all ages.
+/// How many columns by select rates, of some sixteen values each, take as much memory as one column of all ages.
 const NARROW_IN_ONE: usize = 8;
 
-/// So many columns are kept at most.
+/// The most columns that are kept.
 const MOST_KEPT: usize = 65_535;
 
-/// A column goes down to a multiple of this age, so that it seldom has to be made again for a lower one.
+/// A column goes down to a multiple of this age, so that it seldom has to be computed again for a lower one.
 const AGES_TOGETHER: u8 = 32;
 
-/// A column, the row of the basis and the age at issue by which it is computed, and where its values lie: from its lowest
-/// age to the age at which it ends.
+/// A column: the row of the basis and the age at issue by which it is computed, and where its values are, from its
+/// lowest age to the age at which it ends.
 #[derive(Clone, Copy)]
 pub struct KeptColumn {
     basis_row: u16,
@@ -55,19 +56,19 @@ pub struct KeptColumn {
     first: usize,
 }
 
-/// The columns that are kept. Where there is no room for a new one, all of them go.
+/// The columns that are kept. If there is no capacity for a new one, all of them are dropped.
 #[derive(Drop)]
 pub struct ColumnStore {
-    /// There is room for as many as there may be.
+    /// It has capacity for as many as there may be.
     kept: Vec<KeptColumn>,
     most_kept: usize,
-    /// Their values, one column's behind the other's.
+    /// Their values, one column's after the other's.
     pairs: Vec<Pair>,
-    /// Where among the columns one may lie.
+    /// For each slot, where its column may be.
     places: Vec<u16>,
-    /// There is room for the values of so many columns of all ages.
+    /// The store has capacity for the values of so many columns of all ages.
     most: usize,
-    /// The column at work.
+    /// The column that is being computed.
     column: Column,
 }
 
@@ -85,7 +86,7 @@ impl KeptColumn {
 }
 
 impl ColumnStore {
-    /// A store of at most so many columns.
+    /// A store of at most `most` columns.
     pub fn new(alloc: Global, most: u32) -> Result<ColumnStore, NoMemory>
         requires { (1 ≤ most) × (most ≤ 65535) }
         ensures right { IfOk result (λ store. (basis : List Dated) → IsRightStore basis store) }
@@ -170,7 +171,7 @@ impl ColumnStore {
         self.pairs[kept.first + usize::from(age - kept.lowest)]
     }
 
-    /// Where the column of a key lies, which is kept from now on and has the value at an age.
+    /// Where the column of a key is, which is kept from now on and has the value at an age.
     fn place_of(&mut self, basis: &Basis, rates: &IssueRates<'_>, key: ColumnKey, age: u8) -> usize
         requires right { IsRightStore basis.now self.old }
         requires row { IsByRow basis.now rates.now }
@@ -180,7 +181,7 @@ impl ColumnStore {
         ensures right { IsRightStore basis.now self.new }
         ensures kept { HasAgeAt self.new.kept.items result key age }
         ensures slot { IsAtSlot self.new key age result }
-        // One that is found isn't made again.
+        // A column that is found isn't computed again.
         ensures found { (place : ℕ) → IsAtSlot self.old key age place → self.new ≡ self.old }
     {
         let slot = slot_of(key);
@@ -201,7 +202,7 @@ impl ColumnStore {
         place < self.kept.len() && self.kept[place].has(key, age)
     }
 
-    /// Lets all columns go where there is no room for one more.
+    /// Drops all columns if there is no capacity for one more.
     fn make_room(&mut self)
         requires store { IsStore self.old }
         ensures right { (basis : List Dated) → IsRightStore basis self.old → IsRightStore basis self.new }
@@ -214,7 +215,7 @@ impl ColumnStore {
         }
     }
 
-    /// Keeps a new column from this age on, and tells where it lies.
+    /// Keeps a new column from this age on, and returns where it is.
     fn keep(&mut self, basis: &Basis, rates: &IssueRates<'_>, key: ColumnKey, lowest: u8) -> usize
         requires right { IsRightStore basis.now self.old }
         requires room { HasColumnRoom self.old }
@@ -243,7 +244,7 @@ impl ColumnStore {
     }
 }
 
-/// The age from which on a column is made for a value at this one.
+/// The age from which a column is computed if it is needed at this age.
 fn lowest_of(first_age: u8, issue: u8, age: u8) -> u8
     requires { first_age ≤ age }
     ensures { (first_age ≤ result) × (result ≤ age) }
@@ -254,7 +255,7 @@ fn lowest_of(first_age: u8, issue: u8, age: u8) -> u8
     first_age.max(age / AGES_TOGETHER * AGES_TOGETHER)
 }
 
-/// Puts the values of a column behind others, from an age on to its end.
+/// Adds the values of a column after others, from an age on to its end.
 fn put_values(
     pairs: &mut Vec<Pair>,
     column: &mut Column,
@@ -276,7 +277,7 @@ fn put_values(
     }
 }
 
-/// Where it is written where a column lies.
+/// The slot that says where a column is.
 fn slot_of(key: ColumnKey) -> usize
     ensures is { result ≡ slot_of key }
     ensures within { result < 65536 }

@@ -1,4 +1,4 @@
-// What a policy is covered by.
+// The cover of a policy.
 ghost use Rattle.std.specs.Prelude.{◌≡◌};
 ghost use Rattle.select_rates.specs.Along.{IsBelow, table_along};
 
@@ -9,13 +9,14 @@ use select_rates::AnyTable;
 #[derive(Clone, Copy)]
 pub struct IssueRates<'a> {
     pub basis_row: u16,
-    /// The age at issue; 0 where the rates are the same for all.
+    /// The age at issue; 0 if the rates are the same for all.
     pub issue: u8,
     pub table: &'a RateTable,
     pub bp: u16,
 }
 
-/// A policy's shape, with the rates of its age at issue, and those of the next one, by which its net premium is limited.
+/// A policy's shape, with the rates of its age at issue, and those of the next age, by which its net premium is
+/// limited.
 #[derive(Clone, Copy)]
 pub struct Covered<'a> {
     pub own: IssueRates<'a>,
@@ -24,7 +25,7 @@ pub struct Covered<'a> {
 }
 
 impl<'a> IssueRates<'a> {
-    /// The rates of an age at issue, of which there are some.
+    /// The rates of an age at issue, which has some.
     pub fn of(basis_row: u16, table: &'a AnyTable, bp: u16, age: u8) -> IssueRates<'a>
         requires { IsBelow table.now age → ⊥ }
         ensures row { result.basis_row ≡ basis_row }

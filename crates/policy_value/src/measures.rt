@@ -77,7 +77,7 @@ fn bounds(
     bounds_by_unit(unit, policy.amount)
 }
 
-/// The bounds of the mean reserve, which is the terminal one at the end of cover.
+/// The bounds of the mean reserve, which is the terminal reserve at the end of cover.
 fn mean(
     policy: &Policy,
     basis: &Basis,
@@ -117,7 +117,7 @@ fn mean(
     paid_up_mean_by(&start, &end, policy.amount)
 }
 
-/// The bounds of the reserve and of the minimum reserve. Where no premium is due these are the same.
+/// The bounds of the reserve and of the minimum reserve. If no premium is due, these are the same.
 fn both(
     policy: &Policy,
     basis: &Basis,

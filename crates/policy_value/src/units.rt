@@ -1,4 +1,4 @@
-// The reserves per unit of amount that are kept for policies to come.
+// The reserves per unit of amount that are kept for later policies.
 ghost use Rattle.std.specs.Prelude.{◌≡◌, ◌≤◌, ◌<◌, Some, List, All, IfOk, IfSome, length, vec_capacity};
 ghost use Rattle.policy_value.specs.Names.{Dated, APair};
 ghost use Rattle.policy_value.specs.Caches.{IsRightPlace, IsRightUnit, IsRightUnits, IsUnitStore};
@@ -11,18 +11,18 @@ use present_value::Pair;
 use std::alloc::Global;
 use std::mem::size_of;
 
-// There are as many places as these for each key of which a premium is kept: so many years are asked for of a key.
+// The number of places for each key of which a premium is kept: about as many years of a key are asked for.
 const PLACES_FOR_A_KEY: usize = 8;
 
-// There are never more places, of 32 bytes each.
+// The most places, of 32 bytes each.
 const MOST_PLACES: usize = 524_288;
 
 const _: () = prove!(size_of::<Option<KeptUnit>>() == 32);
 
-// A store begins with so many places: those of few policies are quickly made.
+// The number of places with which a store begins: for few policies they are quickly filled.
 const FIRST_PLACES: usize = 4_096;
 
-// Where half of the places may be taken there are so many times as many next.
+// If half of the places may be filled, the store grows by this factor.
 const GROWTH: usize = 8;
 
 /// The bounds of the reserve per unit of amount at year `t` of the cover of a key, in units of 10^-16.
@@ -33,11 +33,11 @@ pub struct KeptUnit {
     unit: Pair,
 }
 
-/// The units that are kept, filled as they are asked for. Each has one place by its key and year, and a new one takes the
-/// place of another.
+/// The units that are kept, added as they are asked for. Each has one place, by its key and year, and a new one may
+/// take the place of another.
 #[derive(Drop)]
 pub struct UnitStore {
-    /// There is room for as many as there may be.
+    /// It has capacity for as many as there may be.
     places: Vec<Option<KeptUnit>>,
     most: usize,
     /// How many were put in since there are so many places.
@@ -45,7 +45,7 @@ pub struct UnitStore {
 }
 
 impl UnitStore {
-    /// A store for the units of so many keys.
+    /// A store for the units of `keys` keys.
     pub fn new(alloc: Global, keys: u32) -> Result<UnitStore, NoMemory>
         requires { 1 ≤ keys }
         ensures { IfOk result (λ units. (basis : List Dated) → IsRightUnits basis units) }
@@ -85,7 +85,7 @@ impl UnitStore {
         self.put = self.put.saturating_add(1);
     }
 
-    // Adds places where half of them may be taken, if there may be more.
+    // Adds places if half of them may be filled and there may be more.
     fn make_room(&mut self)
         requires { IsUnitStore self.old }
         ensures store { IsUnitStore self.new }
@@ -121,7 +121,7 @@ fn unit_of(place: Option<KeptUnit>, key: CacheKey, t: u8) -> Option<Pair>
     }
 }
 
-// Adds empty places until there are so many.
+// Adds empty places until there are `count`.
 #[tactic(auto, using(crate::proofs::PerUnit::places_more))]
 fn add_places(places: &mut Vec<Option<KeptUnit>>, count: usize)
     requires more { length places.old.items ≤ count }
@@ -138,7 +138,7 @@ fn add_places(places: &mut Vec<Option<KeptUnit>>, count: usize)
     }
 }
 
-// The place of a key at year `t` among so many.
+// The place, among `count`, of the unit of a key at year `t`.
 fn place_of(key: CacheKey, t: u8, count: usize) -> usize
     requires { 1 ≤ count }
     ensures is { result ≡ unit_place key t count }

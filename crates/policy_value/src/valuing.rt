@@ -18,7 +18,7 @@ use select_rates::AnyTable;
 
 /// The row of a policy in a valuation by a measure on a day, in days since 1970-01-01.
 ///
-/// A policy that is neither in force nor paid up, or is issued after the day, has the reserve 0.
+/// A policy that is neither in force nor paid up, or that is issued after the day, has the reserve 0.
 pub fn row(
     policy: &Policy,
     basis: &Basis,

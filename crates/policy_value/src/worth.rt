@@ -8,15 +8,15 @@ use policy_types::{Listed, Status};
 /// Which reserve is asked for.
 #[derive(Clone, Copy, PartialEq, Eq, Debug)]
 pub enum Measure {
-    /// The one at the end of the last completed policy year.
+    /// The reserve at the end of the last completed policy year.
     Terminal,
-    /// The mean of those around the policy year and its net premium.
+    /// The mean of the two terminal reserves around the policy year, plus half of its net premium.
     Mean,
-    /// The terminal one, beside the minimum reserve where the premium that is charged is short.
+    /// The terminal reserve, together with the minimum reserve if the premium that is charged is short.
     Deficiency,
 }
 
-/// What a policy's future benefits are worth above its future premiums.
+/// How much a policy's future benefits are worth above its future premiums.
 #[derive(Clone, Copy, PartialEq, Eq, Debug)]
 pub enum Worth {
     /// A lower and an upper bound of the reserve, in cents.
@@ -24,7 +24,8 @@ pub enum Worth {
         lo: u64,
         hi: u64,
     },
-    /// The same, and bounds of the minimum reserve, in cents; and how the premium that is charged lies to the net premium.
+    /// The same, and bounds of the minimum reserve, in cents; and how the premium that is charged compares with the
+    /// net premium.
     Both {
         lo: u64,
         hi: u64,
@@ -32,12 +33,12 @@ pub enum Worth {
         min_hi: u64,
         test: Adequacy,
     },
-    /// Why there is none.
+    /// Why there is no reserve.
     Word(NotValued),
 }
 
 impl Worth {
-    /// What a policy is worth that isn't insured.
+    /// The worth of a policy that isn't insured.
     pub(crate) fn nothing(measure: Measure) -> Worth
         ensures { result ≡ no_reserve measure }
     {
@@ -59,7 +60,7 @@ impl Worth {
 pub struct Row {
     pub id: u32,
     pub status: Status,
-    /// The completed policy years of the reserve, at most those of cover.
+    /// The completed policy years of the reserve, at most the years of cover.
     pub t: u8,
     pub worth: Worth,
 }

@@ -8,8 +8,8 @@ use Rattle.policy_value.specs.declared.worth.Measure.{Measure}
 use Rattle.policy_value.specs.declared.worth.Worth.{Worth}
 use Rattle.report_text.specs.declared.totals.Totals.{Totals}
 
--- the lower and the upper bound of a reserve, and with them those of the minimum reserve and how the premium lies; or why
--- there are none
+-- the lower and the upper bound of a reserve, and with them those of the minimum reserve and how the premium
+-- compares; or why there are none
 abbrev pub worth_fields : Worth → List (List ℕ)
 worth_fields (Bounds lo hi) = cents_text lo ∷ cents_text hi ∷ []
 worth_fields (Both lo hi min_lo min_hi test) =
@@ -29,7 +29,8 @@ unfoldable pub row_text : Row → List ℕ
 row_text row =
     line_of (codes "row") (decimal row.id ∷ status_word row.status ∷ decimal row.t ∷ worth_fields row.worth)
 
--- what a row adds to the totals: its bounds in cents, as those of the minimum reserve where none are told, or a row with a word
+-- what a row adds to the totals: its bounds in cents, which also count as those of the minimum reserve if it has none
+-- of these; or one row with a word
 abbrev pub totals_by : Worth → Totals
 totals_by (Bounds lo hi) = record { lower = lo; upper = hi; lower_minimum = lo; upper_minimum = hi; unvalued = 0 }
 totals_by (Both lo hi min_lo min_hi test) =
@@ -40,7 +41,8 @@ totals_by (Word reason) = record { lower = 0; upper = 0; lower_minimum = 0; uppe
 abbrev pub total_of : (Totals → ℕ) → List Row → ℕ
 total_of part rows = sum_by (λ (row : Row). part (totals_by row.worth)) rows
 
--- the sums of the bounds, and by the measure of deficiency those of the minimum reserve, too; and the number of rows with a word
+-- the sums of the bounds; by the measure of deficiency, also those of the minimum reserve; and the number of rows
+-- with a word
 abbrev pub sum_fields : Measure → List Row → List (List ℕ)
 sum_fields Deficiency rows =
     cents_text (total_of (λ t. t.lower) rows) ∷ cents_text (total_of (λ t. t.upper) rows)
@@ -54,7 +56,7 @@ unfoldable pub total_text : Measure → List Row → List ℕ
 total_text measure rows = line_of (codes "total") (sum_fields measure rows)
 
 -- who asked, the day of the valuation, the position of the journal that is valued, the number of policies, and the
--- measure, where it isn't the terminal reserve
+-- measure, if it isn't the terminal reserve
 unfoldable pub heading_text : (lane : ℕ) (on : ℤ) (position policies : ℕ) → Measure → List ℕ
 heading_text lane on position policies measure =
     line_of (decimal lane)

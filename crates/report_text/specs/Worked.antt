@@ -1,4 +1,4 @@
--- Small valuations, worked outside of this repository
+-- Small valuations, computed outside of this repository
 use Rattle.std.specs.Prelude.{◌≡◌, [], ◌∷◌, ◌++◌, codes, pos}
 use Rattle.policy_types.specs.declared.policy.Status.TheVariants.{InForce, Lapsed, PaidUp}
 use Rattle.report_text.specs.Names.{PastTable, Short, Enough, Close, Terminal, Mean, Deficiency, Row, Bounds, Both, Word}
@@ -8,7 +8,7 @@ use Rattle.report_text.specs.Block.{row_text, total_text, block_text}
 abbrev pub valued : Row
 valued = record { id = 7001; status = InForce; t = 1; worth = Bounds 12722 12723 }
 
--- a policy whose cover goes on after the table
+-- a policy whose cover goes past the end of the table
 abbrev pub past_the_table : Row
 past_the_table = record { id = 7002; status = InForce; t = 0; worth = Word PastTable }
 
@@ -28,7 +28,7 @@ WorkedRows = (row_text valued ≡ codes "row,7001,inforce,1,127.22,127.23" ++ 10
     × (row_text past_the_table ≡ codes "row,7002,inforce,0,pasttable" ++ 10 ∷ [])
     × (row_text lapsed ≡ codes "row,7003,lapsed,0,0.00,0.00" ++ 10 ∷ [])
 
--- totals of some of them: bounds of 0 aren't the same as none
+-- totals of some of them: bounds of 0 aren't the same as no bounds
 abbrev pub WorkedTotals : Type 0
 WorkedTotals = (total_text Terminal (past_the_table ∷ []) ≡ codes "total,0.00,0.00,1" ++ 10 ∷ [])
     × (total_text Terminal (lapsed ∷ []) ≡ codes "total,0.00,0.00,0" ++ 10 ∷ [])
@@ -45,7 +45,7 @@ TwoPolicies = block_text 3 (pos 18628) 5 Terminal (valued ∷ past_the_table ∷
     ≡ codes "3,value,2021-01-01,5,2" ++ (10 ∷ []) ++ codes "row,7001,inforce,1,127.22,127.23" ++ (10 ∷ [])
     ++ codes "row,7002,inforce,0,pasttable" ++ (10 ∷ []) ++ codes "total,127.22,127.23,1" ++ 10 ∷ []
 
--- the endowment after a year, whose premium is 400.00 or 500.00, and one of which the bounds don't tell
+-- the endowment after a year, whose premium is 400.00 or 500.00, and one for which the bounds don't decide
 abbrev pub short_of : Row
 short_of = record { id = 7001; status = InForce; t = 1; worth = Both 12722 12723 28000 28000 Short }
 
@@ -60,7 +60,7 @@ DeficiencyRows = (row_text short_of ≡ codes "row,7001,inforce,1,127.22,127.23,
     × (row_text enough_for ≡ codes "row,7001,inforce,1,127.22,127.23,127.22,127.23,enough" ++ 10 ∷ [])
     × (row_text close_to ≡ codes "row,7004,inforce,1,0.01,0.02,0.01,0.03,close" ++ 10 ∷ [])
 
--- totals by the measure of deficiency, which rows without bounds don't show
+-- totals by the measure of deficiency, to which rows without bounds add nothing
 abbrev pub DeficiencyTotals : Type 0
 DeficiencyTotals = (total_text Deficiency (short_of ∷ []) ≡ codes "total,127.22,127.23,280.00,280.00,0" ++ 10 ∷ [])
     × (total_text Deficiency (past_the_table ∷ []) ≡ codes "total,0.00,0.00,0.00,0.00,1" ++ 10 ∷ [])

@@ -12,9 +12,9 @@ use policy_value::{Measure, Rows};
 use std::alloc::Global;
 use text_lines::{LineEnd, LineWriter, Text};
 
-/// The whole of a valuation: a line like `1,value,2021-01-01,300,25`, with the lane that asked for it, its day,
-/// the position of the journal that is valued and the number of policies, and `mean` or `deficiency` where that is the
-/// measure; then their rows and the total.
+/// The whole text of a valuation. It begins with a line such as `1,value,2021-01-01,300,25`: the lane that asked for
+/// it, its day, the position of the journal that is valued and the number of policies, and also `mean` or
+/// `deficiency` if that is the measure. Then come the rows and the total.
 ///
 /// A valuation that no lane asked for has the lane 0.
 pub fn print_block(
@@ -82,7 +82,7 @@ fn write_heading(
     lines.end()
 }
 
-// Adds the measure, where it isn't the terminal reserve.
+// Adds the measure, if it isn't the terminal reserve.
 fn write_measure(lines: &mut LineWriter, measure: Measure) -> Result<(), NoMemory>
     ensures { OnOk result (lines.new ≡ lines.old ++ behind_commas (measure_fields measure)) }
 {

@@ -8,7 +8,7 @@ use std::alloc::Global;
 use std::marker::Model;
 use text_lines::Text;
 
-/// A text in parts, which nothing joins: who writes it writes one after the other. Contracts see the bytes of all.
+/// A text in parts, which are never joined: they are written one after the other. Contracts see the bytes of all.
 #[derive(Drop)]
 pub struct TextParts {
     parts: Vec<Text>,
@@ -32,7 +32,7 @@ impl TextParts {
         }
     }
 
-    // Adds a part behind the others.
+    // Adds a part after the others.
     pub(crate) fn push(&mut self, part: Text) -> Result<(), NoMemory>
         ensures { OnOk result (self.new ≡ self.old ++ part) }
     {

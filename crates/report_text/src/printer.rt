@@ -11,7 +11,7 @@ use policy_value::Row;
 use std::alloc::Global;
 use text_lines::{LineEnd, LineWriter, Text};
 
-/// Rows that stand together in a valuation.
+/// Consecutive rows of a valuation.
 #[derive(Clone, Copy)]
 pub struct RowPart<'a> {
     pub rows: &'a [Row],

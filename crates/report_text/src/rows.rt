@@ -9,8 +9,8 @@ use policy_value::{Adequacy, NotValued, Row, Worth};
 use std::alloc::Global;
 use text_lines::{LineEnd, LineWriter, Text};
 
-/// The row of a policy, as `row,7001,inforce,1,127.22,127.23`, with the minimum reserve as
-/// `row,7001,inforce,1,127.22,127.23,280.00,280.00,short`, or with a word for why it has no value, as
+/// The row of a policy, such as `row,7001,inforce,1,127.22,127.23`; with the minimum reserve, such as
+/// `row,7001,inforce,1,127.22,127.23,280.00,280.00,short`; or with a word that says why it has no value, such as
 /// `row,7001,inforce,0,pasttable`. It ends with a line feed.
 pub fn print_row(alloc: Global, row: &Row) -> Result<Text, NoMemory>
     ensures { IfOk result (λ text. text ≡ row_text row.now) }
@@ -35,7 +35,7 @@ pub fn write_row(line: &mut LineEnd, row: &Row)
     line.put(b"row");
 }
 
-// The bounds, and those of the minimum reserve, or the word.
+// Writes the bounds, and those of the minimum reserve, or the word.
 fn write_worth(line: &mut LineEnd, worth: Worth)
     requires room { 103 + length line.old ≤ 256 }
     ensures written { line.new ≡ behind_commas (worth_fields worth) ++ line.old }
@@ -58,7 +58,7 @@ fn write_worth(line: &mut LineEnd, worth: Worth)
     }
 }
 
-// Bounds in cents.
+// Writes bounds in cents.
 fn write_bounds(line: &mut LineEnd, lo: u64, hi: u64)
     requires room { 48 + length line.old ≤ 256 }
     ensures written { line.new ≡ behind_commas (cents_text lo ∷ cents_text hi ∷ []) ++ line.old }
@@ -68,7 +68,7 @@ fn write_bounds(line: &mut LineEnd, lo: u64, hi: u64)
     line.cents(lo);
 }
 
-// The word for how a premium lies to the net premium.
+// Writes the word that says how a premium compares with the net premium.
 fn write_adequacy(line: &mut LineEnd, test: Adequacy)
     requires room { 7 + length line.old ≤ 256 }
     ensures written { line.new ≡ 44 ∷ (adequacy_word test ++ line.old) }
@@ -81,7 +81,7 @@ fn write_adequacy(line: &mut LineEnd, test: Adequacy)
     }
 }
 
-// The word for why a policy has no value.
+// Writes the word that says why a policy has no value.
 fn write_reason(line: &mut LineEnd, reason: NotValued)
     requires room { 11 + length line.old ≤ 256 }
     ensures written { line.new ≡ behind_commas (worth_fields (Word reason)) ++ line.old }

@@ -16,14 +16,14 @@ use std::alloc::Global;
 use std::thread::Threads;
 use text_lines::Text;
 
-/// The rows that are worth a worker's thread.
+/// The number of rows for which a worker's thread is worth starting.
 const ROWS_TO_A_WORKER: usize = 8_192;
 
-/// More workers have ever smaller parts.
+/// The most workers: with more, the parts get smaller.
 const MOST_PRINTERS: u8 = 16;
 
-/// The whole of a valuation, as `print_block` prints it, in parts: the rows are written by as many workers as are asked
-/// for, at most sixteen, or fewer where each would have too few. One worker alone makes one part.
+/// The whole text of a valuation, as `print_block` prints it, in parts. The rows are written by as many workers as
+/// are asked for, but at most sixteen, and fewer if each would have too few rows. A single worker makes one part.
 pub fn print_parts<R: Threads + Sync>(
     rt: &R,
     alloc: Global,
@@ -54,7 +54,7 @@ pub fn print_parts<R: Threads + Sync>(
     Ok(parts)
 }
 
-// Adds the rows, each worker's behind those of the one before.
+// Adds the rows, each worker's after those of the worker before it.
 fn add_rows<R: Threads + Sync>(
     rt: &R,
     alloc: Global,
@@ -77,7 +77,7 @@ fn add_rows<R: Threads + Sync>(
     add_texts(texts, parts)
 }
 
-// So many parts, as long as one another or with a longer last, which are the rows one behind the other.
+// `many` parts of equal length, except that the last may be longer, which together are the rows in their order.
 fn shares_of<'a>(alloc: Global, rows: &'a [Row], many: usize) -> Result<Vec<RowPart<'a>>, NoMemory>
     requires { (1 ≤ many) × (many ≤ 64) }
     ensures many { IfOk result (λ shares. length shares.items ≡ many) }
@@ -95,7 +95,7 @@ fn shares_of<'a>(alloc: Global, rows: &'a [Row], many: usize) -> Result<Vec<RowP
     Ok(shares)
 }
 
-// Places for so many texts, which are still to be written.
+// Places for `many` texts, which are still to be written.
 fn unwritten(alloc: Global, many: usize) -> Result<Vec<Result<Text, NoMemory>>, NoMemory>
     requires { many ≤ 64 }
     ensures { IfOk result (λ texts. length texts.items ≡ many) }
@@ -107,7 +107,7 @@ fn unwritten(alloc: Global, many: usize) -> Result<Vec<Result<Text, NoMemory>>, 
     Ok(texts)
 }
 
-// Adds the texts, where there was memory for each.
+// Adds the texts, if memory was refused for none of them.
 fn add_texts(texts: Vec<Result<Text, NoMemory>>, parts: &mut TextParts) -> Result<(), NoMemory>
     ensures had { OnOk result (AllByRecursion IsOk texts.items) }
     ensures added { OnOk result (parts.new ≡ parts.old ++ flat_map had_text texts.items) }

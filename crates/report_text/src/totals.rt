@@ -1,4 +1,4 @@
-// What the rows of a valuation add up to.
+// The totals of a valuation's rows.
 ghost use Rattle.std.specs.Prelude.{◌≡◌, ◌+◌, ◌<◌, ◌≤◌, ◌++◌, ◌^◌, length, IfOk, OnOk};
 ghost use Rattle.report_text.specs.Names.{most_commands, behind_commas};
 ghost use Rattle.report_text.specs.Block.{total_of, totals_by, sum_fields, total_text, IsSummable, AreSummable};
@@ -8,7 +8,7 @@ use policy_value::{Measure, Rows, Worth};
 use std::alloc::Global;
 use text_lines::{LineWriter, Text};
 
-/// The sums of the bounds of the reserve and of the minimum reserve, in cents, and the number of rows that have none.
+/// The sums of the bounds of the reserve and of the minimum reserve, in cents, and the number of rows without bounds.
 #[derive(Clone, Copy, PartialEq, Eq, Debug)]
 pub struct Totals {
     pub lower: u64,
@@ -77,8 +77,8 @@ impl Totals {
     }
 }
 
-/// The total of a valuation, as `total,127.22,127.23,0`, and by the measure of deficiency with the sums of the minimum
-/// reserves, as `total,127.22,127.23,280.00,280.00,0`. It ends with a line feed.
+/// The total of a valuation, such as `total,127.22,127.23,0`; by the measure of deficiency it also has the sums of
+/// the minimum reserves, such as `total,127.22,127.23,280.00,280.00,0`. It ends with a line feed.
 pub fn print_total(alloc: Global, rows: &Rows, measure: Measure) -> Result<Text, NoMemory>
     requires few { length rows.now ≤ most_commands }
     requires bounded { AreSummable rows.now }

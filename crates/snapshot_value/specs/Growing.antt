@@ -3,9 +3,9 @@ use Rattle.std.specs.Prelude.{◌≡◌, ◌+◌, List, ◌++◌, length, map}
 use Rattle.snapshot_value.specs.Names.{Placed, turns_of, Holding}
 use Rattle.turn_lock.specs.History.{StartsWith}
 
--- The caller took these turns, in order, each of which stands beside its place in the history: the pass has seen what
--- it had seen and more, of which just these turns are the caller's own. It has one turn less left for each of them, and
--- all else stays.
+-- The caller took these turns, in order, each of which is given with its place in the history. The pass has seen what
+-- it had seen and more, of which exactly these turns are the caller's own. It has one turn less left for each of
+-- them, and everything else stays.
 pub record Grows {Opening : Type 0} (old new : Holding Opening) (placed : List Placed) : Type 0 where
   pub turnstile : new.turnstile ≡ old.turnstile
   pub opening : new.opening ≡ old.opening

@@ -5,7 +5,7 @@ use Rattle.snapshot_value.specs.Reading.{HasMadeOfBook}
 use Rattle.snapshot_value.specs.declared.valuation.Policies.{Policies}
 use Rattle.snapshot_value.specs.declared.valuation.ValueFault.{ValueFault}
 
--- the position, and all policies there; they are as the rules leave them, and not more than policies may be
+-- the position, and all policies there; they are as the rules leave them, and not more than there may be
 pub record IsBookAt (position : ℕ) (policies : List Policy) (listed : Policies) : Type 0 where
   pub pinned : listed.position ≡ position
   pub all : listed.book ≡ policies

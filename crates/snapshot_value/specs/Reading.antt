@@ -6,26 +6,26 @@ use Rattle.snapshot_value.specs.Growing.{Grows}
 use Rattle.snapshot_value.specs.declared.valuation.ValueFault.{ValueFault}
 use Rattle.snapshot_value.specs.declared.valuation.ValueFault.TheVariants.{Pin, NoMemory}
 
--- the turns that a caller may need: those of its pin, and of the reads of as many policies as there may be
+-- the most turns that a caller may need: those of its pin, and of the reads of as many policies as there may be
 abbrev pub most_turns : ℕ
 most_turns = 16000
 
--- the pins whose valuation or list found no memory: the one that was taken in this turn, or none
+-- the pins whose valuation or list was refused memory: the one that was taken in this turn, or none
 abbrev pub dry_pins : {Made : Type 0} → ℕ → Result Made ValueFault → List ℕ
 dry_pins turn (Err (NoMemory lack)) = turn ∷ []
 dry_pins turn _ = []
 
 module _ {Made : Type 0} (IsOf : ℕ → List Policy → Made → Type 0) where
-  -- what is answered after the pin's reply: its own refusal and no other; or where it was pinned, after these commands,
-  -- what is of the position and the policies there, or want of memory
+  -- what is returned after the pin's reply: its own refusal and no other; or, if it was pinned after these commands,
+  -- what is made of the position and the policies there, or that memory was refused
   abbrev pub AnswersPinned : List Command → Reply → Result Made ValueFault → Type 0
   AnswersPinned commands (PinRefused refusal) (Err (Pin why)) = why ≡ refusal
   AnswersPinned commands (Pinned position policies) (Ok made) = IsOf position (book (take position commands)) made
   AnswersPinned commands (Pinned position policies) (Err (NoMemory lack)) = Unit {0}
   AnswersPinned _ _ _ = ⊥
 
-  -- A caller's turns are the pin's, then those of the reads of its policies and of giving it up; the answer is of the
-  -- policies at the position that was pinned.
+  -- The caller's turns are the pin's, then those that read its policies and the one that gives it up. What is
+  -- returned is made of the policies at the position that was pinned.
   pub record HasMadeOfBook {D W : Type 0} (at : At) (old new : Holding (OfficeOpening D W)) (turn : ℕ)
       (answer : Result Made ValueFault) : Type 0 where
     pub pin : Placed

@@ -12,8 +12,8 @@ use Rattle.snapshot_value.specs.declared.valuation.ValueFault.{ValueFault}
 abbrev pub most_amount : ℕ
 most_amount = 10000000000
 
--- the rows of the policies, one for each and in their order; they are not more than policies may be, and no bound is
--- above what a policy may insure, or of a mean reserve twice that
+-- the rows of the policies, one for each and in their order; there are no more than there may be policies, and no
+-- bound is above what a policy may insure, or, for a mean reserve, above twice that
 pub record AreValuedRows (basis : List Dated) (on : ℤ) (measure : Measure) (policies : List Policy) (rows : List Row) : Type 0 where
   pub each : AllZip (IsValuedRow basis on measure) policies rows
   pub few : length rows ≤ most_commands
@@ -32,13 +32,13 @@ abbrev pub IsSnapshot : List Command → List Dated → ℤ → Measure → ℕ 
 IsSnapshot commands basis on measure position valuation =
     IsValuationAt basis on measure position (book (take position commands)) valuation
 
--- what is answered after the pin's reply: its own refusal and no other; or where it was pinned, after these commands,
--- the valuation or want of memory
+-- what is returned after the pin's reply: its own refusal and no other; or, if it was pinned after these commands,
+-- the valuation, or that memory was refused
 abbrev pub AnswersPin : List Command → List Dated → ℤ → Measure → Reply → Result Valuation ValueFault → Type 0
 AnswersPin commands basis on measure reply answer = AnswersPinned (IsValuationAt basis on measure) commands reply answer
 
--- A caller's valuation. Its turns are the pin's, then those of the reads and of giving the pin up; they answer a
--- script's line that asks for this valuation, and the answer is of the position that was pinned.
+-- A caller's valuation. Its turns are the pin's, then those that read its policies and the one that gives it up. They
+-- answer a script's line that asks for this valuation, and what is returned is of the position that was pinned.
 pub record HasValued {D W : Type 0} (basis : List Dated) (on : ℤ) (measure : Measure) (at : At) (workers : ℕ)
     (old new : Holding (OfficeOpening D W)) (turn : ℕ) (answer : Result Valuation ValueFault) : Type 0 where
   pub pin : Placed

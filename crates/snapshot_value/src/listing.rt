@@ -61,8 +61,8 @@ impl Reader for Lister {
 
 /// The policies at a position, and the turn of the pin.
 ///
-/// The position is pinned, and the memory taken; then batches of 256 policies are read, and the gate is called with the
-/// lane's number and `k` after the `k`-th of them. Whatever is answered, the pin is given up.
+/// The position is pinned, and the memory is taken. Then batches of 256 policies are read, and the gate is called
+/// with the lane's number and `k` after the `k`-th batch. Whatever is returned, the pin is given up.
 pub fn policies<D: Disk, W: Watching, G: Gate, R: Threads + Wait + Sync>(
     rt: &R,
     alloc: Global,

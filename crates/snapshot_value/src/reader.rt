@@ -5,7 +5,7 @@ use policy_types::{NoMemory, Policy};
 use std::alloc::Global;
 use std::thread::Threads;
 
-/// Something that is made of the policies at a position, which are read part after part.
+/// Something that is made of the policies at a position, which are read in parts.
 pub trait Reader {
     /// What is asked for.
     type Plan: Drop;
@@ -18,10 +18,10 @@ pub trait Reader {
     /// By this plan it has read these policies.
     ghost has_read: { Self.Plan → Self → List APolicy → Type 0 };
 
-    /// This is what the plan asks for, of the policies at a position.
+    /// This is what the plan asks for, from the policies at a position.
     ghost gives: { Self.Plan → ℕ → List APolicy → Self.Made → Type 0 };
 
-    /// Takes the memory that so many policies need, and has read none.
+    /// Takes the memory that `policies` policies need. It has read none yet.
     fn begin(alloc: Global, plan: Self::Plan, policies: usize) -> Result<Self, NoMemory>
         requires { can_begin plan }
         ensures { IfOk result (λ reader. has_read plan reader []) };

@@ -19,8 +19,8 @@ use watcher_set::Watching;
 
 /// What the reader makes of the policies at a position, by the plan; and the turn of the pin.
 ///
-/// The position is pinned, and the memory taken; then batches of 256 policies are read, and the gate is called with the
-/// lane's number and `k` after the `k`-th of them. Whatever is answered, the pin is given up.
+/// The position is pinned, and the memory is taken. Then batches of 256 policies are read, and the gate is called
+/// with the lane's number and `k` after the `k`-th batch. Whatever is returned, the pin is given up.
 pub fn read_pinned<D: Disk, W: Watching, G: Gate, R: Threads + Wait + Sync, T: Reader + Drop>(
     rt: &R,
     alloc: Global,
@@ -99,7 +99,7 @@ fn read_pin<D: Disk, W: Watching, G: Gate, R: Threads + Wait + Sync, T: Reader +
     }
 }
 
-// Takes the memory that the reader needs, then has it read the policies of a pin.
+// Takes the memory that the reader needs, and then has it read the policies of a pin.
 fn read_parts<D: Disk, W: Watching, G: Gate, R: Threads + Wait + Sync, T: Reader + Drop>(
     rt: &R,
     alloc: Global,
@@ -145,14 +145,14 @@ fn make<R: Threads + Sync, T: Reader>(
     reader.made(rt, alloc, pin.position())
 }
 
-// How many reads so many policies need.
+// How many reads `policies` policies need.
 fn parts_of(policies: u32) -> u32
     ensures { result ≡ reads_needed policies }
 {
     policies.div_ceil(POLICIES_PER_READ)
 }
 
-// Reads the k-th part of a pin's policies, from 0.
+// Reads the k-th part of a pin's policies, counted from 0.
 fn read_part<D: Disk, W: Watching, R: Wait>(
     rt: &R,
     office: &Office<D, W>,

@@ -1,7 +1,7 @@
-// What several callers of this crate ask for.
+// What several callers of this crate use.
 
-/// A valuation or a list that no lane of a script asks for.
+/// The lane of a valuation or a list that no lane of a script asks for.
 pub const NO_LANE: u8 = 0;
 
-/// The policies that are worth a worker's thread.
+/// The number of policies for which a worker's thread is worth starting.
 pub const POLICIES_TO_A_WORKER: usize = 8_192;

@@ -18,7 +18,7 @@ use std::thread::Threads;
 use turn_lock::Turned;
 use watcher_set::Watching;
 
-// It values the policies as they are read, when there are enough of them.
+// It values the policies as they are read, whenever there are enough of them.
 #[derive(Drop)]
 struct Valuer<'a> {
     on: i32,
@@ -80,12 +80,12 @@ impl<'a> Reader for Valuer<'a> {
     }
 }
 
-/// Values the policies at a position, and gives the turn of the pin.
+/// Values the policies at a position, and returns the turn of the pin.
 ///
-/// The position is pinned, and the memory taken; then batches of 256 policies are read, and the gate is called with the
-/// lane's number and `k` after the `k`-th of them. What was read is valued by the workers at the same time, when there
-/// are 32,768 policies for each of them or 131,072 in all, or none is left to read. Whatever is answered, the pin is
-/// given up.
+/// The position is pinned, and the memory is taken. Then batches of 256 policies are read, and the gate is called
+/// with the lane's number and `k` after the `k`-th batch. What was read is valued by the workers at the same time,
+/// when there are 32,768 policies for each of them or 131,072 in all, or when none is left to read. Whatever is
+/// returned, the pin is given up.
 pub fn value<D: Disk, W: Watching, G: Gate, R: Threads + Wait + Sync>(
     rt: &R,
     alloc: Global,

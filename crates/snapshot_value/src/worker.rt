@@ -7,7 +7,7 @@ use parallel_value::Piece;
 use policy_types::Policy;
 use policy_value::{ColumnCache, Measure, Row, row};
 
-/// It values one policy after another by a basis on a day and a measure, and keeps present values from one to the next.
+/// Values one policy after another by a basis on a day and a measure, and keeps present values for later policies.
 #[derive(Drop)]
 pub struct Worker<'a> {
     pub basis: &'a Basis,

@@ -1,4 +1,4 @@
-// What a valuation has at hand: its workers, the policies that were read last, and the rows of those before them.
+// What a valuation holds: its workers, the policies that were read last, and the rows of those before them.
 ghost use Rattle.std.specs.Prelude.{◌≡◌, ◌≤◌, ◌<◌, ℤ, List, [], ◌++◌, ◌+◌, IfOk, OnOk, length, take, drop};
 ghost use Rattle.snapshot_value.specs.Names.{AllByRecursion, Dated, IsSound, APolicy, AMeasure};
 ghost use Rattle.parallel_value.specs.Pieces.{AddsBehind, AreAsBefore};
@@ -15,27 +15,27 @@ use policy_value::{ColumnCache, Measure, Row};
 use std::alloc::Global;
 use std::thread::Threads;
 
-/// The most workers: more have ever smaller parts, and caches that know ever less.
+/// The most workers: with more, the parts get smaller, and each cache serves fewer policies.
 const MOST_VALUERS: u8 = 16;
 
-/// The policies that are read for each worker before they are valued: new threads are spread over the processors only
-/// while they work for some milliseconds.
+/// The policies that are read for each worker before they are valued: new threads spread over the processors only if
+/// they work for some milliseconds.
 const POLICIES_READ_FOR_A_WORKER: usize = 32_768;
 
 /// The most policies that are read before they are valued.
 const POLICIES_TOGETHER: usize = 131_072;
 
-/// The policies that a worker takes at once.
+/// The policies that a worker takes at a time.
 const POLICIES_IN_PART: usize = 512;
 
 /// The columns of present values that all workers together keep, of some 2 kB each.
 const COLUMNS_KEPT: u32 = 8_192;
 
-/// The policies' keys whose premiums all workers together keep.
+/// The number of policies' keys whose premiums all workers together keep.
 const PREMIUMS_KEPT: u32 = 65_536;
 
-/// The workers, each with a cache of its own for the whole valuation; policies that were read and aren't valued yet; and
-/// the rows of those before them.
+/// The workers, each with a cache of its own for the whole valuation; the policies that were read and aren't valued
+/// yet; and the rows of those before them.
 #[derive(Drop)]
 pub struct Worksheet<'a> {
     workers: Vec<Worker<'a>>,
@@ -44,8 +44,8 @@ pub struct Worksheet<'a> {
 }
 
 impl<'a> Worksheet<'a> {
-    /// Takes the memory for the rows of so many policies. There are as many workers as are asked for, at most sixteen, or
-    /// fewer where each would have too few policies.
+    /// Takes the memory for the rows of `policies` policies. There are as many workers as are asked for, but at most
+    /// sixteen, and fewer if each would have too few policies.
     pub fn new(
         alloc: Global,
         basis: &'a Basis,
@@ -71,7 +71,7 @@ impl<'a> Worksheet<'a> {
         })
     }
 
-    /// Adds policies to those that were read, which are valued first where they are enough.
+    /// Adds policies to those that were read. If these are enough to be valued, they are valued first.
     pub fn add<R: Threads + Sync>(
         &mut self,
         rt: &R,
@@ -83,7 +83,7 @@ impl<'a> Worksheet<'a> {
         ensures made { (basis : List Dated) (on : ℤ) (measure : AMeasure) (policies : List APolicy)
             → HasMade basis on measure policies self.old
             → OnOk result (HasMade basis on measure (policies ++ part.now) self.new) }
-        // Before them there were fewer than are valued together.
+        // Before the call there were fewer than are valued together.
         ensures held { OnOk result
             (length self.new.read.items < valued_together (length self.old.workers.items) + length part.now) }
     {
@@ -91,7 +91,7 @@ impl<'a> Worksheet<'a> {
         self.put(part)
     }
 
-    // Values the policies that were read, where they are enough.
+    // Values the policies that were read, if they are enough.
     fn make_room<R: Threads + Sync>(&mut self, rt: &R, alloc: Global) -> Result<(), NoMemory>
         requires can { IsSheetReady self.old }
         ensures room { OnOk result (length self.new.read.items < valued_together (length self.old.workers.items)) }
@@ -121,7 +121,7 @@ impl<'a> Worksheet<'a> {
         Ok(())
     }
 
-    // Puts policies behind those that were read.
+    // Adds policies after those that were read.
     fn put(&mut self, part: &[Policy]) -> Result<(), NoMemory>
         requires sound { AllByRecursion IsSound part.now }
         ensures made { (basis : List Dated) (on : ℤ) (measure : AMeasure) (policies : List APolicy)
@@ -149,7 +149,7 @@ fn together(workers: usize) -> usize
     (POLICIES_READ_FOR_A_WORKER * workers).min(POLICIES_TOGETHER)
 }
 
-// The workers, which share what is kept.
+// The workers, among which what is kept is divided.
 fn workers_for<'a>(
     alloc: Global,
     basis: &'a Basis,

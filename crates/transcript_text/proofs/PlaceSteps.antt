@@ -3,7 +3,7 @@ use Rattle.transcript_text.proofs.Names.{◌≡◌, ℕ, zero, suc, ◌+◌, ◌
 use Rattle.std.proofs.lemmas.List.Sums.{sum_by-cons}
 use Rattle.std.proofs.lemmas.Option.{same_Some}
 
--- no number stands behind a greater one
+-- no number stands after a greater one
 pub rest_rises : (n : ℕ) (ns : List ℕ) → AreRising (n ∷ ns) → AreRising ns
 rest_rises n [] rising = tt
 rest_rises n (m ∷ ns) rising = rising.1

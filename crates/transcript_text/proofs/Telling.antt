@@ -1,4 +1,4 @@
--- What is told of the lanes that were run, against the history of their office
+-- What is reported of the lanes that were run, against the history of their office
 use Rattle.transcript_text.proofs.Names.{◌≡◌, ◌⊎◌, ℕ, ◌+◌, ◌-◌, ◌==◌, Bool, true, false, List, [], ◌∷◌, ◌++◌, length, map, take, Some, refl, ap, sym, ◌∙◌, subst, inl, inr, arith, slice_get, AllByRecursion, AllZip, Contains, enumerate_from, eq-eqb, Dated, Command, Call, PostCall, Entry, Reply, Faulted, Line, AreRising, IsDue, accepted_of, commands_after, AnsweredLine, turns_in, HasAnsweredLanes, IsOutcome, IsToldOf, dry_of, lacked_memory, TranscriptLine, Has, all_has, any_none, any_some, contains_of_has, has_at, has_enumerate, has_filter, has_map, has_of_contains, of_all, of_enumerate, of_filter, of_map, parted, zip_left, zip_right, same_opened, IsLineText, accepted_lines, any_faulted, any_lacked, has_faulted, lacks_memory, tells_accepted, told_text}
 use Rattle.policy_types.specs.declared.script.Line.TheVariants.{Post}
 use Rattle.policy_types.specs.declared.script.Lane.{Lane}
@@ -183,7 +183,7 @@ module _ {D W : Type 0} (basis : List Dated) (lanes : List Lane) (first closing 
         ),
       )
 
-  -- what holds of every reply to another call, and of what is told of every posting, holds of all replies
+  -- what holds of every reply to another call, and of what is reported of every posting, holds of all replies
   each_reply : (P : Reply → Type 0) → ((reply : Reply) → IsAnswered reply → P reply)
       → ((command : Command) (reply : Reply) (line : TranscriptLine) (commands : List Command) → Has transcript.lines line
       → IsOutcome commands basis (Post command) reply line.outcome → P reply)
@@ -225,7 +225,7 @@ module _ {D W : Type 0} (basis : List Dated) (lanes : List Lane) (first closing 
       (of_all (λ (l : TranscriptLine). has_faulted l.outcome ≡ false) transcript.lines line none has)
       (of_all (λ (l : TranscriptLine). lacks_memory l.outcome ≡ false) transcript.lines line none_lacked has))
 
-  -- the turn of a line that is told to be accepted was an accepted posting
+  -- the turn of a line that is said to be accepted was an accepted posting
   told_place : (line : TranscriptLine) → Has transcript.lines line → tells_accepted line.outcome ≡ true → Has (places accepts 0 closing.seen) line.turn
   told_place line has is =
       let pair = zip_right (IsToldOf opened.opening closing.seen basis) ran.answered transcript.lines line told has in
@@ -240,7 +240,7 @@ module _ {D W : Type 0} (basis : List Dated) (lanes : List Lane) (first closing 
       subst (λ (n : ℕ). Has (places accepts 0 closing.seen) n) place
       (has_places accepts 0 closing.seen one.first.0 one.first.1 (placed one pair.1) accepted)
 
-  -- and each of these is told
+  -- and each of these is reported
   place_told : (n : ℕ) → Has (places accepts 0 closing.seen) n → Has (accepted_turns transcript.lines) n
   place_told n has =
       let found = of_places accepts 0 closing.seen n has in

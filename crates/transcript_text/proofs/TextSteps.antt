@@ -1,4 +1,4 @@
--- The text of what is told of answered lines is that of the lines
+-- The text of what is reported of answered lines is that of the lines
 use Rattle.transcript_text.proofs.Names.{◌≡◌, ◌↔◌, ℕ, ℤ, true, List, [], ◌∷◌, map, take, refl, ap, ap₂, sym, ◌∙◌, subst, inl, inr, AllZip, Contains, false≢true, Dated, IsDay, Command, Entry, Reply, Line, Opening, commands_after, AnsweredLine, AreDry, IsOutcome, IsToldOf, lacked_memory, TranscriptLine, Outcome, Posted, Trimmed, Valued, ValueRefused, ValueNoMemory, IsLineText, IsReplyText, IsValuedText, posting_text, unpinned_text, unvalued_text, IsWritableOutcome, outcome_text, told_text}
 use Rattle.policy_types.specs.declared.entry.At.{At}
 use Rattle.policy_types.specs.declared.script.Line.TheVariants.{Post, Value, Trim}

@@ -1,4 +1,4 @@
--- What is told of a line, against its first reply
+-- What is reported of a line, against its first reply
 use Rattle.transcript_text.proofs.Names.{◌≡◌, ◌⊎◌, ℕ, ◌==◌, true, false, List, [], ◌∷◌, ◌++◌, map, take, refl, ap, sym, ◌∙◌, subst, inl, inr, AllByRecursion, enumerate_from, eq-eqb, false≢true, Dated, IsValid, Command, PostCall, Entry, Reply, Blank, Faulted, Line, Opening, accepted_by, accepted_of, commands_after, reply_of, Answer, Accepted, Refused, DiskFault, NoMemory, AnsweredLine, AreOfLanes, lines_by, turns_in, IsOutcome, lacked_memory, Outcome, Posted, Trimmed, Valued, ValueRefused, ValueNoMemory, Has, front_back, has_filter, has_flat_map, of_filter, of_flat_map, has_faulted, is_faulted, lacks_memory, IsToldAnswer, IsWritableOutcome}
 use Rattle.watcher_set.specs.Evidence.{a_lack}
 use Rattle.std.proofs.lemmas.List.Elements.{filter_map-append}
@@ -45,7 +45,7 @@ pub page_numbers : (history : List Entry) (ns : List ℕ) → map (λ (page : Pa
 page_numbers history [] = refl
 page_numbers history (n ∷ ns) = ap (λ more. n ∷ more) (page_numbers history ns)
 
--- a front of valid commands is valid
+-- a prefix of valid commands is valid
 pub valid_front : (opening : Opening) (history : List Entry) (k : ℕ) → AllByRecursion IsValid (commands_after opening history)
     → AllByRecursion IsValid (commands_after opening (take k history))
 valid_front opening history k valid =
@@ -81,7 +81,7 @@ outcome_writable Trim reply (ValueNoMemory lack) commands basis told right can =
 outcome_writable (Value on at workers) reply (Posted answer) commands basis told right can = absurd told
 outcome_writable (Value on at workers) reply (Trimmed floor) commands basis told right can = absurd told
 
--- a valuation that is told to have found no memory was pinned
+-- a valuation that is said to have found no memory was pinned
 pub lacked_pin : (line : Line) (reply : Reply) (outcome : Outcome) (commands : List Command) (basis : List Dated) → IsOutcome commands basis line reply outcome
     → lacked_memory outcome ≡ true → IsPinned reply
 lacked_pin (Value on at workers) reply (ValueNoMemory lack) commands basis (position, (policies, pinned)) lacked = (position, policies, pinned)
@@ -92,7 +92,7 @@ lacked_pin line reply (ValueRefused refusal) commands basis told lacked = absurd
 lacked_pin (Post command) reply (ValueNoMemory lack) commands basis told lacked = absurd told
 lacked_pin Trim reply (ValueNoMemory lack) commands basis told lacked = absurd told
 
--- what is told of a posting that the disk failed in, and of one that it didn't
+-- what is reported of a posting that the disk failed in, and of one that it didn't
 pub told_fault : (line : Line) (reply : Reply) (outcome : Outcome) (commands : List Command) (basis : List Dated) → IsOutcome commands basis line reply outcome
     → has_faulted outcome ≡ true → (command : Command) × ((count : ℕ) × (line ≡ Post command) × (reply ≡ Faulted count))
 told_fault (Post command) reply (Posted (DiskFault count)) commands basis told failed = (command, (count, refl, told))
@@ -106,7 +106,7 @@ told_fault line reply (Valued valuation) commands basis told failed = absurd (fa
 told_fault line reply (ValueRefused refusal) commands basis told failed = absurd (false≢true failed)
 told_fault line reply (ValueNoMemory lack) commands basis told failed = absurd (false≢true failed)
 
--- what is told of a posting is its reply
+-- what is reported of a posting is its reply
 unfaulted_if_told : (answer : Answer) (reply : Reply) → reply ≡ reply_of answer → is_faulted answer ≡ false → IsUnfaulted reply
 unfaulted_if_told (Accepted position) reply is whole = subst IsUnfaulted (sym is) refl
 unfaulted_if_told (Refused refusal) reply is whole = subst IsUnfaulted (sym is) refl

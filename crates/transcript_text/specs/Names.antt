@@ -1,4 +1,4 @@
--- The names from elsewhere that several rooms cite, passed on from one place. Declares nothing.
+-- The names from elsewhere that several modules cite, passed on from one place. Declares nothing.
 pub use Rattle.std.specs.List.{flat_map, AllZip, Contains, enumerate_from}
 pub use Rattle.life_dates.specs.Calendar.{IsDay, IsTermDay}
 unfoldable pub use Rattle.life_dates.specs.DayText.{day_text}

@@ -1,4 +1,4 @@
--- What answers can be written, and the text of what is told of answered lines
+-- Which answers can be written, and the text of answered lines
 use Rattle.std.specs.Prelude.{◌<◌, ℕ, ◌^◌, List, [], ◌++◌}
 use Rattle.transcript_text.specs.Names.{flat_map, Refusal, Taken, Unknown, BeforeLast, WrongStatus, TermOver, NothingDue, TooEarly, GraceOver, NotInArrears, TooLate, WrongAmount, NotAReduction, NotMatured, OverSettled, Full, NotUpgraded, Upgraded, Line, Post, Value, Trim, Report, IsDay, IsTermDay, reply_of, block_text}
 use Rattle.office_state.specs.declared.answer.Answer.{Answer}
@@ -34,7 +34,7 @@ abbrev pub IsToldAnswer : Answer → Type 0
 IsToldAnswer (Refused refusal) = IsPrintable refusal
 IsToldAnswer _ = Unit {0}
 
--- what is told of a line can be written
+-- the outcome of a line can be written
 abbrev pub IsWritableOutcome : Line → Outcome → Type 0
 IsWritableOutcome (Post command) (Posted answer) = IsToldAnswer answer
 IsWritableOutcome Trim (Trimmed floor) = Unit {0}
@@ -46,7 +46,7 @@ IsWritableOutcome _ _ = ⊥
 abbrev pub IsWritable : TranscriptLine → Type 0
 IsWritable told = IsWritableOutcome told.line told.outcome
 
--- the text of what is told of a clerk's line
+-- the text of the outcome of a lane's line
 abbrev pub outcome_text : ℕ → Line → Outcome → List ℕ
 outcome_text clerk (Post command) (Posted answer) = posting_text clerk command (reply_of answer)
 outcome_text clerk Trim (Trimmed floor) = trim_text clerk floor
@@ -62,6 +62,6 @@ told_text told = outcome_text told.lane told.line told.outcome
 abbrev pub told_texts : List TranscriptLine → List ℕ
 told_texts lines = flat_map told_text lines
 
--- the text of a run: what is told of the lines, then the auditors' reports
+-- the text of a run: the outcomes of the lines, then the watchers' reports
 abbrev pub run_text : List TranscriptLine → List Report → List ℕ
 run_text lines reports = told_texts lines ++ reports_text reports

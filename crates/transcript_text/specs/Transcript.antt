@@ -1,4 +1,4 @@
--- The text of a run: that of each answered line of the script, in the order of their first turns, then the auditors' reports
+-- The text of a run: that of each answered line of the script, in the order of their first turns, then the watchers' reports
 use Rattle.std.specs.Prelude.{◌≡◌, ◌⊎◌, ℕ, ℤ, List, [], ◌∷◌, ◌++◌, take, codes, decimal}
 use Rattle.transcript_text.specs.Names.{AllZip, Contains, enumerate_from, flat_map, Refusal, Taken, Unknown, BeforeLast, WrongStatus, TermOver, NothingDue, TooEarly, GraceOver, NotInArrears, TooLate, WrongAmount, NotAReduction, NotMatured, OverSettled, Full, NotUpgraded, Upgraded, Line, Post, Value, Trim, Report, block_text, day_text, cents_text, line_of}
 use Rattle.policy_types.specs.declared.command.Command.{Command}
@@ -16,7 +16,7 @@ use Rattle.policy_value.specs.declared.worth.Row.{Row}
 use Rattle.policy_types.specs.Words.{kind_word, status_word}
 use Rattle.lane_runner.specs.AnsweredLines.{AnsweredLine}
 
--- why a posting was refused: a word, and the value where the refusal holds one
+-- why a posting was refused: a word, and the value if the refusal holds one
 abbrev pub refusal_fields : Refusal → List (List ℕ)
 refusal_fields Taken = codes "taken" ∷ []
 refusal_fields Unknown = codes "unknown" ∷ []
@@ -36,8 +36,8 @@ refusal_fields Full = codes "full" ∷ codes "4000000" ∷ []
 refusal_fields NotUpgraded = codes "notupgraded" ∷ []
 refusal_fields (Upgraded position) = codes "upgraded" ∷ decimal position ∷ []
 
--- what became of a posting; or why a position wasn't pinned, with how many commands there are, or the position before which
--- nothing is kept
+-- what became of a posting; or why a position wasn't pinned, with the number of commands, or with the position before
+-- which nothing is kept
 abbrev pub reply_fields : Reply → List (List ℕ)
 reply_fields (Accepted position) = codes "accepted" ∷ decimal position ∷ []
 reply_fields (Refused refusal) = codes "refused" ∷ refusal_fields refusal
@@ -48,8 +48,9 @@ reply_fields (PinRefused (Trimmed floor)) = codes "refused" ∷ codes "trimmed" 
 reply_fields (PinRefused PinsFull) = codes "refused" ∷ codes "pinsfull" ∷ []
 reply_fields _ = []
 
--- The texts of a run: of a clerk's posting by its reply; of a trim, with the position before which nothing is kept; of a
--- valuation on a day that was refused, that found no memory, or with its position and rows; and of the auditors' reports.
+-- The texts of a run: that of a posting, by its reply; that of a trim, with the position before which nothing is
+-- kept; that of a valuation on a day, which was refused, or was refused memory, or has its position and rows; and
+-- those of the watchers' reports.
 pub record Wording : Type 0 where
   pub posting : ℕ → Command → Reply → List ℕ
   pub trim : ℕ → ℕ → List ℕ
@@ -58,8 +59,8 @@ pub record Wording : Type 0 where
   pub block : ℕ → ℤ → ℕ → List Row → List ℕ
   pub reports : List Report → List ℕ
 
--- A posting's line has the clerk, the kind, the policy, 0 where none is named, and what became of it. The reports are in order,
--- numbered from 1.
+-- A posting's line has the lane, the kind, the policy, or 0 if none is named, and what became of it. The reports are
+-- in order, numbered from 1.
 abbrev pub run_wording : Wording
 run_wording = record {
   posting = λ clerk command reply. line_of (decimal clerk) (kind_word command ∷ decimal (id_of command) ∷ reply_fields reply);
@@ -73,8 +74,8 @@ run_wording = record {
       (enumerate_from 1 reports);
 }
 
--- The text of a clerk's line, by the reply to its first turn, before which these commands were accepted. That of a valuation at
--- a position has a row for each of the policies that the first so many of them leave.
+-- The text of a lane's line, by the reply to its first turn, before which these commands were accepted. The text of a
+-- valuation at a position has a row for each of the policies that the first so many of them leave.
 abbrev pub IsToldText : Wording → (ℤ → Policy → Row → Type 0) → ℕ → Line → Reply → List Command → (IsDry : Type 0) → List ℕ → Type 0
 IsToldText wording IsRow clerk (Post command) reply commands IsDry text = text ≡ wording.posting clerk command reply
 IsToldText wording IsRow clerk Trim (Floor floor) commands IsDry text = text ≡ wording.trim clerk floor

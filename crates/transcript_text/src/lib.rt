@@ -1,5 +1,5 @@
-//! The text of a run: the line of each answer, the blocks of its valuations, and the watchers' reports; and how
-//! the run ends by its answers.
+//! The text of a run: the line of each answer, the blocks of its valuations, and the watchers' reports; and how the
+//! answers decide how the run ends.
 #![tactic(auto)]
 
 mod lines;

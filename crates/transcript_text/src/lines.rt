@@ -62,7 +62,7 @@ fn posting(alloc: Global, clerk: u8, command: &Command, answer: Answer) -> Resul
     Ok(text.into_text())
 }
 
-// A line of this clerk that begins with a word.
+// A line of this lane that begins with a word.
 fn begun(alloc: Global, clerk: u8, word: &str) -> Result<LineWriter, NoMemory>
     ensures { IfOk result (λ text. text ≡ decimal clerk ++ 44 ∷ word.now) }
 {
@@ -122,7 +122,7 @@ fn write_pin_refusal(text: &mut LineWriter, refusal: PinRefusal) -> Result<(), N
     }
 }
 
-// The line of a valuation that found no memory.
+// The line of a valuation that was refused memory.
 fn unvalued(alloc: Global, clerk: u8, on: i32) -> Result<Text, NoMemory>
     requires { IsDay on }
     ensures { IfOk result (λ text. text ≡ unvalued_text clerk on) }

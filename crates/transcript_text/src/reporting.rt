@@ -1,4 +1,4 @@
-// The lines of the auditors' reports.
+// The lines of the watchers' reports.
 ghost use Rattle.std.specs.Prelude.{◌≡◌, ◌≤◌, ◌<◌, IfOk, OnErr, length};
 ghost use Rattle.transcript_text.specs.Lines.{watcher_text};
 ghost use Rattle.transcript_text.specs.Lines.{reports_text};
@@ -8,7 +8,7 @@ use policy_types::{NoMemory, Report};
 use std::alloc::Global;
 use text_lines::{LineWriter, Text, add};
 
-/// The lines of the reports, numbered from 1. Memory can be wanting only for some.
+/// The lines of the reports, numbered from 1. Memory is asked for only if there are some.
 pub fn report_lines(alloc: Global, reports: &[Report]) -> Result<Vec<u8>, NoMemory>
     requires few { length reports.now ≤ 16 }
     ensures text { IfOk result (λ text. text.items ≡ reports_text reports.now) }

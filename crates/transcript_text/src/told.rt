@@ -1,4 +1,4 @@
-// What the answers of lanes say of how their run ends.
+// How a run ends, by the answers of its lanes.
 ghost use Rattle.std.specs.Prelude.{◌≡◌, if◌then◌else◌};
 ghost use Rattle.watcher_set.specs.Evidence.{a_lack};
 ghost use Rattle.lane_runner.specs.Tallies.{any_faulted, any_lacked};

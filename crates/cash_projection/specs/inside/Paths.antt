@@ -37,24 +37,24 @@ IsTableOfRow basis row table = (entry : Dated) × (slice_get basis row ≡ Some 
 abbrev pub AreRatesOf : List Dated → PathKey → Rates → Type 0
 AreRatesOf basis key rates = (entry : Dated) × (slice_get basis key.row ≡ Some entry) × (rates ≡ table_along entry.table key.issue)
 
--- a path of an age is that of its key by its row of the basis
+-- a path that is of an age is that of its key, by its row of the basis
 abbrev pub IsRightPath : List Dated → SurvivalPath → Type 0
 IsRightPath basis path = path.key.age ≤ 130 → (rates : Rates) → AreRatesOf basis path.key rates → IsSurvivalPath rates path.key.age path
 
--- some are kept, and each that is one is right by the basis
+-- the store has at least one place, and each path that is kept is right by the basis
 pub record ArePaths (basis : List Dated) (paths : Paths) : Type 0 where
   pub some : 1 ≤ length paths.kept.items
   pub right : All (IsRightPath basis) paths.kept.items
 
--- the path of an age lies at a place
+-- the path of an age is at a place
 pub record IsPathAt (table : Rates) (age : ℕ) (kept : List SurvivalPath) (place : ℕ) : Type 0 where
   pub within : place < length kept
   pub here : (none : SurvivalPath) → IsSurvivalPath table age (slice_index_or kept place none)
 
--- the path of a key lies at a place
+-- the path of a key is at a place
 abbrev pub IsPathKept : List SurvivalPath → PathKey → ℕ → Type 0
 IsPathKept kept key place = (none : SurvivalPath) → (slice_index_or kept place none).key ≡ key
 
--- the place of a key among so many
+-- the place of a key, among so many
 abbrev pub path_slot : PathKey → ℕ → ℕ
 path_slot key count = (key.row * 131 + key.issue * 17 + key.age) % count

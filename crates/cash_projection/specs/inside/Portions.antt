@@ -8,7 +8,7 @@ use Rattle.cash_projection.specs.declared.portions.Portion.{Portion}
 use Rattle.cash_projection.specs.declared.projector.Projector.{Projector}
 use Rattle.cash_projection.specs.declared.tally.Tally.{Tally}
 
--- the policies of the portions, one behind the other
+-- the policies of the portions, one after the other
 abbrev pub policies_of_portions : List Portion → List Policy
 policies_of_portions [] = []
 policies_of_portions (portion ∷ more) = portion.policies.now ++ policies_of_portions more
@@ -20,7 +20,7 @@ pub record TakesPortion (projector : Projector) (portion : Portion) : Type 0 whe
   pub sound : AllByRecursion IsOfIssue portion.policies.now
   pub few : length portion.policies.now ≤ most_commands
 
--- and what it gives
+-- what it gives
 abbrev pub GivesTally : Projector → Portion → Tally → Type 0
 GivesTally projector portion tally =
     IsTallyOf projector.basis.now projector.on projector.years portion.policies.now tally

@@ -6,8 +6,8 @@ use Rattle.cash_projection.specs.inside.Portions.{IsProjectorFor}
 use Rattle.cash_projection.specs.inside.Tallies.{IsTallyOf}
 use Rattle.cash_projection.specs.declared.tallier.Tallier.{Tallier}
 
--- Of the policies, in order, the first are tallied by this basis on this day in so many years, and the others were read
--- and are at hand.
+-- Of the policies, in order, the first are tallied by this basis on this day for so many years; the others were read
+-- and aren't tallied yet.
 pub record HasTallied (basis : List Dated) (on : ℤ) (years : ℕ) (policies : List Policy) (tallier : Tallier) : Type 0 where
   pub day : tallier.on ≡ on
   pub many : tallier.tally.years ≡ years
@@ -20,7 +20,7 @@ pub record HasTallied (basis : List Dated) (on : ℤ) (years : ℕ) (policies : 
   pub whole : policies ≡ tallied ++ tallier.room.items
   pub is : IsTallyOf basis on tallier.tally.years tallied tallier.tally
 
--- so it is, and they are not more than policies may be
+-- and in addition they are no more than there may be policies
 pub record CanTally (tallier : Tallier) : Type 0 where
   pub basis : List Dated
   pub on : ℤ

@@ -26,7 +26,7 @@ sums_of lo hi = record { lo = lo; hi = hi }
 abbrev pub sum_at : List Sums → ℕ → Sums
 sum_at sums j = slice_index_or sums j (sums_of 0 0)
 
--- cents were added in the years from one on and before another, times the pair of each
+-- cents times the pair of each year were added, in the years from `from` on and before `to`
 pub record HasRisen (from to cents : ℕ) (pairs : List Pair) (old new : List Sums) : Type 0 where
   pub places : length new ≡ 131
   pub lo : (j : ℕ) → (sum_at new j).lo ≡ (sum_at old j).lo + due from to cents j * (pair_at pairs j).lo
@@ -68,7 +68,7 @@ pub record IsTallyOf (basis : List Dated) (on : ℤ) (years : ℕ) (policies : L
   pub each : AllZip (IsProspect basis on) policies prospects
   pub tallied : IsTally years prospects tally
 
--- no sum of so many years is above what 4,000,000 policies add up to
+-- no sum of so many years is above what 4,000,000 policies can add up to
 pub record IsRoomy (years : ℕ) (sums : List Sums) : Type 0 where
   pub places : length sums ≡ 131
   pub lo : (j : ℕ) → j < years → (sum_at sums j).lo ≤ most_commands * MOST_PART
@@ -89,7 +89,7 @@ pub record IsSized (tally : Tally) : Type 0 where
   pub death : IsRoomy tally.years tally.death.sums
   pub maturity : IsRoomy tally.years tally.maturity.sums
 
--- there is room for one policy more
+-- the tally can take one more policy
 abbrev pub TakesOneMore : Tally → Type 0
 TakesOneMore tally = IsSized tally × (tally.policies < most_commands)
 
@@ -113,7 +113,7 @@ pub record HasCounted (basis : List Dated) (on : ℤ) (policy : Policy) (old new
   pub small : IsSmall prospect
   pub added : HasAdded old.years prospect old new
 
--- the prospect of an insured policy by a table: one without a shape has a word
+-- the prospect of an insured policy by a table; a policy without a shape has a word
 abbrev pub IsProspectBy : Policy → AnyTable → ℤ → Result Shape NotValued → Prospect → Type 0
 IsProspectBy policy table on answer p = MatchResult answer
     (λ shape. (t : ℕ) × IsYear policy.issued on shape.n t × (p ≡ prospect_of policy (table_along table shape.age) shape t))

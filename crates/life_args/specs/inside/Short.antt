@@ -1,9 +1,9 @@
--- Short words of what single functions promise, and of the proofs
+-- Abbreviations for the promises of single functions, and for the proofs
 use Rattle.std.specs.Prelude.{ℕ, List, ◌∷◌, cond, bytes_eq}
 use Rattle.std.specs.List.{flat_map}
 use Rattle.life_args.specs.Pieces.{WordPiece, piece_words}
 
--- the words that the pieces spell
+-- the arguments that the pieces spell
 abbrev pub spelled : List WordPiece → List (List ℕ)
 spelled pieces = flat_map piece_words pieces
 

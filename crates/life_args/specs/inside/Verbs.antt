@@ -1,4 +1,4 @@
--- The modes by their first words: the options of each, and what its values have to say
+-- The modes by their first arguments: the options of each, and what its values must be
 use Rattle.std.specs.Prelude.{◌≡◌, ◌≤◌, ℕ, List, [], ◌∷◌, codes, decimal, map, option_map, unwrap_or, Option, Some, None, Result, Ok, Err, ℤ}
 use Rattle.std.specs.Int.{IsInRange}
 use Rattle.std.specs.Borrow.{Bor}
@@ -49,20 +49,20 @@ options_of Load = no_option_names
 abbrev pub IsDayValue : List ℕ → ℤ → Type 0
 IsDayValue value day = IsDay day × (value ≡ day_text day)
 
--- there is just one value, of which this holds
+-- there is exactly one value, and it meets the condition
 abbrev pub JustOne : List (List ℕ) → (List ℕ → Type 0) → Type 0
 JustOne values IsAsked = (value : List ℕ) × (values ≡ value ∷ []) × IsAsked value
 
--- there are just two values, a day and a number of years
+-- there are exactly two values, a day and a number of years
 abbrev pub AreDayAndYears : List (List ℕ) → ℤ → ℕ → Type 0
 AreDayAndYears values on years =
     (day : List ℕ) × (values ≡ day ∷ decimal years ∷ []) × IsDayValue day on × IsInRange 1 131 years
 
--- the values of an id as they are got, where there may be none
+-- the values of an id, of which there may be none
 abbrev pub texts_of : Option (Bor (List (Bor (List ℕ)))) → List (List ℕ)
 texts_of values = unwrap_or (option_map (λ list. map (λ value. value.now) list.now) values) []
 
--- the value, where there is one at most
+-- the value, if there is at most one
 abbrev pub IsLone : List (List ℕ) → Option (List ℕ) → Type 0
 IsLone values None = values ≡ []
 IsLone values (Some value) = values ≡ value ∷ []
@@ -71,7 +71,7 @@ abbrev pub GivesLone : List (List ℕ) → Result (Option (Bor (List ℕ))) Word
 GivesLone values (Ok given) = IsLone values (option_map (λ value. value.now) given)
 GivesLone values (Err fault) = GivesAsked (IsLone values) (Err fault)
 
--- the value is the number, which lies within these
+-- the value is the number, which is from `least` to `most`
 pub record IsNumberValue (least most : ℕ) (value : List ℕ) (number : ℕ) : Type 0 where
   pub low : least ≤ number
   pub high : number ≤ most
@@ -108,7 +108,7 @@ SaysMode values (mode.Load seed count lanes workers) =
     (values alone_id ≡ decimal seed ∷ decimal count ∷ decimal lanes ∷ decimal workers ∷ [])
     × AreDraws seed count lanes × IsInRange 1 64 workers
 
--- what was found behind a verb asks for the mode
+-- what was found after a verb asks for the mode
 pub record AsksFor (verb : Verb) (found : Found) (mode : Mode) : Type 0 where
   pub is : verb_of mode ≡ verb
   pub says : SaysMode (values_named found) mode

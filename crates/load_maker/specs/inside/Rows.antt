@@ -10,7 +10,7 @@ use Rattle.command_csv.specs.Spelling.{line_fields}
 use Rattle.command_csv.specs.declared.row.ClerkLine.{ClerkLine}
 use Rattle.load_maker.specs.declared.generator.Drawn.{Drawn}
 
--- what is drawn, below a bound, when the number was renewed to x
+-- the draw below a bound, when the number was renewed to x
 abbrev pub drawn_below : ℕ → ℕ → ℕ
 drawn_below bound x = x / 256 % bound
 
@@ -18,7 +18,7 @@ drawn_below bound x = x / 256 % bound
 abbrev pub plan_drawn : ℕ → Plan
 plan_drawn d = if d == 0 then Term else if d == 1 then Whole else if d == 2 then Endowment else Limited
 
--- the years of a draw, but none for whole life
+-- the years of a draw; whole life has none
 abbrev pub years_drawn : Plan → ℕ → ℕ
 years_drawn plan d = elim plan [ Whole ↦ 0 | _ ↦ 2 + d ]
 

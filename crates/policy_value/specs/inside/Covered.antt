@@ -1,11 +1,11 @@
--- What a policy is covered by, as the program has it at hand.
+-- The cover of a policy, as the program has it.
 use Rattle.std.specs.Prelude.{◌≡◌, ℕ, ◌+◌, List, Some, Ok, slice_get}
 use Rattle.policy_value.specs.Names.{AreRates, HoldsAge, table_along, shape_of, Cover, cover_of, cap_of, CanReserve, Dated, Plan}
 use Rattle.policy_value.specs.Caches.{IsRowOf}
 use Rattle.policy_value.specs.declared.covered.Covered.{Covered}
 use Rattle.policy_value.specs.declared.covered.IssueRates.{IssueRates}
 
--- the rates and the interest are those of a row of the basis for the age that they are kept by
+-- the rates and the interest are those of a row of the basis, for the age by which they are kept
 abbrev pub IsByRow : List Dated → IssueRates → Type 0
 IsByRow basis rates = IsRowOf basis rates.basis_row rates.issue rates.table.now rates.bp
 
@@ -16,8 +16,8 @@ cover_by covered = cover_of covered.own.table.now covered.shape covered.own.bp
 abbrev pub cap_by : Covered → Cover
 cap_by covered = cap_of covered.next.table.now covered.shape.age covered.own.bp
 
--- both kinds of rates are by one row, whose entry this is: those of the age at issue and of the next one. By them the
--- shape has a modified net premium.
+-- both sets of rates are by one row, whose entry this is: those of the age at issue and those of the next. By them
+-- the shape has a modified net premium.
 pub record IsCovered (basis : List Dated) (entry : Dated) (covered : Covered) : Type 0 where
   pub row : slice_get basis covered.own.basis_row ≡ Some entry
   pub own : covered.own.table.now ≡ table_along entry.table covered.shape.age

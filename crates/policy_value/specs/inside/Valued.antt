@@ -1,4 +1,4 @@
--- The year and the worth of an insured policy, as they are found.
+-- The year and the worth of an insured policy, as they are computed.
 use Rattle.std.specs.Prelude.{◌≡◌, ℕ, List, All, ℤ, ◌<ℤ◌, Result, Ok, Err}
 use Rattle.policy_value.specs.Names.{Policy, Shape, shape_of, Dated, IsPicked, AnyTable, NotValued}
 use Rattle.plan_benefits.specs.declared.fault.NotValued.TheVariants.{NoBasis}
@@ -9,8 +9,8 @@ use Rattle.policy_value.specs.Covers.{AreByDuration, cap_along, cover_along}
 use Rattle.policy_value.specs.Measures.{IsExactFor, IsWorthOf}
 use Rattle.policy_value.specs.Rows.{IsYear}
 
--- by a table at an interest: a policy with a shape has its worth by the measure at its year, and one without has the
--- word
+-- by a table at an interest: a policy with a shape has its worth by the measure at its year, and one without a shape
+-- has the word
 abbrev pub IsReserveOf : Policy → AnyTable → ℕ → ℤ → Measure → Result Shape NotValued → ℕ → Worth → Type 0
 IsReserveOf policy table bp on measure (Ok shape) t worth =
     IsYear policy.issued on shape.n t
@@ -23,8 +23,8 @@ pub record IsValueOf (policy : Policy) (basis : List Dated) (on : ℤ) (measure 
   pub named : (index : ℕ) → (entry : Dated) → IsPicked basis policy.issued index entry
       → IsReserveOf policy entry.table entry.bp on measure (shape_of policy.plan policy.age policy.years entry.table) t worth
 
--- the bounds enclose the exact reserve of the policy's amount by the measure, to at most two cents; and it is by the rates
--- of the age at issue and the duration
+-- the bounds enclose the exact reserve of the policy's amount by the measure and differ by at most two cents; and the
+-- reserve is by the rates of the age at issue and the duration
 abbrev pub IsExact : Measure → Policy → AnyTable → ℕ → ℕ → Worth → Type 0
 IsExact measure policy table bp t worth =
     (shape : Shape) → shape_of policy.plan policy.age policy.years table ≡ Ok shape

@@ -4,7 +4,7 @@ use Rattle.report_text.specs.Names.{Short, Enough, Close, Terminal, Mean, Defici
 use Rattle.deficiency_reserve.specs.declared.answer.Adequacy.{Adequacy}
 use Rattle.policy_value.specs.declared.worth.Measure.{Measure}
 
--- how a premium lies to the net premium
+-- how a premium compares with the net premium
 abbrev pub adequacy_word : Adequacy → List ℕ
 adequacy_word test = by test
   where
@@ -13,7 +13,7 @@ adequacy_word test = by test
     by Enough = codes "enough"
     by Close = codes "close"
 
--- the measure, where it isn't the terminal reserve
+-- the measure, if it isn't the terminal reserve
 abbrev pub measure_fields : Measure → List (List ℕ)
 measure_fields measure = by measure
   where

@@ -36,7 +36,7 @@ module _ {D W : Type 0} where
     pub stays : policies_at new pin.position ≡ policies_at old pin.position
     pub filled : part ≡ take policies_per_read (drop (policies_per_read * k) (policies_at old pin.position))
 
-  -- the first k reads of a pin, by whose policies something stands so
+  -- the first k reads of a pin, after which something is true of the policies read
   pub record HasReadFirst (Has : List Policy → Type 0) (pin : Held) (k : ℕ) (old new : Holding (OfficeOpening D W)) : Type 0 where
     pub reads : List Placed
     pub grows : Grows old new reads
@@ -58,12 +58,12 @@ module _ {D W : Type 0} where
     pub calls : calls_of reads ≡ reads_of pin.number pin.policies
 
   module _ {Made : Type 0} (IsOf : ℕ → List Policy → Made → Type 0) where
-    -- all reads of a pin, and what was made of its policies, or for want of memory just some
+    -- all reads of a pin, and what was made of its policies; or, if memory was refused, only some of the reads
     abbrev pub HasMadeOfReads : Held → Holding (OfficeOpening D W) → Holding (OfficeOpening D W) → Result Made Refusal → Type 0
     HasMadeOfReads pin old new (Ok made) = HasReadEach pin old new × IsOf pin.position (policies_at old pin.position) made
     HasMadeOfReads pin old new (Err lack) = HasReadSome pin old new
 
-    -- what follows a pin, and what is answered
+    -- what follows a pin, and what is returned
     abbrev pub FollowsReads : Held → Holding (OfficeOpening D W) → List Call → Result Made ValueFault → Type 0
     FollowsReads pin old calls (Ok made) =
         (calls ≡ reads_of pin.number pin.policies ++ Unpin pin.number ∷ []) × IsOf pin.position (policies_at old pin.position) made
@@ -71,7 +71,7 @@ module _ {D W : Type 0} where
         (many : ℕ) × (calls ≡ take many (reads_of pin.number pin.policies) ++ Unpin pin.number ∷ [])
     FollowsReads pin old calls (Err (Pin refusal)) = ⊥
 
-    -- something was made of a pin's policies or memory was wanting, and the pin was given up
+    -- something was made of a pin's policies, or memory was refused, and the pin was given up
     pub record HasMadeOfPin (pin : Held) (old new : Holding (OfficeOpening D W)) (answer : Result Made ValueFault) : Type 0 where
       pub later : List Placed
       pub grows : Grows old new later

@@ -1,4 +1,4 @@
--- What a valuation has at hand between two reads
+-- What a valuation holds between two reads
 use Rattle.std.specs.Prelude.{◌≡◌, ◌≤◌, ◌*◌, ℕ, ℤ, List, ◌++◌, length, min}
 use Rattle.snapshot_value.specs.Names.{AllByRecursion, AllZip, Dated, Policy, IsSound, most_worth, IsWithinAmount, Measure, Row}
 use Rattle.policy_value.specs.Rows.{IsValuedRow}
@@ -18,8 +18,8 @@ pub record IsSheetReady (sheet : Worksheet) : Type 0 where
   pub ready : AllByRecursion IsReadyWorker sheet.workers.items
   pub sound : AllByRecursion IsSound sheet.read.items
 
--- Of the policies, in order, the first have their rows by this basis on this day by this measure, and the others were read
--- and are at hand.
+-- Of the policies, in order, the first have their rows by this basis on this day by this measure; the others were
+-- read and aren't valued yet.
 pub record HasMade (basis : List Dated) (on : ℤ) (measure : Measure) (policies : List Policy) (sheet : Worksheet) : Type 0 where
   pub can : IsSheetReady sheet
   pub by : AllByRecursion (ValuesBy basis on measure) sheet.workers.items

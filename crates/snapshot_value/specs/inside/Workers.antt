@@ -10,11 +10,11 @@ use Rattle.snapshot_value.specs.declared.worker.Worker.{Worker}
 abbrev pub IsSmallRow : List Dated → ℤ → Measure → Policy → Row → Type 0
 IsSmallRow basis on measure policy row = IsValuedRow basis on measure policy row × IsWithinAmount (most_worth measure most_amount) row.worth
 
--- what it takes, where its cache is right for its basis
+-- what it takes, if its cache is right for its basis
 abbrev pub TakesPolicy : Worker → Policy → Type 0
 TakesPolicy worker policy = IsRightFor worker.basis.now worker.cache × IsSound policy
 
--- and what it gives of it
+-- what it gives for a policy
 abbrev pub GivesRow : Worker → Policy → Row → Type 0
 GivesRow worker policy row = IsSmallRow worker.basis.now worker.on worker.measure policy row
 

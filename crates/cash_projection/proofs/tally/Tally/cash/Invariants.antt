@@ -3,7 +3,7 @@ use Rattle.cash_projection.proofs.Tallying.{no_year}
 use Rattle.cash_projection.proofs.Tallying.{year_in}
 use Rattle.cash_projection.proofs.tally.Tally.cash.Given as goal
 
--- the years before this one are told, and there is room for the others
+-- the years before this one are reported, and there is room for the others
 abbrev pub invariant-loop-j : goal.invariant-loop-j
 invariant-loop-j l = record {
   many : length l.years.items ≡ l.j;
