@@ -372,7 +372,7 @@ told_lines IsRow clerk (Value on at workers) (Pinned position policies) commands
 ]
 told_lines IsRow _ _ _ _ _ _ _ _ _ is = absurd is
 
--- ---- the auditors' reports
+-- ---- the watchers' reports
 
 report_lines : (reports : List Report) (from : ℕ) (lane : ℕ) (named : Command) (k : ℕ)
     → HasLines (flat_map (λ (numbered : ℕ × Report).

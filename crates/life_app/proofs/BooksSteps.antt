@@ -33,7 +33,7 @@ module _ {D E : Type 0} (g : Ghosts D) (e : Ghosts E) (disks : TwoDisks D E) (ou
   true_disks : AreTrusted journal other → AreTrue g e disks
   true_disks trusted = record { first_honest = trusted.0; second_honest = trusted.1; truth = trusted.2 }
 
-  -- what both texts tell: neither disk failed, and a true journal opens to commands
+  -- what both texts state: neither disk failed, and a true journal opens to commands
   abbrev Known : Type 0
   Known = TellsSnapshot g e disks (λ (s : Snapshot). Unit {0})
 

@@ -1,7 +1,7 @@
 -- What a crash leaves of a run, and what the next run finds
 use Rattle.life_app.proofs.Names.{◌≡◌, ℕ, List, [], ◌∷◌, ◌++◌, refl, ap, sym, ◌∙◌, subst, inl, inr, append-nil, append_assoc, Ghosts, Command, Entry, Opening, accepted_of, commands_after, IsSafe, HoldsOnce, IsLeftAlone, IsOneMore, Opens, opens_to_one, AreAllHeld, AreHeld, HasRun}
 
--- what is there of a front, in parts
+-- what is there of a prefix, in parts
 pub record Parts (opening : Opening) (history : List Entry) (image : List ℕ) : Type 0 where
   pub held : List Command
   pub rest : List Command

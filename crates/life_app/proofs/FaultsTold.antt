@@ -1,4 +1,4 @@
--- Where the count of faults of one of the disks rose and the output didn't fail, the ending tells it, but for want of memory
+-- Where the count of faults of one of the disks rose and the output didn't fail, the ending states it, unless memory is refused
 use Rattle.life_app.proofs.Names.{◌≡◌, ◌<◌, ◌⊎◌, ℕ, ℤ, List, [], ◌∷◌, ◌++◌, refl, ap, ◌∙◌, inl, inr, Option, None, Some, arith, AllByRecursion, cons_option, filter_map, last_or, Ghosts, Rose, Command, At, Entry, Lane, fault_of, opened_on, Dated, Measure, Auditor, IsLeftBy, Mode, Run, Value, Project, State, Checkpoint, Generate, Load, Ending, Done, BadJournal, WriteFault, DiskFault, NoMemory, status_of, EndsReadOnly, Input, Shelving, Stream, WroteAll, EndsScript, EndsLanes, EndsRun, policy_account, EndsState, IsStated, EndsValue, IsValued, EndsProject, IsProjected, EndsLoad, EndsLoading, HasNewFault, filing_between, Does, EndsBooks, EndsMode, EndsSave, WroteAsEnded, EndsNoOffice, reports_text, reports_of, accepted_of, books_of}
 use Rattle.std.specs.Option.{unwrap_or}
 use Rattle.program_endings.proofs.ReplyNames.{IsAnswered}

@@ -197,14 +197,14 @@ module _ {D : Type 0} (g : Ghosts D) (old new : D) (output : Stream) where
       by_script lanes basis auditors bytes ShelfStays ending whole reads given (inr unread) =
           without_script lanes basis auditors ending unread.0 unread.2
 
-      -- words that ask for a run were read, or there was no memory for them
+      -- arguments that ask for a run were read, or there was no memory for them
       unasked_run : (words : List (List ℕ)) (ending : Ending) → AskForRun words name → new ≡ old → SaysUnasked words output ending
           → IsUnrun g Opens old new name input output shelf (status_of ending)
       unasked_run words Usage asked same says = absurd (says.0 (Run name) asked)
       unasked_run words (NoMemory lack) asked same says = unrun_untouched (NoMemory a_lack) (inl says) same only_now
       unasked_run words _ asked same says = absurd says
 
-      -- what the words ask for, and how it ended, whatever the second disk
+      -- what the arguments ask for, and how it ended, whatever the second disk
       module _ {E : Type 0} (e : Ghosts E) (second kept : Option E) (lanes : List Lane) (basis : List Dated) (auditors : List Auditor)
           (bytes : List ℕ) (words : List (List ℕ)) (InputStays ShelfStays : Type 0) where
         by_words : (ending : Ending) → AskForRun words name

@@ -1,4 +1,4 @@
--- What runs over both disks leave: each checkpoint on the second disk tells the truth of the journal
+-- What runs over both disks leave: each checkpoint on the second disk is true of the journal
 use Rattle.life_app.proofs.Names.{◌≡◌, ◌⊎◌, ℕ, List, [], ◌∷◌, ◌++◌, map, take, refl, ap, sym, ◌∙◌, subst, inl, inr, append-nil, append_assoc, None, Some, length-map, map-append, take_at, Ghosts, Command, IsSafe, spelling_of, Opens, opens_to_one, to_bodies, EndsCheckpoint, IsNoneOrEarlierOrHeld, AreTrue, IsOnlyRead, TellsTruth, TwoDisks, Auditor, Mode, Run, Value, Project, State, Checkpoint, Generate, Load, Input, Shelving, Stream, Ending, EndsMode, Obeys}
 use Rattle.posting_journal.specs.Opening.{IsOpenedOn}
 use Rattle.posting_journal.proofs.Unique.{opens_once}
@@ -25,7 +25,7 @@ saved_longer file commands more saved s is =
       snapshot = of.snapshot;
     }
 
--- so it tells the truth of the journal that opens to them
+-- so it is true of the journal that opens to them
 tells_truth : (file bytes : List ℕ) (commands : List Command) → Opens bytes commands → SavedOfFirst file commands → TellsTruth file bytes
 tells_truth file bytes commands opens saved bodies opened s is within =
     let of = saved s is in
@@ -61,7 +61,7 @@ saved_whole file bytes commands s (inr creation) of = record {
   snapshot = subst (λ (cs : List Command). IsSnapshotOf cs s) creation.0 of;
 }
 
--- each image of the second disk tells the truth of these commands
+-- each image of the second disk is true of these commands
 abbrev AllSaved : {E : Type 0} → Ghosts E → E → List Command → Type 0
 AllSaved e second commands = (image : List ℕ) → e.may_leave second image → SavedOfFirst image commands
 

@@ -9,7 +9,7 @@ use Rattle.life_app.specs.Durable.{AreWholeLines}
 abbrev pub IsFree : List ℕ → Type 0
 IsFree line = AllByRecursion (λ b. b ≡ 10 → ⊥) line
 
--- the lines, each with a line feed behind it
+-- the lines, each with a line feed after it
 abbrev pub lines_text : List (List ℕ) → List ℕ
 lines_text [] = []
 lines_text (line ∷ lines) = line ++ 10 ∷ lines_text lines
@@ -25,7 +25,7 @@ pub tails : (c d : ℕ) (xs ys : List ℕ) → c ∷ xs ≡ d ∷ ys → xs ≡ 
 unfolding tail_of
 tails c d xs ys same = ap tail_of same
 
--- the first line, and what stands behind it
+-- the first line, and what stands after it
 pub same_first : (a b x y : List ℕ) → IsFree a → IsFree b → a ++ 10 ∷ x ≡ b ++ 10 ∷ y → (a ≡ b) × (x ≡ y)
 same_first [] [] x y one two same = (refl, tails 10 10 x y same)
 same_first [] (d ∷ b) x y one two same = absurd (two.0 (sym (heads 10 d x (b ++ 10 ∷ y) same)))
@@ -84,7 +84,7 @@ pub lines_free : (front back : List (List ℕ)) → AllByRecursion IsFree front 
 lines_free [] back one two = two
 lines_free (line ∷ front) back one two = (one.0, lines_free front back one.1 two)
 
--- A line that begins behind so many lines is one of these, or stands behind them all.
+-- A line that begins after so many lines is one of these, or stands after them all.
 pub record IsBeyond (lines starts : List (List ℕ)) (tail line after : List ℕ) : Type 0 where
   pub rest : List (List ℕ)
   pub free : AllByRecursion IsFree rest

@@ -4,7 +4,7 @@ use Rattle.life_app.specs.Names.{Rose, GivesMore, Command, Lane, Dated, IsBasis,
 use Rattle.basis_shelf.specs.declared.fault.BadBasis.{BadBasis as ABadBasis}
 use Rattle.life_app.specs.Needs.{Filing, HasDiskFault, HasScript, HasSecond, JournalIs, Second, ShelfHas, Without, seen_by}
 
--- what the words ask for
+-- what the arguments ask for
 abbrev pub AreNoWords : List (List ℕ) → Type 0
 AreNoWords words = (mode : Mode) → ¬ AreWords words mode
 

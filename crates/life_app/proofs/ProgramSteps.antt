@@ -1,4 +1,4 @@
--- What the exit status tells of the words, the script, the basis and the file
+-- What the exit status says of the words, the script, the basis and the file
 use Rattle.life_app.proofs.Names.{◌≡◌, ℕ, ◌≤◌, ◌<◌, ◌⊎◌, ℤ, List, length, ⊎_elim, refl, ap, subst, inl, inr, Option, None, Some, codes, Ghosts, Rose, GivesMore, Command, At, Position, Lane, Auditor, Dated, Measure, Reads, AreWords, Mode, Run, Value, Project, State, Checkpoint, Generate, Load, IsLeftAlone, Opens, OpensToNone, Ending, Done, Usage, BadScript, BadBasis, BadJournal, ReadFault, DiskFault, NoMemory, Ahead, status_of, SaysBadFile, Input, IsWholeInput, Shelving, Stream, EndsRun, HasItsBasis, IsUnreadable, asks_for_values, books_of, policy_account, EndsValue, position_of, EndsProject, Filing, HasSecond, Second, Without, filing_between, seen_by, HasBasis, HasItsJournal, HasItsNeeds, HasJournal, HasNoBasis, HasNoJournal, HasNoScript, HasScript, IsDueEnding, LacksItsJournal, NeedsBasis, NeedsOf, commands_of, Does, EndsBooks, EndsMode, EndsSave, SaysUnasked, AreNoWords, AskForCheckpoint, AskForGenerate, AskForLoad, AskForProject, AskForRun, AskForValue}
 use Rattle.std.specs.Prelude.{true}
 use Rattle.outside_io.specs.Shelves.{Files}
@@ -35,7 +35,7 @@ module _ {D E : Type 0} (g : Ghosts D) (e : Ghosts E) (old new : D) (second kept
     unasked (NoMemory lack) says mode asked = refl
     unasked _ says mode asked = absurd says
 
-    -- the mode that the words ask for ended so, or there was no memory to read them
+    -- the mode that the arguments ask for ended so, or there was no memory to read them
     pub as_asked : (ending : Ending) → Does g e old new second kept words auditors input output shelf InputStays ShelfStays ending
         → (mode : Mode) → AreWords words mode
         → EndsMode g e old new second kept mode auditors input output shelf InputStays ShelfStays ending ⊎ (status_of ending ≡ 9)
@@ -47,7 +47,7 @@ module _ {D E : Type 0} (g : Ghosts D) (e : Ghosts E) (old new : D) (second kept
       | inr none ↦ inr (unasked ending none.4 mode asked)
     ]
 
-    -- words that ask for nothing
+    -- arguments that ask for nothing
     pub as_nothing : (ending : Ending) → Does g e old new second kept words auditors input output shelf InputStays ShelfStays ending
         → AreNoWords words → (status_of ending ≡ 2) ⊎ (status_of ending ≡ 9)
     as_nothing ending does nothing = elim does [
@@ -142,7 +142,7 @@ module _ {D E : Type 0} (g : Ghosts D) (e : Ghosts E) (old new : D) (second kept
         | inr none ↦ inr none
       ]
 
-      -- the words ask for a valuation, which ended so, or there was no memory to read them
+      -- the arguments ask for a valuation, which ended so, or there was no memory to read them
       valued_so : (on : ℤ) (at : At) (name : List ℕ) → AskForValue words on at name
           → ((measure : Measure) × EndsValue g old new on at measure name shelf output ending) ⊎ (status_of ending ≡ 9)
       valued_so on at name asked = elim (as_asked ending does (Value on at asked.0 name asked.1.0) asked.1.1) [
@@ -192,7 +192,7 @@ module _ {D E : Type 0} (g : Ghosts D) (e : Ghosts E) (old new : D) (second kept
         | inr without ↦ inr without
       ]
 
-      -- the words ask for a projection, which ended so, or there was no memory to read them
+      -- the arguments ask for a projection, which ended so, or there was no memory to read them
       projected_so : (on : ℤ) (years : ℕ) (name : List ℕ) → AskForProject words on years name
           → EndsProject g old new on years name shelf output ending ⊎ (status_of ending ≡ 9)
       projected_so on years name asked = elim (as_asked ending does (Project on years asked.0 name) asked.1) [

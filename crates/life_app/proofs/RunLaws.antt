@@ -10,7 +10,7 @@ pub record Starts {D : Type 0} (g : Ghosts D) (P : List Command → Type 0) (dis
   pub images : (image : List ℕ) → g.may_leave disk image → (commands : List Command) × Opens image commands × P commands
       × ((commands ≡ base) ⊎ ((command : Command) × (commands ≡ base ++ command ∷ [])))
 
--- what has P, and behind it what a run adds
+-- what has P, and after it what a run adds
 abbrev pub Grown : {D : Type 0} → (List Command → Type 0) → OneRun D → List Command → Type 0
 Grown P run commands =
     (before held more : List Command) × P before × AddsCommands run held more × (commands ≡ before ++ held ++ more)

@@ -104,7 +104,7 @@ behind_first : (f g : List ℕ) (fs gs : List (List ℕ)) (x y : List ℕ)
 behind_first f g fs gs x y same =
     sym (append_assoc f (behind_commas fs) (10 ∷ x)) ∙ tails 44 44 _ _ same ∙ append_assoc g (behind_commas gs) (10 ∷ y)
 
--- fields behind commas, and then a line feed
+-- fields after commas, and then a line feed
 same_fields : (fs gs : List (List ℕ)) (x y : List ℕ) → AreBare fs → AreBare gs
     → behind_commas fs ++ 10 ∷ x ≡ behind_commas gs ++ 10 ∷ y → (fs ≡ gs) × (x ≡ y)
 same_fields [] [] x y one two same = (refl, tails 10 10 x y same)
@@ -119,7 +119,7 @@ line_before : (a : List ℕ) (fs : List (List ℕ)) (x : List ℕ) → line_of a
 line_before a fs x =
     append_assoc (a ++ behind_commas fs) (10 ∷ []) x ∙ append_assoc a (behind_commas fs) (10 ∷ x)
 
--- a line, and what stands behind it
+-- a line, and what stands after it
 pub same_line : (a b : List ℕ) (fs gs : List (List ℕ)) (x y : List ℕ) → IsBare a → IsBare b → AreBare fs → AreBare gs
     → line_of a fs ++ x ≡ line_of b gs ++ y → (a ≡ b) × (fs ≡ gs) × (x ≡ y)
 same_line a b fs gs x y first other one two same =
@@ -280,7 +280,7 @@ bare_kind (Mature id day) = bare_by (codes "mature") refl
 bare_kind (PaidUpCommand id day amount) = bare_by (codes "paidup") refl
 bare_kind Upgrade = bare_by (codes "upgrade") refl
 
--- other letters behind the comma
+-- other letters after the comma
 letters : (n m : ℕ) (xs ys : List ℕ) → (n ≡ m → ⊥) → 44 ∷ n ∷ xs ≡ 44 ∷ m ∷ ys → ⊥
 letters n m xs ys differ same = differ (ap (λ (l : List ℕ). get_or l 1 0) same)
 

@@ -1,4 +1,4 @@
--- What worked cases of both disks are told by.
+-- What worked cases of both disks are stated by.
 use Rattle.life_app.proofs.Names.{◌≡◌, ◌≤◌, ◌<◌, ◌++◌, ℕ, List, [], ◌∷◌, refl, inl, inr, codes, lit≤, lit<, None, Some, arith, digits, Ghosts, bare, State, Checkpoint, WroteLine, TellsTruth}
 use Rattle.program_endings.proofs.WorkedEndings.{no_fault}
 use Rattle.program_endings.specs.Worked.{output_with}
@@ -17,7 +17,7 @@ both_words = (
   ),
 )
 
--- a file that is no checkpoint tells no lie
+-- a file that is no checkpoint says nothing false
 empty_is_true : TellsTruth [] []
 empty_is_true bodies opens s is within = let no : 0 ≡ 1 = is.opened in absurd (omega (arith, no))
 

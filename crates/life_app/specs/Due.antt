@@ -1,12 +1,12 @@
--- Which ending is due, where the devices don't fail on which it rests
+-- Which ending is due, provided the devices on which it depends don't fail
 use Rattle.std.specs.Prelude.{◌≡◌, ◌≤◌, ◌<◌, ◌⊎◌, ℕ, ℤ, true, List, length}
 use Rattle.life_app.specs.Names.{Rose, GivesMore, Command, Position, Lane, Dated, IsBasis, AreWords, Mode, Run, Value, Generate, Opens, OpensToNone, Input, IsWholeInput, Shelving, Stream, Ending, Done, Usage, BadScript, BadBasis, BadJournal, ReadFault, DiskFault, Ahead, Measure, IsUnreadable, asks_for_values, most_script_bytes, position_of, IsFirstBadFile}
 use Rattle.basis_shelf.specs.declared.fault.BadBasis.{BadBasis as ABadBasis}
 use Rattle.life_app.specs.Needs.{Filing, HasDiskFault, HasItsNeeds, HasScript, JournalIs, NeedsBasis, Second, ShelfHas, Without, seen_by}
 
--- The ending that is due: by the words; by the script; by the basis; by the journal, and how many commands it has; where
--- nothing is lacking, and the output doesn't fail, the work is done; and where the count of the shelf or of the input rises,
--- or that of a disk while the output doesn't fail, that is told.
+-- The ending that is due: by the arguments; by the script; by the basis; by the journal, and how many commands it
+-- has. If nothing is lacking and the output doesn't fail, the work is done. If the count of the shelf or of the input
+-- rises, or that of a disk while the output doesn't fail, that is reported.
 abbrev pub IsDueEnding : List (List ℕ) → Input → Stream → Shelving → Filing → Second → Ending → Type 0
 IsDueEnding words input output shelf disk second Usage = (mode : Mode) → ¬ AreWords words mode
 IsDueEnding words input output shelf disk second BadScript =

@@ -14,7 +14,7 @@ pub record OneRunOfTwo (D E : Type 0) : Type 0 where
 abbrev pub run_disks : {D E : Type 0} → D → E → OneRunOfTwo D E → TwoDisks D E
 run_disks old second run = record { old = old; new = run.one.new; second = second; kept = run.kept }
 
--- a crash, at some moment of the run or after it, left of a disk what the next run begins with, and just that
+-- a crash, at some moment of the run or after it, left of a disk exactly what the next run begins with
 pub record WasLeftOf {E : Type 0} (e : Ghosts E) (old new next : E) : Type 0 where
   pub left : e.left_since new (e.clock old) (e.reads next)
   pub safe : IsSafe e next
@@ -24,16 +24,16 @@ pub record LeavesSecond {E : Type 0} (e : Ghosts E) (old new : E) : Type 0 where
   pub since : Leaves e old new (e.may_leave old)
   pub now : (image : List ℕ) → e.may_leave new image → e.may_leave old image
 
--- A call saved the books, or tried to: no office was opened, and the journal's disk was made safe at some moment of it; and a
--- crash leaves no checkpoint on the second disk, one that it might have left before, or one that is the journal's where the
--- disks are true.
+-- A call saved the books, or tried to. No office was opened, and the journal's disk was made safe at some moment of
+-- the call. A crash leaves on the second disk no checkpoint, or one that it might have left before, or one that is
+-- the journal's, provided the disks are true.
 pub record LeavesSaved {D E : Type 0} (g : Ghosts D) (e : Ghosts E) (disks : TwoDisks D E) : Type 0 where
   pub alone : IsLeftAlone g disks.old disks.new
   pub safe : IsMadeSafe g disks.old disks.new
   pub since : Leaves e disks.second disks.kept (IsNoneOrEarlierOrHeld g e disks)
   pub now : (image : List ℕ) → e.may_leave disks.kept image → IsNoneOrEarlierOrHeld g e disks image
 
--- a run that didn't write to the second disk: the next one begins with it, or with what a crash left
+-- a run that didn't write to the second disk: the next one begins with that disk, or with what a crash left of it
 pub record KeepsSecond {D E : Type 0} (e : Ghosts E) (second : E) (run : OneRunOfTwo D E) : Type 0 where
   pub leaves : LeavesSecond e second run.kept
   pub next : (run.next_second ≡ run.kept) ⊎ WasLeftOf e second run.kept run.next_second
@@ -43,7 +43,7 @@ pub record WasCutBefore {E : Type 0} (e : Ghosts E) (second next : E) : Type 0 w
   pub left : e.may_leave second (e.reads next)
   pub safe : IsSafe e next
 
--- It came later, and it is supposed that the journal's disk was made safe before.
+-- It came later. The premise is that the journal's disk was made safe before.
 pub record WasCutAfter {D E : Type 0} (g : Ghosts D) (e : Ghosts E) (old : D) (second : E) (run : OneRunOfTwo D E)
     (safe : IsMadeSafe g old run.one.new) : Type 0 where
   pub first_left : g.left_since run.one.new (g.clock safe.0) (g.reads run.one.next)

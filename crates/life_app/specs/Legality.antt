@@ -11,7 +11,7 @@ use Rattle.transcript_text.specs.Transcript.{reply_fields}
 abbrev pub reply_line : ℕ → Command → Reply → List ℕ
 reply_line lane command reply = line_of (decimal lane) (kind_word command ∷ decimal (id_of command) ∷ reply_fields reply)
 
--- where the answered line posts a command, its text gives the reply of the turn that answers it
+-- if the answered line posts a command, its text gives the reply of the turn that answers it
 abbrev pub GivesReply : AnsweredLine → List ℕ → Type 0
 GivesReply answered text =
     (command : Command) → answered.line ≡ PostLine command → text ≡ reply_line answered.clerk command answered.first.1.reply
@@ -31,7 +31,7 @@ pub record IsLegallyAnswered {D : Type 0} (g : Ghosts D) (Opens : List ℕ → L
   pub distinct : IsDistinct nat_eq callers
   pub theirs : AllByRecursion (λ entry. Contains callers entry.caller) history
   pub answered : AreLinesOf lines history lanes callers dry
-  -- each line has its text, and reports follow; of that a prefix was written, and all with status 0 or 8
+  -- each line has its text, and reports follow; a prefix of that was written, and all of it if the status is 0 or 8
   pub texts : List (List ℕ)
   pub replies : AllZip GivesReply lines texts
   pub reports : List ℕ

@@ -2,7 +2,7 @@
 use Rattle.std.specs.Prelude.{◌≡◌, ℕ, ◌⊎◌, true, List, None, codes}
 use Rattle.life_app.specs.Names.{Rose, Files, Ghosts, Lane, Dated, IsBasis, Mode, Run, Value, Project, State, Checkpoint, Load, Input, IsWholeInput, Shelving, IsReadAs, asks_for_values, TellsTruth}
 
--- the mode needs the basis of this name, where a script to run is such that a line of it asks for values
+-- the mode needs the basis of this name; `run` does only if a line of its script asks for values
 abbrev pub NeedsBasis : Mode → (Asks : Type 0) → List ℕ → Type 0
 NeedsBasis (Run basis) Asks name = (name ≡ basis) × Asks
 NeedsBasis (Value on at workers basis measure) Asks name = name ≡ basis
@@ -17,7 +17,7 @@ pub record HasScript (input : Input) (lanes : List Lane) : Type 0 where
   pub read : IsReadAs bytes lanes
   pub held : ¬ Rose input.faults_before input.faults_after
 
--- files that agree with what the shelf answered are so, and it didn't fail
+-- files that agree with the shelf's answers are so, and the shelf didn't fail
 pub record ShelfHas (shelf : Shelving) (AreSo : Files → Type 0) : Type 0 where
   pub files : Files
   pub agree : shelf.Agrees files
@@ -47,7 +47,7 @@ pub data Second : Type 1 where
   Without : Second
   With : Filing → Second
 
--- there is one
+-- there is a second disk
 abbrev pub HasSecond : Second → Type 0
 HasSecond Without = ⊥
 HasSecond (With file) = Unit {0}
@@ -60,25 +60,25 @@ pub record HasItsNeeds (mode : Mode) (input : Input) (shelf : Shelving) (second 
       → ShelfHas shelf (λ files. (basis : List Dated) × IsBasis files name basis)
   pub disks : mode ≡ Checkpoint → HasSecond second
 
--- a mode sees what it opens of it: `state` of all policies and `checkpoint` do
+-- what a mode sees of the second disk: `state` of all policies and `checkpoint` open it
 abbrev pub seen_by : Mode → Second → Second
 seen_by (State None) second = second
 seen_by Checkpoint second = second
 seen_by mode second = Without
 
--- The journal's disk comes back honest; and so does the second one, and a checkpoint in its file tells the truth of the
--- journal.
+-- The journal's disk comes back honest. If the mode sees the second disk, that comes back honest too, and a
+-- checkpoint in its file is true of the journal.
 abbrev pub AreTrusted : Filing → Second → Type 0
 AreTrusted disk Without = disk.Honest
 AreTrusted disk (With second) = disk.Honest × second.Honest × TellsTruth second.before disk.before
 
--- one of the disks failed, as these counts of its faults tell
+-- one of the disks failed, as its counts of faults show
 abbrev pub HasDiskFault : (Tell : ℕ → ℕ → Type 0) → Filing → Second → Type 0
 HasDiskFault Tell disk Without = Tell disk.faults_before disk.faults_after
 HasDiskFault Tell disk (With second) =
     Tell disk.faults_before disk.faults_after ⊎ Tell second.faults_before second.faults_after
 
--- The journal's file is so; and it and the second one, where there is one, are trusted, and didn't fail.
+-- The journal's file is so; and it and the second one, if there is one, are trusted, and didn't fail.
 pub record JournalIs (disk : Filing) (second : Second) (IsSo : List ℕ → Type 0) : Type 0 where
   pub trusted : AreTrusted disk second
   pub so : IsSo disk.before

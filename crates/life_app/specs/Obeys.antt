@@ -1,10 +1,12 @@
--- What the program does at its words, over the journal's disk and a second one, or none, and the status with which it ends
+-- What the program does for its arguments, over the journal's disk and a second one, or none, and the status with
+-- which it ends
 use Rattle.std.specs.Prelude.{◌≡◌, ℕ, ◌⊎◌, List, length, codes, Option, Some, None}
 use Rattle.life_app.specs.Names.{Ghosts, Auditor, AreWords, Mode, Run, Value, Project, State, Checkpoint, Generate, Load, status_of, Input, Shelving, Stream, WroteLine, Ending, Usage, NoMemory, EndsRun, book, books_text, policy_account, EndsCheckpoint, EndsStateKept, EndsValue, EndsState, EndsProject, EndsGenerate, EndsLoading, EndsOverBasis, generated_lanes}
 use Rattle.policy_machine.specs.Accounts.{ledger_of}
 
--- how each mode ends; `run` alone reads the input and has the auditors told, `state` and `checkpoint` leave the shelf, and
--- `generate` the disk too; no mode but `state` of all policies and `checkpoint` touches the second disk
+-- how each mode ends; only `run` reads the input and notifies the watchers; `state` and `checkpoint` don't touch the
+-- shelf, and `generate` doesn't touch the disk either; only `state` of all policies and `checkpoint` touch the second
+-- disk
 abbrev pub EndsMode : {D E : Type 0} → Ghosts D → Ghosts E → (old new : D) → (second kept : Option E) → Mode → List Auditor → Input → Stream
     → Shelving → (InputStays ShelfStays : Type 0) → Ending → Type 0
 EndsMode g e old new second kept (Run basis) auditors input output shelf InputStays ShelfStays ending =
@@ -28,7 +30,7 @@ EndsMode g e old new second kept (State (Some id)) auditors input output shelf I
 EndsMode {E = E} g e old new second kept Checkpoint auditors input output shelf InputStays ShelfStays ending =
     InputStays × ShelfStays × by second kept
   where
-    -- without a second disk its words aren't obeyed
+    -- without a second disk its arguments aren't obeyed
     by : (second kept : Option E) → Type 0
     by None None = (new ≡ old) × (ending ≡ Usage) × WroteLine output (codes "usage")
     by (Some second) (Some kept) =
@@ -41,7 +43,7 @@ EndsMode g e old new second kept (Load seed count lanes workers) auditors input 
     × EndsOverBasis old new (λ basis. EndsLoading g old new (generated_lanes seed lanes count) workers basis output ending)
     (codes "basis.csv") shelf output ending
 
--- Nothing is touched, and it is told in a line why the words weren't obeyed: they ask for nothing, or memory was wanting.
+-- Nothing is touched, and a line says why the arguments weren't obeyed: they ask for nothing, or memory was refused.
 abbrev pub EndsUnasked : {D E : Type 0} → (old new : D) → (second kept : Option E) → List (List ℕ) → Stream
     → (InputStays ShelfStays : Type 0) → Ending → Type 0
 EndsUnasked old new second kept words output InputStays ShelfStays ending =
@@ -52,8 +54,8 @@ EndsUnasked old new second kept words output InputStays ShelfStays ending =
     says (NoMemory lack) = WroteLine output (codes "nomemory")
     says _ = ⊥
 
--- the program did what the words ask for, with these auditors, or the words weren't obeyed; and the status is that of the
--- ending
+-- the program did what the arguments ask for, with these watchers, or the arguments weren't obeyed; and the status is
+-- that of the ending
 pub record Obeys {D E : Type 0} (g : Ghosts D) (e : Ghosts E) (old new : D) (second kept : Option E) (words : List (List ℕ))
     (auditors : List Auditor) (input : Input) (output : Stream) (shelf : Shelving) (InputStays ShelfStays : Type 0) (status : ℕ)
     : Type 0 where

@@ -5,9 +5,9 @@ use Rattle.basis_shelf.specs.Lines.{bad_basis_text}
 use Rattle.basis_shelf.specs.declared.fault.BadBasis.{BadBasis as ABadBasis}
 use Rattle.life_app.specs.Needs.{AreTrusted, Filing, HasDiskFault, HasSecond, NeedsBasis, Second, seen_by}
 
--- Why the program ends so: what the words are, or that too few commands are there; what the script, a basis file or the
--- journal is, and the line that names it; or which device's count of faults rose, of those that the words need. Success and
--- want of memory have none.
+-- Why the program ends with this status: the arguments are faulty, or too few commands are there; or what the script,
+-- a basis file or the journal is, and the line that names it; or which device's count of faults rose, among those
+-- that the arguments need. Success and a refusal of memory need no reason.
 abbrev pub HasReason : List (List ℕ) → Input → Stream → Shelving → Filing → Second → Ending → Type 0
 HasReason words input output shelf disk second Done = Unit {0}
 HasReason words input output shelf disk second Usage =

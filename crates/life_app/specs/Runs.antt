@@ -3,8 +3,8 @@ use Rattle.std.specs.Prelude.{◌≡◌, ◌⊎◌, List, [], ◌∷◌, ◌++�
 use Rattle.life_app.specs.Names.{Ghosts, Command, Entry, Opening, accepted_of, IsSafe, HasKept, IsLeftAlone, IsLeftBy}
 use Rattle.life_app.specs.Crashes.{IsOneMore}
 
--- A run: the disk as it gives it back, or would have, and the disk on which the next run begins; what its office was opened
--- on, and the turns; and the commands of which the run had answered that they are accepted when it ended.
+-- A run: the disk as it gives it back, or would have, and the disk on which the next run begins; the opening of its
+-- office, and the turns; and the commands that the run had reported as accepted when it ended.
 pub record OneRun (D : Type 0) : Type 0 where
   pub new : D
   pub next : D
@@ -12,20 +12,20 @@ pub record OneRun (D : Type 0) : Type 0 where
   pub history : List Entry
   pub answered : List Command
 
--- The disk is left by the turns of an office; or no office was opened, and it is left alone, or wasn't touched.
+-- The disk is left by the turns of an office; or no office was opened, and the disk is left alone or wasn't touched.
 abbrev pub IsLeftSo : {D : Type 0} → Ghosts D → D → D → Opening → List Entry → Type 0
 IsLeftSo g old new opening history =
     IsLeftBy g old new opening history
     ⊎ ((history ≡ []) × IsLeftAlone g old new)
     ⊎ ((history ≡ []) × (new ≡ old))
 
--- the run returned, and the next one goes on with the disk that it gave back
+-- the run returned, and the next one begins with the disk that it gave back
 pub record HasReturned {D : Type 0} (run : OneRun D) : Type 0 where
   pub handed : run.next ≡ run.new
   pub all : run.answered ≡ accepted_of run.history
 
--- The crash came when nothing was answered yet; or when a beginning of the turns had been answered, at or after a moment
--- since which each image holds what they accepted.
+-- The crash came when nothing had been answered yet; or when a beginning of the turns had been answered, at or after
+-- a moment since which each image holds what they accepted.
 pub record HasAnsweredSome {D : Type 0} (g : Ghosts D) (old : D) (run : OneRun D) : Type 0 where
   pub front : List Entry
   pub rest : List Entry
@@ -34,7 +34,7 @@ pub record HasAnsweredSome {D : Type 0} (g : Ghosts D) (old : D) (run : OneRun D
   pub kept : HasKept g old run.new run.opening front
   pub late : g.left_since run.new (g.clock kept.stood) (g.reads run.next)
 
--- A crash, at some moment of the run or after it, left the file that the next run begins with, and just that.
+-- A crash, at some moment of the run or after it, left exactly the file with which the next run begins.
 pub record WasCut {D : Type 0} (g : Ghosts D) (old : D) (run : OneRun D) : Type 0 where
   pub left : g.left_since run.new (g.clock old) (g.reads run.next)
   pub safe : IsSafe g run.next
@@ -51,8 +51,8 @@ abbrev pub AreRuns : {D : Type 0} → Ghosts D → D → List (OneRun D) → D �
 AreRuns g first [] last = last ≡ first
 AreRuns g first (run ∷ runs) last = IsRunOn g first run × AreRuns g run.next runs last
 
--- What a run adds: a front of what it accepted, and at most one more, whose posting was answered `fault` when just that was
--- accepted. What it had answered is the front of this.
+-- What a run adds: a prefix of what it accepted, and at most one command more, whose posting was answered `fault`
+-- when exactly that was accepted. What it had reported as accepted is a prefix of this.
 pub record AddsCommands {D : Type 0} (run : OneRun D) (held more : List Command) : Type 0 where
   pub front : (rest : List Command) × (accepted_of run.history ≡ held ++ rest)
   pub one : IsOneMore run.history held more

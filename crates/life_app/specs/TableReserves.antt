@@ -17,14 +17,14 @@ pub record IsTableReserve (policy : Policy) (entry : Dated) (years t : ℕ) (res
   pub exact : reserve
       ≡ exact_reserve Terminal policy.status (cover_along entry.table shape entry.bp) (cap_along entry.table shape.age entry.bp) t
 
--- and none where it has no shape, for the reason why
+-- and none if it has no shape, for the same reason
 abbrev pub table_reserves : Reserves
 table_reserves = record {
   Is = IsTableReserve;
   HasNone = λ policy entry why. shape_of policy.plan policy.age policy.years entry.table ≡ Err why;
 }
 
--- There is one exact reserve at most, and none where there is a reason for that.
+-- There is at most one exact reserve, and none if there is a reason for that.
 pub record AreOnce (reserves : Reserves) : Type 0 where
   pub one : (policy : Policy) (entry : Dated) (years other t : ℕ) (reserve another : Fraction) → reserves.Is policy entry years t reserve
       → reserves.Is policy entry other t another → (years ≡ other) × (reserve ≡ another)

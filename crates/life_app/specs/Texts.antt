@@ -1,4 +1,4 @@
--- What the texts of the program tell apart
+-- What the texts of the program distinguish
 use Rattle.std.specs.Prelude.{◌≡◌, ℕ, ◌<◌, ◌^◌, ℤ, List, length}
 use Rattle.life_app.specs.Names.{AllByRecursion, Command, Reply, Accepted, Refused, Faulted, Blank, Row, Bounds, Word, id_of, Worth, Wording}
 
@@ -15,7 +15,7 @@ IsPlainWorth _ = ⊥
 abbrev pub IsPlainRow : Row → Type 0
 IsPlainRow row = (row.id < 2 ^ 64) × (row.t < 2 ^ 64) × IsPlainWorth row.worth
 
--- both replies are a posting's, of one kind, and accepted at one position
+-- both replies are to postings and of one kind, and if accepted at one position
 abbrev pub AreAlike : Reply → Reply → Type 0
 AreAlike (Accepted position) (Accepted other) = position ≡ other
 AreAlike (Refused refusal) (Refused other) = Unit {0}
@@ -23,7 +23,8 @@ AreAlike (Faulted count) (Faulted other) = Unit {0}
 AreAlike Blank Blank = Unit {0}
 AreAlike _ _ = ⊥
 
--- The line of a posting tells the clerk, the policy, and what became of it; and a valuation its position and all its rows.
+-- The line of a posting states the lane, the policy, and what became of it; that of a valuation states its position
+-- and all its rows.
 pub record TellsApart (wording : Wording) : Type 0 where
   pub posting : (clerk other : ℕ) (command another : Command) (reply answer : Reply) → clerk < 2 ^ 64 → other < 2 ^ 64
       → id_of command < 2 ^ 64 → id_of another < 2 ^ 64 → IsPlainReply reply → IsPlainReply answer

@@ -17,11 +17,11 @@ use Rattle.policy_machine.specs.Accounts.{ledger_of}
 abbrev pub first_premium : Command
 first_premium = Premium 7001 (pos 18262) 40000
 
--- the line of a refused premium says this of why
+-- the line of a premium that is refused gives this as the reason
 abbrev pub Says : Refusal → List ℕ → Type 0
 Says refusal why = posting_text 1 first_premium (Refused refusal) ≡ codes "1,premium,7001,refused," ++ why ++ 10 ∷ []
 
--- every refusal, with its value where it has one
+-- every refusal, with its value if it has one
 abbrev pub RefusalTexts : Type 0
 RefusalTexts = Says Taken (codes "taken")
     × Says Unknown (codes "unknown")
@@ -47,7 +47,7 @@ StatusTexts = Says (WrongStatus InForce) (codes "wrongstatus,inforce")
     × Says (WrongStatus Expired) (codes "wrongstatus,expired")
     × Says (WrongStatus Settled) (codes "wrongstatus,settled")
 
--- one posting of each kind, and by each of its answers: accepted, refused, a fault, want of memory
+-- one posting of each kind, and by each of its answers: accepted, refused, a fault, a refusal of memory
 abbrev pub PostingLines : Type 0
 PostingLines = (posting_text 1 policy_issue (Accepted 1) ≡ codes "1,issue,7001,accepted,1" ++ 10 ∷ [])
     × (posting_text 8 first_premium (Faulted 3) ≡ codes "8,premium,7001,fault" ++ 10 ∷ [])
@@ -69,7 +69,7 @@ UpgradeLines = (posting_text 1 Upgrade (Accepted 3) ≡ codes "1,upgrade,0,accep
 abbrev pub posting_turn : ℕ → Command → Reply → Entry
 posting_turn caller command reply = record { caller = caller; call = Post command; reply = reply }
 
--- clerk 3 and clerk 5 under the callers 11 and 12: the premium is posted before there is the policy, and again behind it
+-- lanes 3 and 5 under the callers 11 and 12: the premium is posted before there is the policy, and again after it
 abbrev pub clerks_turns : List Entry
 clerks_turns = posting_turn 12 first_premium (Refused Unknown) ∷ posting_turn 11 policy_issue (Accepted 1) ∷ posting_turn 12 first_premium (Accepted 2) ∷ []
 
@@ -84,7 +84,7 @@ clerks_answers =
     ∷ (record { clerk = 3; line = PostLine policy_issue; first = (1, posting_turn 11 policy_issue (Accepted 1)); rest = [] })
     ∷ (record { clerk = 5; line = PostLine first_premium; first = (2, posting_turn 12 first_premium (Accepted 2)); rest = [] }) ∷ []
 
--- two clerks' lines stand in the order of their turns
+-- the lines of two lanes are in the order of their turns
 abbrev pub TwoClerks : Type 0
 TwoClerks = AreLinesOf clerks_answers clerks_turns clerks_lanes (11 ∷ 12 ∷ []) []
     × AllZip (IsToldLine run_wording (λ on. IsValuedRow [] on Terminal) [] clerks_turns []) clerks_answers ((codes "5,premium,7001,refused,unknown" ++ 10 ∷ [])
@@ -98,7 +98,7 @@ OtherLines = (trim_text 1 300 ≡ codes "1,trim,300" ++ 10 ∷ [])
     × (unpinned_text 8 (pos 18628) PinsFull ≡ codes "8,value,2021-01-01,refused,pinsfull" ++ 10 ∷ [])
     × (unvalued_text 1 (pos 18628) ≡ codes "1,value,2021-01-01,nomemory" ++ 10 ∷ [])
 
--- the lines of the two auditors of the program after the first issue, of one with the greatest numbers, and of none
+-- the lines of the two watchers of the program after the first issue, of one with the greatest numbers, and of none
 abbrev pub WatcherLines : Type 0
 WatcherLines = (reports_text ((record { seen = 1; tally = 1 }) ∷ (record { seen = 1; tally = 0 }) ∷ []) ≡ codes "watcher,1,1,1" ++ 10 ∷ codes "watcher,2,1,0" ++ 10 ∷ [])
     × (watcher_text 16 (record { seen = 4000000; tally = 18446744073709551615 }) ≡ codes "watcher,16,4000000,18446744073709551615" ++ 10 ∷ [])
@@ -117,7 +117,7 @@ ClaimedBooks = books_text (book claimed_beside_another) (ledger_of claimed_besid
     ∷ codes "balance,cash,0.00" ++ 10 ∷ codes "balance,premiums,-400.00" ++ 10
     ∷ codes "balance,incurred,1000.00" ++ 10 ∷ codes "balance,payable,-600.00" ++ 10 ∷ codes "count,5" ++ 10 ∷ []
 
--- one policy's entries, with their numbers among all commands; and a number of no policy
+-- one policy's entries, with their numbers among all commands; and a number that no policy has
 abbrev pub ClaimedEntries : Type 0
 ClaimedEntries = (policy_account 7001 claimed_beside_another
     ≡ codes "entry,1,issue,2020-01-01,endowment,0,3,1000.00,400.00" ++ 10
@@ -153,7 +153,7 @@ BothRefuseHello {D} {E} g e = (disks : TwoDisks D E) (output : Stream) → AreTr
     → EndsStateKept g e disks output BadJournal ⊎ EndsCheckpoint g e disks output BadJournal
     → WroteLine output (codes "badjournal,notajournal")
 
--- where no words could be read for want of memory, `nomemory` is written, and is all that is
+-- if memory to read the arguments was refused, `nomemory` is written and nothing else
 abbrev pub NoWordsLine : Type 0
 NoWordsLine = (words : List (List ℕ))
     → EndsUnasked {D = Unit {0}} {E = Unit {0}} (tt {0}) (tt {0}) None None words (output_with 0 [] (codes "nomemory" ++ 10 ∷ [])) (Unit {0}) (Unit {0}) (NoMemory a_lack)
@@ -163,7 +163,7 @@ NoWordsLine = (words : List (List ℕ))
 abbrev pub plain_row : Row
 plain_row = record { id = 7001; status = InForce; t = 1; worth = Bounds 12722 12723 }
 
--- replies and rows of which the texts tell: all refusals alike, and two positions apart
+-- replies and rows that the texts distinguish: all refusals of one kind, and two positions
 abbrev pub ToldApart : Type 0
 ToldApart = IsPlainReply (Accepted 2) × AreAlike (Refused Taken) (Refused Unknown) × (AreAlike (Accepted 2) (Accepted 3) → ⊥)
     × IsPlainRow plain_row × IsPlainWorth plain_row.worth × TellsApart run_wording × AreOnce table_reserves

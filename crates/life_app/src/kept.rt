@@ -18,16 +18,16 @@ use watcher_set::{Lack, Watchers};
 /// What the program leaves: its exit status, and its two disks.
 pub struct EndedKept<D, E> {
     pub status: u8,
-    /// What memory was wanting, of status 9.
+    /// With status 9: the evidence that memory was refused.
     pub lack: Option<Lack>,
     pub disk: D,
     pub second: E,
 }
 
-/// Does what `life` does, and the words `checkpoint`, with a second disk for a checkpoint of the journal. `state` of all
-/// policies begins with that checkpoint, where there is one that isn't above the journal's count, and at most syncs and reads
-/// the second disk (how few records it decides is said of `state_kept` alone); `checkpoint` saves the books there. In every
-/// other mode the second disk isn't touched.
+/// Does what `life` does, and obeys `checkpoint`, with a second disk for a checkpoint of the journal. `state` of all
+/// policies begins with that checkpoint, if there is one that isn't above the journal's count; it only syncs and
+/// reads the second disk. (How few records it decides is stated for `state_kept` alone.) `checkpoint` saves the books
+/// on the second disk. No other mode touches the second disk.
 pub fn life_kept<
     R: Threads + Wait + Sync,
     S: Source,
@@ -57,24 +57,26 @@ pub fn life_kept<
         (input.new ≡ input.old) (shelf.new ≡ shelf.old) result.status }
     ensures shelf { H.files shelf.new ≡ H.files shelf.old }
 
-    // Each status but 0 and 9 has its reason: what the words, the script, a basis file or the journal are, or the device that failed.
+    // Each status but 0 and 9 has its reason: what the arguments, the script, a basis file or the journal are, or the
+    // device that failed.
     ensures reason { (ending : AnEnding) × (result.status ≡ status_of ending) × HasReason (map string_bytes words.now) (input_between S.faults S.left S.given S.ended input.old input.new)
         (between K.faults K.written K.pieces output.old output.new)
         (shelf_between H.faults H.agrees shelf.old shelf.new) (filing_between D.Disk disk result.disk)
         (With (filing_between E.Disk second result.second)) ending }
 
-    // An ending that is due, where the devices don't fail on which it rests, comes about, but for want of memory.
+    // An ending that is due comes about, provided the devices on which it depends don't fail, and unless memory is
+    // refused.
     ensures due { (ending : AnEnding) → IsDueEnding (map string_bytes words.now) (input_between S.faults S.left S.given S.ended input.old input.new)
         (between K.faults K.written K.pieces output.old output.new)
         (shelf_between H.faults H.agrees shelf.old shelf.new) (filing_between D.Disk disk result.disk)
         (With (filing_between E.Disk second result.second)) ending
         → (result.status ≡ status_of ending) ⊎ (result.status ≡ 9) }
 
-    // It ends for want of memory where memory was wanting, and has the evidence of that; no other status has it.
+    // If it ends with 9, memory was refused, and it holds the evidence; no other status has it.
     ensures lack { result.status ≡ 9 → IsSome result.lack }
     ensures unlacking { IsSome result.lack → result.status ≡ 9 }
 
-    // A file that opens to no commands reads as before, however the run ends, where its disk comes back honest.
+    // A file that opens to no commands reads as before, however the run ends, if its disk comes back honest.
     ensures unopened { D.honest result.disk → OpensToNone (D.reads disk) → D.reads result.disk ≡ D.reads disk }
 {
     let watchers = Watchers::new(watchers);

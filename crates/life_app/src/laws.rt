@@ -1,4 +1,4 @@
-// What the definitions have to mean, as functions that do nothing.
+// Laws that the definitions satisfy, as functions that do nothing.
 ghost use Rattle.std.specs.Prelude.{◌≡◌, ◌⊎◌, ℕ, List, Option, Some, []};
 ghost use Rattle.life_app.specs.Names.{Command, Entry, Opening, IsSafe, IsFirstScriptFault, TellsTruth, TwoDisks, between, input_between, shelf_between, Auditor, IsFrontThere, IsLeftAlone, Opens, IsReadable, IsUnreadable};
 ghost use Rattle.life_app.specs.Crashes.{AreAllHeld, AreHeld, HasRun};
@@ -8,7 +8,7 @@ ghost use Rattle.life_app.specs.Obeys.{Obeys};
 
 use outside_io::{Disk, Shelf, Sink, Source};
 
-/// Every script is read or refused, and none is both; none has two first faults.
+/// Every script is read or refused, and none is both; no script has two first faults.
 pub fn scripts_are_read_or_refused()
     ensures either { (bytes : List ℕ) → IsReadable bytes ⊎ IsUnreadable bytes }
     ensures not_both { (bytes : List ℕ) → IsReadable bytes → IsUnreadable bytes → ⊥ }
@@ -16,8 +16,8 @@ pub fn scripts_are_read_or_refused()
         → IsFirstScriptFault bytes other place → (row ≡ other) × (field ≡ place) }
 {}
 
-/// A crash at any moment of a run leaves the commands from before it, a front of what it accepted, and at most one more.
-/// A crash after it leaves all that it accepted, and at most one more.
+/// A crash at any moment of a run leaves the commands from before it, a prefix of what it accepted, and at most one
+/// command more. A crash after it leaves all that it accepted, and at most one command more.
 pub fn crashes_of_a_run<D: Disk>()
     ensures during { (old new : D) (opening : Opening) (history : List Entry) (image : List ℕ)
         → HasRun D.Disk old new opening history → D.left_since new (D.clock old) image
@@ -34,7 +34,8 @@ pub fn runs_after_a_crash<D: Disk>()
         → AreHeld opening history second.commands }
 {}
 
-/// Where that opening is cut short, before its first turn or where it answers no office, a crash leaves them anew.
+/// If that opening is cut short, before its first turn or without opening an office, a crash leaves the same commands
+/// again.
 pub fn crashes_of_an_opening<D: Disk>()
     ensures opened { (next last : D) (opening second : Opening) (history : List Entry) (image : List ℕ)
         → IsFrontThere Opens opening.commands history (D.reads next) → HasRun D.Disk next last second []
@@ -44,10 +45,10 @@ pub fn crashes_of_an_opening<D: Disk>()
         → D.left_since last (D.clock next) image → IsFrontThere Opens opening.commands history image }
 {}
 
-/// The runs of a list, each ended by its return or by a crash at any moment, leave in their order what each had answered to
-/// be accepted, perhaps more of what it accepted, and at most one more, that was answered `fault`. The first begins on a disk
-/// of which a crash leaves just what is read. Each call of the program, over a second disk or none, leaves the disk as such a
-/// run does.
+/// The runs of a list, each ended by its return or by a crash at any moment, leave, in their order: for each, what it
+/// had reported as accepted, perhaps more of what it accepted, and at most one command more, which was answered
+/// `fault`. The first run begins on a disk of which a crash leaves exactly what is read. Each call of the program,
+/// over a second disk or none, leaves the disk as such a run does.
 pub fn runs_in_a_row<S: Source, K: Sink, H: Shelf, D: Disk, E: Disk>()
     ensures left { (first last : D) (commands : List Command) (runs : List (OneRun D)) (image : List ℕ) → IsSafe D.Disk first
         → Opens (D.reads first) commands → AreRuns D.Disk first runs last → D.may_leave last image
@@ -60,11 +61,12 @@ pub fn runs_in_a_row<S: Source, K: Sink, H: Shelf, D: Disk, E: Disk>()
         → (opening : Opening) × ((history : List Entry) × IsLeftSo D.Disk old new opening history) }
 {}
 
-/// The runs of a list over both disks, each ended by its return or by a crash, leave a second disk that tells the truth of
-/// the journal: each checkpoint that it may leave is the snapshot of the first of the commands to which the journal's file
-/// opens, whatever the two disks leave. The first run begins with disks of which a crash leaves just what is read, and where
-/// a checkpoint on the second, if there is one, is so too. It is supposed that a crash which finds the second disk changed
-/// came after the journal's was made safe. Each call of the program over both disks that come back honest leaves them so.
+/// The runs of a list over both disks, each ended by its return or by a crash, leave a second disk that is true of
+/// the journal: each checkpoint that it may leave is the snapshot of the first of the commands to which the journal's
+/// file opens, whatever the two disks leave. The first run begins with disks of which a crash leaves exactly what is
+/// read; a checkpoint on the second, if there is one, is true of the journal. A premise is that a crash which finds
+/// the second disk changed came after the journal's disk was made safe. Each call of the program over both disks, if
+/// they come back honest, leaves them so.
 pub fn runs_over_both<S: Source, K: Sink, H: Shelf, D: Disk, E: Disk>()
     ensures left { (first last : D) (second last_second : E) (commands : List Command) (runs : List (OneRunOfTwo D E)) (image file : List ℕ)
         → IsSafe D.Disk first → IsSafe E.Disk second → Opens (D.reads first) commands → SavedOfFirst (E.reads second) commands

@@ -1,4 +1,4 @@
-// That a run is answered legally, as a function that does nothing.
+// A run is answered legally: a law, as a function that does nothing.
 ghost use Rattle.std.specs.Prelude.{◌≡◌, ◌⊎◌, ℕ, List, Option};
 ghost use Rattle.life_app.specs.Names.{AreWords, Run, Lane, Dated, IsBasis, Reads, Opens, IsWholeInput, between, input_between, shelf_between, Auditor};
 ghost use Rattle.life_app.specs.Headline.{IsGivenBasis, IsUnrun};
@@ -7,9 +7,10 @@ ghost use Rattle.life_app.specs.Obeys.{Obeys};
 
 use outside_io::{Disk, Shelf, Sink, Source};
 
-/// Where the program obeys words that ask to run a script, whatever the second disk, and the input gave that of these lanes, the
-/// lines are answers of one legal history of the policy rules from what the file held, and each lane's lines stand in it once
-/// and in order. The line of each posting gives the reply of its turn. Or the run failed before its first line.
+/// Suppose that the program obeys arguments that ask to run a script, over any second disk or none, and that the
+/// input gave the script of these lanes. Then the lines are answers of one legal history of the policy rules, which
+/// begins with what the file held, and each lane's lines are in it once and in order. The line of each posting gives
+/// the reply of its turn. Or the run failed before its first line.
 pub fn answered_legally<S: Source, K: Sink, H: Shelf, D: Disk, E: Disk>()
     ensures { (old new : D) (second kept : Option E) (input read : S) (output written : K) (shelf asked : H)
         (words : List (List ℕ)) (auditors : List Auditor) (status : ℕ) (name bytes : List ℕ)

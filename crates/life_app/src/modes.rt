@@ -1,4 +1,4 @@
-// The words are obeyed over the journal's disk and a second one, or none.
+// The arguments are obeyed over the journal's disk and a second one, or none.
 ghost use Rattle.std.specs.Prelude.{◌≡◌, ◌<◌, ℕ, [], Some, map, string_bytes};
 ghost use Rattle.life_app.specs.Names.{between, input_between, shelf_between, ReadFault, EndsStateKept, disks_of};
 ghost use Rattle.life_app.specs.inside.Obeying.{Does, EndsBooks, EndsSave};
@@ -18,7 +18,7 @@ use trial_load::{generate, load};
 use valuing_modes::{project, value};
 use watcher_set::Watching;
 
-/// Does what the words ask for, with the watchers told of what is accepted.
+/// Does what the arguments ask for, with the watchers notified of what is accepted.
 pub(crate) fn obey<
     R: Threads + Wait + Sync,
     S: Source,
@@ -132,7 +132,7 @@ fn state_over<K: Sink, D: Disk, E: Disk>(
     }
 }
 
-// The books of the two disks, with a ledger for the steps of their reading that the blank becomes.
+// The books of the two disks, with a ledger for the steps of their reading, which the blank becomes.
 fn state_by<K: Sink, D: Disk, E: Disk, L: Ledger>(
     alloc: Global,
     output: &mut K,
@@ -150,7 +150,7 @@ fn state_by<K: Sink, D: Disk, E: Disk, L: Ledger>(
     state_kept(alloc, output, disk, second, &mut steps)
 }
 
-// Saves the books on the second disk. Without one the words are refused.
+// Saves the books on the second disk. Without a second disk the arguments are refused.
 fn checkpoint_over<K: Sink, D: Disk, E: Disk>(
     alloc: Global,
     output: &mut K,
@@ -170,7 +170,7 @@ fn checkpoint_over<K: Sink, D: Disk, E: Disk>(
     }
 }
 
-// What a mode left that didn't touch the second disk.
+// What is left by a mode that didn't touch the second disk.
 fn beside<D, E>(finished: Finished<D>, second: Option<E>) -> FinishedKept<D, Option<E>>
     ensures ending { result.ending ≡ finished.ending }
     ensures disk { result.disk ≡ finished.disk }
@@ -183,7 +183,7 @@ fn beside<D, E>(finished: Finished<D>, second: Option<E>) -> FinishedKept<D, Opt
     }
 }
 
-// What a mode left of both disks.
+// What is left of both disks by a mode.
 fn over_both<D, E>(finished: FinishedKept<D, E>) -> FinishedKept<D, Option<E>>
     ensures ending { result.ending ≡ finished.ending }
     ensures disk { result.disk ≡ finished.disk }
@@ -196,7 +196,7 @@ fn over_both<D, E>(finished: FinishedKept<D, E>) -> FinishedKept<D, Option<E>>
     }
 }
 
-// Says why the words aren't obeyed.
+// Reports why the arguments aren't obeyed.
 fn refuse_words<K: Sink>(fault: WordsFault, output: &mut K) -> Ending
     ensures { SaysNoMode fault (between K.faults K.written K.pieces output.old output.new) result }
 {

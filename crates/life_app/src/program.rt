@@ -18,17 +18,18 @@ use watcher_set::{Lack, Watchers};
 /// What the program leaves: its exit status, and the disk.
 pub struct Ended<D> {
     pub status: u8,
-    /// What memory was wanting, of status 9.
+    /// With status 9: the evidence that memory was refused.
     pub lack: Option<Lack>,
     pub disk: D,
 }
 
-/// Does what the words ask for. The words `run` read a script from the input to its end, fetch a basis from the shelf where
-/// a line asks for values, open the office on the disk, answer each line, and write the transcript, and behind it what the
-/// watchers report of the accepted postings; `value` fetches a basis from the shelf, opens the office and writes what each
-/// policy is worth; `project` does so and writes what is expected to be paid by year; `state` writes the books; `generate`
-/// writes a generated script; `load` runs one, values all policies then, and writes a line about it. But in `run` the
-/// watchers are dropped. `checkpoint` needs a second disk: over one alone these words are refused.
+/// Does what the arguments ask for. `run` reads a script from the input to its end, fetches a basis from the shelf if
+/// a line asks for values, opens the office on the disk, answers each line, and writes the transcript and after it
+/// what the watchers report of the accepted postings. `value` fetches a basis from the shelf, opens the office and
+/// writes what each policy is worth. `project` does the same and writes what is expected to be paid by year. `state`
+/// writes the books. `generate` writes a generated script. `load` runs one, then values all policies, and writes a
+/// line about it. Every mode but `run` drops the watchers. `checkpoint` needs a second disk: over one disk alone its
+/// arguments are refused.
 pub fn life<
     R: Threads + Wait + Sync,
     S: Source,
@@ -56,22 +57,24 @@ pub fn life<
         (input.new ≡ input.old) (shelf.new ≡ shelf.old) result.status }
     ensures shelf { H.files shelf.new ≡ H.files shelf.old }
 
-    // Each status but 0 and 9 has its reason: what the words, the script, a basis file or the journal are, or the device that failed.
+    // Each status but 0 and 9 has its reason: what the arguments, the script, a basis file or the journal are, or the
+    // device that failed.
     ensures reason { (ending : AnEnding) × (result.status ≡ status_of ending) × HasReason (map string_bytes words.now) (input_between S.faults S.left S.given S.ended input.old input.new)
         (between K.faults K.written K.pieces output.old output.new)
         (shelf_between H.faults H.agrees shelf.old shelf.new) (filing_between D.Disk disk result.disk) Without ending }
 
-    // An ending that is due, where the devices don't fail on which it rests, comes about, but for want of memory.
+    // An ending that is due comes about, provided the devices on which it depends don't fail, and unless memory is
+    // refused.
     ensures due { (ending : AnEnding) → IsDueEnding (map string_bytes words.now) (input_between S.faults S.left S.given S.ended input.old input.new)
         (between K.faults K.written K.pieces output.old output.new)
         (shelf_between H.faults H.agrees shelf.old shelf.new) (filing_between D.Disk disk result.disk) Without ending
         → (result.status ≡ status_of ending) ⊎ (result.status ≡ 9) }
 
-    // It ends for want of memory where memory was wanting, and has the evidence of that; no other status has it.
+    // If it ends with 9, memory was refused, and it holds the evidence; no other status has it.
     ensures lack { result.status ≡ 9 → IsSome result.lack }
     ensures unlacking { IsSome result.lack → result.status ≡ 9 }
 
-    // A file that opens to no commands reads as before, however the run ends, where its disk comes back honest.
+    // A file that opens to no commands reads as before, however the run ends, if its disk comes back honest.
     ensures unopened { D.honest result.disk → OpensToNone (D.reads disk) → D.reads result.disk ≡ D.reads disk }
 {
     let watchers = Watchers::new(watchers);

@@ -9,10 +9,10 @@ ghost use Rattle.transcript_text.specs.Transcript.{run_wording};
 
 use outside_io::{Disk, Shelf, Sink, Source};
 
-/// Where the program obeys words that ask to run a script, whatever the second disk, and the input gave that of these lanes,
-/// it ran them as is promised, with the basis that it was given, or failed and added no command. A file opens to one list of commands at most,
-/// and an empty one to none; files make one basis at most under a name; there is one exact reserve at most; and texts that
-/// are the same say the same.
+/// Suppose that the program obeys arguments that ask to run a script, over any second disk or none, and that the
+/// input gave the script of these lanes. Then it ran them as promised, with the basis that it was given, or failed
+/// and added no command. A file opens to at most one list of commands, and an empty file to none; under a name, files
+/// make at most one basis; there is at most one exact reserve; and texts that are the same say the same.
 pub fn headline<S: Source, K: Sink, H: Shelf, D: Disk, E: Disk>()
     ensures promised { (old new : D) (second kept : Option E) (input read : S) (output written : K) (shelf asked : H)
         (words : List (List ℕ)) (auditors : List Auditor) (status : ℕ) (name bytes : List ℕ)

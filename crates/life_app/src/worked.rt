@@ -4,7 +4,7 @@ ghost use Rattle.life_app.specs.Worked.{BothRefuseHello, BothWords, ClaimedBooks
 
 use outside_io::Disk;
 
-/// Each refusal has its word, and its value where it has one.
+/// Each refusal has its word, and its value if it has one.
 pub fn refusal_texts()
     ensures { RefusalTexts }
 {}
@@ -29,12 +29,12 @@ pub fn other_lines()
     ensures { OtherLines }
 {}
 
-/// The lines of two clerks stand in the order of their turns.
+/// The lines of two lanes are in the order of their turns.
 pub fn two_clerks()
     ensures { TwoClerks }
 {}
 
-/// Each auditor has one line, and no auditors have none.
+/// Each watcher has one line, and no watchers have none.
 pub fn watcher_lines()
     ensures { WatcherLines }
 {}
@@ -44,12 +44,12 @@ pub fn claimed_books()
     ensures { ClaimedBooks }
 {}
 
-/// The entries of a policy that is claimed, and a number of no policy.
+/// The entries of a policy that is claimed, and of a number that no policy has.
 pub fn claimed_entries()
     ensures { ClaimedEntries }
 {}
 
-/// Which words open both disks, and how these modes end over a file that is no journal, or without memory.
+/// Which arguments open both disks, and how these modes end over a file that is no journal, or without memory.
 pub fn words_for_both<D: Disk, E: Disk>()
     ensures words { BothWords }
     ensures faults { TwoFilings }
@@ -57,7 +57,7 @@ pub fn words_for_both<D: Disk, E: Disk>()
     ensures unread { NoWordsLine }
 {}
 
-/// Replies and rows of which the texts tell.
+/// Replies and rows that the texts distinguish.
 pub fn texts_are_told_apart()
     ensures { ToldApart }
 {}

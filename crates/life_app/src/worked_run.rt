@@ -1,4 +1,4 @@
-//! A worked run, each part a theorem: it holds what the laws ask for, and they say of it what is written here.
+//! A worked run, each part a theorem: it satisfies the premises of the laws, and what they say of it is written here.
 
 ghost use Rattle.life_app.specs.WorkedRun.Calls.{HonestCalls, ReadsByHand};
 ghost use Rattle.life_app.specs.WorkedRun.Runs.{CrashesByHand, FoundByHand, ImagesByHand, LeftByHand, OpenedByHand, RanByHand, RowByHand};
@@ -14,15 +14,15 @@ use basis_shelf::shelves_by_hand;
 use command_csv::{faults_are_placed, lines_are_written};
 use office_state::shown_by_hand;
 
-/// The calls of the file are honest, and it reads so; no call was made before the first.
+/// The calls of the file are honest, and it reads as stated; no call was made before the first.
 pub fn calls_by_hand()
     ensures honest { HonestCalls }
     ensures reads { ReadsByHand }
     ensures found { FoundByHand }
 {}
 
-/// A creation and two postings, a crash in the second, a reopening and a third posting: what ran, what the crash left, and
-/// what is left in the end.
+/// A creation and two postings, a crash in the second, a reopening and a third posting: what ran, what the crash
+/// left, and what is left in the end.
 pub fn runs_by_hand()
     ensures ran { RanByHand }
     ensures row { RowByHand }
@@ -32,7 +32,8 @@ pub fn runs_by_hand()
     ensures left { LeftByHand }
 {}
 
-/// The script of the third posting is run as is promised, and its line is told once safe, durable, and legally answered.
+/// The script of the third posting is run as promised, and its line is printed once it is safe, and is durable and
+/// legally answered.
 pub fn promise_by_hand()
     ensures given { GivenByHand }
     ensures obeyed { ObeyedByHand }
@@ -44,7 +45,7 @@ pub fn promise_by_hand()
     ensures answered { LegalByHand }
 {}
 
-/// Each mode has what it needs, or lacks it, and so some ending is due.
+/// Each mode has what it needs, or lacks it, so some ending is due.
 pub fn due_by_hand()
     ensures needs { NeedsByHand }
     ensures basis { BasisByHand }
@@ -72,7 +73,8 @@ pub fn both_disks_by_hand()
     shown_by_hand();
 }
 
-/// What is concluded of the run, and of small values: what a run adds, why a program ends so, and an enclosing row.
+/// What follows for the run, and for small values: what a run adds, why a program ends with its status, and an
+/// enclosing row.
 pub fn told_by_hand()
     ensures ended { EndedByHand }
     ensures modes { ModesByHand }
@@ -82,8 +84,8 @@ pub fn told_by_hand()
     lines_are_written();
 }
 
-/// Two lanes, from the words and the files of the basis on: a premium is refused, two policies are valued by rates while the
-/// other clerk posts, the disk fails in a posting, and the file is opened again.
+/// Two lanes, from the arguments and the files of the basis on: a premium is refused, two policies are valued by
+/// rates while the other lane posts, the disk fails in a posting, and the file is opened again.
 pub fn lanes_by_hand()
     ensures given { GivenLanes }
     ensures obeyed { ObeyedLanes }
@@ -95,9 +97,10 @@ pub fn lanes_by_hand()
     ensures reopened { ReopenedLanes }
 {}
 
-/// What wrong programs would leave of the script of the third posting is refused by the promise: a made-up cause of another
-/// status; and with 0 a forged transcript, a missing answer, nothing posted, a line told too soon, and a file that was unmade on
-/// the way. Of a valuation's, that it was told without its rows.
+/// The promise refuses what wrong programs would leave of the script of the third posting: a made-up cause of another
+/// status; and with status 0 a forged transcript, a missing answer, nothing posted, a line printed too soon, and a
+/// file that was unmade in between. For the valuation's script it refuses that the valuation was reported without its
+/// rows.
 pub fn refused_by_hand()
     ensures causes { CausesByHand }
     ensures truth { TruthByHand }

@@ -1,4 +1,4 @@
--- The names from elsewhere that several rooms cite, passed on from one place. Declares nothing.
+-- The names from elsewhere that several modules cite, passed on from one place. Declares nothing.
 pub use Rattle.life_app.specs.Headline.{IsGivenBasis, IsPromised, IsUnrun}
 pub use Rattle.life_app.specs.Needs.{With, filing_between}
 pub use Rattle.life_app.specs.Obeys.{Obeys}

@@ -14,8 +14,9 @@ use Rattle.life_app.specs.TableReserves.{table_reserves}
 use Rattle.life_app.specs.Names.{run_wording}
 use Rattle.life_cli.specs.Shipped.{shipped_auditors}
 
--- The words were obeyed, over two disks; and a script's run is as promised, or failed and added no command: of words that ask
--- for one, the whole input, the lanes that it reads as, and the basis that it is given.
+-- The arguments were obeyed, over two disks; and a script's run is as promised, or failed and added no command. The
+-- latter is about arguments that ask for a run, the whole input, the lanes that it reads as, and the basis that it is
+-- given.
 pub record IsShipped {D E : Type 0} (g : Ghosts D) (e : Ghosts E) (old new : D) (second kept : E) (words : List (List ℕ))
     (input : Input) (output : Stream) (shelf : Shelving) (InputStays ShelfStays : Type 0) (status : ℕ) : Type 0 where
   pub obeys : Obeys g e old new (Some second) (Some kept) words shipped_auditors input output shelf InputStays ShelfStays status
@@ -27,9 +28,9 @@ pub record IsShipped {D E : Type 0} (g : Ghosts D) (e : Ghosts E) (old new : D) 
   -- the status has its reason
   pub reason : (ending : Ending) × (status ≡ status_of ending)
       × HasReason words input output shelf (filing_between g old new) (With (filing_between e second kept)) ending
-  -- and an ending that is due comes about, but for want of memory
+  -- and an ending that is due comes about, unless memory is refused
   pub due : (ending : Ending)
       → IsDueEnding words input output shelf (filing_between g old new) (With (filing_between e second kept)) ending
       → (status ≡ status_of ending) ⊎ (status ≡ 9)
-  -- a file that opens to no commands reads as before, where its disk comes back honest
+  -- a file that opens to no commands reads as before, if its disk comes back honest
   pub unopened : g.honest new → OpensToNone (g.reads old) → g.reads new ≡ g.reads old

@@ -1,4 +1,4 @@
-// The devices of the program, made of what the system gives.
+// The devices of the program, made from what the system gives.
 ghost use Rattle.std.specs.Prelude.{◌≡◌, []};
 
 use crate::named_files::{CheckpointOf, JournalOf};
@@ -14,19 +14,19 @@ const CHECKPOINT: &str = "checkpoint.life";
 /// Standard input.
 pub type Input = StdSource<Stdin>;
 
-/// The disk of the journal's file, which was found so.
+/// The disk of the journal's file, which was found in the state `F`.
 pub type JournalDisk<F> = FileDisk<HostRuntime, JournalOf<F>>;
 
-/// Standard output, beside that disk.
+/// Standard output, together with that disk.
 pub type OutputOf<F> = StdSink<Stdout, JournalDisk<F>>;
 
-/// The disk of the checkpoint's file, which was found so.
+/// The disk of the checkpoint's file, which was found in the state `C`.
 pub type CheckpointDisk<C> = FileDisk<HostRuntime, CheckpointOf<C>>;
 
 /// The folder in which the program runs.
 pub type Folder = FolderShelf<HostRuntime>;
 
-/// All devices of a run: the journal on a disk of one kind, the checkpoint on one of another.
+/// All devices of a run; the journal and the checkpoint may be on disks of different types.
 pub struct Devices<D: Disk, S: Disk> {
     pub input: Input,
     pub output: StdSink<Stdout, D>,
@@ -35,7 +35,8 @@ pub struct Devices<D: Disk, S: Disk> {
     pub second: S,
 }
 
-/// The devices of the system, through which nothing has passed. The two files are found so.
+/// The devices of the system, through which nothing has passed yet. The two files are found in the states `F` and
+/// `C`.
 pub fn devices_of<F: FoundFile, C: FoundFile>(
     system: HostRuntime,
     found: F,

@@ -17,8 +17,9 @@ use std::process::ExitCode;
 use std::rt::{Env, Files};
 use words::told_words;
 
-/// Ends with the status that the run leaves; with 9 where not even the words find memory. The words are told before there is
-/// a run, by the system's own calls, whose want of memory has no evidence: that this 9 is right is read here, and not proved.
+/// Ends with the status that the run leaves, or with 9 if memory is refused even for the arguments. The arguments are
+/// read before there is a run, by the system's own calls, which give no evidence that memory was refused. That this 9
+/// is right is established by reading, and isn't proved.
 fn main(rt: HostRuntime) -> ExitCode {
     let held = hold_descriptors(&rt);
     let code = match words_of(&rt) {
@@ -35,9 +36,9 @@ fn main(rt: HostRuntime) -> ExitCode {
     code
 }
 
-// Where the program is started with a closed input, output or error, the next file that is opened would take its place,
-// and be read as the input or written as the output. So the folder takes such places, which can be neither read nor
-// written.
+// If the program is started with a closed input, output or error, the next file that is opened would take its
+// descriptor, and would be read as the input or written as the output. So the folder is opened in such descriptors,
+// which can be neither read nor written.
 fn hold_descriptors<R: Files<File = File>>(files: &R) -> [Option<File>; 3] {
     [
         File::open(files, ".").ok(),
@@ -46,7 +47,7 @@ fn hold_descriptors<R: Files<File = File>>(files: &R) -> [Option<File>; 3] {
     ]
 }
 
-// The words behind the program's name.
+// The arguments after the program's name.
 fn words_of<R: Env + AllocGlobal>(rt: &R) -> Result<Vec<String>, AllocError> {
     told_words(rt.alloc(), env::args(rt))
 }

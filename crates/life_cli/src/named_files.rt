@@ -1,9 +1,9 @@
-// The two files of the program, each told by its name.
+// The two files of the program, each known by its name.
 ghost use Rattle.std.specs.Prelude.{Some, codes};
 
 use outside_io::FoundFile;
 
-/// What the journal's file was, which is found under its name.
+/// What the journal's file was when it was found, under its name.
 #[derive(Drop)]
 pub struct JournalOf<F: FoundFile> {
     pub found: F,
@@ -19,7 +19,7 @@ impl<F: FoundFile> FoundFile for JournalOf<F> {
     ghost torn = { F.torn };
 }
 
-/// What the checkpoint's file was, which is found under its name.
+/// What the checkpoint's file was when it was found, under its name.
 #[derive(Drop)]
 pub struct CheckpointOf<C: FoundFile> {
     pub found: C,

@@ -1,5 +1,5 @@
-// All of the program but what the system hands it, on the devices that it is shipped with. Of the system it has threads and
-// waiting, and these devices: no way leads to another.
+// The whole program except what the system hands it, on the devices with which it is shipped. Of the system it has
+// threads and waiting, and these devices; nothing in it leads to anything else of the system.
 ghost use Rattle.std.specs.Prelude.{◌≡◌, ◌≢◌, ◌⊎◌, ℕ, Some, None, List, [], ◌∷◌, codes, map, string_bytes, IsSome};
 ghost use Rattle.std.specs.Process.{exit_status};
 ghost use Rattle.basis_book.specs.Dated.{Dated};
@@ -30,7 +30,7 @@ use watcher_set::{CountWatcher, Lack, PremiumWatcher};
 /// What the program leaves: its exit status, and its devices with what they noted.
 pub struct Left<D: Disk, S: Disk> {
     pub status: u8,
-    /// What memory was wanting, of status 9.
+    /// With status 9: the evidence that memory was refused.
     pub lack: Option<Lack>,
     pub input: Input,
     pub output: StdSink<Stdout, D>,
@@ -39,12 +39,14 @@ pub struct Left<D: Disk, S: Disk> {
     pub second: S,
 }
 
-/// Does what the words ask for, over standard input and output, the folder and its `journal.life` and `checkpoint.life`.
+/// Does what the arguments ask for, over standard input and output, the folder and its files `journal.life` and
+/// `checkpoint.life`.
 ///
-/// What it promises is said of what these devices noted, whatever the two files were before (`F`, `C`). Its premises: nothing
-/// had passed through the devices; a file of which something is said gave only answers that the disk model allows; and where
-/// `state` of all and `checkpoint` say something of the journal, both files did, and a checkpoint in the second tells the
-/// truth of it. What is `promised` is of words that ask for a run, of its whole input, and of a basis that its lines read.
+/// Its promises are about what these devices noted, whatever the two files were before (`F`, `C`). The premises are:
+/// nothing had passed through the devices before; a file about which something is said gave only answers that the
+/// disk model allows; and, for what `state` of all policies and `checkpoint` say of the journal, both files did, and
+/// a checkpoint in the second is true of the journal. `promised` is about arguments that ask for a run, about its
+/// whole input, and about a basis that its lines read.
 pub fn run_shipped<R: Threads + Wait + Sync, F: FoundFile, C: FoundFile>(
     rt: &R,
     alloc: Global,
@@ -64,15 +66,17 @@ pub fn run_shipped<R: Threads + Wait + Sync, F: FoundFile, C: FoundFile>(
         devices.output result.output)
         (shelf_between (⟦<Folder as Shelf>⟧.faults) (⟦<Folder as Shelf>⟧.agrees) devices.shelf result.shelf)
         (result.input ≡ devices.input) (result.shelf ≡ devices.shelf) result.status }
-    // What was written to the output is what its pieces hold, in order.
+    // What was written to the output is exactly what its pieces hold, in order.
     ensures tied { ⟦<OutputOf<F> as Sink>⟧.written result.output
         ≡ Some (taken_bytes (⟦<OutputOf<F> as Sink>⟧.pieces result.output)) }
-    // What is printed as accepted stays, whatever the words asked for. Where the output has the line `LANE,KIND,ID,accepted,K`,
-    // whatever a crash leaves from the moment on by which that line was handed over is the journal of at least K commands, of
-    // which the K-th is of that kind and number. Nothing is said of a status 4: its output is one line, which names a file.
+    // What is printed as accepted stays, whatever the arguments asked for. If the output has the line
+    // `LANE,KIND,ID,accepted,K`, then whatever a crash leaves, from the moment by which that line was handed over, is
+    // the journal of at least K commands, and the K-th has that kind and number. Nothing is said about status 4: its
+    // output is a line that names a file.
     ensures durable { result.status ≢ 4 → ⟦<JournalDisk<F> as Disk>⟧.honest result.disk
         → IsDurable ⟦<JournalDisk<F> as Disk>⟧ SpellsCommands result.disk (⟦<OutputOf<F> as Sink>⟧.pieces result.output) }
-    // The lines of a run's transcript are answers of one legal history, each lane's lines once and in order; or nothing was run.
+    // The lines of a run's transcript are answers of one legal history, each lane's lines once and in order; or
+    // nothing was run.
     ensures legal { (name script : List ℕ) (options : List (List ℕ)) (lanes : List Lane) (basis : List Dated)
         → map string_bytes words.now ≡ codes "run" ∷ options → IsRun options name
         → IsWholeInput (input_between (⟦<Input as Source>⟧.faults) (⟦<Input as Source>⟧.left) (⟦<Input as Source>⟧.given)
@@ -89,7 +93,7 @@ pub fn run_shipped<R: Threads + Wait + Sync, F: FoundFile, C: FoundFile>(
         (between (⟦<OutputOf<F> as Sink>⟧.faults) (⟦<OutputOf<F> as Sink>⟧.written) (⟦<OutputOf<F> as Sink>⟧.pieces)
         devices.output result.output)
         (shelf_between (⟦<Folder as Shelf>⟧.faults) (⟦<Folder as Shelf>⟧.agrees) devices.shelf result.shelf) result.status }
-    // So the devices tell it of their start: the two files read as they were found, and nothing had passed or failed.
+    // What the devices show at their start: the two files read as they were found, and nothing had passed or failed.
     ensures first { (⟦<JournalDisk<F> as Disk>⟧.reads devices.disk ≡ F.bytes) × (⟦<JournalDisk<F> as Disk>⟧.clock devices.disk ≡ 0)
         × (⟦<JournalDisk<F> as Disk>⟧.faults devices.disk ≡ 0) }
     ensures other { (⟦<CheckpointDisk<C> as Disk>⟧.reads devices.second ≡ C.bytes) × (⟦<CheckpointDisk<C> as Disk>⟧.clock devices.second ≡ 0)
@@ -98,7 +102,7 @@ pub fn run_shipped<R: Threads + Wait + Sync, F: FoundFile, C: FoundFile>(
         × (⟦<OutputOf<F> as Sink>⟧.written devices.output ≡ Some []) × (⟦<OutputOf<F> as Sink>⟧.pieces devices.output ≡ []) }
     ensures held { (⟦<Input as Source>⟧.faults devices.input ≡ 0) × (⟦<OutputOf<F> as Sink>⟧.faults devices.output ≡ 0)
         × (⟦<Folder as Shelf>⟧.faults devices.shelf ≡ 0) }
-    // It ends for want of memory where memory was wanting, and has the evidence of that; no other status has it.
+    // If it ends with 9, memory was refused, and it holds the evidence; no other status has it.
     ensures lack { result.status ≡ 9 → IsSome result.lack }
     ensures unlacking { IsSome result.lack → result.status ≡ 9 }
     // Each of the two files has its own name.
@@ -160,8 +164,8 @@ pub fn leave<F: FoundFile + Drop, C: FoundFile + Drop>(
     ExitCode::from(status)
 }
 
-// The same over devices as they are: the top call with the two auditors, or 9 where one of these is refused memory, with
-// the evidence of that request.
+// The same over given devices: the top call with the two watchers; or 9 if one of these is refused memory, with the
+// evidence of that request.
 fn obey<R: Threads + Wait + Sync, F: FoundFile, C: FoundFile>(
     rt: &R,
     alloc: Global,
@@ -223,7 +227,7 @@ fn obey<R: Threads + Wait + Sync, F: FoundFile, C: FoundFile>(
     )
 }
 
-// Says that an auditor was refused memory: the status, and the evidence.
+// Reports that a watcher was refused memory: the status, and the evidence.
 fn give_up<K: Sink>(refused: NoMemory, output: &mut K) -> (u8, Option<Lack>)
     ensures status { result.0 ≡ 9 }
     ensures lack { IsSome result.1 }

@@ -1,5 +1,5 @@
-// The words of the command line. They are told before there is a run: want of memory for them is the kit's error, which has
-// no evidence.
+// The arguments of the command line. They are read before there is a run: if memory for them is refused, that is the
+// kit's error, which gives no evidence.
 ghost use Rattle.std.specs.Prelude.{◌≡◌, ◌≢◌, IfErr, IfOk, [], drop, is_ok, true};
 ghost use Rattle.std.specs.IoError.{error_kind};
 ghost use Rattle.std.specs.Vec.Iter.{into_iter_items};
@@ -10,8 +10,8 @@ use std::env::Args;
 use std::io;
 use std::io::ErrorKind;
 
-/// The words behind the program's name, as the system told them all. Words that are no text are no words, which no
-/// command has.
+/// The arguments after the program's name, as the system gave them. If one of them isn't UTF-8, the result is no
+/// arguments at all, which no command has.
 pub fn told_words(alloc: Global, all: io::Result<Args>) -> Result<Vec<String>, AllocError>
     ensures words { IfOk all (λ words. IfOk result (λ kept. kept.items ≡ drop 1 (into_iter_items words))) }
     ensures no_text { IfErr all (λ error. error_kind error ≢ OutOfMemory
@@ -24,7 +24,7 @@ pub fn told_words(alloc: Global, all: io::Result<Args>) -> Result<Vec<String>, A
     }
 }
 
-// All words but the first, which is the program's name.
+// All arguments but the first, which is the program's name.
 fn behind_first(alloc: Global, words: Args) -> Result<Vec<String>, AllocError>
     ensures { IfOk result (λ kept. kept.items ≡ drop 1 (into_iter_items words)) }
 {

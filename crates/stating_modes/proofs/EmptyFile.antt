@@ -1,4 +1,4 @@
--- What is told of an empty file.
+-- What is reported of an empty file.
 use Rattle.stating_modes.proofs.Names.{◌≡◌, ℕ, List, [], inr, inl, refl, subst, lit≤, Ghosts, Command, balance_text, Opens, opens_to_one, WroteAll, policy_account, books_of}
 use Rattle.std.specs.Fmt.{digits}
 use Rattle.stating_modes.specs.Worked.{KnowsNobody, StatesAnEmptyFile}

@@ -1,4 +1,4 @@
--- What is told of an empty file over two disks
+-- What is reported of an empty file over two disks
 use Rattle.stating_modes.proofs.Names.{◌≡◌, ℕ, List, [], ◌∷◌, ◌++◌, length, codes, decimal, arith, inr, inl, refl, ap, ap₂, ◌∙◌, subst, lit≤, Rose, AppendsPart, Ghosts, flat_map, Command, Policy, book, EndsState, IsStated, balance_text, policy_text, IsSnapshotOf, Snapshot, IsLeftAlone, Opens, opens_to_one, Ending, Stream, WroteAll, WroteLine, EndsStateKept, snapshot_text, AreTrue, IsHeldWhereTrue, TwoDisks, books_of, Writes}
 use Rattle.std.specs.Fmt.{digits}
 use Rattle.money_ledgers.specs.Balances.{balances}

@@ -69,7 +69,7 @@ module _ {D E : Type 0} (g : Ghosts D) (e : Ghosts E) (disk : D) (second : E) (o
     abbrev saved_disks : TwoDisks D E
     saved_disks = record { old = disk; new = disk_of opened.journal; second = second; kept = store_disk after }
 
-    -- what is said of the saving, with the disks as they are behind it
+    -- what is said of the saving, with the disks as they are after it
     module _ (tried : HasTried opened.store after opened.books) where
       still_held : IsHeldWhereTrue g e saved_disks opened.books
       still_held are =
@@ -154,7 +154,7 @@ module _ {D E : Type 0} (g : Ghosts D) (e : Ghosts E) (only_now : OnlyNow e) (di
     now = now_read g e only_now disks none.second;
   }
 
--- a snapshot that was saved, and its line, which was written behind it
+-- a snapshot that was saved, and its line, which was written after it
 pub saving_written : {E : Type 0} {e : Ghosts E} (old new : Store E e) (snapshot : Snapshot) (output : Stream) (line : Vec ℕ Global) (ending : Ending)
     → HasSaved old new snapshot → line.items ≡ checkpoint_text snapshot → EndsText (Ok line) output ending → EndsSaving old new snapshot output ending
 saving_written old new snapshot output line Done saved same ends = (saved, subst (WroteAll output) same ends)

@@ -1,4 +1,4 @@
--- What stays true of a disk that is only looked at behind a turn, a run or an opening
+-- What stays true of a disk that is only looked at after a turn, a run or an opening
 use Rattle.stating_modes.proofs.Names.{◌≡◌, ℕ, ◌≤◌, List, [], ◌∷◌, ◌++◌, sym, ◌∙◌, subst, inl, inr, append-nil, arith, Ghosts, Command, Opening, opened_on, IsUnfinished, LooksOn, looks_on, HasKept, HoldsNow, HoldsOnce, IsLeftAlone, IsLeftBy, KeepsAccepted, JournalBytes, Opens, CountsNow, ReadsImage, looked_since, synced_before}
 use Rattle.policy_types.specs.declared.entry.Entry.{Entry}
 use Rattle.posting_journal.proofs.Unique.{journal_finished}

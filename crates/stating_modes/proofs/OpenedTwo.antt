@@ -79,7 +79,7 @@ module _ {D E : Type 0} (g : Ghosts D) (e : Ghosts E) (reads_image : ReadsImage 
       second = read;
     }
 
--- the journal behind the call that reads the snapshot
+-- the journal after the call that reads the snapshot
 module _ {D : Type 0} (g : Ghosts D) (reads_image : ReadsImage g) (counts_now : CountsNow g) (disk : D) (journal now : Journal D g)
     (on : HasJournalOn disk journal) (stays : StaysAs journal now) where
   first_alone : IsLeftAlone g disk (disk_of now)
@@ -186,7 +186,7 @@ module _ {D : Type 0} (g : Ghosts D) (reads_image : ReadsImage g) (counts_now : 
       by (replay.BadRecord n) told = told
       by (replay.NoMemory lack) told = told
 
--- the store behind it
+-- the store after it
 module _ {E : Type 0} (e : Ghosts E) (second : E) (store after : Store E e) (under : HasStoreOn second store) (keeps : KeepsAsBefore store after) where
   second_read : IsOnlyRead e second (store_disk after)
   second_read = record {

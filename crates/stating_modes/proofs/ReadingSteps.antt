@@ -134,7 +134,7 @@ module _ {D : Type 0} (g : Ghosts D) (journal : Journal D g) (now : D) where
 abbrev CanSpellNoNext : List ℕ → List Command → Type 0
 CanSpellNoNext body commands = (command : Command) → body ≡ spelling_of command → IsValid command → CanBeNext commands command → ⊥
 
--- the body behind those of the commands before it spells one that the rules accept
+-- the body after those of the commands before it spells one that the rules accept
 never_stopped : (before all commands : List Command) → AllByRecursion IsValid all → IsAcceptedAfter before all
     → length commands < length (bodies_of all) → AllByRecursion IsValid commands
     → take (length commands) (bodies_of all) ≡ bodies_of commands

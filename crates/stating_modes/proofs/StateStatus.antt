@@ -1,10 +1,10 @@
--- What the exit status tells of `state`
+-- What the exit status says of `state`
 use Rattle.stating_modes.proofs.Names.{◌≡◌, ℕ, ◌⊎◌, List, Rose, Ghosts, Command, Opens, OpensToNone, Ending, Stream, read_as_before, read_refused, read_to_end, EndsState, IsStated}
 use Rattle.program_endings.specs.Status.{status_of}
 
 module _ {D : Type 0} (g : Ghosts D) (old new : D) (text_of : List Command → List ℕ) (output : Stream) (ending : Ending)
     (ends : EndsState g old new text_of output ending) where
-  -- nothing is told of a file that opens to none
+  -- nothing is reported of a file that opens to none
   never_stated : g.honest new → OpensToNone (g.reads old) → (Wrote : List ℕ → Type 0) → IsStated g old new text_of Wrote → ⊥
   never_stated honest none Wrote stated = none stated.commands (stated.disk.opened honest)
 

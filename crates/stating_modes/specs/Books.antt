@@ -8,8 +8,8 @@ use Rattle.policy_types.specs.declared.policy.Policy.{Policy}
 abbrev pub books_text : List Policy → Booking → ℕ → List ℕ
 books_text policies ledger count = flat_map policy_text policies ++ balance_text ledger count
 
--- the commands that name a policy's number, each with its own number among all of them, from 1, and the policy as they left
--- it; or that the number is of none
+-- the commands that name a policy's number, each with its own number among all of them, counted from 1, and the
+-- policy as they left it; or that no policy has the number
 abbrev pub policy_account : ℕ → List Command → List ℕ
 policy_account id commands =
     unwrap_or

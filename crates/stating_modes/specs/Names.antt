@@ -1,4 +1,4 @@
--- The names from elsewhere that several rooms cite, passed on from one place. Declares nothing.
+-- The names from elsewhere that several modules cite, passed on from one place. Declares nothing.
 pub use Rattle.std.specs.List.{flat_map, AllByRecursion, enumerate_from, filter}
 pub use Rattle.checkpoint_store.specs.Checkpoints.{IsSoundSnapshot, CheckpointBytes, IsNoCheckpoint, IsSnapshotOf}
 pub use Rattle.checkpoint_store.specs.Reopening.{TakesSteps, IsSnapshotOfFront}

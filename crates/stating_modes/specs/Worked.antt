@@ -7,24 +7,25 @@ use Rattle.stating_modes.specs.Stated.{EndsStateKept}
 use Rattle.stating_modes.specs.Stating.{EndsState}
 use Rattle.stating_modes.specs.TwoDisks.{AreTrue, TellsTruth, TwoDisks}
 
--- whatever the disk, of an empty file `state` writes four balances of 0.00 and no commands
+-- over any disk: for an empty file `state` writes four balances of 0.00 and no commands
 abbrev pub StatesAnEmptyFile : {D : Type 0} → Ghosts D → Type 0
 StatesAnEmptyFile {D} g = (old new : D) (output : Stream) → g.honest new → g.reads old ≡ []
     → EndsState g old new (λ commands. books_text (book commands) (ledger_of commands) (length commands)) output Done
     → WroteAll output (codes "balance,cash,0.00" ++ (10 ∷ []) ++ codes "balance,premiums,0.00" ++ (10 ∷ [])
     ++ codes "balance,incurred,0.00" ++ (10 ∷ []) ++ codes "balance,payable,0.00" ++ (10 ∷ []) ++ codes "count,0" ++ 10 ∷ [])
 
--- and `state 7` that there is no policy of this number
+-- and `state 7` writes that there is no policy with this number
 abbrev pub KnowsNobody : {D : Type 0} → Ghosts D → Type 0
 KnowsNobody {D} g = (old new : D) (output : Stream) → g.honest new → g.reads old ≡ []
     → EndsState g old new (policy_account 7) output Done → WroteAll output (codes "unknown,7" ++ 10 ∷ [])
 
--- each of the four balances is added, by its sign: 400.00 paid, 1000.00 claimed, of which 250.00 are settled
+-- each of the four balances is added, with its sign: 400.00 paid, 1000.00 claimed, 250.00 of which are settled
 abbrev pub FourBalances : Type 0
 FourBalances = (sum_of (record { cash = pos 15000; premiums = negsuc 39999; incurred = pos 100000; payable = negsuc 74999 }) ≡ pos 0)
     × (sum_of (record { cash = pos 1; premiums = pos 20; incurred = pos 300; payable = pos 4000 }) ≡ pos 4321)
 
--- whatever the disks, of an empty file `state` writes four balances of 0.00 and no commands, and `checkpoint` saves none
+-- over any disks: for an empty file `state` writes four balances of 0.00 and no commands, and `checkpoint` saves a
+-- snapshot of none
 abbrev pub KeepsAnEmptyFile : {D E : Type 0} → Ghosts D → Ghosts E → Type 0
 KeepsAnEmptyFile {D} {E} g e = (disks : TwoDisks D E) (output : Stream) → AreTrue g e disks → g.reads disks.old ≡ []
     → (EndsStateKept g e disks output Done
@@ -32,11 +33,11 @@ KeepsAnEmptyFile {D} {E} g e = (disks : TwoDisks D E) (output : Stream) → AreT
     ++ codes "balance,incurred,0.00" ++ (10 ∷ []) ++ codes "balance,payable,0.00" ++ (10 ∷ []) ++ codes "count,0" ++ 10 ∷ []))
     × (EndsCheckpoint g e disks output Done → WroteAll output (codes "checkpoint,0" ++ 10 ∷ []))
 
--- an empty second file is no checkpoint, so it tells the truth of any journal
+-- an empty second file is no checkpoint, so it is true of any journal
 abbrev pub TellsNoLie : Type 0
 TellsNoLie = (bytes : List ℕ) → TellsTruth [] bytes
 
--- whatever the disks, over five bytes that are no journal `state` is refused with that line, and the second file stays
+-- over any disks: over five bytes that are no journal `state` is refused with that line, and the second file stays
 abbrev pub RefusesHelloByTwo : {D E : Type 0} → Ghosts D → Ghosts E → Type 0
 RefusesHelloByTwo {D} {E} g e = (disks : TwoDisks D E) (output : Stream) → AreTrue g e disks
     → g.reads disks.old ≡ codes "hello" → EndsStateKept g e disks output BadJournal
@@ -46,7 +47,8 @@ RefusesHelloByTwo {D} {E} g e = (disks : TwoDisks D E) (output : Stream) → Are
 abbrev pub IsEmptyCheckpoint : List ℕ → Type 0
 IsEmptyCheckpoint image = (s : Snapshot) × CheckpointBytes image s × (s.position ≡ 0)
 
--- over an empty file `checkpoint` leaves that in each image, once it is done; where a disk failed, none but that is new
+-- over an empty file `checkpoint` leaves that in each image, once it has succeeded; after a failure of a disk, no
+-- image has any other new checkpoint
 abbrev pub SavesNothing : {D E : Type 0} → Ghosts D → Ghosts E → Type 0
 SavesNothing {D} {E} g e = (disks : TwoDisks D E) (output : Stream) (image : List ℕ) → AreTrue g e disks
     → g.reads disks.old ≡ [] → e.may_leave disks.kept image

@@ -65,7 +65,7 @@ fn text_of(alloc: Global, account: &Account) -> Result<Vec<u8>, NoMemory>
     Ok(text.into_vec())
 }
 
-// The line of a number of which there is no policy.
+// The line for a number that no policy has.
 fn unknown(alloc: Global, id: u32) -> Result<Text, NoMemory>
     ensures { IfOk result (λ text. text ≡ line_of (codes "unknown") (decimal id ∷ [])) }
 {

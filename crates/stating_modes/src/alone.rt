@@ -16,7 +16,7 @@ pub struct BooksRead<D> {
     pub disk: D,
 }
 
-/// Opens the journal, and reads its books, from the first record on.
+/// Opens the journal, and reads its books from the first record on.
 pub fn read_alone<D: Disk>(alloc: Global, disk: D) -> Result<BooksRead<D>, StartFault<D>>
     ensures read { IfOk result (λ read. AreBooksOn D.Disk disk read.disk read.books) }
     ensures none { IfErr result (λ fault. HasNotOpened D.Disk disk fault.disk fault.cause) }

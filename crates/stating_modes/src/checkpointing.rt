@@ -17,8 +17,8 @@ use std::marker::Brand;
 use std::sync::ledger::{Blank, Ledger};
 use text_lines::LineWriter;
 
-/// Saves the journal's snapshot on the second disk, and writes the number of its commands. The journal's disk is only read,
-/// but for an unfinished creation. How few records are read is said of `state_kept` alone.
+/// Saves the journal's snapshot on the second disk, and writes the number of its commands. The journal's disk is only
+/// read, except that an unfinished creation is finished. (How few records are read is stated for `state_kept` alone.)
 pub fn checkpoint<K: Sink, D: Disk, E: Disk>(
     alloc: Global,
     output: &mut K,
@@ -31,7 +31,7 @@ pub fn checkpoint<K: Sink, D: Disk, E: Disk>(
     checkpoint_by::<K, D, E, Brand>(alloc, output, disk, second, Blank::new(1))
 }
 
-// The same, with a ledger for the steps of its reading that the blank becomes.
+// The same, with a ledger for the steps of its reading, which the blank becomes.
 fn checkpoint_by<K: Sink, D: Disk, E: Disk, L: Ledger>(
     alloc: Global,
     output: &mut K,
@@ -60,7 +60,7 @@ fn checkpoint_by<K: Sink, D: Disk, E: Disk, L: Ledger>(
     }
 }
 
-// Saves the books' snapshot, and writes its line. Without memory for it nothing is saved.
+// Saves the books' snapshot, and writes its line. If memory for it is refused, nothing is saved.
 fn save_books<K: Sink, E: Disk>(
     alloc: Global,
     books: &Books,
@@ -77,7 +77,7 @@ fn save_books<K: Sink, E: Disk>(
     }
 }
 
-// Saves a snapshot, and writes its line. Without memory for the line nothing is saved.
+// Saves a snapshot, and writes its line. If memory for the line is refused, nothing is saved.
 fn save<K: Sink, E: Disk>(
     alloc: Global,
     snapshot: &Snapshot,
@@ -94,7 +94,7 @@ fn save<K: Sink, E: Disk>(
     }
 }
 
-// The same, once its memory is taken: so no more can be wanting.
+// The same, once its memory is taken: no more is asked for.
 fn save_with_line<K: Sink, E: Disk>(
     snapshot: &Snapshot,
     line: Vec<u8>,

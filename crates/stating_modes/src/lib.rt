@@ -1,5 +1,5 @@
-//! The modes that print the journal's books: all policies and the balances, or the entries of one policy; and the mode that
-//! saves a checkpoint. They read the journal alone, or also a second disk, which holds a checkpoint of it.
+//! The modes that print the journal's books, all policies and the balances or the entries of one policy; and the mode
+//! that saves a checkpoint. They read the journal alone, or also a second disk, which holds a checkpoint of it.
 #![tactic(auto)]
 
 mod accounts;

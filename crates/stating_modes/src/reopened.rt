@@ -30,8 +30,8 @@ pub struct UnopenedDisks<D, E> {
     pub second: E,
 }
 
-/// Opens the journal, then the store, and reads the journal's snapshot: from the store's checkpoint on, where it has one
-/// that isn't above the journal's count. Each record that is read is a step.
+/// Opens the journal, then the store, and reads the journal's snapshot, from the store's checkpoint on if it has one
+/// that isn't above the journal's count. Each record that is read counts as one step.
 pub fn reopen_both<D: Disk, E: Disk, L: Ledger>(
     alloc: Global,
     disk: D,

@@ -12,8 +12,8 @@ use policy_types::{Command, Policy};
 use posting_journal::Journal;
 use std::alloc::Global;
 
-/// The accepted commands of a policy's number, each with its own number among all of them, and the policy as they left
-/// it.
+/// The accepted commands with a policy's number, each with its own number among all of them, and the policy as they
+/// left it.
 #[derive(Drop)]
 pub struct Account {
     pub id: u32,
@@ -38,7 +38,7 @@ impl Keeper for Account {
 
     ghost mark = { λ account. account.id };
 
-    // A record's command is added where it names the policy.
+    // Adds a record's command if it names the policy.
     fn add(&mut self, n: u32, command: &Command) -> Result<(), Unkept> {
         if command.id() != self.id {
             return Ok(());
@@ -55,7 +55,7 @@ impl Keeper for Account {
     }
 }
 
-/// The account of a policy, from the journal on the disk. Over a journal nothing is written.
+/// The account of a policy, from the journal on the disk. If the file is a journal, nothing is written.
 pub fn read_again<D: Disk>(alloc: Global, id: u32, disk: D) -> Result<ReadAgain<D>, StartFault<D>>
     requires { 1 ≤ id }
     ensures read { IfOk result (λ read. HasRead D.Disk disk read.disk read.account id) }

@@ -37,9 +37,9 @@ pub fn state<K: Sink, D: Disk>(alloc: Global, output: &mut K, disk: D) -> Finish
     }
 }
 
-/// Writes all policies in order of issue, and the balances. The journal's records are decided anew from the position of
-/// the second disk's checkpoint on, where it has one that isn't above the journal's count, and else from the first on. The
-/// second disk is synced and read at most. Each record that is read is a step.
+/// Writes all policies in order of issue, and the balances. The journal's records are decided again from the position
+/// of the second disk's checkpoint on, if it has one that isn't above the journal's count, and else from the first
+/// record on. The second disk is at most synced and read. Each record that is read counts as one step.
 pub fn state_kept<K: Sink, D: Disk, E: Disk, L: Ledger>(
     alloc: Global,
     output: &mut K,

@@ -5,7 +5,7 @@ ghost use Rattle.stating_modes.specs.Worked.{FourBalances, KeepsAnEmptyFile, Kno
 
 use outside_io::Disk;
 
-/// Over any disk, what `state` writes of an empty file, and `state 7`.
+/// Over any disk, what `state` and `state 7` write for an empty file.
 pub fn an_empty_file_is_stated<D: Disk>()
     ensures books { StatesAnEmptyFile D.Disk }
     ensures nobody { KnowsNobody D.Disk }
@@ -16,7 +16,8 @@ pub fn balances_are_added()
     ensures { FourBalances }
 {}
 
-/// Over any disks, what `state` and `checkpoint` write of an empty file; and an empty second file tells no lie.
+/// Over any disks, what `state` and `checkpoint` write for an empty file; and that an empty second file says nothing
+/// false.
 pub fn an_empty_file_is_kept<D: Disk, E: Disk>()
     ensures texts { KeepsAnEmptyFile D.Disk E.Disk }
     ensures truth { TellsNoLie }

@@ -98,7 +98,7 @@ last_rows opening before caller basis Unpinned valuation due is = absurd is
 last_rows opening before caller basis (Floor floor) valuation due is = absurd is
 last_rows opening before caller basis Blank valuation due is = absurd is
 
--- what is told of a posting is no valuation
+-- what is reported of a posting is no valuation
 pub posting_found : (command : Command) (reply : Reply) (outcome : Outcome) (commands : List Command) (basis : List Dated)
     → IsOutcome commands basis (Post command) reply outcome → lacked_memory outcome ≡ false
 posting_found command reply (Posted answer) commands basis told = refl

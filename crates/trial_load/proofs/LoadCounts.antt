@@ -1,4 +1,4 @@
--- How many postings of a history were accepted and refused is what is told of the lines that they answer
+-- How many postings of a history were accepted and refused is what is reported of the lines that they answer
 use Rattle.trial_load.proofs.Names.{◌≡◌, ℕ, ◌+◌, ◌<◌, ◌==◌, Bool, false, cond, List, [], ◌∷◌, ◌++◌, length, map, take, refl, ap, sym, ◌∙◌, subst, inl, inr, arith, nat_eq, AllByRecursion, AllZip, Contains, IsDistinct, count_by, enumerate_from, filter, flat_map, sum_by, cond-false, cond-true, eq-eqb, eqb-false, ne_eqb, sum_by-cons, Dated, Command, Call, PostCall, Entry, Reply, Line, Post, Value, Trim, Lane, Opening, accepted_of, commands_after, AnswersLine, Placed, AnsweredLine, AreLinesOf, AreOfLanes, lines_by, turns_in, AreRising, IsOutcome, IsTold, TranscriptLine, IsValidPosting, Has, has_of_contains, of_all, of_filter, is_refusal, refused_in}
 use Rattle.office_state.specs.declared.answer.Answer.TheVariants.{Accepted as AnAccepted, Refused as ARefused, DiskFault, NoMemory}
 use Rattle.lane_runner.specs.declared.transcript.Outcome.{Outcome}
@@ -148,7 +148,7 @@ alike R f g (x ∷ xs) (y ∷ ys) each all =
     let right = sum_by-cons g y ys in
     omega (arith, first, rest, left, right)
 
--- what is told of a posting tells its reply
+-- what is reported of a posting states its reply
 refused_told : (command : Command) (reply : Reply) (outcome : Outcome) (commands : List Command) (basis : List Dated)
     → IsOutcome commands basis (Post command) reply outcome → is_refusal (PostCall command) reply ≡ tells_refused outcome
 refused_told command reply (Posted (AnAccepted position)) commands basis told = ap (is_refusal (PostCall command)) told
@@ -183,7 +183,7 @@ module _ (opening : Opening) (history : List Entry) (basis : List Dated) (lanes 
   single : (one : AnsweredLine) → Has answered one → one.rest ≡ []
   single one has = (only_turn dry one.line one.first one.rest (postings one has) (answers one has)).0
 
-  -- a test that agrees with what is told of each posting
+  -- a test that agrees with what is reported of each posting
   tested : (test : Call → Reply → Bool) (tells : Outcome → Bool)
       → ((command : Command) (reply : Reply) (outcome : Outcome) (commands : List Command) → IsOutcome commands basis (Post command) reply outcome
       → test (PostCall command) reply ≡ tells outcome)

@@ -1,4 +1,4 @@
--- What the exit status tells of a generated script, written or run
+-- What the exit status says of a generated script, written or run
 use Rattle.trial_load.proofs.Names.{◌≡◌, ℕ, ◌⊎◌, List, codes, refl, ap, inl, inr, Command, Entry, Lane, Opening, Dated, generated_lanes, Ending, Done, Usage, BadBasis, BadJournal, WriteFault, DiskFault, NoMemory, Ahead, Shelving, Stream, EndsLoad, EndsLoading, IsLoadOf}
 use Rattle.outside_io.specs.Faults.{Rose}
 use Rattle.outside_io.specs.Shelves.{Files}

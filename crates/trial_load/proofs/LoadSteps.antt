@@ -313,7 +313,7 @@ ends_unbegun g old new lanes workers basis output (NoRoom lack) (NoMemory other_
     inl (no_office g old new output (NoRoom lack) (NoMemory other_lack) not said)
 ends_unbegun g old new lanes workers basis output _ _ not said = absurd said
 
--- a line that is written whole ends a load by what is told of its lines
+-- a line that is written whole ends a load by what is reported of its lines
 by_lines : (lines : List TranscriptLine) (rows : List Row) (output : Stream) (faulted lacked : Bool) → any_faulted lines ≡ faulted → any_lacked lines ≡ lacked
     → WroteAll output (load_text (accepted_lines lines) (refused_lines lines) rows)
     → EndsLine lines rows output (if faulted then DiskFault else if lacked then (NoMemory a_lack) else Done)

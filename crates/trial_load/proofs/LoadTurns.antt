@@ -1,4 +1,4 @@
--- The turns of a valuation behind those of lanes: nobody else turned meanwhile
+-- The turns of a valuation after those of lanes: nobody else turned meanwhile
 use Rattle.trial_load.proofs.Names.{◌≡◌, ◌≢◌, ℕ, ◌+◌, ◌==◌, false, List, [], ◌∷◌, ◌++◌, length, map, take, Some, Result, refl, ap, sym, ◌∙◌, subst, inl, inr, arith, length-append, nat_eq, slice_get, AllByRecursion, Contains, IsDistinct, enumerate_from, filter, cond-false, eq-eqb, ne_eqb, filter-append, Dated, Call, Pin, Entry, Line, Post, Value, Trim, IsDue, commands_after, AnswersLine, Placed, turns_of, Terminal, HasValued, AnswersPin, dry_pins, Valuation, IsValidPosting, Has, all_has, has_filter, has_of_contains, of_all, of_map, same_opened, ArePostless, all_own, entries_in, postless_entries, same_first, same_rest, due_at, posts, quiet_follow, quiet_pin, quiet_turns, load_day}
 use Rattle.std.proofs.Math.Seq.{take-append_seam}
 use Rattle.policy_types.specs.declared.entry.At.TheVariants.{Now}
@@ -7,7 +7,7 @@ use Rattle.turn_lock.specs.Passes.{Holding, OwnsAll, Page, PassFacts, callers as
 use Rattle.shared_office.specs.Offices.{IsOfficeHistory, OfficeOpening}
 use Rattle.snapshot_value.specs.declared.valuation.ValueFault.{ValueFault}
 
--- the front of what holds of all
+-- the prefix of what holds of all
 pub all_front : {A : Type 0} (P : A → Type 0) (xs ys : List A) → AllByRecursion P (xs ++ ys) → AllByRecursion P xs
 all_front P [] ys all = tt
 all_front P (x ∷ xs) ys all = (all.0, all_front P xs ys all.1)
@@ -60,7 +60,7 @@ from_place n (entry ∷ entries) first later same =
       ap (λ (p : Placed). p.1 ∷ entries) head ∙ ap (λ more. first.1 ∷ more) (sym (entries_in (n + 1) entries) ∙ ap (map (λ (turn : Placed). turn.1)) rest),
     )
 
--- lines of postings are answered whichever pins are dry
+-- lines of postings are answered whichever pins are out of memory
 pub same_line : (dry other : List ℕ) (line : Line) (turns : List Placed) → IsValidPosting line → AnswersLine dry line turns → AnswersLine other line turns
 same_line dry other (Post command) [] posting answers = absurd answers
 same_line dry other (Post command) (turn ∷ []) posting answers = answers
@@ -68,7 +68,7 @@ same_line dry other (Post command) (turn ∷ second ∷ rest) posting answers = 
 same_line dry other (Value on at workers) turns posting answers = absurd posting
 same_line dry other Trim turns posting answers = absurd posting
 
--- what is known of a valuation behind the turns of lanes
+-- what is known of a valuation after the turns of lanes
 pub record IsBehind {D W : Type 0} (basis : List Dated) (workers turn : ℕ) (mid closing : Holding (OfficeOpening D W))
     (answer : Result Valuation ValueFault) (callers : List ℕ) (opened : OfficeOpening D W) : Type 0 where
   pub rest : List Entry
@@ -87,7 +87,7 @@ pub record IsBehind {D W : Type 0} (basis : List Dated) (workers turn : ℕ) (mi
   pub due : IsDue opened.opening mid.seen pin.caller Pin pin.reply
   pub answered : AnswersPin (commands_after opened.opening mid.seen) basis load_day Terminal pin.reply answer
 
--- A valuation's turns, behind those of lanes.
+-- A valuation's turns, after those of lanes.
 module _ {D W : Type 0} (basis : List Dated) (workers turn : ℕ) (mid closing : Holding (OfficeOpening D W)) (answer : Result Valuation ValueFault)
     (callers : List ℕ) (opened : OfficeOpening D W) (valued : HasValued basis load_day Terminal Now workers mid closing turn answer)
     (is_opened : mid.opening ≡ Some opened) (own : mid.caller ≡ 0) (numbers : numbers_of mid ≡ 0 ∷ callers) (before : PassFacts IsOfficeHistory mid)
@@ -188,7 +188,7 @@ module _ {D W : Type 0} (basis : List Dated) (workers turn : ℕ) (mid closing :
   taken : take turn closing.seen ≡ mid.seen
   taken = ap (λ n. take n closing.seen) turn_is ∙ ap (take (length mid.seen)) seen ∙ take-append_seam mid.seen rest
 
-  -- the pin stands behind the lanes' turns
+  -- the pin stands after the lanes' turns
   pin_there : slice_get closing.seen turn ≡ Some valued.pin.1
   pin_there =
       ap (slice_get closing.seen) turn_is

@@ -36,7 +36,7 @@ use Rattle.load_maker.proofs.Drawing.{IsRowFor, rows_right}
 abbrev Plain : List ℕ → Type 0
 Plain field = list_any (needs_byte default_writer) field ≡ false
 
--- nor does one from `-` on, which is behind the comma
+-- nor does one from `-` on, which is after the comma
 plain_byte : (b : ℕ) → 45 ≤ b → needs_byte default_writer b ≡ false
 plain_byte b high =
     rw (
@@ -276,7 +276,7 @@ none_valued : (lanes : ℕ) (rows : List ClerkLine) → AllByRecursion (IsRowFor
 none_valued lanes [] right = refl
 none_valued lanes (row ∷ rows) right = rw (not_valued row.line right.0.valid) (none_valued lanes rows right.1)
 
--- and behind the last lane there is none
+-- and after the last lane there is none
 none_above : (lanes lane : ℕ) (rows : List ClerkLine) → lanes < lane → AllByRecursion (IsRowFor lanes) rows → lines_of lane rows ≡ []
 none_above lanes lane [] above right = refl
 none_above lanes lane (row ∷ rows) above right =

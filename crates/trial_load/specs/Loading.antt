@@ -1,4 +1,4 @@
--- How `load` ends: the generated lanes were run, the policies were valued at the count, and a line tells of it
+-- How `load` ends: the generated lanes were run, the policies were valued at the count, and a line reports the result
 use Rattle.std.specs.Prelude.{◌≡◌, ℕ, ◌⊎◌, ℤ, pos, Bool, true, false, List, [], ◌∷◌, ◌++◌, codes, decimal, length, nat_eq}
 use Rattle.trial_load.specs.Names.{AllByRecursion, AllZip, count_by, Rose, Stream, WroteAll, Ending, Done, WriteFault, DiskFault, NoMemory, Now, Post, Reply, Refused, Entry, Value, Lane, Opening, IsLegal, accepted_of, commands_after, opened_on, Terminal, Row, AreAnswered, ArePins, HaveAFault, LackMemory, WrotePart, sum_fields}
 use Rattle.std.specs.List.{Contains, IsDistinct, enumerate_from}
@@ -28,9 +28,10 @@ is_refusal _ _ = false
 abbrev pub refused_in : List Entry → ℕ
 refused_in history = count_by (λ (entry : Entry). is_refusal entry.call entry.reply) history
 
--- The office was opened on the commands of the disk's file. A legal history from there answers each line of the generated lanes
--- once, in order, and then, by a caller of its own behind all other turns, a valuation at the count. The disk holds what was
--- accepted. The valuation's pin is dry where it found no memory.
+-- The office was opened on the commands of the disk's file. A legal history from there answers each line of the
+-- generated lanes once, in order; and then, by a caller of its own after all other turns, a valuation at the count.
+-- The disk holds what was accepted. The valuation's pin is in the list of those out of memory if the valuation was
+-- refused memory.
 pub record IsLoadOf {D : Type 0} (g : Ghosts D) (old new : D) (lanes : List Lane) (workers : ℕ)
     (Tells : Opening → List Entry → List ℕ → Type 0) : Type 0 where
   pub commands : List Command
@@ -51,10 +52,10 @@ pub record IsLoadOf {D : Type 0} (g : Ghosts D) (old new : D) (lanes : List Lane
   pub tells : Tells (opened_on commands (g.faults old)) (postings ++ valuation) dry
   pub disk : IsLeftBy g old new (opened_on commands (g.faults old)) (postings ++ valuation)
 
--- The line was written of the history, and of the rows of the policies that all its commands leave, in which the bounds of
--- each insured policy enclose its exact terminal reserve, or a word says why it has none: how many postings were accepted and
--- how many were refused, how many policies there are, the sums of the lower and of the upper bounds of their reserves, and how
--- many have none. The valuation found memory.
+-- The line was written about the history, and about the rows of the policies that all its commands leave; the bounds
+-- of each insured policy enclose its exact terminal reserve, or a word says why it has none. The line gives how many
+-- postings were accepted and how many were refused, how many policies there are, the sums of the lower and of the
+-- upper bounds of their reserves, and how many have none. The valuation was not refused memory.
 pub record HasLine (basis : List Dated) (Wrote : List ℕ → Type 0) (Replies : List Entry → List ℕ → Type 0)
     (opening : Opening) (history : List Entry) (dry : List ℕ) : Type 0 where
   pub rows : List Row

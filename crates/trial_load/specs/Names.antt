@@ -1,4 +1,4 @@
--- The names from elsewhere that several rooms cite, passed on from one place. Declares nothing.
+-- The names from elsewhere that several modules cite, passed on from one place. Declares nothing.
 pub use Rattle.std.specs.Io.KnownBytes.{Appends}
 pub use Rattle.std.specs.List.{AllByRecursion, AllZip, count_by}
 unfoldable pub use Rattle.load_maker.specs.GeneratedLanes.{generated_lanes}

@@ -8,7 +8,7 @@ use outside_io::Sink;
 use program_endings::{Ending, write_text};
 use std::alloc::Global;
 
-/// Writes the script of so many policies drawn from a seed, dealt out to the lanes.
+/// Writes the script of `count` policies drawn from a seed, assigned to the lanes in turn.
 pub fn generate<K: Sink>(alloc: Global, seed: u32, count: u32, lanes: u8, output: &mut K) -> Ending
     requires seed { seed < 2 ^ 31 }
     requires count { (1 ≤ count) × (count ≤ 100000) }

@@ -1,4 +1,4 @@
-// What the definitions have to mean, as a function that does nothing.
+// A law that the definitions satisfy, as a function that does nothing.
 ghost use Rattle.std.specs.Prelude.{◌≤◌, ℕ};
 ghost use Rattle.command_csv.specs.Reads.{Reads};
 ghost use Rattle.trial_load.specs.Names.{generated_lanes, generated_text};

@@ -1,4 +1,4 @@
-// A generated script is run, and its policies are valued then.
+// A generated script is run, and then its policies are valued.
 ghost use Rattle.std.specs.Prelude.{◌≡◌, ◌<◌, ◌≤◌, ◌^◌, [], IfOk, All, codes, length};
 ghost use Rattle.rtrb.specs.Ring.{received};
 ghost use Rattle.policy_types.specs.Limits.{most_commands};
@@ -32,9 +32,9 @@ use watcher_set::{Lack, NoWatchers, Watching};
 /// 2020-12-31, in days since 1970-01-01.
 const LOAD_DAY: i32 = 18_627;
 
-/// Runs the script of so many policies drawn from a seed, values all policies then by the basis `basis.csv`, and writes
-/// how many postings were accepted and refused, and what the values add up to. The basis is fetched before the disk is
-/// touched.
+/// Runs the script of `count` policies drawn from a seed, then values all policies by the basis `basis.csv`, and
+/// writes how many postings were accepted and refused, and the sums of the values. The basis is fetched before the
+/// disk is touched.
 pub fn load<R: Threads + Wait + Sync, K: Sink, H: Shelf, D: Disk + Send, G: Gate + Sync>(
     rt: &R,
     alloc: Global,
@@ -54,7 +54,7 @@ pub fn load<R: Threads + Wait + Sync, K: Sink, H: Shelf, D: Disk + Send, G: Gate
     ensures ends { EndsLoad D.Disk disk result.disk seed count lanes workers
         (shelf_between H.faults H.agrees shelf.old shelf.new)
         (between K.faults K.written K.pieces output.old output.new) result.ending }
-    // Where the shelf failed this is told, and nothing else.
+    // If the shelf fails, that fault is returned and no other.
     ensures counted { H.faults shelf.old < H.faults shelf.new → result.ending ≡ ReadFault }
     ensures files { H.files shelf.new ≡ H.files shelf.old }
 {
@@ -103,7 +103,7 @@ fn basis_name(alloc: Global) -> Result<Name, NoMemory>
     }
 }
 
-// No words: of a load's lines nothing is written.
+// The wording of a load: nothing is written about its lines.
 struct NoWords;
 
 impl Wording for NoWords {
@@ -116,7 +116,7 @@ impl Wording for NoWords {
     }
 }
 
-// Runs lanes at an office, values its policies then, closes it, and writes the line.
+// Runs lanes at an office, then values its policies, closes it, and writes the line.
 fn load_office<
     R: Threads + Wait + Sync,
     K: Sink,
@@ -192,7 +192,7 @@ fn load_office<
     Finished { ending, disk }
 }
 
-// Writes the line of a load, but not where its valuation found no memory.
+// Writes the line of a load, unless its valuation was refused memory.
 fn write_loaded<K: Sink>(
     alloc: Global,
     lines: &TranscriptLines,
@@ -229,7 +229,7 @@ fn write_line<K: Sink>(
     }
 }
 
-// The line of a load, as `load,2,0,1,0.00,0.00,1`.
+// The line of a load, such as `load,2,0,1,0.00,0.00,1`.
 fn load_line(alloc: Global, accepted: usize, refused: usize, rows: &Rows) -> Result<Text, NoMemory>
     requires rows { length rows.now ≤ most_commands }
     requires bounded { AreSummable rows.now }

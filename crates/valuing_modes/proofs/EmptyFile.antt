@@ -1,4 +1,4 @@
--- What is told of an empty file.
+-- What is reported of an empty file.
 use Rattle.valuing_modes.proofs.Names.{◌≡◌, ℕ, List, [], ◌∷◌, inr, inl, refl, subst, lit≤, pos, digits, AllZip, Ghosts, date_of, month_of, days_before_year, days_of_months, day_text, Command, Policy, Now, Position, block_text, total_text, heading_text, IsValuedRow, Opens, WroteAll, IsBeyond, IsValuation}
 use Rattle.policy_value.specs.declared.worth.Measure.TheVariants.{Terminal}
 use Rattle.policy_value.specs.declared.worth.Row.{Row}

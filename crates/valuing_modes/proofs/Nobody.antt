@@ -1,4 +1,4 @@
--- The projection of nobody, and what is told of an empty file
+-- The projection of nobody, and what is reported of an empty file
 use Rattle.valuing_modes.proofs.Names.{◌≡◌, ℕ, zero, suc, ◌<◌, List, [], ◌∷◌, pos, refl, inl, inr, ◌∙◌, subst, lit<, lit≤, arith, AllZip, digits, Ghosts, date_of, month_of, days_before_year, days_of_months, day_text, Command, Policy, Dated, Shelving, Stream, WroteAll, IsProjectionText}
 use Rattle.std.specs.Prelude.{map}
 use Rattle.std.specs.List.{range_with_len, sum_by}

@@ -1,4 +1,4 @@
--- What the exit status tells of a projection
+-- What the exit status says of a projection
 use Rattle.valuing_modes.proofs.Names.{◌≡◌, ℕ, ◌⊎◌, ℤ, List, ap, inl, inr, Ghosts, Command, Dated, Opens, OpensToNone, Ending, Shelving, Stream, read_as_before, read_refused, read_to_end, EndsProject, IsProjected}
 use Rattle.outside_io.specs.Faults.{Rose}
 use Rattle.outside_io.specs.Shelves.{Files}

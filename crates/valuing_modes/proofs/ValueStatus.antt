@@ -1,4 +1,4 @@
--- What the exit status tells of a valuation
+-- What the exit status says of a valuation
 use Rattle.valuing_modes.proofs.Names.{◌≡◌, ℕ, ◌≤◌, ◌<◌, ◌⊎◌, ℤ, List, length, refl, ap, subst, inl, inr, arith, AppendsPart, Ghosts, Command, At, Dated, Measure, Opens, OpensToNone, Ending, Done, Usage, BadBasis, BadJournal, WriteFault, DiskFault, NoMemory, Ahead, Shelving, Stream, WroteAll, opens_to_none, read_as_before, read_refused, read_to_end, EndsValue, EndsValuing, IsAhead, IsValued, position_of}
 use Rattle.outside_io.specs.Faults.{Rose}
 use Rattle.outside_io.specs.Shelves.{Files}
@@ -82,7 +82,7 @@ module _ {D : Type 0} (g : Ghosts D) (old new : D) (on : ℤ) (at : At) (measure
       | inr no_basis ↦ ap g.reads no_basis.0
     ]
 
-    -- no valuation ends as words of no command do
+    -- no valuation ends as arguments of no command do
     pub value_usage : EndsValue g old new on at measure name shelf output Usage → ⊥
     value_usage ends = elim ends [
       | inl by ↦ elim by.ends [

@@ -31,7 +31,7 @@ use Rattle.valuing_modes.specs.Worked.Valued.{from_2000, from_2020}
 abbrev both : List Dated
 both = from_2000 ∷ from_2020 ∷ []
 
--- what is told of a policy by an entry
+-- what is reported of a policy by an entry
 abbrev IsBy : Policy → Dated → ℕ → Worth → Type 0
 IsBy policy entry t worth = MatchResult (shape_of policy.plan policy.age policy.years entry.table)
     (λ shape. IsYear policy.issued (pos 18628) shape.n t

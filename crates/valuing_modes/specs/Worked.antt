@@ -9,7 +9,7 @@ pub mod Valued
 abbrev pub PositionsAsked : Type 0
 PositionsAsked = (position_of Now 7 ≡ 7) × (position_of (Position 2) 7 ≡ 2) × (position_of (Position 9) 7 ≡ 9)
 
--- nobody is valued, and there is no need of a basis for it
+-- no policies are valued, and no basis is needed for that
 abbrev pub NobodyValued : Type 0
 NobodyValued = IsValuation [] (pos 18628) Now Terminal [] (λ text.
     text ≡ codes "0,value,2021-01-01,0,0" ++ (10 ∷ []) ++ codes "total,0.00,0.00,0" ++ 10 ∷ [])
@@ -18,20 +18,20 @@ NobodyValued = IsValuation [] (pos 18628) Now Terminal [] (λ text.
     × IsValuation [] (pos 18628) Now Deficiency [] (λ text.
     text ≡ codes "0,value,2021-01-01,0,0,deficiency" ++ (10 ∷ []) ++ codes "total,0.00,0.00,0.00,0.00,0" ++ 10 ∷ [])
 
--- three commands are asked for of none
+-- three commands are asked for, and there are none
 abbrev pub AheadOfNone : Type 0
 AheadOfNone = IsBeyond [] (Position 3) (output_with 0 [] (codes "refused,ahead,0" ++ 10 ∷ []))
     × (IsBeyond [] (Position 3) (output_with 0 [] (codes "refused,ahead,3" ++ 10 ∷ [])) → ⊥)
     × (IsBeyond [] (Position 0) (output_with 0 [] (codes "refused,ahead,0" ++ 10 ∷ [])) → ⊥)
     × (IsBeyond [] Now (output_with 0 [] (codes "refused,ahead,0" ++ 10 ∷ [])) → ⊥)
 
--- whatever the disk, of an empty file nobody is valued
+-- over any disk: an empty file has no policies to value
 abbrev pub ValuesAnEmptyFile : {D : Type 0} → Ghosts D → Type 0
 ValuesAnEmptyFile {D} g = (old new : D) (output : Stream) → g.honest new → g.reads old ≡ []
     → HoldsStill g old new (λ commands. IsValuation commands (pos 18628) Now Terminal [] (WroteAll output))
     → WroteAll output (codes "0,value,2021-01-01,0,0" ++ (10 ∷ []) ++ codes "total,0.00,0.00,0" ++ 10 ∷ [])
 
--- and where more is asked of it, it has no commands
+-- and if more commands are asked for, the line says that it has none
 abbrev pub IsAheadOfAnEmptyFile : {D : Type 0} → Ghosts D → Type 0
 IsAheadOfAnEmptyFile {D} g = (old new : D) (output : Stream) → g.honest new → g.reads old ≡ []
     → HoldsStill g old new (λ commands. IsBeyond commands (Position 3) output) → WroteLine output (codes "refused,ahead,0")

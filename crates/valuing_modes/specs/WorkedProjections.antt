@@ -12,7 +12,7 @@ nobodys_text = codes "project,2020-12-31,0,0,2" ++ (10 ∷ []) ++ codes "year,0,
 abbrev pub NobodyProjected : Type 0
 NobodyProjected = IsProjectionText [] (pos 18627) 2 [] (λ text. text ≡ nobodys_text)
 
--- whatever the disk, and whatever basis the shelf has, where an empty file is projected it is this text that was written
+-- over any disk and with any basis on the shelf: if an empty file is projected, this text was written
 abbrev pub ProjectsAnEmptyFile : {D : Type 0} → Ghosts D → Shelving → Type 0
 ProjectsAnEmptyFile {D} g shelf = (old new : D) (name : List ℕ) (output : Stream) → g.honest new → g.reads old ≡ []
     → EndsProject g old new (pos 18627) 2 name shelf output Done → WroteAll output nobodys_text

@@ -1,5 +1,6 @@
-//! The modes that value the policies of the disk's file, by the basis on the shelf: `value`, what each is worth on a day, after
-//! as many commands as are asked for; `project`, what they are expected to pay and to be paid by year.
+//! The modes that value the policies of the disk's file, by the basis on the shelf: `value`, what each is worth on a
+//! day, after as many commands as are asked for; and `project`, what they are expected to pay and to be paid, year by
+//! year.
 #![tactic(auto)]
 
 mod projecting;

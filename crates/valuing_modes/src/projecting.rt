@@ -17,8 +17,8 @@ use std::sync::Wait;
 use std::thread::Threads;
 use watcher_set::NoWatchers;
 
-/// Writes what the policies of the book are expected to pay and to be paid on a day, in days since 1970-01-01, in each of
-/// so many policy years from the current one. The basis is fetched before the disk is touched.
+/// Writes what the policies of the book are expected to pay and to be paid from a day on (in days since 1970-01-01),
+/// in each of `years` policy years from the current one. The basis is fetched before the disk is touched.
 pub fn project<R: Threads + Wait + Sync, K: Sink, H: Shelf, D: Disk, G: Gate>(
     rt: &R,
     alloc: Global,
@@ -37,7 +37,7 @@ pub fn project<R: Threads + Wait + Sync, K: Sink, H: Shelf, D: Disk, G: Gate>(
     ensures ends { EndsProject D.Disk disk result.disk on years basis.now
         (shelf_between H.faults H.agrees shelf.old shelf.new)
         (between K.faults K.written K.pieces output.old output.new) result.ending }
-    // Where the shelf failed this is told, and nothing else.
+    // If the shelf fails, that fault is returned and no other.
     ensures counted { H.faults shelf.old < H.faults shelf.new → result.ending ≡ ReadFault }
     ensures files { H.files shelf.new ≡ H.files shelf.old }
 {

@@ -21,8 +21,8 @@ use std::thread::Threads;
 use text_lines::{LineWriter, Text};
 use watcher_set::NoWatchers;
 
-/// Writes what each policy is worth on a day, in days since 1970-01-01, by a measure, after as many commands as are asked
-/// for. The basis is fetched before the disk is touched.
+/// Writes what each policy is worth on a day, in days since 1970-01-01, by a measure, after as many commands as are
+/// asked for. The basis is fetched before the disk is touched.
 pub fn value<R: Threads + Wait + Sync, K: Sink, H: Shelf, D: Disk, G: Gate>(
     rt: &R,
     alloc: Global,
@@ -41,7 +41,7 @@ pub fn value<R: Threads + Wait + Sync, K: Sink, H: Shelf, D: Disk, G: Gate>(
     ensures ends { EndsValue D.Disk disk result.disk on at measure basis.now
         (shelf_between H.faults H.agrees shelf.old shelf.new)
         (between K.faults K.written K.pieces output.old output.new) result.ending }
-    // Where the shelf failed this is told, and nothing else.
+    // If the shelf fails, that fault is returned and no other.
     ensures counted { H.faults shelf.old < H.faults shelf.new → result.ending ≡ ReadFault }
     ensures files { H.files shelf.new ≡ H.files shelf.old }
 {
@@ -84,7 +84,7 @@ fn write_answer<R: Threads + Sync, K: Sink>(
     match answer {
         Ok(valuation) => write_values(rt, alloc, on, &valuation, workers, output),
         Err(ValueFault::Pin(PinRefusal::Ahead(count))) => refuse_position(alloc, count, output),
-        // Nobody else holds a pin or trims, so no other is refused.
+        // Nobody else holds a pin or trims, so there is no other refusal.
         Err(ValueFault::Pin(_)) => unreachable!(),
         Err(ValueFault::NoMemory(lack)) => lack_memory(lack, output),
     }
@@ -124,7 +124,7 @@ fn write_values<R: Threads + Sync, K: Sink>(
     }
 }
 
-// Says that there are only so many commands.
+// Reports that there are only so many commands.
 fn refuse_position<K: Sink>(alloc: Global, count: u32, output: &mut K) -> Ending
     ensures later { K.faults output.old ≤ K.faults output.new }
     ensures says { SaysAhead count (between K.faults K.written K.pieces output.old output.new) result }
@@ -135,7 +135,7 @@ fn refuse_position<K: Sink>(alloc: Global, count: u32, output: &mut K) -> Ending
     }
 }
 
-// The line that says so, as `refused,ahead,7`.
+// The line that reports it, such as `refused,ahead,7`.
 fn ahead_line(alloc: Global, count: u32) -> Result<Text, NoMemory>
     ensures { IfOk result (λ line. line ≡ (codes "refused,ahead," ++ decimal count) ++ 10 ∷ []) }
 {

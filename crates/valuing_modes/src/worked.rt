@@ -30,7 +30,7 @@ pub fn caps()
     ensures { Caps }
 {}
 
-/// How long a basis's files may be, and where it is told that they are longer.
+/// How long a basis's files may be, and where a file that is longer is reported.
 pub fn limits_of_files()
     ensures bases { LongBases }
     ensures tables { LongTables }

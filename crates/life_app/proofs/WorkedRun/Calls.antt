@@ -32,7 +32,7 @@ pub both_true : (a b : Bool) → a ≡ true → b ≡ true → (a && b) ≡ true
 both_true true b one other = other
 both_true false b one other = cc
 
--- A record is posted behind those of these bodies.
+-- A record is posted after those of these bodies.
 module _ (first : List ℕ) (calls : List FileCall) (bodies : List (List ℕ)) (command : Command)
     (few : length bodies < 4000000) (size : length (spelling_of command) ≡ 64)
     (journal : IsJournal (reads first calls) bodies) (safe : AreSafe first calls) (unfailed : sync_failed calls ≡ false) where
@@ -55,7 +55,7 @@ module _ (first : List ℕ) (calls : List FileCall) (bodies : List (List ℕ)) (
       (subst (λ (e : List ℕ). Torn (body_place (length bodies)) 65 e image) (safe left.0 left.1)
       (subst (λ (m : ℕ). Torn (body_place (length bodies)) m left.0 image) record_size left.2))
 
-  -- behind the closed gate it is none yet
+  -- after the closed gate it is none yet
   pub is_still : IsJournal (reads first (stages (length bodies) command calls)) bodies
   is_still =
       torn_stage bodies (reads first calls) (reads first (stages (length bodies) command calls)) journal
@@ -172,7 +172,7 @@ last_step image torn =
       ]
     ]
 
--- of one byte that says that the creation goes on, and what is behind it
+-- of one byte that says that the creation goes on, and what is after it
 second_step : (image : List ℕ) → Torn 1 17 (0 ∷ []) image → Opens image []
 second_step image torn = no_commands image (inr (inl (torn.no_longer, same_byte 1 0 (0 ∷ []) image torn.before (lit< tt))))
 

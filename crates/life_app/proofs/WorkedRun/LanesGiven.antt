@@ -63,7 +63,7 @@ a_quarter = (
   lit≤ tt,
 )
 
--- the rates behind those of the ages 0, 1, 2 and 3
+-- the rates after those of the ages 0, 1, 2 and 3
 abbrev after_0 : List ℕ
 after_0 = 200000000 ∷ 250000000 ∷ 500000000 ∷ 1000000000 ∷ []
 
@@ -154,7 +154,7 @@ lanes_bases files agree = record {
   );
 }
 
--- the files as the shelf told of them
+-- the files as the shelf reported of them
 lanes_files : Files
 lanes_files name =
     if bytes_eq name (codes "basis.csv") then Some lanes_rows

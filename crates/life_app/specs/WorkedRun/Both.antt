@@ -26,7 +26,7 @@ saved_file = file_reads [] untorn saving
 abbrev pub saving_disks : TwoDisks CalledDisk CalledDisk
 saving_disks = record { old = cut_disk; new = looked_disk; second = empty_disk; kept = saved_disk }
 
--- those of a call that reads them, and those of one that finds letters
+-- the disk of a call that reads it, and that of a call that finds letters
 abbrev pub second_disk : CalledDisk
 second_disk = called_disk saved_file []
 
@@ -58,7 +58,8 @@ whole_of_two = record { one = whole_run; kept = second_disk; next_second = secon
 abbrev pub runs_of_two : List (OneRunOfTwo CalledDisk CalledDisk)
 runs_of_two = cut_of_two ∷ saved_of_two ∷ whole_of_two ∷ []
 
--- both disks are true where the second has no checkpoint, where it has that of the journal, and beside what is no journal
+-- both disks are true if the second has no checkpoint, if it has the journal's checkpoint, and beside a file that is
+-- no journal
 abbrev pub TrustedByHand : Type 0
 TrustedByHand = AreTrue called called saving_disks × AreTrue called called stating_disks × AreTrue called called letters_disks
 
@@ -83,7 +84,7 @@ DueOfBothByHand = JournalIs looked_filing saved_filing (λ file. Opens file (han
     × IsDueEnding (codes "checkpoint" ∷ []) no_input (output_of (codes "checkpoint,1" ++ 10 ∷ [])) (shelf_that_told []) looked_filing saved_filing Done
     × IsDueEnding (codes "state" ∷ []) no_input (output_of []) (shelf_that_told []) letters_filing empty_filing BadJournal
 
--- `checkpoint` saved the books, and the words are obeyed
+-- `checkpoint` saved the books, and the arguments are obeyed
 abbrev pub SavedByHand : Type 0
 SavedByHand = EndsCheckpoint called called saving_disks (output_of (codes "checkpoint,1" ++ 10 ∷ [])) Done
     × Obeys called called cut_disk looked_disk (Some empty_disk) (Some saved_disk) (codes "checkpoint" ∷ []) two_auditors no_input (output_of (codes "checkpoint,1" ++ 10 ∷ [])) (shelf_that_told []) (Unit {0}) (Unit {0}) 0
@@ -97,7 +98,7 @@ RowOfTwoByHand = IsRunOfTwo called called empty_disk empty_disk cut_of_two
     × WasCutBefore called empty_disk empty_disk
     × SavedOfFirst [] []
 
--- and so the call that saved them, which ended with 0, ended as is due
+-- and so the call that saved them, which ended with 0, ended as was due
 abbrev pub DueOfTheSaving : Type 0
 DueOfTheSaving = (ending : Ending)
     → IsDueEnding (codes "checkpoint" ∷ []) no_input (output_of (codes "checkpoint,1" ++ 10 ∷ [])) (shelf_that_told []) looked_filing saved_filing ending
@@ -122,13 +123,13 @@ StatedByHand = EndsState called cut_disk looked_disk (λ commands. books_text (b
     × Obeys called called cut_disk looked_disk (Some second_disk) (Some read_disk) (codes "state" ∷ []) two_auditors no_input (output_of issue_books)
     (shelf_that_told []) (Unit {0}) (Unit {0}) 0
 
--- no words ask for nothing, and there may be no memory to read them
+-- no arguments ask for nothing, and there may be no memory to read them
 abbrev pub OtherwiseByHand : Type 0
 OtherwiseByHand = AreWords (codes "checkpoint" ∷ []) Checkpoint × ((mode : Mode) → ¬ AreWords [] mode)
     × EndsUnasked cut_disk cut_disk (Some second_disk) (Some second_disk) [] (output_of (codes "usage" ++ 10 ∷ [])) (Unit {0}) (Unit {0}) Usage
     × ((words : List (List ℕ)) → EndsUnasked cut_disk cut_disk (Some second_disk) (Some second_disk) words (output_of (codes "nomemory" ++ 10 ∷ [])) (Unit {0}) (Unit {0}) (NoMemory a_lack))
 
--- so the second file's checkpoint is of the first of the commands, and tells the truth of the journal
+-- so the second file's checkpoint is of the first of the commands, and is true of the journal
 abbrev pub LeftOfTwoByHand : Type 0
 LeftOfTwoByHand = called.may_leave second_disk saved_file
     × ((image file : List ℕ) → called.may_leave last_disk image → called.may_leave second_disk file

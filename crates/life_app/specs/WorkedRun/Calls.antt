@@ -1,5 +1,6 @@
--- A worked run, told by the calls of its file: an empty file becomes a journal, a policy is issued, and a premium is posted of
--- which a crash leaves the body behind a closed gate; the file is opened again, and the premium is posted anew
+-- A worked run, given by the calls of its file: an empty file becomes a journal, a policy is issued, and a premium is
+-- posted, of which a crash leaves the body after a closed gate; the file is opened again, and the premium is posted
+-- again
 use Rattle.std.specs.Prelude.{◌≡◌, ℕ, ◌+◌, ◌*◌, true, false, List, [], ◌∷◌, ◌++◌, Some, length, take, drop}
 use Rattle.life_app.specs.Names.{FileCall, Measured, ReadFrom, WrittenTo, Synced, file_reads, writes_within, AreAllowed, FileImage, FileLeft, Ghosts, Command, hand_issue, hand_premium, issue_record, journal_of_two, premium_body}
 use Rattle.posting_journal.specs.Layout.{body_place, gate_place, header}
@@ -13,7 +14,7 @@ untorn calls = []
 abbrev pub Unsynced : List ℕ → Type 0
 Unsynced image = ⊥
 
--- A disk told by its calls, newest first, and what its file read as before the first of them.
+-- A disk given by its calls, newest first, and what its file read as before the first of them.
 pub record CalledDisk : Type 0 where
   pub first : List ℕ
   pub calls : List FileCall
@@ -42,14 +43,14 @@ called_disk first calls = record { first = first; calls = calls }
 abbrev pub puts : ℕ → List ℕ → List FileCall → List FileCall
 puts at bytes earlier = Synced true ∷ WrittenTo at bytes true ∷ earlier
 
--- record n is staged behind a closed gate, and then the gate is opened
+-- record n is staged after a closed gate, and then the gate is opened
 abbrev pub stages : ℕ → Command → List FileCall → List FileCall
 stages n command earlier = puts (body_place n) (spelling_of command ++ 0 ∷ []) earlier
 
 abbrev pub posts : ℕ → Command → List FileCall → List FileCall
 posts n command earlier = puts (gate_place n) (1 ∷ []) (stages n command earlier)
 
--- the same, but the sync behind the open gate fails
+-- the same, but the sync after the open gate fails
 abbrev pub fails : ℕ → Command → List FileCall → List FileCall
 fails n command earlier = Synced false ∷ WrittenTo (gate_place n) (1 ∷ []) true ∷ stages n command earlier
 

@@ -1,4 +1,4 @@
--- Which endings are due in worked cases, of the run's script and of files by hand, so that what is due can come about
+-- Which endings are due in worked cases, for the run's script and for files by hand; so what is due can come about
 use Rattle.std.specs.Prelude.{◌≡◌, ◌⊎◌, ℕ, true, List, [], ◌∷◌, Some, codes, pos, replicate}
 use Rattle.life_app.specs.WorkedRun.Names.{Dated, IsPicked, IsBasis, lane_of, Measured, ReadFrom, Synced, Absent, Found, GivesMore, Now, Position, Lane, Terminal, Run, ToValue, hand_issue, status_of, Input, Shelving, Ending, Done, Usage, BadScript, BadJournal, IsReadable, IsUnreadable, most_script_bytes, input_that_gave, BadBasis, IsFirstBadFile, Opens, OpensToNone, Value, HasItsNeeds, HasScript, IsDueEnding, IsGivenBasis, Filing, JournalIs, ShelfHas, Without, filing_between}
 use Rattle.basis_shelf.specs.declared.fault.BadBasis.{BadBasis as ABadBasis}
@@ -24,7 +24,7 @@ letters_filing = filing_between called (called_disk letters []) letters_disk
 abbrev pub no_input : Input
 no_input = input_that_gave [] ⊥ 0
 
--- a row of clerk 9, who isn't one; and a line that asks for values
+-- a row of lane 9, which doesn't exist; and a line that asks for values
 abbrev pub faulty_script : Input
 faulty_script = input_that_gave (codes "9,lapse,1,2020-01-01") (Unit {0}) 0
 
@@ -41,7 +41,7 @@ stocked_shelf = shelf_that_told ((record { name = codes "q.xml"; told = Found ce
 abbrev pub basisless_shelf : Shelving
 basisless_shelf = shelf_that_told ((record { name = codes "a.csv"; told = Absent }) ∷ [])
 
--- what a mode may need is there, or lacks
+-- what a mode may need is there, or is lacking
 abbrev pub NeedsByHand : Type 0
 NeedsByHand = IsReadable premium_script
     × IsUnreadable (codes "9,lapse,1,2020-01-01")
@@ -53,16 +53,16 @@ NeedsByHand = IsReadable premium_script
     × JournalIs cut_filing Without (λ file. Opens file (hand_issue ∷ []))
     × JournalIs letters_filing Without OpensToNone
 
--- the line that asks for values is given the basis that the files make, of which its one row is picked for a policy of 2020
+-- the line that asks for values is given the basis that the files make, whose one row is picked for a policy of 2020
 abbrev pub BasisByHand : Type 0
 BasisByHand = (entry : Dated) × IsGivenBasis IsBasis value_lanes (codes "b.csv") stocked_shelf (entry ∷ []) × IsPicked (entry ∷ []) (pos 18262) 0 entry
 
--- words that ask for values at the first position, by a basis that is there
+-- arguments that ask for values at the first position, by a basis that is there
 abbrev pub value_words : List (List ℕ)
 value_words = codes "value" ∷ codes "2021-01-01" ∷ codes "--at=1" ∷ codes "--basis=b.csv" ∷ []
 
--- the run of the premium has all that it needs, and so it is to be done, and the valuation is; other words, files and scripts
--- have other endings
+-- the run of the premium has all that it needs, so it is to be done, and so is the valuation; other arguments, files
+-- and scripts have other endings
 abbrev pub DueByHand : Type 0
 DueByHand = HasItsNeeds (Run (codes "basis.csv")) given_script (shelf_that_told []) Without
     × IsDueEnding (codes "run" ∷ []) given_script (output_of premium_text) (shelf_that_told []) cut_filing Without Done
@@ -74,7 +74,7 @@ DueByHand = HasItsNeeds (Run (codes "basis.csv")) given_script (shelf_that_told 
     × HasItsNeeds (ToValue (pos 18628) (Position 1) 1 (codes "b.csv") Terminal) no_input stocked_shelf Without
     × IsDueEnding value_words no_input (output_of []) stocked_shelf cut_filing Without Done
 
--- and so the run of the premium, which ended with 0, ended as is due
+-- and so the run of the premium, which ended with 0, ended as was due
 abbrev pub DueOfTheRun : Type 0
 DueOfTheRun = (ending : Ending)
     → IsDueEnding (codes "run" ∷ []) given_script (output_of premium_text) (shelf_that_told []) cut_filing Without ending

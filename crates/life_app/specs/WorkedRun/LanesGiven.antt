@@ -1,4 +1,4 @@
--- The run of the two lanes from its typed words on: the script that the input gave, and the basis that three files make
+-- The run of the two lanes from its arguments on: the script that the input gave, and the basis that three files make
 use Rattle.std.specs.Prelude.{◌≡◌, ◌⊎◌, ℕ, List, [], ◌∷◌, Option, codes}
 use Rattle.basis_shelf.specs.Worked.{certain_death}
 use Rattle.life_app.specs.WorkedRun.Names.{Answer, AreWords, DiskFault, EndsRead, EndsRun, Ending, Found, Input, IsBasis, IsDueEnding, IsGivenBasis, IsUnrun, IsWholeInput, Obeys, Opens, Reads, Run, Shelving, Without, filing_between, input_that_gave, status_of}
@@ -14,7 +14,7 @@ lanes_rows = codes "2000-01-01,five.xml,0\n2020-01-02,q.xml,400\n"
 abbrev pub five_ages_text : List ℕ
 five_ages_text = codes "<XTbML><Table><Values><Axis><Y t='0'>0.1</Y><Y t='1'>0.2</Y><Y t='2'>0.25</Y><Y t='3'>.5</Y><Y t='4'>1</Y></Axis></Values></Table></XTbML>"
 
--- the shelf told of the basis file first, and then of the tables
+-- the shelf answered for the basis file first, and then for the tables
 abbrev pub found_as : List ℕ → List ℕ → Answer
 found_as name bytes = record { name = name; told = Found bytes }
 
@@ -28,8 +28,8 @@ lanes_shelf = shelf_that_told lanes_found
 abbrev pub lanes_input : Input
 lanes_input = input_that_gave lanes_script (Unit {0}) 0
 
--- the words `run` ask for a run, of the whole input, which is read as the two lanes; one asks for values, and the files make
--- the two entries
+-- the argument `run` asks for a run of the whole input, which is read as the two lanes; one line asks for values, and
+-- the files make the two entries
 abbrev pub GivenLanes : Type 0
 GivenLanes = AreWords (codes "run" ∷ []) (Run (codes "basis.csv"))
     × IsWholeInput lanes_input lanes_script × Reads lanes_script typed_lanes

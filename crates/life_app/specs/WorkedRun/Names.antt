@@ -1,4 +1,4 @@
--- The names that several rooms of the worked run cite, passed on from one place. Declares nothing.
+-- The names that several modules of the worked run cite, passed on from one place. Declares nothing.
 pub use Rattle.life_app.specs.Crashes.{AreAllHeld, AreHeld, HasRun}
 pub use Rattle.life_app.specs.Due.{IsDueEnding}
 pub use Rattle.life_app.specs.Headline.{IsEnclosingRow, IsGivenBasis, IsPromised, IsUnrun, IsWorthBy}

@@ -1,4 +1,4 @@
--- What the promise refuses: it can't hold of what wrong programs would leave of the worked run's script
+-- What the promise refuses: it can't be true of what wrong programs would leave of the worked run's script
 use Rattle.std.specs.Prelude.{◌≡◌, ◌⊎◌, ℕ, ◌<◌, List, [], ◌∷◌, ◌++◌, codes}
 use Rattle.life_app.specs.WorkedRun.Names.{Accepted, AnsweredLine, AreSafeWhenShown, Dated, Entry, FileCall, Opens, PostLine, hand_issue, hand_premium, Stream, IsPromised, IsUnrun, table_reserves, run_wording}
 use Rattle.outside_io.specs.Streams.{TakenPiece}
@@ -16,13 +16,14 @@ Admits new output status =
     IsPromised called Opens run_wording table_reserves cut_disk new premium_lanes [] two_auditors output status
     ⊎ IsUnrun called Opens cut_disk new (codes "basis.csv") given_script output (shelf_that_told []) status
 
--- so it can't end, whatever it left and wrote
+-- so it can't end in this way, whatever it left and wrote
 abbrev pub NeverEnds : ℕ → Type 0
 NeverEnds status = (new : CalledDisk) (output : Stream) → Admits new output status → ⊥
 
--- No made-up cause. The words were right, the script can be read, the shelf wasn't asked and can't have failed, nor has the
--- input; a journal that opens isn't a bad one, and where the count of faults stands still, the output and the disk didn't
--- fail. Whatever is printed, be it the transcript, nothing, or the line of that cause.
+-- No made-up cause. The arguments were right, the script can be read, the shelf wasn't asked and so can't have
+-- failed, and neither has the input; a journal that opens isn't a bad one; and if the counts of faults didn't rise,
+-- neither the output nor the disk failed. This holds whatever is printed: the transcript, nothing, or the line of
+-- that cause.
 abbrev pub CausesByHand : Type 0
 CausesByHand = NeverEnds 2 × NeverEnds 3 × NeverEnds 4 × NeverEnds 6 × NeverEnds 10
     × ((new : CalledDisk) (output : Stream) → called.honest new → Admits new output 5 → ⊥)
@@ -30,15 +31,15 @@ CausesByHand = NeverEnds 2 × NeverEnds 3 × NeverEnds 4 × NeverEnds 6 × Never
     × ((output : Stream) → Admits looked_disk output 8 → ⊥)
     × ((output : Stream) → Admits last_disk output 8 → ⊥)
 
--- the premium's turn under some caller's number, and the clerk's line that it answers
+-- the premium's turn under some caller's number, and the line that it answers
 abbrev pub premium_turn_by : ℕ → Entry
 premium_turn_by caller = record { caller = caller; call = Post hand_premium; reply = Accepted 2 }
 
 abbrev pub answered_by : ℕ → AnsweredLine
 answered_by caller = record { clerk = 1; line = PostLine hand_premium; first = (0, premium_turn_by caller); rest = [] }
 
--- With 0, the transcript is what was written, and no other; whatever a crash leaves opens to both commands; and the line was
--- told once that was so.
+-- With status 0, the transcript is what was written, and nothing else; whatever a crash leaves opens to both
+-- commands; and the line was printed once that was so.
 abbrev pub TruthByHand : Type 0
 TruthByHand = (new : CalledDisk) (output : Stream)
     → IsPromised called Opens run_wording table_reserves cut_disk new premium_lanes [] two_auditors output 0 → called.honest new
@@ -47,7 +48,7 @@ TruthByHand = (new : CalledDisk) (output : Stream)
     × AreSafeWhenShown called Opens new (hand_issue ∷ []) (premium_turn_by caller ∷ []) (answered_by caller ∷ [])
     ((codes "1,premium,7001,accepted,2" ++ 10 ∷ []) ∷ []) run))
 
--- `nomemory` in the place of the answer, and one line more behind the transcript
+-- `nomemory` in place of the answer, and one line more after the transcript
 abbrev pub unanswered_text : List ℕ
 unanswered_text = codes "1,premium,7001,nomemory" ++ 10 ∷ codes "watcher,1,1,1" ++ 10 ∷ codes "watcher,2,1,40000" ++ 10 ∷ []
 
@@ -65,8 +66,9 @@ unmaking = puts 0 (0 ∷ []) reopening
 abbrev pub remade_disk : CalledDisk
 remade_disk = called_disk cut_file (posts 1 hand_premium (puts 0 (1 ∷ []) unmaking))
 
--- So with 0 it can't have printed either of these; nor the transcript where nothing is posted; nor have handed that on by a
--- moment before the last sync, be its gate written by then, but not made safe; nor have lost the issue on the way.
+-- So with status 0 it can't have printed either of these; nor the transcript if nothing was posted. Nor can it have
+-- handed the transcript on by a moment before the last sync, even if the gate was written by then but not made safe;
+-- nor have lost the issue in between.
 abbrev pub ForgedByHand : Type 0
 ForgedByHand = (Admits last_disk (output_of unanswered_text) 0 → ⊥)
     × (Admits last_disk (output_of longer_text) 0 → ⊥)
@@ -74,7 +76,7 @@ ForgedByHand = (Admits last_disk (output_of unanswered_text) 0 → ⊥)
     × ((moment : ℕ) → moment < called.clock last_disk → Admits last_disk (output_at moment) 0 → ⊥)
     × (Admits remade_disk (output_at (called.clock remade_disk)) 0 → ⊥)
 
--- the same of a run of the valuation's script, by whatever basis, which only looked at the file
+-- the same for a run of the valuation's script, by whatever basis, which only looked at the file
 abbrev pub AdmitsValues : List Dated → Stream → ℕ → Type 0
 AdmitsValues basis output status =
     IsPromised called Opens run_wording table_reserves cut_disk looked_disk value_lanes basis two_auditors output status
@@ -83,6 +85,6 @@ AdmitsValues basis output status =
 abbrev pub unvalued_transcript : List ℕ
 unvalued_transcript = codes "1,value,2020-01-01,nomemory" ++ 10 ∷ codes "watcher,1,0,0" ++ 10 ∷ codes "watcher,2,0,0" ++ 10 ∷ []
 
--- with 0 it can't have printed that there was no memory for the rows
+-- with status 0 it can't have printed that there was no memory for the rows
 abbrev pub ValuedByHand : Type 0
 ValuedByHand = (basis : List Dated) → AdmitsValues basis (output_of unvalued_transcript) 0 → ⊥

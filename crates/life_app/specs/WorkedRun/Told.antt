@@ -1,4 +1,4 @@
--- What the laws and the contract conclude, of the worked run and of small values by hand
+-- What the laws and the contract conclude for the worked run and for small values by hand
 use Rattle.std.specs.Prelude.{ℕ, List, None, [], ◌∷◌, ◌++◌, codes, pos}
 use Rattle.watcher_set.specs.Evidence.{a_lack}
 use Rattle.transcript_text.specs.Transcript.{IsToldText}
@@ -12,14 +12,14 @@ use Rattle.life_app.specs.WorkedRun.Due.{cut_filing, no_input, value_script}
 use Rattle.life_app.specs.WorkedRun.Promise.{given_script, output_of, premium_text, shelf_that_told, two_auditors}
 use Rattle.life_app.specs.WorkedRun.Runs.{cut_run, looked_disk}
 
--- the cut run added the issue, of a posting that faulted none was accepted before, and a run may answer no line
+-- the cut run added the issue; a posting that faulted was not accepted before; and a run may answer no line
 abbrev pub EndedByHand : Type 0
 EndedByHand = AddsCommands cut_run (hand_issue ∷ []) []
     × WasFaulted (premium_turn (Faulted 4) ∷ []) [] hand_premium
     × IsUnrun called Opens cut_disk cut_disk (codes "basis.csv") given_script (output_of (codes "nomemory" ++ 10 ∷ []))
     (shelf_that_told []) 9
 
--- the basis of the name that is meant where none is given, and which isn't there
+-- the basis of the default name, which isn't there
 abbrev pub unstocked_shelf : Shelving
 unstocked_shelf = shelf_that_told ((record { name = codes "basis.csv"; told = Absent }) ∷ [])
 
@@ -37,7 +37,8 @@ ReasonsByHand = HasReason (codes "run" ∷ []) given_script (output_of premium_t
     × AreWords (codes "load" ∷ codes "7" ∷ codes "5" ∷ codes "2" ∷ codes "1" ∷ []) (Load 7 5 2 1)
     × ((words : List (List ℕ)) → HasReason words no_input (output_of (codes "checkpoint,1" ++ 10 ∷ [])) (shelf_that_told []) looked_filing saved_filing Done)
 
--- the modes that need a basis end so where it isn't there, `generate` where there is no memory, and `state` with its books
+-- the modes that need a basis end so if it isn't there; `generate` ends so if there is no memory; and `state` ends
+-- with its books
 abbrev pub ModesByHand : Type 0
 ModesByHand = EndsValue called cut_disk cut_disk (pos 18628) Now Terminal (codes "basis.csv") unstocked_shelf (output_of absent_basis) BadBasis
     × EndsProject called cut_disk cut_disk (pos 18628) 1 (codes "basis.csv") unstocked_shelf (output_of absent_basis) BadBasis

@@ -1,4 +1,4 @@
--- The parts of how the program ends, as the functions under it say them
+-- The parts of how the program ends, for the contracts of its inner functions
 use Rattle.std.specs.Prelude.{◌≡◌, ℕ, ◌⊎◌, List, length, codes, Option, Some, None}
 use Rattle.life_app.specs.Names.{Ghosts, Auditor, AreWords, Mode, Input, Shelving, Stream, WroteLine, Ending, Usage, NoMemory, book, books_text, EndsCheckpoint, EndsStateKept, EndsState}
 use Rattle.policy_machine.specs.Accounts.{ledger_of}
@@ -15,7 +15,7 @@ EndsBooks {E = E} g e old new second kept output ending = by second kept
         EndsStateKept g e (record { old = old; new = new; second = second; kept = kept }) output ending
     by _ _ = ⊥
 
--- how `checkpoint` ends: without a second disk its words aren't obeyed
+-- how `checkpoint` ends: without a second disk its arguments aren't obeyed
 abbrev pub EndsSave : {D E : Type 0} → Ghosts D → Ghosts E → (old new : D) → (second kept : Option E) → Stream → Ending → Type 0
 EndsSave {E = E} g e old new second kept output ending = by second kept
   where
@@ -25,13 +25,13 @@ EndsSave {E = E} g e old new second kept output ending = by second kept
         EndsCheckpoint g e (record { old = old; new = new; second = second; kept = kept }) output ending
     by _ _ = ⊥
 
--- why the words weren't obeyed, in a line
+-- why the arguments weren't obeyed, in a line
 abbrev pub SaysUnasked : List (List ℕ) → Stream → Ending → Type 0
 SaysUnasked words output Usage = ((mode : Mode) → ¬ AreWords words mode) × WroteLine output (codes "usage")
 SaysUnasked words output (NoMemory lack) = WroteLine output (codes "nomemory")
 SaysUnasked _ _ _ = ⊥
 
--- the words ask for a mode, which ended so, or weren't obeyed
+-- the arguments ask for a mode, which ended so, or weren't obeyed
 abbrev pub Does : {D E : Type 0} → Ghosts D → Ghosts E → (old new : D) → (second kept : Option E) → List (List ℕ) → List Auditor
     → Input → Stream → Shelving → (InputStays ShelfStays : Type 0) → Ending → Type 0
 Does g e old new second kept words auditors input output shelf InputStays ShelfStays ending =

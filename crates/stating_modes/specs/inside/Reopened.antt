@@ -24,7 +24,7 @@ pub record HasJournalOn {D : Type 0} {g : Ghosts D} (old : D) (journal : Journal
   pub opened : g.honest (disk_of journal) → HasStarted old journal
   pub opens : g.honest (disk_of journal) → OpensOn g old (disk_of journal)
 
--- The books are those of commands, which the journal's disk holds still.
+-- The books are those of commands that the journal's disk holds still.
 pub record AreBooksOn {D : Type 0} (g : Ghosts D) (old new : D) (books : Snapshot) : Type 0 where
   pub sound : IsSoundSnapshot books
   pub commands : List Command
@@ -42,7 +42,8 @@ abbrev pub disks_under : {D E : Type 0} {g : Ghosts D} {e : Ghosts E} → D → 
 disks_under disk second opened =
     record { old = disk; new = disk_of opened.journal; second = second; kept = store_disk opened.store }
 
--- The snapshot was read, with neither disk failing. Both were only looked at, but for a creation that was ended.
+-- The snapshot was read, and neither disk failed. Both were only looked at, except that a creation may have been
+-- finished.
 pub record HasReopened {D E : Type 0} {g : Ghosts D} {e : Ghosts E} (disk : D) (second : E)
     (opened : Reopened D E g e) : Type 0 where
   pub sound : IsSoundSnapshot opened.books
@@ -53,7 +54,7 @@ pub record HasReopened {D E : Type 0} {g : Ghosts D} {e : Ghosts E} (disk : D) (
   pub looked : e.honest (store_disk opened.store) → HasLookedAt second opened.store
   pub held : IsHeldWhereTrue g e (disks_under disk second opened) opened.books
 
--- one of the disks failed, or neither, by the cause
+-- which of the disks failed, if one did, by the cause
 abbrev pub TellsFaultOfOne : {D E : Type 0} → Ghosts D → Ghosts E → TwoDisks D E → StartCause → Type 0
 TellsFaultOfOne g e disks (DiskFault count) =
     Rose (g.faults disks.old) (g.faults disks.new) ⊎ Rose (e.faults disks.second) (e.faults disks.kept)

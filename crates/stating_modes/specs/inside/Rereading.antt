@@ -1,4 +1,4 @@
--- What reading a journal's records again tells, for one policy
+-- What it means to read a journal's records again, for one policy
 use Rattle.std.specs.Prelude.{◌≡◌, ℕ, List, [], ◌⊎◌, Err, IsOk, codes}
 use Rattle.stating_modes.specs.Names.{AllByRecursion, Rose, AppendsPart, Ghosts, Command, IsUnfinished, LooksOn, disk_of, StartCause, IsOfTheFile, Opens, OpensToNone, Ending, Done, BadJournal, WriteFault, DiskFault, NoMemory, Stream, WroteAll, WroteLine, IsValid, id_of, policy_of, next, Journal, TellsFault, SaysWhy}
 use Rattle.policy_types.specs.declared.command.Command.TheVariants.{Upgrade}
@@ -16,7 +16,7 @@ pub record IsAccount (account : Account) (commands : List Command) : Type 0 wher
   pub entries : account.entries.items ≡ policy_entries commands account.id
   pub policy : account.policy ≡ policy_of commands account.id
 
--- the rules accept the command of its policy after these, or it is an upgrade
+-- after these commands the rules accept this one, which is of its policy; or it is an upgrade
 abbrev pub CanBeNext : List Command → Command → Type 0
 CanBeNext commands command = (command ≡ Upgrade) ⊎ IsOk (next (policy_of commands (id_of command)) command)
 
@@ -38,8 +38,8 @@ pub record IsStoppedFrom {D : Type 0} {g : Ghosts D} (journal : Journal D g) (di
   pub told : HasReplayCause {T = Unit {0}} journal disk (Err fault)
   pub stops : Stops (AllByRecursion IsValid) CanBeNext journal disk [] fault
 
--- The account was read from the commands of the disk's file, where the disk comes back honest, as it was before then. A
--- file that is no unfinished creation was only looked at.
+-- The account was read from the commands of the disk's file, if the disk comes back honest, as it was before. A file
+-- that is no unfinished creation was only looked at.
 pub record HasRead {D : Type 0} (g : Ghosts D) (old new : D) (account : Account) (id : ℕ) : Type 0 where
   pub named : account.id ≡ id
   pub commands : List Command
@@ -49,15 +49,15 @@ pub record HasRead {D : Type 0} (g : Ghosts D) (old new : D) (account : Account)
   pub quiet : g.faults new ≡ g.faults old
   pub unwritten : g.honest new → ¬ IsUnfinished (g.reads old) → LooksOn g old new
 
--- The account wasn't read from the disk's file, since the disk failed, or the file opens to no commands, or for want of
--- memory.
+-- The account wasn't read from the disk's file, since the disk failed, or the file opens to no commands, or memory
+-- was refused.
 pub record HasNotRead {D : Type 0} (g : Ghosts D) (old new : D) (cause : StartCause) : Type 0 where
   pub told : TellsFault (g.faults old) (g.faults new) cause
   pub shown : g.honest new → IsOfTheFile cause → OpensToNone (g.reads old)
   pub honesty : g.honest new → g.honest old
   pub unwritten : g.honest new → ¬ IsUnfinished (g.reads old) → LooksOn g old new
 
--- how an account's text was written, of the commands that were read again
+-- how an account's text was written, from the commands that were read again
 pub record IsAccounted {D : Type 0} (g : Ghosts D) (old new : D) (id : ℕ) (Wrote : List ℕ → Type 0) : Type 0 where
   pub account : Account
   pub read : HasRead g old new account id

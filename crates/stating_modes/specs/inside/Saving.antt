@@ -6,7 +6,7 @@ use Rattle.stating_modes.specs.Names.{Rose, line_of, AppendsPart, Ghosts, Leaves
 abbrev pub checkpoint_text : Snapshot → List ℕ
 checkpoint_text s = line_of (codes "checkpoint") (decimal s.position ∷ [])
 
--- whether or not the saving succeeded, a crash leaves no checkpoint, or an earlier one, or the new one
+-- whether or not it succeeded, a crash leaves no checkpoint, or an earlier one, or the new one
 pub record HasTried {E : Type 0} {e : Ghosts E} (old new : Store E e) (snapshot : Snapshot) : Type 0 where
   pub honesty : e.honest (store_disk new) → e.honest (store_disk old)
   pub moments : e.honest (store_disk new) → Knows old
@@ -14,14 +14,14 @@ pub record HasTried {E : Type 0} {e : Ghosts E} (old new : Store E e) (snapshot 
   pub kept : (image : List ℕ) → e.honest (store_disk new) → Knows old → MightLeave new image
       → IsKeptOrSavedBy old snapshot image
 
--- it did
+-- it succeeded
 pub record HasSaved {E : Type 0} {e : Ghosts E} (old new : Store E e) (snapshot : Snapshot) : Type 0 where
   pub tried : HasTried old new snapshot
   pub quiet : e.faults (store_disk new) ≡ e.faults (store_disk old)
   pub saved : e.honest (store_disk new) → Knows old → (image : List ℕ)
       → e.may_leave (store_disk new) image → CheckpointBytes image snapshot
 
--- the line of the snapshot was written behind it, or a front of the line; or the disk failed, or there was no memory
+-- then the line of the snapshot was written, or a prefix of it; or the disk failed, or memory was refused
 abbrev pub EndsSaving : {E : Type 0} {e : Ghosts E} → Store E e → Store E e → Snapshot → Stream → Ending → Type 0
 EndsSaving old new snapshot output Done = HasSaved old new snapshot × WroteAll output (checkpoint_text snapshot)
 EndsSaving old new snapshot output WriteFault =

@@ -25,13 +25,14 @@ pub record AreLoadLanes (lanes : List Lane) : Type 0 where
   pub script : AreScriptLanes lanes
   pub postings : AllByRecursion IsValidPosting (lines_in lanes)
 
--- the answers to a valuation behind postings alone: its rows, which can be written, or that it found no memory
+-- the results of a valuation after postings alone: its rows, which can be written, or that memory was refused
 abbrev pub IsLoadAnswer : Result Valuation ValueFault → Type 0
 IsLoadAnswer (Ok valuation) = IsWritableBlock valuation
 IsLoadAnswer (Err (NoValues lack)) = Unit {0}
 IsLoadAnswer (Err (Pin refusal)) = ⊥
 
--- what is written of the lines of a load and the rows of its valuation, and then by what is told of the lines
+-- what is written about the lines of a load and the rows of its valuation, and how it then ends by the outcomes of
+-- the lines
 abbrev pub EndsLine : List TranscriptLine → List Row → Stream → Ending → Type 0
 EndsLine lines rows output Done =
     (any_faulted lines ≡ false) × (any_lacked lines ≡ false)
@@ -47,7 +48,7 @@ EndsLine lines rows output (NoMemory lack) =
     × WroteAll output (load_text (accepted_lines lines) (refused_lines lines) rows))
 EndsLine lines rows output _ = ⊥
 
--- the same, where nothing is written of a valuation that found no memory
+-- the same; if the valuation was refused memory, nothing is written about it
 abbrev pub EndsLoaded : List TranscriptLine → Result Valuation ValueFault → Stream → Ending → Type 0
 EndsLoaded lines (Ok valuation) output ending = EndsLine lines valuation.rows output ending
 EndsLoaded lines (Err (NoValues lack)) output (NoMemory other_lack) = Appends output.before output.after []

@@ -26,15 +26,15 @@ from_2020 = record {
 abbrev pub endowment_on : ℕ → ℤ → Command
 endowment_on id day = Issue id day Endowment 0 3 100000 40000
 
--- Issued on 2020-01-01, on 2020-01-02, the day before the basis begins, and the day after the valuation; and once more
--- on 2020-01-01, and made paid up for 300.00 within the year.
+-- Issued on 2020-01-01, on 2020-01-02, on the day before the basis begins, and on the day after the valuation; and
+-- once more on 2020-01-01, and made paid up for 300.00 within the year.
 abbrev pub five_endowments : List Command
 five_endowments = endowment_on 7001 (pos 18262) ∷ endowment_on 7002 (pos 18263) ∷ endowment_on 7003 (pos 10956)
     ∷ endowment_on 7004 (pos 18629) ∷ endowment_on 7005 (pos 18262) ∷ Premium 7005 (pos 18262) 40000 ∷ Upgrade
     ∷ PaidUp 7005 (pos 18597) 30000 ∷ []
 
--- Valued on 2021-01-01, which is an anniversary of the first and of the last. The reserve of the first is the part
--- 1 - 1715/3537 * 1.8, or 450/3537, of its amount, and that of the last, without premiums or interest, all of it.
+-- Valued on 2021-01-01, which is an anniversary of the first and of the last. The reserve of the first is the part 1
+-- - 1715/3537 * 1.8, or 450/3537, of its amount; that of the last, without premiums or interest, is its whole amount.
 abbrev pub FiveEndowmentsValued : Type 0
 FiveEndowmentsValued = IsValuation five_endowments (pos 18628) Now Terminal (from_2000 ∷ from_2020 ∷ []) (λ text.
     text ≡ codes "0,value,2021-01-01,8,5" ++ (10 ∷ []) ++ codes "row,7001,inforce,1,127.22,127.23" ++ (10 ∷ [])
@@ -46,7 +46,7 @@ FiveEndowmentsValued = IsValuation five_endowments (pos 18628) Now Terminal (fro
 abbrev pub to_130 : Rates
 to_130 = record { first_age = 0; rates = replicate 131 1 }
 
--- what limits the net premium: whole life a year later, to the table's end, with nineteen premiums, or with fewer where
+-- what limits the net premium: whole life a year later, to the table's end, with nineteen premiums, or with fewer if
 -- there are fewer years
 abbrev pub Caps : Type 0
 Caps = (cap_shape to_130 30 ≡ record { age = 31; n = 100; h = 19; matures = true })

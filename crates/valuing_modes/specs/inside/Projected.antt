@@ -10,7 +10,7 @@ pub record CanBePrinted (projection : Projection) : Type 0 where
   pub few : length projection.years ≤ 131
   pub bounded : All IsTellable projection.years
 
--- the answers where nobody else holds a pin: the projection, which can be printed, or that there was no memory
+-- the results while nobody else holds a pin: the projection, which can be printed, or that memory was refused
 abbrev pub IsLoneProjection : Result Projection ValueFault → Type 0
 IsLoneProjection (Ok projection) = CanBePrinted projection
 IsLoneProjection (Err (NoValues lack)) = Unit {0}

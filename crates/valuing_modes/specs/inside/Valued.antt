@@ -23,8 +23,8 @@ EndsValued commands on at measure basis output Ahead = IsBeyond commands at outp
 EndsValued commands on at measure basis output (NoMemory lack) = WroteLine output (codes "nomemory")
 EndsValued commands on at measure basis output _ = ⊥
 
--- the answers where nobody else holds a pin or trims: the rows, which can be written, or that there are fewer commands, or
--- that there was no memory
+-- the results while nobody else holds a pin or trims: the rows, which can be written; or that there are fewer
+-- commands; or that memory was refused
 abbrev pub IsLoneAnswer : Result Valuation ValueFault → Type 0
 IsLoneAnswer (Ok valuation) = IsWritableBlock valuation
 IsLoneAnswer (Err (NoValues lack)) = Unit {0}
