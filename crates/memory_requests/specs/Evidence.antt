@@ -1,4 +1,4 @@
--- The evidence that memory was refused. It states nothing more: all are alike
+-- The evidence that memory was refused. It says nothing more: all its values are alike
 use Rattle.memory_requests.specs.declared.evidence.NoMemory.{NoMemory}
 
 abbrev pub a_refusal : NoMemory

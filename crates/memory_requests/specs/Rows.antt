@@ -6,7 +6,7 @@ use Rattle.csv.specs.declared.parser.State.TheVariants as st
 use Rattle.csv.specs.declared.reader.Reader.{Reader}
 use Rattle.csv.specs.declared.reader.Trim.TheVariants as trim
 
--- it reads these bytes, but for a byte order mark in front, and takes rows of any lengths
+-- it reads these bytes, except for a byte order mark at the start, and accepts rows of any length
 pub record HasReadNothing (bytes : List ℕ) (rows : Reader (Bor (List ℕ))) : Type 0 where
   pub ready : Ready rows
   pub config : reader_config rows ≡ default_config

@@ -3,8 +3,9 @@ use Rattle.std.specs.Prelude.{◌≡◌, ◌≢◌, ◌⊎◌, ℕ, ◌+◌, ◌
 use Rattle.posting_journal.specs.Layout.{empty_journal, header, gate_place, most_records}
 use Rattle.posting_journal.specs.Files.{IsMade, IsJournal}
 
--- An unfinished creation: no more than byte 0 is there; or byte 0 says that it goes on, and nothing stands after the first
--- gate; or all but byte 0 is that of an empty journal, and byte 0 doesn't say yet that it is made.
+-- An unfinished creation. Either no more than byte 0 is there; or byte 0 says that the creation goes on, and nothing
+-- comes after the first gate; or everything but byte 0 is that of an empty journal, and byte 0 doesn't say yet that
+-- the journal is made.
 abbrev pub IsUnfinished : List ℕ → Type 0
 IsUnfinished bytes =
     (length bytes ≤ 1)
@@ -20,8 +21,8 @@ pub record IsForeign (bytes : List ℕ) : Type 0 where
   pub finished : ¬ IsUnfinished bytes
   pub other : (length bytes < 18) ⊎ (slice_index bytes 0 ≢ 1) ⊎ (take 16 (drop 1 bytes) ≢ header)
 
--- The gates up to that of record n are there and open, and n is the first record that can't stand: its body or the gate after
--- it lies past the end, or it is one too many.
+-- The gates up to that of record n are there and open, and n is the first record that is damaged: its body or the
+-- gate after it is past the end, or it is one record too many.
 pub record IsBadAt (bytes : List ℕ) (n : ℕ) : Type 0 where
   pub made : IsMade bytes
   pub gates : (k : ℕ) → k ≤ n → slice_index bytes (gate_place k) ≡ 1
@@ -29,13 +30,13 @@ pub record IsBadAt (bytes : List ℕ) (n : ℕ) : Type 0 where
   pub few : n ≤ most_records
   pub here : (length bytes ≤ gate_place (n + 1)) ⊎ (n ≡ most_records)
 
--- Byte 0 says that the creation goes on, and nothing stands after the first gate.
+-- Byte 0 says that the creation goes on, and nothing comes after the first gate.
 pub record IsBegun (bytes : List ℕ) : Type 0 where
   pub some : 0 < length bytes
   pub short : length bytes ≤ 18
   pub unfinished : slice_index bytes 0 ≡ 0
 
--- All but byte 0 is that of an empty journal, and byte 0 is being written.
+-- Everything but byte 0 is that of an empty journal, and byte 0 is being written.
 pub record IsNearlyMade (bytes : List ℕ) : Type 0 where
   pub long : length bytes ≡ 18
   pub header : take 16 (drop 1 bytes) ≡ header
@@ -47,11 +48,11 @@ pub record IsNearlyMade (bytes : List ℕ) : Type 0 where
 abbrev pub IsReadyAndBegun : List ℕ → Type 0
 IsReadyAndBegun bytes = bytes ≡ 0 ∷ header ++ 0 ∷ []
 
--- it has no bodies, and nothing stands after its first gate
+-- it has no bodies, and nothing comes after its first gate
 abbrev pub IsEmptyJournal : List ℕ → Type 0
 IsEmptyJournal bytes = IsJournal bytes [] × (bytes ≡ empty_journal)
 
--- a creation of which byte 0 has yet to say that it goes on
+-- a creation of which byte 0 doesn't say yet that it goes on
 abbrev pub IsToBegin : List ℕ → Type 0
 IsToBegin bytes = (length bytes ≤ 1) ⊎ IsNearlyMade bytes
 

@@ -1,4 +1,4 @@
--- The journal of a list of bodies, as a whole file. What stands after the first gate that is closed has no meaning.
+-- The journal of a list of bodies, as a whole file. Bytes after the first closed gate have no meaning.
 use Rattle.std.specs.Prelude.{◌≡◌, ◌≢◌, ◌⊎◌, ℕ, ◌+◌, ◌<◌, ◌≤◌, List, [], ◌∷◌, ◌++◌, length, take, drop, slice_index, slice_index_or}
 use Rattle.posting_journal.specs.Layout.{header, gate_place, body_place, most_records}
 
@@ -7,8 +7,8 @@ pub record IsMade (bytes : List ℕ) : Type 0 where
   pub finished : slice_index bytes 0 ≡ 1
   pub header : take 16 (drop 1 bytes) ≡ header
 
--- The file is the journal of these bodies: its records are just these, in order, each with its gate open before the body, and a
--- closed gate ends them.
+-- The file is the journal of these bodies: its records are exactly these, in order, each with an open gate before its
+-- body, and a closed gate ends them.
 pub record IsJournal (bytes : List ℕ) (bodies : List (List ℕ)) : Type 0 where
   pub made : IsMade bytes
   pub records : (n : ℕ) → n < length bodies → (slice_index bytes (gate_place n) ≡ 1)
@@ -25,8 +25,8 @@ HasRecords bytes bodies = (n : ℕ) → n < length bodies → (slice_index bytes
 abbrev pub IsClosed : List ℕ → ℕ → Type 0
 IsClosed bytes n = (gate_place n < length bytes) × (slice_index bytes (gate_place n) ≢ 1)
 
--- It is that of these bodies, or of these and one more, by whether the gate of this one is open: the body stands whole
--- after that gate, and a closed gate after the body.
+-- The file is the journal of these bodies, or, if the gate of the new body is open, of these and the new one. The new
+-- body is whole after that gate, and a closed gate comes after it.
 pub record IsStaged (bytes : List ℕ) (bodies : List (List ℕ)) (body : List ℕ) : Type 0 where
   pub made : IsMade bytes
   pub records : HasRecords bytes bodies

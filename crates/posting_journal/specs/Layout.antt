@@ -1,5 +1,11 @@
--- Where the parts of a journal stand in its file. Byte 0 is the gate of its creation, bytes 1 to 16 are the header,
--- and from byte 17 on stand the records, each a gate and a body of 64 bytes. A gate is open exactly where it is 1.
+-- Where the parts of a journal are in its file. The code calls a commit byte a gate: it is open if it is 1, and
+-- closed otherwise.
+--
+--   bytes          what they hold
+--   0              the gate of the creation
+--   1 to 16        the header: LIFEJRNL, the version 1, the size 64 of a body, four zero bytes
+--   17 + 65 n      the gate of record n, counted from 0
+--   18 + 65 n ..   the body of record n, 64 bytes
 use Rattle.std.specs.Prelude.{ℕ, ◌+◌, ◌*◌, List, [], ◌∷◌, ◌++◌}
 
 -- LIFEJRNL, the version 1 and the size 64 of a body, both in two bytes, big endian, and four zero bytes

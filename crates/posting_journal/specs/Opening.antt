@@ -8,8 +8,8 @@ use Rattle.posting_journal.specs.Runs.{Leaves, LooksOn}
 abbrev pub IsOpenedOn : List ℕ → List ℕ → Type 0
 IsOpenedOn before image = (image ≡ before) ⊎ (IsUnfinished before × OpensToBodies image [])
 
--- The disk as it was at the end of a sync: it was honest and read as before the call, and a crash then left just what
--- was read.
+-- The disk as it was at the end of a sync: it was honest and read as before the call, and a crash then left exactly
+-- what was read.
 pub record IsSynced {D : Type 0} (g : Ghosts D) (old synced new : D) : Type 0 where
   pub honest : g.honest synced
   pub reads : g.reads synced ≡ g.reads old
@@ -23,10 +23,10 @@ pub record HasSynced {D : Type 0} (g : Ghosts D) (old new : D) : Type 0 where
   pub at_sync : IsSynced g old synced new
   pub since : (image : List ℕ) → g.left_since new (g.clock synced) image → IsOpenedOn (g.reads old) image
 
--- A disk that comes back honest: since the call a crash leaves what it might have left at the call, or the file as it was, or a
--- creation. Either it was only looked at, or a sync of it succeeded.
+-- A disk that comes back honest: since the call a crash leaves what it might have left at the call, or the file as it
+-- was, or a creation. Either the disk was only looked at, or a sync of it succeeded.
 pub record OpensOn {D : Type 0} (g : Ghosts D) (old new : D) : Type 0 where
   pub ever : Leaves g old new (λ image. g.may_leave old image ⊎ IsOpenedOn (g.reads old) image)
   pub synced : LooksOn g old new ⊎ HasSynced g old new
-  -- no file but an unfinished creation is written to
+  -- only an unfinished creation is written to
   pub unwritten : ¬ IsUnfinished (g.reads old) → LooksOn g old new

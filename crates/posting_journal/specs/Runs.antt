@@ -2,8 +2,8 @@
 use Rattle.std.specs.Prelude.{◌≡◌, ◌⊎◌, ℕ, ◌≤◌, List}
 use Rattle.posting_journal.specs.Names.{Only, Elapses, LeavesOnly, Ghosts}
 
--- Nothing was written: what is read stays, and there is no new image. A crash since a moment might have left what it might have
--- left before, or what it might leave at old.
+-- Nothing was written: what is read stays, and there is no new image. A crash since a moment might have left what it
+-- might have left before, or what it might leave at old.
 pub record LooksOn {D : Type 0} (g : Ghosts D) (old new : D) : Type 0 where
   pub reads : g.reads new ≡ g.reads old
   pub images : (image : List ℕ) → g.may_leave new image → g.may_leave old image
@@ -13,7 +13,7 @@ pub record LooksOn {D : Type 0} (g : Ghosts D) (old new : D) : Type 0 where
   pub keeps : (moment : ℕ) (image : List ℕ) → moment ≤ g.clock old → g.left_since old moment image
       → g.left_since new moment image
 
--- a disk was only looked at, where it comes back honest
+-- a disk was only looked at, if it comes back honest
 pub record IsLookedAt {D : Type 0} (g : Ghosts D) (old new : D) : Type 0 where
   pub honesty : g.honest new → g.honest old
   pub looks : g.honest new → LooksOn g old new

@@ -1,4 +1,4 @@
--- What opening a journal answers.
+-- What opening a journal returns.
 use Rattle.std.specs.Prelude.{◌≡◌, ℕ, List, [], Result, Ok, Err}
 use Rattle.posting_journal.specs.Names.{Rose, Ghosts}
 use Rattle.posting_journal.specs.Files.{IsJournal}
@@ -11,7 +11,7 @@ use Rattle.posting_journal.specs.declared.faults.JournalCause.TheVariants.{DiskF
 use Rattle.posting_journal.specs.declared.faults.JournalFault.{JournalFault}
 use Rattle.posting_journal.specs.declared.journal.Journal.{Journal}
 
--- A fault of the disk has its count, which rose. Any other cause leaves the count.
+-- A fault of the disk has its count of faults, which rose. Any other cause leaves the count as it was.
 abbrev pub TellsCause : ℕ → ℕ → JournalCause → Type 0
 TellsCause before now (DiskFault count) = (count ≡ now) × Rose before now
 TellsCause before now cause = now ≡ before

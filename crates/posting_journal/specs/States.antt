@@ -17,12 +17,13 @@ is_clean journal = journal.clean
 abbrev pub disk_of : {D : Type 0} {g : Ghosts D} → Journal D g → D
 disk_of journal = journal.disk
 
--- A clean journal's file is that of the bodies; where a fault left it unclean, one body more may stand in it.
+-- A clean journal's file is that of the bodies; if a fault left it unclean, it may hold one body more.
 abbrev pub IsKept : Bool → List (List ℕ) → List ℕ → List ℕ → Type 0
 IsKept true bodies faulted bytes = IsJournal bytes bodies
 IsKept false bodies faulted bytes = IsStaged bytes bodies faulted
 
--- The journal is that of these bodies, on an honest disk: in what is read and in each image that a crash may leave.
+-- The journal is that of these bodies, on an honest disk, both in what is read and in each image that a crash may
+-- leave.
 pub record StandsFor {D : Type 0} {g : Ghosts D} (journal : Journal D g) (bodies : List (List ℕ))
     (faulted : List ℕ) : Type 0 where
   pub count : journal.count ≡ length bodies
@@ -43,16 +44,16 @@ pub record ReadsBody {D E : Type 0} {g : Ghosts D} (old new : Journal D g) (n : 
   pub nth : (bodies : List (List ℕ)) (faulted : List ℕ) → g.honest new.disk → StandsFor old bodies faulted
       → IfOk result (λ body. body ≡ slice_index_or bodies n [])
 
--- A journal of these bodies has one more, or may have it. A crash at any moment of the call leaves the bodies from before
--- it, or those and the new one.
+-- A journal of these bodies has one more, or may have it. A crash at any moment of the call leaves the bodies from
+-- before it, or those and the new one.
 pub record AppendsOn {D T E : Type 0} {g : Ghosts D} (old new : Journal D g) (bodies : List (List ℕ)) (body : List ℕ)
     (result : Result T E) : Type 0 where
   pub done : OnOk result (StandsFor new (bodies ++ body ∷ []) [] × IsSafe g new.disk)
   pub failed : OnErr result (StandsFor new bodies body)
   pub moments : Leaves g old.disk new.disk (IsBeforeOrAfter bodies body)
 
--- A journal of these bodies has no record of the fault any more, or may still have it. A crash at any moment of the call
--- leaves the bodies, or those and the one of the fault.
+-- A journal of these bodies no longer has the record of the fault, or may still have it. A crash at any moment of the
+-- call leaves the bodies, or those and the one of the fault.
 pub record RepairsOn {D T E : Type 0} {g : Ghosts D} (old new : Journal D g) (bodies : List (List ℕ)) (faulted : List ℕ)
     (result : Result T E) : Type 0 where
   pub done : OnOk result (StandsFor new bodies [] × IsSafe g new.disk)

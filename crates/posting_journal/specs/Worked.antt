@@ -17,7 +17,7 @@ of_sevens = replicate 64 7
 abbrev pub of_zeros_and_nine : List ℕ
 of_zeros_and_nine = replicate 63 0 ++ 9 ∷ []
 
--- two records and a closed gate, and after it what has no meaning
+-- two records and a closed gate, and bytes after it that have no meaning
 abbrev pub two_records : List ℕ
 two_records = 1 ∷ header_by_hand ++ 1 ∷ of_sevens ++ 1 ∷ of_zeros_and_nine ++ 0 ∷ 5 ∷ []
 
@@ -26,7 +26,7 @@ TwoRecords = IsJournal two_records (of_sevens ∷ of_zeros_and_nine ∷ [])
     × (IsJournal two_records (of_sevens ∷ []) → ⊥)
     × (IsJournal two_records (of_zeros_and_nine ∷ of_sevens ∷ []) → ⊥)
 
--- a gate of 2 is closed: there is no record
+-- a gate of 2 is closed, so there is no record
 abbrev pub GateOfTwo : Type 0
 GateOfTwo = OpensToBodies (1 ∷ header_by_hand ++ 2 ∷ of_sevens ++ 0 ∷ []) []
 
@@ -35,7 +35,8 @@ abbrev pub UnfinishedCreations : Type 0
 UnfinishedCreations = IsUnfinished [] × IsUnfinished (5 ∷ []) × IsUnfinished (replicate 10 0)
     × IsUnfinished (0 ∷ header_by_hand ++ 1 ∷ []) × IsUnfinished (3 ∷ header_by_hand ++ 0 ∷ [])
 
--- a byte 0 that says nothing of two bytes, a zero too many, an open gate, and the empty journal
+-- a byte 0 that says something although there are only two bytes, a zero too many, an open gate, and the empty
+-- journal
 abbrev pub FinishedCreations : Type 0
 FinishedCreations = (IsUnfinished (2 ∷ 0 ∷ []) → ⊥) × (IsUnfinished (replicate 19 0) → ⊥)
     × (IsUnfinished (3 ∷ header_by_hand ++ 1 ∷ []) → ⊥) × (IsUnfinished (1 ∷ header_by_hand ++ 0 ∷ []) → ⊥)

@@ -47,8 +47,8 @@ RefusesHelloByTwo {D} {E} g e = (disks : TwoDisks D E) (output : Stream) → Are
 abbrev pub IsEmptyCheckpoint : List ℕ → Type 0
 IsEmptyCheckpoint image = (s : Snapshot) × CheckpointBytes image s × (s.position ≡ 0)
 
--- over an empty file `checkpoint` leaves that in each image, once it has succeeded; after a failure of a disk, no
--- image has any other new checkpoint
+-- over an empty file, each image has such a checkpoint once `checkpoint` has succeeded; if a disk failed, an image
+-- has none, or is one from before, or has such a checkpoint
 abbrev pub SavesNothing : {D E : Type 0} → Ghosts D → Ghosts E → Type 0
 SavesNothing {D} {E} g e = (disks : TwoDisks D E) (output : Stream) (image : List ℕ) → AreTrue g e disks
     → g.reads disks.old ≡ [] → e.may_leave disks.kept image

@@ -9,7 +9,7 @@ use Rattle.xtbml_subset.specs.Checks.{Asks, InTurn, OnPath, IsAggregateTable}
 use Rattle.xtbml_subset.specs.SelectChecks.{IsSelectTable}
 use Rattle.xtbml_subset.specs.Answers.{IsLongestNested}
 
--- the answer for a root
+-- the result for a root
 abbrev pub IsAnyTable : {N : Type 0} → Asks N → N → Result AnyTable TableFault → Type 0
 IsAnyTable asks root answer =
     OnPath asks root
@@ -18,7 +18,7 @@ IsAnyTable asks root answer =
     (λ inner. InTurn (IsSelectTable asks (drop 1 (asks.children (codes "Table") root)) table axis)
     (λ one whole. whole ≡ Ok (Select one)) answer)) answer
 
--- The answer is that of the checks of a document, or that the bytes are none.
+-- The result is that of the checks of a document, or that the bytes are none.
 abbrev pub IsAnyAnswer : List ℕ → Result AnyTable TableFault → Type 0
 IsAnyAnswer bytes answer =
     ((root : Node) × IsDocument bytes root × IsAnyTable node_asks root answer)
@@ -28,13 +28,13 @@ IsAnyAnswer bytes answer =
 abbrev pub SpellsAny : List ℕ → AnyTable → Type 0
 SpellsAny bytes table = IsAnyAnswer bytes (Ok table)
 
--- a call answers this, or that there is no memory
+-- a call returns this, or that memory was refused
 abbrev pub GivesAny : Result AnyTable TableFault → Result AnyTable TableFault → Type 0
 GivesAny (Ok table) answer = answer ≡ Ok table
 GivesAny (Err (Bad at kind)) answer = answer ≡ Err (Bad at kind)
 GivesAny (Err (NoMemory lack)) answer = Unit {0}
 
--- the answer that the rates depend on the duration too
+-- the result that the rates depend on the duration too
 abbrev pub SaysSelect : Result Rates TableFault → Type 0
 SaysSelect answer = (at : ℕ) × (answer ≡ Err (Bad at kind.Select))
 

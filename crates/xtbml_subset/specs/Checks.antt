@@ -10,13 +10,14 @@ use Rattle.xtbml_subset.specs.declared.fault.TableFault.TheVariants.{Bad}
 use Rattle.xtbml_subset.specs.Classes.{InClass, is_between}
 use Rattle.xtbml_subset.specs.Texts.{◌>>=◌, trimmed}
 
--- what a rate or a factor is read from: the place of its `<`, the first attribute `t`, and the content where it is text alone
+-- what a rate or a factor is read from: the place of its `<`, the first attribute `t`, and the content if it is text
+-- alone
 pub record RateElement : Type 0 where
   pub at : ℕ
   pub label : Option (List ℕ)
   pub text : Option (List ℕ)
 
--- what the checks ask of an element
+-- the parts of an element that the checks use
 pub record Asks (N : Type 0) : Type 0 where
   pub name : N → List ℕ
   pub row : N → RateElement
@@ -35,13 +36,13 @@ factor_of asks tables =
 
 -- ---- one check after the other
 
--- what is read first, and where that finds no fault what is read then
+-- what is read first, and, if that has no fault, what is read after it
 abbrev pub InTurn : {A B : Type 0} → (Result A TableFault → Type 0) → (A → Result B TableFault → Type 0)
     → Result B TableFault → Type 0
 InTurn {A} First Rest read =
     (one : Result A TableFault) × First one × MatchResult one (λ value. Rest value read) (λ fault. read ≡ Err fault)
 
--- The items are read in order, each by what is due after those before it; the first that is refused says why.
+-- The items are read in order, each by what is due after those before it; the first that is refused gives the reason.
 abbrev pub ReadsAll : {S A B : Type 0} → (S → A → Result (S × B) TableFault → Type 0) → S → List A
     → Result (List B) TableFault → Type 0
 ReadsAll One due [] read = read ≡ Ok []
@@ -67,13 +68,13 @@ short_number (a ∷ b ∷ c ∷ d ∷ more) = None
 unfoldable pub age_of : Option (List ℕ) → Option ℕ
 age_of label = label >>= (λ text. short_number text) >>= λ age. if nat_le age 130 then Some age else None
 
--- the age of the first of some items, by its label, and 0 where there is none
+-- the age of the first of some items, by its label; 0 if there is none
 abbrev pub age_of_first : {A : Type 0} → List A → (A → Option (List ℕ)) → ℕ
 age_of_first [] label = 0
 age_of_first (item ∷ items) label = unwrap_or (age_of (label item)) 0
 
--- By the age of a label the rest is read, unless it has no age or another one is due: due is one more than the age before,
--- and none at first.
+-- The rest is read with the age of a label, unless the label has no age or another age is due. The age that is due is
+-- the age before plus one; at first none is due.
 abbrev pub ReadsAge : {A : Type 0} → ℕ → Option (List ℕ) → Option ℕ → (ℕ → Result A TableFault → Type 0)
     → Result A TableFault → Type 0
 ReadsAge at label due Rest read =
@@ -86,14 +87,14 @@ ReadsRate None rate = rate ≡ None
 ReadsRate (Some text) None = (rate : ℕ) → IsRate (trimmed text) rate → ⊥
 ReadsRate (Some text) (Some rate) = IsRate (trimmed text) rate
 
--- a row is read as its rate, with what is due after it, or refused for its rate
+-- a row is read as its rate, with what is due after it, or is refused for its rate
 abbrev pub ReadsRated : {S : Type 0} → RateElement → S → Result (S × ℕ) TableFault → Type 0
 ReadsRated row next read =
     (rate : Option ℕ) × ReadsRate row.text rate
     × (read ≡ ok_or (option_map (λ value. (next, value)) rate) (Bad row.at BadRate))
 
--- Rows are read as rates from the age of the first on. Each is read as its rate, after which the next age is due, or refused
--- for its age or for its rate.
+-- Rows are read as rates from the age of the first row on. Each is read as its rate, after which the next age is due,
+-- or is refused for its age or for its rate.
 abbrev pub ReadsRates : List RateElement → Result Rates TableFault → Type 0
 ReadsRates rows answer =
     InTurn (ReadsAll (λ due (row : RateElement) one. ReadsAge row.at row.label due
@@ -102,12 +103,12 @@ ReadsRates rows answer =
 
 -- ---- the factor
 
--- a content that means unscaled: none but white space, 0 or 1
+-- a content that means that the rates are unscaled: only white space, 0 or 1
 abbrev pub IsUnscaled : Option (List ℕ) → Type 0
 IsUnscaled None = ⊥
 IsUnscaled (Some text) = InClass White text ⊎ (IsRate (trimmed text) 0 ⊎ IsRate (trimmed text) 1000000000)
 
--- the rates are left as they are by no factor or such a one
+-- the rates are left as they are, by no factor or by such a factor
 abbrev pub IsScale : Option RateElement → Result (Unit {0}) TableFault → Type 0
 IsScale None read = read ≡ Ok tt
 IsScale (Some row) (Ok none) = IsUnscaled row.text
@@ -115,13 +116,13 @@ IsScale (Some row) (Err fault) = (IsUnscaled row.text → ⊥) × (fault ≡ Bad
 
 -- ---- the table
 
--- the first child of a name of an element that was found; where there is none, the path breaks off at that element
+-- the first child with a name of an element that was found; if there is none, the path ends at that element
 abbrev pub first_child : {N : Type 0} → Asks N → List ℕ → Result N TableFault → Result N TableFault
 first_child asks name (Ok parent) = ok_or (slice_get (asks.children name parent) 0) (Bad (asks.row parent).at NoTable)
 first_child asks name (Err fault) = Err fault
 
--- This holds of the first table under a root of the right name and the first axis of its first values, or the answer is where
--- the path to them breaks off.
+-- This is true of the first table under a root of the right name and the first axis of its first values; or the
+-- result is the element at which the path to them ends.
 abbrev pub OnPath : {N A : Type 0} → Asks N → N → (N → N → Type 0) → Result A TableFault → Type 0
 OnPath asks root Holds answer =
     MatchResult
@@ -131,14 +132,14 @@ OnPath asks root Holds answer =
     (λ axis. Holds table axis) (λ fault. answer ≡ Err fault))
     (λ fault. answer ≡ Err fault)
 
--- the answer for a table by age alone: its rates are the `Y` of its axis, of which there is one at least
+-- the result for a table by age alone: its rates are the `Y` of its axis, of which there is at least one
 abbrev pub IsAggregateTable : {N : Type 0} → Asks N → N → N → Result Rates TableFault → Type 0
 IsAggregateTable asks table axis answer =
     MatchOption (slice_get (asks.children (codes "Y") axis) 0) (answer ≡ Err (Bad (asks.row axis).at NoTable))
     (λ first. InTurn (IsScale (factor_of asks (table ∷ [])))
     (λ none read. ReadsRates (map (λ node. asks.row node) (asks.children (codes "Y") axis)) read) answer)
 
--- the answer where a table by age alone is wanted: an axis in its axis makes it select
+-- the result if a table by age alone is asked for: an axis in its axis makes it a select table
 abbrev pub IsTable : {N : Type 0} → Asks N → N → Result Rates TableFault → Type 0
 IsTable asks root answer =
     OnPath asks root

@@ -10,8 +10,8 @@ is_between low high b = nat_le low b && nat_le b high
 abbrev pub starts_name : ℕ → Bool
 starts_name b = is_between 65 90 b || is_between 97 122 b || b == 95 || nat_le 128 b
 
--- White: tab, line feed, carriage return, blank. Name: what a name begins with, digits, `-`, `.`, `:`. A quoted value has no quote
--- of its own kind and no `<`, a declaration no `?`, text no `<`.
+-- White: tab, line feed, carriage return, blank. Name: the bytes with which a name may begin, digits, `-`, `.`, `:`.
+-- A quoted value has neither a quote of its own kind nor a `<`, a declaration no `?`, text no `<`.
 abbrev pub is_in : Class → ℕ → Bool
 is_in White b = b == 9 || b == 10 || b == 13 || b == 32
 is_in Name b = starts_name b || is_between 48 57 b || b == 45 || b == 46 || b == 58

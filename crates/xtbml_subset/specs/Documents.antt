@@ -9,15 +9,16 @@ use Rattle.xtbml_subset.specs.Pieces.{Tag, Piece, comment, declaration, start, w
 use Rattle.xtbml_subset.specs.Texts.{value_of}
 use Rattle.xtbml_subset.specs.Checks.{Asks}
 
--- Content is nothing, or begins with a byte of text, a comment or an element, and goes on. An element has the
--- place of its `<`, its tag and its content.
+-- Content is nothing, or begins with a byte of text, a comment or an element, and goes on. An element has the place
+-- of its `<`, its tag and its content.
 pub data Content : Type 0 where
   nothing : Content
   letter : ℕ → Content → Content
   remark : Content → Content
   element : ℕ → Tag → Content → Content → Content
 
--- An element ends with its tag, or has content and an end tag of its name. Inside is what content is at a place.
+-- An element ends with its tag, or has content and an end tag of its name. `Inside` is the content, from its place
+-- on.
 abbrev pub IsElement : (Inside : ℕ → List ℕ → Type 0) → ℕ → ℕ → Tag → Content → List ℕ → Type 0
 IsElement Inside at place tag inner text =
     (place ≡ at)
@@ -63,7 +64,7 @@ pub record IsDocument (bytes : List ℕ) (root : Node) : Type 0 where
   pub is_root : IsElement (λ start inside. IsContent 63 root.inner start inside) (length mark + length opening + length before) root.at root.tag root.inner text
   pub misc_behind : IsMisc behind
 
--- ---- what the checks ask of an element
+-- ---- the parts of an element that the checks use
 
 -- the elements of a name directly in a content
 abbrev pub named_in : List ℕ → Content → List Node

@@ -22,8 +22,8 @@ open_after before = fold open_behind None before
 abbrev pub MayStart : Option (List (List ℕ)) → Type 0
 MayStart names = (length (unwrap_or names []) < 64) × (names ≢ Some [])
 
--- What may follow the pieces before it. A declaration has nothing but white space before it, so there is at most one. Outside
--- the root a byte is white space. An end tag has the name of the innermost element that is open.
+-- What may follow the pieces before it. A declaration has only white space before it, so there is at most one.
+-- Outside the root, a byte is white space. An end tag has the name of the innermost open element.
 abbrev pub MayFollow : List Piece → Piece → Type 0
 MayFollow before declaration = AllByRecursion IsWhiteByte before
 MayFollow before (byte b) = unwrap_or (open_after before) [] ≡ [] → is_in White b ≡ true

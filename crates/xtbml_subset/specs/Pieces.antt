@@ -1,4 +1,4 @@
--- The pieces of a document, and the texts that are one.
+-- The pieces of a document, and the texts that each may have.
 use Rattle.std.specs.Prelude.{◌≡◌, ◌≢◌, ℕ, true, ◌⊎◌, List, [], ◌∷◌, ◌++◌}
 use Rattle.xtbml_subset.specs.declared.class.Class.TheVariants.{White, Name, DoubleQuoted, SingleQuoted, Declared, Text}
 use Rattle.xtbml_subset.specs.Classes.{is_in, starts_name, InClass}
@@ -47,7 +47,7 @@ pub record IsAttribute (attribute : List ℕ × List ℕ) (text : List ℕ) : Ty
   pub is_quoted : ((quoted ≡ 34 ∷ (attribute.1 ++ 34 ∷ [])) × InClass DoubleQuoted attribute.1)
       ⊎ ((quoted ≡ 39 ∷ (attribute.1 ++ 39 ∷ [])) × InClass SingleQuoted attribute.1)
 
--- `<`, a name, attributes, with or without white space, and the ending
+-- `<`, a name, attributes, possibly white space, and the ending
 pub record IsTag (text : List ℕ) (tag : Tag) (ending : List ℕ) : Type 0 where
   pub attributes : List ℕ
   pub space : List ℕ
@@ -56,14 +56,14 @@ pub record IsTag (text : List ℕ) (tag : Tag) (ending : List ℕ) : Type 0 wher
   pub are_attributes : AreSpelled IsAttribute tag.attributes attributes
   pub white : InClass White space
 
--- `</`, the name, with or without white space, `>`
+-- `</`, the name, possibly white space, `>`
 pub record IsEndTag (text name : List ℕ) : Type 0 where
   pub space : List ℕ
   pub parts : text ≡ 60 ∷ 47 ∷ (name ++ (space ++ 62 ∷ []))
   pub is_name : IsTagName name
   pub white : InClass White space
 
--- `-->` stands at the end of the bytes and nowhere before
+-- `-->` is at the end of the bytes and nowhere before
 abbrev pub EndsByDashes : List ℕ → Type 0
 EndsByDashes [] = ⊥
 EndsByDashes (b ∷ bytes) =

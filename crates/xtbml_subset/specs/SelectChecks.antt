@@ -15,21 +15,22 @@ use Rattle.xtbml_subset.specs.Checks.{RateElement, Asks, in_first, factor_of, In
 
 -- ---- the issue ages
 
--- Where the first axis has a label, the axes of the values are those of the issue ages; else the axes in it are.
+-- If the first axis has a label, the axes of the values are those of the issue ages; else the axes in the first axis
+-- are.
 unfoldable pub issue_axes : {N : Type 0} → Asks N → N → N → List N
 issue_axes asks table axis =
     if is_some (asks.row axis).label
     then in_first asks (codes "Axis") (asks.children (codes "Values") table)
     else asks.children (codes "Axis") axis
 
--- the `Y` of an issue age, in its axis, or where that has none in the first axis in it
+-- the `Y` of an issue age: those in its axis, or, if it has none, those in the first axis in it
 unfoldable pub durations_of : {N : Type 0} → Asks N → N → List N
 durations_of asks axis =
     if is_some (slice_get (asks.children (codes "Y") axis) 0)
     then asks.children (codes "Y") axis
     else in_first asks (codes "Y") (asks.children (codes "Axis") axis)
 
--- without the blank rows after the last that isn't blank: a blank one's content is text of white space alone, or nothing
+-- without the blank rows at the end: the content of a blank row is only white space, or nothing
 abbrev pub filled : List RateElement → List RateElement
 filled [] = []
 filled (row ∷ rows) =
@@ -50,8 +51,8 @@ issue_age_of asks axis = record {
   rates = filled (map (λ node. asks.row node) (durations_of asks axis));
 }
 
--- A rate of an issue age is read, or refused for its duration or for itself: the first duration is 0 or 1, each other is
--- one more than before, and the age then is at most 130.
+-- A rate of an issue age is read, or is refused for its duration or for itself: the first duration is 0 or 1, each
+-- other is the one before plus one, and the age at it is at most 130.
 abbrev pub ReadsDuration : Attained → RateElement → Result (Attained × ℕ) TableFault → Type 0
 ReadsDuration due row read =
     MatchOption (row.label >>= λ text. short_number text) (read ≡ Err (Bad row.at BadDuration))
@@ -59,7 +60,7 @@ ReadsDuration due row read =
     (ReadsRated row (record { duration = Some (duration + 1); age = due.age + 1 }) read)
     (read ≡ Err (Bad row.at BadDuration)))
 
--- the rates from the first duration on, of which there is one at least
+-- the rates from the first duration on, of which there is at least one
 abbrev pub ReadsPeriod : ℕ → ℕ → List RateElement → Result (Option ℕ × List ℕ) TableFault → Type 0
 ReadsPeriod at age [] read = read ≡ Err (Bad at BadDuration)
 ReadsPeriod at age (row ∷ rows) read =
@@ -68,7 +69,7 @@ ReadsPeriod at age (row ∷ rows) read =
 
 -- ---- the ultimate table
 
--- the ultimate rates, of which there is one at least
+-- the ultimate rates, of which there is at least one
 abbrev pub ReadsUltimate : ℕ → List RateElement → Result Rates TableFault → Type 0
 ReadsUltimate at [] read = read ≡ Err (Bad at NoUltimate)
 ReadsUltimate at (row ∷ rows) read = ReadsRates (row ∷ rows) read
@@ -90,8 +91,8 @@ IsJoinedBy issues rows ultimate answer =
     answer ≡ option_map_or (λ at. Err (Bad at UltimateGap)) (first_gap ultimate first (map (λ issue. issue.at) issues) rows)
     (Ok (record { first_age = first; rows = rows; ultimate = ultimate }))
 
--- The answer for a first table with its first axis, by the tables after it. An issue age is read, or refused for its age or
--- for its rates. The ultimate rates are the `Y` of the first axis of the first values of the first table after.
+-- The result for a first table with its first axis, by the tables after it. An issue age is read, or is refused for
+-- its age or for its rates. The ultimate rates are the `Y` of the first axis of the first values of the next table.
 abbrev pub IsSelectTable : {N : Type 0} → Asks N → List N → N → N → Result Selected TableFault → Type 0
 IsSelectTable {N} asks others table axis answer =
     let issues : List Issue = map (λ node. issue_age_of asks node) (issue_axes asks table axis) in

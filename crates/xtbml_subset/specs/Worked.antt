@@ -5,7 +5,7 @@ use Rattle.xtbml_subset.specs.declared.fault.TableKind.TheVariants.{NotDocument,
 use Rattle.xtbml_subset.specs.declared.fault.TableFault.TheVariants.{Bad}
 use Rattle.xtbml_subset.specs.Answers.{IsTableAnswer, SpellsTable}
 
--- a declaration, a comment, white space, an age with a leading zero, and an element that is passed over
+-- a declaration, a comment, white space, an age with a leading zero, and an element that is skipped
 abbrev pub ThreeRates : Type 0
 ThreeRates = SpellsTable
     (codes "<?xml v?><!-- - --><XTbML><Table><Values><Axis a=''><Y t='0'>0.1</Y> <Y t='01' t='9'> .5 </Y><Z/><Y t='2'>1</Y></Axis></Values></Table></XTbML>\n")
@@ -21,7 +21,7 @@ NoDocuments = IsRefusedAt [] 0 NotDocument × IsRefusedAt (codes "<XTbML></Table
     × IsRefusedAt (codes "<A/> <B/>") 5 NotDocument × IsRefusedAt (codes "<A></A>x") 7 NotDocument
     × IsRefusedAt (codes "<A><B/>") 7 NotDocument
 
--- a path that breaks off at the root, whose name may be wrong, and at the axis
+-- a path that ends at the root, whose name may be wrong, and one that ends at the axis
 abbrev pub NoTables : Type 0
 NoTables = IsRefusedAt (codes "<XTbML/>") 0 NoTable × IsRefusedAt (codes "<A><Table/></A>") 0 NoTable
     × IsRefusedAt (codes "<XTbML><Table><Values><Axis/></Values></Table></XTbML>") 22 NoTable

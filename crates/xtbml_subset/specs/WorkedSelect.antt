@@ -1,4 +1,5 @@
--- Worked files of select tables: one that is read, and one of each fault that others don't have. Places were counted by hand
+-- Worked files of select tables: one that is read, and one for each fault that only they have. Places were counted by
+-- hand
 use Rattle.std.specs.Prelude.{ℕ, List, [], ◌∷◌, codes, Err}
 use Rattle.select_rates.specs.declared.any.AnyTable.TheVariants.{Select}
 use Rattle.xtbml_subset.specs.declared.fault.TableKind.{TableKind}

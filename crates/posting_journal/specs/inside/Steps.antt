@@ -36,7 +36,7 @@ pub record OpenedTo {D : Type 0} (g : Ghosts D) (old new : D) (count : ℕ) : Ty
   pub counted : count ≡ length bodies
   pub safe : IsSafe g new
 
--- What an opening answers: the journal's count, which is 0 after a creation, or what the file shows.
+-- What an opening returns: the journal's count, which is 0 after a creation, or what the file shows.
 pub record AnswersOpening {D : Type 0} (g : Ghosts D) (old new : D) (result : Result ℕ Unopened) : Type 0 where
   pub cause : HasUnopenedCause g old new result
   pub few : IfOk result (λ n. n ≤ most_records)

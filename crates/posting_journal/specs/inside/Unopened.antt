@@ -1,4 +1,4 @@
--- What is known while the records of a file are counted, and where it isn't opened.
+-- What is known while the records of a file are counted, and if it isn't opened.
 use Rattle.std.specs.Prelude.{◌≡◌, ◌⊎◌, ℕ, ◌+◌, ◌<◌, ◌≤◌, List, length, slice_index, Result, IfErr, OnOk}
 use Rattle.posting_journal.specs.Names.{Rose, Ghosts}
 use Rattle.posting_journal.specs.Layout.{gate_place, most_records}
@@ -7,19 +7,19 @@ use Rattle.posting_journal.specs.Creation.{IsForeign, IsBadAt}
 use Rattle.posting_journal.specs.declared.faults.Unopened.{Unopened}
 use Rattle.posting_journal.specs.declared.faults.Unopened.TheVariants.{Unread, NotAJournal, BadRecord}
 
--- an unread file is one where the count rose; any other cause leaves the count
+-- a file is unread only if the count of faults rose; any other cause leaves the count as it was
 abbrev pub TellsCount : ℕ → ℕ → Unopened → Type 0
 TellsCount before now Unread = Rose before now
 TellsCount before now cause = now ≡ before
 
--- a disk stays honest, or stays one that isn't
+-- a disk stays honest, or stays dishonest
 pub record HasUnopenedCause {D T : Type 0} (g : Ghosts D) (old new : D) (result : Result T Unopened) : Type 0 where
   pub later : g.faults old ≤ g.faults new
   pub failed : IfErr result (TellsCount (g.faults old) (g.faults new))
   pub succeeded : OnOk result (g.faults new ≡ g.faults old)
   pub honesty : g.honest new → g.honest old
 
--- an open record that can't stand: its body or the gate after it lies past the end, or it is one too many
+-- an open record that is damaged: its body or the gate after it is past the end, or it is one too many
 abbrev pub CannotStand : List ℕ → ℕ → Type 0
 CannotStand bytes n = (length bytes ≤ gate_place (n + 1)) ⊎ (n ≡ most_records)
 
@@ -29,7 +29,7 @@ pub record AreOpen (bytes : List ℕ) (n : ℕ) : Type 0 where
   pub long : gate_place n < length bytes
   pub few : n ≤ most_records
 
--- just n records stand before a closed gate
+-- exactly n records come before a closed gate
 pub record EndsAt (bytes : List ℕ) (n : ℕ) : Type 0 where
   pub gates : (k : ℕ) → k < n → slice_index bytes (gate_place k) ≡ 1
   pub end : IsClosed bytes n

@@ -19,7 +19,7 @@ abbrev pub is_wanted : Option (List ℕ) → List ℕ → Bool
 is_wanted None name = true
 is_wanted (Some wanted) name = bytes_eq name wanted
 
--- A piece leads on to a depth below the level that is searched, or to an element of that level, or closes the level.
+-- A piece leads to a depth below the level that is searched, or to an element of that level, or ends the level.
 pub data Step : Type 0 where
   on : ℕ → Step
   found : Tag → Bool → Step
@@ -53,7 +53,7 @@ found_by from rest (on depth) = []
 found_by from rest (found tag is_open) = record { from = from; tag = tag; is_open = is_open; rest = rest } ∷ []
 found_by from rest closed = []
 
--- after the next k bytes, and so many levels below that which is searched: its elements that are wanted
+-- after the next k bytes, and so many levels below the one that is searched: the elements of that level that match
 unfoldable pub elements_from : ℕ → ℕ → Option (List ℕ) → List ℕ → List Found
 elements_from k depth wanted [] = []
 elements_from (suc k) depth wanted (b ∷ bytes) = elements_from k depth wanted bytes
@@ -75,7 +75,7 @@ siblings_at name element = elements_at (depth_in element.is_open) (Some name) el
 abbrev pub children_at : List ℕ → Found → List Found
 children_at name element = if element.is_open then elements_at 0 (Some name) element.rest else []
 
--- the content where it is text alone
+-- the content, if it is text alone
 unfoldable pub text_at : Found → Option (List ℕ)
 text_at element =
     if element.is_open

@@ -7,9 +7,9 @@ use Rattle.xtbml_subset.specs.declared.state.Phase.TheVariants.{Opening, Prolog,
 use Rattle.xtbml_subset.specs.Classes.{is_in}
 use Rattle.xtbml_subset.specs.Pieces.{Piece, byte, comment, declaration, start, whole, finish, IsMark, IsPiece, AreSpelled}
 
--- After some pieces: the names of the elements that are open, the innermost first. Where none is, the phase
--- says what may come: Opening is the start, where nothing stood but white space, Prolog lies between this and
--- the root, Epilog after the root's start.
+-- The state after some pieces: the names of the open elements, the innermost first. If none is open, the phase says
+-- what may come: Opening is the start, with only white space before; Prolog is from then to the root; Epilog is after
+-- the root's start.
 pub record State : Type 0 where
   pub phase : Phase
   pub names : List (List ℕ)
@@ -25,8 +25,8 @@ past Opening = Prolog
 past Prolog = Prolog
 past Epilog = Epilog
 
--- What stands outside the root is white space and comments, one declaration with only white space before it,
--- and the root itself.
+-- Outside the root there may be white space and comments, one declaration with only white space before it, and the
+-- root itself.
 abbrev pub after_outside : Phase → Piece → Option State
 after_outside phase (byte b) = if is_in White b then Some (outside phase) else None
 after_outside phase comment = Some (outside (past phase))
@@ -41,8 +41,8 @@ after_outside Prolog (whole tag) = Some (outside Epilog)
 after_outside Epilog (whole tag) = None
 after_outside phase (finish name) = None
 
--- In an element anything stands but a declaration, no element lies too deep, and an end tag has the name of
--- the innermost element that is open.
+-- In an element there may be anything except a declaration; no element is too deep, and an end tag has the name of
+-- the innermost open element.
 abbrev pub after_inside : Phase → List ℕ → List (List ℕ) → Piece → Option State
 after_inside phase name names (byte b) = Some (record { phase = phase; names = name ∷ names })
 after_inside phase name names comment = Some (record { phase = phase; names = name ∷ names })
@@ -58,7 +58,7 @@ abbrev pub after_names : Phase → List (List ℕ) → Piece → Option State
 after_names phase [] piece = after_outside phase piece
 after_names phase (name ∷ names) piece = after_inside phase name names piece
 
--- the state after a piece, or none where the piece may not stand there
+-- the state after a piece, or none if the piece may not come there
 abbrev pub after_piece : State → Piece → Option State
 after_piece state piece = after_names state.phase state.names piece
 

@@ -1,5 +1,5 @@
--- What is left of a document for its table, and the answer by that: of a table by age alone, of a select table, and of one
--- of either kind.
+-- What is kept of a document for its table, and the result by it: for a table by age alone, for a select table, and
+-- for one of either kind.
 use Rattle.std.specs.Prelude.{◌≡◌, ℕ, if◌then◌else◌, List, [], ◌∷◌, drop, map, Option, None, Result, Ok, Err, codes, slice_get}
 use Rattle.std.specs.Option.{ok_or}
 use Rattle.xtbml_subset.specs.Names.{bytes_eq, Rates, Selected, AnyTable}
@@ -18,7 +18,7 @@ abbrev pub ◌>=>◌ : {A B : Type 0} → Result A TableFault → (A → Result 
 
 -- ---- the path to the rates
 
--- the first child of a name; where there is none the path breaks off at the parent
+-- the first child with a name; if there is none, the path ends at the parent
 unfoldable pub within : {N : Type 0} → Asks N → List ℕ → N → Result N TableFault
 within asks name parent = ok_or (slice_get (asks.children name parent) 0) (Bad (asks.row parent).at NoTable)
 
@@ -33,7 +33,7 @@ path asks root =
 
 -- ---- a table by age alone
 
--- a fault where an axis has no rates of its own: an axis in it makes a select table
+-- a fault if an axis has no rates of its own: an axis in it makes a select table
 abbrev pub rates_in : {N : Type 0} → Asks N → N → List N → List N → Result (List N) TableFault
 rates_in asks axis (inner ∷ more) rates = Err (Bad (asks.row inner).at Select)
 rates_in asks axis [] [] = Err (Bad (asks.row axis).at NoTable)
@@ -55,7 +55,7 @@ aggregate_parts asks found =
 abbrev pub parts_of : {N : Type 0} → Asks N → N → Result Parts TableFault
 parts_of asks root = path asks root >=> λ found. aggregate_parts asks found
 
--- the answer by the parts, or the fault for want of them
+-- the result by the parts, or the fault if a part is missing
 abbrev pub IsTableBy : Result Parts TableFault → Result Rates TableFault → Type 0
 IsTableBy (Err fault) answer = answer ≡ Err fault
 IsTableBy (Ok parts) answer = InTurn (IsScale parts.factor) (λ none read. ReadsRates parts.rows read) answer
@@ -80,7 +80,7 @@ select_parts asks others table axis = record {
   ultimate = map (λ node. asks.row node) (ultimate_of asks others);
 }
 
--- the answer by the parts
+-- the result by the parts
 abbrev pub IsSelectBy : SelectParts → Result Selected TableFault → Type 0
 IsSelectBy parts answer =
     InTurn (IsScale parts.factor) (λ none unscaled. InTurn (IsScale parts.ultimate_factor)
@@ -100,7 +100,7 @@ parts_by_axes asks root found (inner ∷ more) = Ok (selected (select_parts asks
 abbrev pub any_parts_of : {N : Type 0} → Asks N → N → Result AnyParts TableFault
 any_parts_of asks root = path asks root >=> λ found. parts_by_axes asks root found (asks.children (codes "Axis") found.1)
 
--- the answer by the parts, or the fault for want of them
+-- the result by the parts, or the fault if a part is missing
 abbrev pub IsAnyBy : Result AnyParts TableFault → Result AnyTable TableFault → Type 0
 IsAnyBy (Err fault) answer = answer ≡ Err fault
 IsAnyBy (Ok (aggregate parts)) answer = InTurn (λ one. IsTableBy (Ok parts) one) (λ one whole. whole ≡ Ok (any.Aggregate one)) answer

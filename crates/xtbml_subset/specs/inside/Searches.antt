@@ -1,4 +1,4 @@
--- The searches for the elements that a table is read from, as the pieces of a file pass.
+-- The searches for the elements from which a table is read, while the pieces of a file go past.
 use Rattle.std.specs.Prelude.{◌≡◌, ℕ, ◌+◌, ◌-◌, ◌≤◌, Bool, true, false, length, if◌then◌else◌, ◌==◌, List, [], ◌∷◌, Option, None, Some, MatchBool, codes}
 use Rattle.xtbml_subset.specs.declared.search.Passed.{Passed}
 use Rattle.xtbml_subset.specs.Pieces.{Piece}
@@ -11,7 +11,7 @@ pub record Passing : Type 0 where
   pub from : List ℕ
   pub rest : List ℕ
 
--- no element was found so far, or this one, or the level ended without one
+-- no element was found so far; or this one was; or the level ended without one
 pub data Sought : Type 0 where
   seeking : Sought
   hit : Found → Sought
@@ -78,20 +78,20 @@ path_after passing path = record {
   tally = tally_under 4 (codes "Y") passing path.axis path.tally;
 }
 
--- where a search for elements stands, so many being open, before the bytes that are left
+-- the state of a search for elements, with so many open, before the remaining bytes
 abbrev pub Stands : ℕ → Option (List ℕ) → ℕ → List ℕ → List Found → Sought → Type 0
 Stands level wanted depth rest elements seeking = (level ≤ depth) × (elements ≡ elements_at (depth - level) wanted rest)
 Stands level wanted depth rest elements (hit f) = elements ≡ f ∷ elements_at (depth_in f.is_open) wanted f.rest
 Stands level wanted depth rest elements missed = elements ≡ []
 
--- the same of the search in an element that another search is to find
+-- the same for the search in an element that another search has to find
 abbrev pub StandsUnder : ℕ → List ℕ → ℕ → List ℕ → Sought → Sought → Type 0
 StandsUnder level name depth rest seeking search = search ≡ seeking
 StandsUnder level name depth rest (hit f) search =
     MatchBool f.is_open (Stands level (Some name) depth rest (children_at name f) search) (search ≡ seeking)
 StandsUnder level name depth rest missed search = Unit {0}
 
--- where a count of elements stands
+-- the state of a count of elements
 abbrev pub Tallies : ℕ → Option (List ℕ) → ℕ → List ℕ → List Found → Passed → Type 0
 Tallies level wanted depth rest elements tally =
     MatchBool tally.is_over

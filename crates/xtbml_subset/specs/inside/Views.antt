@@ -47,7 +47,7 @@ abbrev pub found_pair : Result (Element × Element) TableFault → Result (Found
 found_pair (Ok pair) = Ok (found_of pair.0, found_of pair.1)
 found_pair (Err fault) = Err fault
 
--- how far the elements after may go on
+-- how far the elements after it may go on
 abbrev pub bytes_left : Option Element → ℕ
 bytes_left None = 0
 bytes_left (Some element) = suc (length element.rest.now)

@@ -46,6 +46,6 @@ is_ended Prolog names = false
 abbrev pub fault_place : ℕ → State × List ℕ → Option ℕ
 fault_place total end = if is_empty end.1 then (if is_ended end.0.phase end.0.names then None else Some total) else Some (total - length end.1)
 
--- the place up to which the bytes nest, or none where they are a document
+-- the place up to which the bytes nest; none if they are a document
 unfoldable pub fault_at : List ℕ → Option ℕ
 fault_at bytes = fault_place (length bytes) (walk_at (outside Opening) (after_mark bytes))
