@@ -30,7 +30,7 @@ at_most n m = elim (cases_lt m n) [ inl more ↦ inr (λ h. omega (arith, more, 
 pub below : (n m : ℕ) → Decided (n < m)
 below n m = elim (cases_lt n m) [ inl less ↦ inl less | inr more ↦ inr (λ h. omega (arith, more, h)) ]
 
--- ---- the power behind an `E`
+-- ---- the power after an `E`
 
 digit : (x : ℕ) → Decided (digit_value x < 10)
 digit x = below (digit_value x) 10

@@ -189,7 +189,7 @@ any_answer : (bytes : List ℕ) → Never (IsAnyAnswer bytes)
 any_answer bytes answer (inl judged) = any_table (any_parts_of node_asks judged.0) (told_parts judged.0) answer (by_parts node_asks judged.0 answer judged.2)
 any_answer bytes answer (inr h) = told_is answer (Err (Bad h.1.0 NotDocument)) tt h.1.2
 
--- a fault that the reader of tables of either kind tells
+-- a fault that the reader of tables of either kind states
 pub told_fault : (bytes : List ℕ) (fault : TableFault) → Unless fault (IsAnyAnswer bytes (Err fault)) → IsFaultOfAny fault
 told_fault bytes (NoMemory lack) h = tt
 told_fault bytes (Bad at what) h = any_answer bytes (Err (Bad at what)) h

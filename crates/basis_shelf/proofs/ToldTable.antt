@@ -1,4 +1,4 @@
--- What is told of a table file is what is wrong with it.
+-- What is reported of a table file is what is wrong with it.
 use Rattle.basis_shelf.proofs.Names.{◌≡◌, ℕ, List, Option, Err, refl, sym, subst, TableKind, TableFault, Unless, IsAnyAnswer, BadBasis, IfBad, IsFile, IsNoTable, IsBadTable, IsBadTableFile, TellsTable, word_of}
 use Rattle.xtbml_subset.specs.declared.fault.TableKind.TheVariants as kind
 use Rattle.xtbml_subset.specs.declared.fault.TableFault.TheVariants as table

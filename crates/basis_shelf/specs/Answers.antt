@@ -1,4 +1,4 @@
--- The answer to a basis file's name.
+-- The result for a basis file's name.
 use Rattle.std.specs.Prelude.{◌≡◌, ℕ, ⊤, List, Option, Result, Ok, Err}
 use Rattle.basis_book.specs.Dated.{Dated}
 use Rattle.basis_shelf.specs.declared.fault.BadBasis.{BadBasis}
@@ -7,19 +7,19 @@ use Rattle.basis_shelf.specs.declared.fault.NoBasis.TheVariants.{Bad, ReadFault,
 use Rattle.basis_shelf.specs.Bases.{IsBasis}
 use Rattle.basis_shelf.specs.FirstBad.{IsFirstBadFile}
 
--- the one answer to a name, where neither the shelf fails nor memory is refused
+-- the only result for a name, if neither the shelf fails nor memory is refused
 abbrev pub IsBasisAnswer : (List ℕ → Option (List ℕ)) → List ℕ → Result (List Dated) BadBasis → Type 0
 IsBasisAnswer files name (Ok entries) = IsBasis files name entries
 IsBasisAnswer files name (Err bad) = IsFirstBadFile files name bad
 
--- what is given is this answer, unless the shelf failed or memory was refused
+-- this result is returned, unless the shelf failed or memory was refused
 abbrev pub GivesBasis : Result (List Dated) NoBasis → Result (List Dated) BadBasis → Type 0
 GivesBasis (Ok entries) answer = answer ≡ Ok entries
 GivesBasis (Err (Bad bad)) answer = answer ≡ Err bad
 GivesBasis (Err ReadFault) answer = ⊤
 GivesBasis (Err (NoMemory lack)) answer = ⊤
 
--- of a bad file this holds
+-- this is true of a bad file
 abbrev pub IfBad : (BadBasis → Type 0) → NoBasis → Type 0
 IfBad Fact (Bad bad) = Fact bad
 IfBad Fact ReadFault = ⊤

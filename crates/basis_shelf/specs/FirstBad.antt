@@ -14,7 +14,7 @@ use Rattle.basis_shelf.specs.declared.fault.BasisWord.TheVariants.{Absent, TooLo
 use Rattle.basis_shelf.specs.Files.{IsFile}
 use Rattle.basis_shelf.specs.Bases.{AreRowsNamed, IsTableNamed}
 
--- the word for what is wrong with the basis file of this name, and the place
+-- the word that says what is wrong with the basis file of this name, and the place
 abbrev pub IsBadBook : (List ℕ → Option (List ℕ)) → List ℕ → BasisWord → ℕ → Type 0
 IsBadBook files name word place = elim word [
   | Absent ↦ (files name ≡ None) × (place ≡ 0)
@@ -31,7 +31,8 @@ IsBadBook files name word place = elim word [
         (bytes : List ℕ) × IsFile files name bytes
         × ((rows : List (List (List ℕ))) × AreRecords default_config st.StartRecord (strip_bom bytes) rows × IsRowsFault rows why)
 
--- the word for what is wrong with the table file of this name, which the row of this number names first, and the place
+-- the word that says what is wrong with the table file of this name, which the row of this number names first, and
+-- the place
 abbrev pub IsBadTable : (List ℕ → Option (List ℕ)) → List ℕ → ℕ → BasisWord → ℕ → Type 0
 IsBadTable files name number word place = elim word [
   | Absent ↦ (files name ≡ None) × (place ≡ number)

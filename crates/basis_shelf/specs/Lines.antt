@@ -1,11 +1,11 @@
--- The line that tells of a bad file.
+-- The line that reports a bad file.
 use Rattle.std.specs.Prelude.{ℕ, List, [], ◌∷◌, codes, decimal}
 use Rattle.text_lines.specs.Lines.{line_of}
 use Rattle.basis_shelf.specs.declared.fault.BadBasis.{BadBasis}
 use Rattle.basis_shelf.specs.declared.fault.BasisWord.{BasisWord}
 use Rattle.basis_shelf.specs.declared.fault.BasisWord.TheVariants.{Absent, TooLong, BadRow, NotRising, TooManyRows, NotDocument, NoTable, Scaled, BadAge, AgeGap, BadRate, BadDuration, NoUltimate, UltimateGap}
 
--- the word for what is wrong with a file
+-- the word that says what is wrong with a file
 abbrev pub basis_word : BasisWord → List ℕ
 basis_word Absent = codes "absent"
 basis_word TooLong = codes "toolong"

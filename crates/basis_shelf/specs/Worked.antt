@@ -1,4 +1,4 @@
--- Worked shelves: a basis with its table, what is the first bad file, and the line that tells of it
+-- Worked shelves: a basis with its table, the first bad file, and the line that reports it
 use Rattle.std.specs.Prelude.{◌≡◌, ◌++◌, ℕ, if◌then◌else◌, List, [], ◌∷◌, codes, pos, Option, Some, None}
 use Rattle.std.specs.Str.{bytes_eq}
 use Rattle.select_rates.specs.declared.any.AnyTable.TheVariants.{Aggregate}
@@ -31,7 +31,7 @@ FirstBadFiles = IsFirstBadFile (shelf_with one_row None) (codes "a.csv") (record
     × IsFirstBadFile (shelf_with one_row (Some (codes "<XTbML></Table>"))) (codes "b.csv")
     (record { name = codes "q.xml"; place = 7; word = NotDocument })
 
--- the same shelf, seen otherwise: its basis file isn't absent, and neither is its table
+-- the same shelf, in other cases: its basis file isn't absent, and neither is its table
 abbrev pub NoBadFiles : Type 0
 NoBadFiles = (IsFirstBadFile (shelf_with one_row None) (codes "b.csv") (record { name = codes "b.csv"; place = 0; word = Absent }) → ⊥)
     × (IsFirstBadFile (shelf_with one_row None) (codes "a.csv") (record { name = codes "a.csv"; place = 1; word = Absent }) → ⊥)

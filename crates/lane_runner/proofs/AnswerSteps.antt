@@ -69,7 +69,7 @@ follows_drier dry more within pin Unpinned calls h = absurd h
 follows_drier dry more within pin (Floor n) calls h = absurd h
 follows_drier dry more within pin Blank calls h = absurd h
 
--- the answer of a line stays one where more pins are dry
+-- the answer of a line stays one where more pins are out of memory
 pub answers_drier : (dry more : List ℕ) → ((x : ℕ) → Contains dry x → Contains more x) → (line : Line) (turns : List Placed)
     → AnswersLine dry line turns → AnswersLine more line turns
 answers_drier dry more within (Post command) [] h = absurd h
@@ -97,7 +97,7 @@ take_within zero xs ys short = refl
 take_within (suc n) [] ys short = absurd (omega arith)
 take_within (suc n) (x ∷ xs) ys short = ap (λ rest. x ∷ rest) (take_within n xs ys (omega arith))
 
--- what is told of a line stays, however the history goes on
+-- what is reported of a line stays, however the history goes on
 pub told_later : (opening : Opening) (history more : List Entry) (basis : List Dated) (one : AnsweredLine) (told : TranscriptLine)
     → one.first.0 < length history → IsTold opening history basis one told → IsTold opening (history ++ more) basis one told
 told_later opening history more basis one told below is = record {
@@ -141,7 +141,7 @@ dry_same number on at workers turn (Ok valuation) = refl
 dry_same number on at workers turn (Err (Pin why)) = refl
 dry_same number on at workers turn (Err (NoMemory lack)) = refl
 
--- a pin that is answered by a valuation may be answered by want of memory
+-- a pin that is answered by a valuation may be answered by a refusal of memory
 pinned_dry : (basis : List Dated) (commands : List Command) (on : ℤ) (reply : Reply) (valuation : Valuation)
     → AnswersPin commands basis on Terminal reply (Ok valuation) → AnswersPin commands basis on Terminal reply (Err (NoMemory a_refusal))
 pinned_dry basis commands on (Pinned position policies) valuation h = tt

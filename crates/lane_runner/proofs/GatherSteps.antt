@@ -19,7 +19,7 @@ take_past (x ∷ xs) ys n =
     let one : length (x ∷ xs) + n ≡ suc (length xs + n) = omega arith in
     ap (λ k. take k (x ∷ xs ++ ys)) one ∙ ap (λ rest. x ∷ rest) (take_past xs ys n)
 
--- a front of a text is one of a longer text
+-- a prefix of a text is one of a longer text
 pub part_more : (before now : Option (List ℕ)) (text more : List ℕ) → AppendsPart before now text → AppendsPart before now (text ++ more)
 part_more before now text more part = record {
   taken = part.taken;
@@ -27,7 +27,7 @@ part_more before now text more part = record {
   written = subst (Appends before now) (sym (take_front part.taken text more (omega (arith, part.not_all)))) part.written;
 }
 
--- what is behind a text that was written whole is not written
+-- what is after a text that was written whole is not written
 pub part_whole : (before now : Option (List ℕ)) (text more : List ℕ) → 0 < length more → Appends before now text
     → AppendsPart before now (text ++ more)
 part_whole before now text more some whole = record {
@@ -36,7 +36,7 @@ part_whole before now text more some whole = record {
   written = subst (Appends before now) (sym (take_past text more 0 ∙ append-nil text)) whole;
 }
 
--- a front of what was gathered was written behind all before it
+-- a prefix of what was gathered was written after all before it
 pub part_behind : (before mid now : Option (List ℕ)) (out gathered text : List ℕ) → Appends before mid out → out ++ gathered ≡ text
     → AppendsPart mid now gathered → AppendsPart before now text
 part_behind before mid now out gathered text first is part = record {
@@ -56,7 +56,7 @@ module _ (text : TranscriptLine → List ℕ) where
       (subst (λ (bytes : List ℕ). HasPutOut faults faults first first text [] bytes None) (sym none)
       (record { held = refl; out = []; wrote = Appends-nil first; is = refl }))
 
-  -- a front of the lines' text is one of the text of more lines
+  -- a prefix of the lines' text is one of the text of more lines
   part_line : (before now : Option (List ℕ)) (lines : List TranscriptLine) (told : TranscriptLine)
       → AppendsPart before now (line_texts text lines) → AppendsPart before now (line_texts text (lines ++ told ∷ []))
   part_line before now lines told part =

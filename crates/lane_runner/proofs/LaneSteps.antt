@@ -22,7 +22,7 @@ flips x y = by (nat_eq y x) refl
     by true is = eq-eqb x y (sym (eqb-true y x is)) ∙ sym is
     by false is = differ x y (λ same. false≢true (sym is ∙ eq-eqb y x (sym same))) ∙ sym is
 
--- a number is below those that rise behind it
+-- a number is below those that rise after it
 rising_above : (n m : ℕ) (ns : List ℕ) → AreRising (n ∷ ns) → In m ns → n < m
 rising_above n m [] rising is = absurd is
 rising_above n m (k ∷ ns) rising (inl same) = omega (arith, rising.0, same)

@@ -325,7 +325,7 @@ pub lines_answered : (dry : List ℕ) (answered : List AnsweredLine)
 lines_answered dry [] all = refl
 lines_answered dry (one ∷ more) all = (turns_in one, (flat_map turns_in more, refl, all.0, lines_answered dry more all.1))
 
--- a dry pin is the turn of a line that lacked memory
+-- a pin out of memory is the turn of a line that lacked memory
 pub dry_from : (x : ℕ) (lines : List TranscriptLine) → Contains (dry_of lines) x
     → (told : TranscriptLine) × (In told lines × (lacked_memory told.outcome ≡ true) × (told.turn ≡ x))
 dry_from x lines is = by (filter lacks lines) (contains_in x (dry_of lines) is) (λ told. from_filter lacks told lines)
@@ -375,7 +375,7 @@ one_of_turn (told ∷ lines) one other apart (inr first) (inl second) same =
     not_later (x ∷ more) some z (inr at) equal = not_later more some.1 z at equal
 one_of_turn (told ∷ lines) one other apart (inr first) (inr second) same = one_of_turn lines one other apart.1 first second same
 
--- the dry pins are those of the lines that lacked memory, and of no other
+-- the pins out of memory are those of the lines that lacked memory, and of no other
 pub are_dry : (lines : List TranscriptLine) → IsDistinct nat_eq (map (λ (told : TranscriptLine). told.turn) lines) → AreDry (dry_of lines) lines
 are_dry lines apart = in_all (λ (told : TranscriptLine). Contains (dry_of lines) told.turn ↔ (lacked_memory told.outcome ≡ true)) lines
     (λ told at. (

@@ -5,7 +5,7 @@ use Rattle.lane_runner.proofs.Names.{◌≡◌, ℕ, ◌+◌, ◌≤◌, ◌<◌
 abbrev pub turns_from : ℕ → List Entry → ℕ → List Placed
 turns_from n history caller = filter (λ (placed : Placed). placed.1.caller == caller) (enumerate_from n history)
 
--- a turn at n or behind it, below m
+-- a turn at n or after it, below m
 abbrev IsBetween : ℕ → ℕ → Placed → Type 0
 IsBetween n m placed = (n ≤ placed.0) × (placed.0 < m)
 

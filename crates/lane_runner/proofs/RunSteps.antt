@@ -21,7 +21,7 @@ pub numbers_of : (numbers : List ℕ) (f : ℕ → List Entry) → map (λ (page
 numbers_of [] f = refl
 numbers_of (n ∷ numbers) f = ap (λ rest. n ∷ rest) (numbers_of numbers f)
 
--- A lane was run by this caller: its lines are answered by the caller's turns in the history, and this is told of them.
+-- A lane was run by this caller: its lines are answered by the caller's turns in the history, and this is reported of them.
 pub record IsLaneOf (opening : Opening) (history : List Entry) (basis : List Dated) (lane : Lane) (caller : ℕ) (tolds : List TranscriptLine) : Type 0 where
   pub answered : List AnsweredLine
   pub theirs : AllByRecursion (λ (one : AnsweredLine). one.clerk ≡ lane.number) answered
@@ -169,7 +169,7 @@ module _ {D W : Type 0} where
   news_many basis (lane ∷ lanes) (old ∷ olds) [] run = absurd run
   news_many basis (lane ∷ lanes) (old ∷ olds) (new ∷ news) run = ap suc (news_many basis lanes olds news run.1)
 
-  -- as many lines are told of as the lane has
+  -- as many lines are reported of as the lane has
   pub told_lines : (basis : List Dated) (lane : Lane) (old new : Seat D W) → HasRunIn basis lane old new → length (told_in new) ≡ length lane.lines
   told_lines basis lane old new run =
       sym (zip_length (IsTold run.answered.opened.opening new.0.seen basis) run.answered.answered (told_in new) run.answered.tells)

@@ -1,4 +1,4 @@
--- What was taken from lanes is what they have told
+-- What was taken from lanes is what they have reported
 use Rattle.lane_runner.proofs.Names.{◌≡◌, ℕ, List, [], ◌∷◌, ◌++◌, length, map, take, drop, refl, ap, sym, ◌∙◌, subst, length-append, arith, AllByRecursion, AllZip, flat_map, IsPermutation, received, Dated, Lane, lines_in, Holding, PassFacts, IsOfficeHistory, OfficeOpening, Inlet, Outlet, TranscriptLine, HasLooked, HasTakenLines, IsMerged, all_to_come, AreEnds, HasAnswered, HaveRun, IsEndOf, IsInletFor, IsSameSeat, IsSpent, IsWhole, Seat, told_in}
 use Rattle.lane_runner.proofs.RunSteps.{news_many, seats_many, told_lines}
 use Rattle.lane_runner.proofs.SeatSteps.{slice_whole}
@@ -80,7 +80,7 @@ module _ {D W : Type 0} where
       let here : received inlet.ring ≡ told_in seat = whole.0 in
       let rest = whole_taken seats inlets whole.1 in λ i. here i ++ rest i
 
-  -- the merged lines are those that the lanes told
+  -- the merged lines are those that the lanes reported
   pub settled_moved : (olds news : List Inlet) (seats all : List (Seat D W)) (lines : List TranscriptLine) → all ≡ seats → AllZip HasLooked olds news
       → AllZip IsWhole seats news → IsMerged olds lines → IsPermutation (flat_map (λ (seat : Seat D W). told_in seat) all) lines
   settled_moved olds news seats all lines same looked whole merged =

@@ -1,4 +1,4 @@
--- What was handed on stays behind the moments of the lines
+-- What was handed on stays after the moments of the lines
 use Rattle.lane_runner.proofs.Names.{◌≡◌, ◌⊎◌, ℕ, zero, suc, ◌+◌, ◌≤◌, ◌<◌, Bool, true, false, List, [], ◌∷◌, ◌++◌, length, take, Option, Some, None, Result, Ok, Err, slice_get, inl, inr, refl, ap, sym, ◌∙◌, subst, append-nil, append_assoc, length-append, arith, AllByRecursion, AddsPieces, TakenPiece, taken_bytes, TranscriptLine, accepted_lines, tells_accepted, line_texts, IsHandingOn, IsShowing}
 use Rattle.std.specs.Option.{is_some}
 use Rattle.std.proofs.lemmas.List.Sums.{sum_by-append}
@@ -150,7 +150,7 @@ module _ (text : TranscriptLine → List ℕ) where
       by earlier piece before after told at accepted past (inr behind) =
           shown behind.later earlier piece behind.is before after told at accepted past
 
--- a front of a text
+-- a prefix of a text
 abbrev pub IsFront : List ℕ → List ℕ → Type 0
 IsFront text front = (n : ℕ) × (n < length text) × (front ≡ take n text)
 

@@ -15,7 +15,7 @@ prefix_trans xs ys zs first then =
 heads : {A : Type 0} (x y : A) (xs ys : List A) → x ∷ xs ≡ y ∷ ys → x ≡ y
 heads x y xs ys same = cc
 
--- what is behind a turn stays so where more is known
+-- what is after a turn stays so where more is known
 looked_behind : (turn : ℕ) (old new : Inlet) → HasLooked old new → IsBehind turn old → IsBehind turn new
 looked_behind turn old new looked behind = λ some next rest front before.
     behind (omega (arith, some, looked.left)) next rest (prefix_trans (known_items old.ring) (known_items new.ring) (next ∷ rest) looked.ring.2 front)
@@ -136,14 +136,14 @@ pub nearest_of_all : (all : List Inlet) (inlet : Inlet) (inlets : List Inlet) (f
 nearest_of_all all inlet inlets first rest found next others is whole =
     subst (λ (l : List Inlet). IsNearest l found) (sym whole) (nearest_step inlet inlets first rest found next others is)
 
--- lines in order, and one behind them
+-- lines in order, and one after them
 order_push : (lines : List TranscriptLine) (told : TranscriptLine) → AreInOrder lines → AllByRecursion (λ (one : TranscriptLine). one.turn ≤ told.turn) lines
     → AreInOrder (lines ++ told ∷ [])
 order_push [] told sorted upto = tt
 order_push (one ∷ []) told sorted upto = (upto.0, tt)
 order_push (one ∷ next ∷ lines) told sorted upto = (sorted.0, order_push (next ∷ lines) told sorted.1 upto.1)
 
--- the line that was taken from a place comes behind all others
+-- the line that was taken from a place comes after all others
 moved_out : (inlets : List Inlet) (place : ℕ) (old new : Inlet) (told : TranscriptLine) → slice_get inlets place ≡ Some old
     → received new.ring ≡ received old.ring ++ told ∷ [] → IsPermutation (taken_from (slice_set inlets place new)) (taken_from inlets ++ told ∷ [])
 moved_out [] place old new told at is = absurd (cc)
@@ -304,7 +304,7 @@ merged_none inlets none = record {
     from_none [] = tt
     from_none (inlet ∷ rest) = (λ is_left next later front before. omega arith, from_none rest)
 
--- the texts of lines, and that of one behind them
+-- the texts of lines, and that of one after them
 pub texts_push : (text : TranscriptLine → List ℕ) (lines : List TranscriptLine) (told : TranscriptLine)
     → line_texts text (lines ++ told ∷ []) ≡ line_texts text lines ++ text told
 texts_push text lines told =

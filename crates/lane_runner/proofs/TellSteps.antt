@@ -1,4 +1,4 @@
--- A line that was answered may be told behind those before it
+-- A line that was answered may be reported after those before it
 use Rattle.lane_runner.proofs.Names.{◌≡◌, ℕ, ◌+◌, ◌≤◌, ◌==◌, Bool, true, false, List, [], ◌∷◌, ◌++◌, length, map, Some, slice_get, refl, sym, ◌∙◌, subst, append_assoc, length-append, arith, AllByRecursion, AllZip, flat_map, Dated, Entry, Line, Opening, AnswersLine, Placed, turns_of, Holding, PassFacts, IsOfficeHistory, OfficeOpening, TranscriptLine, AnsweredLine, turns_in, IsRightLine, IsTold, dry_of, HasAnswered}
 use Rattle.lane_runner.specs.Telling.{AreBefore, IsLegallyTold, MayTellNext}
 use Rattle.lane_runner.proofs.Places.{turns_from}
@@ -41,7 +41,7 @@ rises_behind history caller before lines turns =
     rises_turns 0 lines (through_later 0 before (flat_map turns_in lines) (subst (RisesThrough 0) turns (through_turns 0 history caller)))
 
 module _ (opening : Opening) (history : List Entry) (basis : List Dated) where
-  -- lines that rise were told by rising turns
+  -- lines that rise were reported by rising turns
   below_last : (n : ℕ) (answered : List AnsweredLine) (tolds : List TranscriptLine) (told : TranscriptLine)
       → AllZip (IsTold opening history basis) answered (tolds ++ told ∷ []) → Rises n answered → AreBefore tolds told.turn × (n ≤ told.turn)
   below_last n [] [] told all rises = absurd all
@@ -91,7 +91,7 @@ module _ {D W : Type 0} (basis : List Dated) (number : ℕ) (old new : Holding (
             subst IsRightLine (sym (tells.0.line ∙ asked_is)) right;
       }
 
--- the next line may follow those that the lane has told
+-- the next line may follow those that the lane has reported
 pub may_follow : {D W : Type 0} (basis : List Dated) (number : ℕ) (lines : List Line) (line : Line) (old mid new : Holding (OfficeOpening D W))
     (tolds : List TranscriptLine) (told : TranscriptLine) → PassFacts IsOfficeHistory new
     → HasAnswered basis number lines old new (tolds ++ told ∷ []) → HasAnswered basis number (line ∷ []) mid new (told ∷ []) → IsRightLine line

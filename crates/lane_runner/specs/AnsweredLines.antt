@@ -1,8 +1,8 @@
--- The lines of lanes beside the turns that answer them, in the order of their first turns
+-- The lines of lanes with the turns that answer them, in the order of their first turns
 use Rattle.std.specs.Prelude.{◌≡◌, ℕ, ◌==◌, List, ◌∷◌, map}
 use Rattle.lane_runner.specs.Names.{AllByRecursion, AllZip, Contains, filter, flat_map, Entry, Line, Lane, AreRising, AnswersLine, Placed, turns_of}
 
--- a line of a clerk, and the turns that answer it, each beside its place in the history
+-- a line of a lane, and the turns that answer it, each with its place in the history
 pub record AnsweredLine : Type 0 where
   pub clerk : ℕ
   pub line : Line
@@ -15,9 +15,9 @@ turns_in answered = answered.first ∷ answered.rest
 abbrev pub lines_by : ℕ → List AnsweredLine → List AnsweredLine
 lines_by clerk answered = filter (λ (one : AnsweredLine). one.clerk == clerk) answered
 
--- The lanes' lines as the history answers them, one after the other at the places of their first turns. Each clerk's lines
--- are those of its lane, and their turns put together are those of the lane's caller. The pins of valuations that found no
--- memory are dry.
+-- The lanes' lines as the history answers them, one after the other in the order of their first turns. Each lane's
+-- lines are in their order, and their turns put together are those of the lane's caller. The list `dry` has the pins
+-- of the valuations that were refused memory.
 pub record AreLinesOf (answered : List AnsweredLine) (history : List Entry) (lanes : List Lane) (callers dry : List ℕ)
     : Type 0 where
   pub rising : AreRising (map (λ (one : AnsweredLine). one.first.0) answered)

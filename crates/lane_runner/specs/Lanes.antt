@@ -15,7 +15,8 @@ abbrev pub is_value : Line → Bool
 is_value (Value on at workers) = true
 is_value _ = false
 
--- At most eight lanes, whose numbers rise, with right lines; at most 2^24 lines in all, of which sixteen may be valuations
+-- At most eight lanes, whose numbers rise, with valid lines; at most 2^24 lines in all, of which sixteen may be
+-- valuations
 pub record AreRightLanes (lanes : List Lane) : Type 0 where
   pub rising : AreRising (numbers_of lanes)
   pub right : All IsRightLane lanes

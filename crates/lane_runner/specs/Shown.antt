@@ -14,13 +14,13 @@ AreShown text pieces lines moments =
     → tells_accepted told.outcome ≡ true → length (line_texts text before) < length (taken_bytes (piece ∷ earlier))
     → (moment : ℕ) × (slice_get moments (accepted_lines before) ≡ Some moment) × (moment ≤ piece.since)
 
--- of a text all was handed on where it was written whole, and a front and not all of it else
+-- all of a text was handed on if it was written whole; else a prefix and not all of it
 abbrev pub IsHandedOn : List ℕ → List ℕ → Result (Unit {0}) Unwritten → Type 0
 IsHandedOn text handed (Ok done) = handed ≡ text
 IsHandedOn text handed (Err why) = (n : ℕ) × (n < length text) × (handed ≡ take n text)
 
--- The pieces that were handed on since are of the lines' text, and each accepted line has its moment, which none of its text
--- went before. The latest of these moments is known.
+-- The pieces that were handed on since are pieces of the lines' text. Each accepted line has its moment, and none of
+-- its text was handed on before that. The latest of these moments is known.
 pub record HasShown (text : TranscriptLine → List ℕ) (before now : List TakenPiece) (lines : List TranscriptLine)
     (moments : List ℕ) (latest : ℕ) (written : Result (Unit {0}) Unwritten) : Type 0 where
   pub run : List TakenPiece

@@ -1,4 +1,4 @@
--- What is counted in answered lines, and what is looked for
+-- What is counted in answered lines, and what is searched for
 use Rattle.std.specs.Prelude.{ℕ, Bool, true, false, List}
 use Rattle.std.specs.List.{count_by, list_any}
 use Rattle.office_state.specs.declared.answer.Answer.{Answer}
@@ -7,7 +7,7 @@ use Rattle.lane_runner.specs.declared.transcript.TranscriptLine.{TranscriptLine}
 use Rattle.lane_runner.specs.declared.transcript.Outcome.{Outcome}
 use Rattle.lane_runner.specs.declared.transcript.Outcome.TheVariants.{Posted, ValueNoMemory}
 
--- what is told of a posting that was accepted, and of one that was refused
+-- the outcome of a posting that was accepted, and of one that was refused
 abbrev pub tells_accepted : Outcome → Bool
 tells_accepted (Posted (Accepted position)) = true
 tells_accepted _ = false
@@ -34,7 +34,7 @@ has_faulted _ = false
 abbrev pub any_faulted : List TranscriptLine → Bool
 any_faulted lines = list_any (λ (told : TranscriptLine). has_faulted told.outcome) lines
 
--- memory was lacking for the line's posting, or for its valuation
+-- memory was refused for the line's posting, or for its valuation
 abbrev pub lacks_memory : Outcome → Bool
 lacks_memory (Posted (NoMemory lack)) = true
 lacks_memory (ValueNoMemory lack) = true

@@ -1,4 +1,4 @@
--- What a lane tells of its lines, one after the other
+-- What a lane says of its lines, one after the other
 use Rattle.std.specs.Prelude.{◌≡◌, ℕ, ◌<◌, List, Some, slice_get}
 use Rattle.lane_runner.specs.Names.{AllByRecursion, Dated, Entry, AnswersLine, IsValid, IsLegal, Opening, commands_after}
 use Rattle.lane_runner.specs.declared.transcript.TranscriptLine.{TranscriptLine}
@@ -6,7 +6,7 @@ use Rattle.lane_runner.specs.AnsweredLines.{AnsweredLine, turns_in}
 use Rattle.lane_runner.specs.Lanes.{IsRightLine}
 use Rattle.lane_runner.specs.Transcripts.{IsTold}
 
--- A legal history answers a line by these turns, the first of which stands at its place, and this is told of it.
+-- A legal history answers a line by these turns, the first of which is at its place, and this is the outcome.
 pub record IsLegallyTold (told : TranscriptLine) : Type 0 where
   pub opening : Opening
   pub history : List Entry
@@ -24,7 +24,7 @@ pub record IsLegallyTold (told : TranscriptLine) : Type 0 where
 abbrev pub AreBefore : List TranscriptLine → ℕ → Type 0
 AreBefore lines turn = AllByRecursion (λ (told : TranscriptLine). told.turn < turn) lines
 
--- a lane that has told these lines may tell this one next
+-- a lane that has reported these lines may report this one next
 pub record MayTellNext (before : List TranscriptLine) (told : TranscriptLine) : Type 0 where
   pub behind : AreBefore before told.turn
   pub tellable : IsLegallyTold told

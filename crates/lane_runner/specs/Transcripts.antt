@@ -1,4 +1,4 @@
--- What a transcript tells of the lanes that were run
+-- What a transcript says of the lanes that were run
 use Rattle.std.specs.Prelude.{◌≡◌, ◌↔◌, ℕ, ◌≤◌, ◌+◌, ◌^◌, nat_eq, Bool, true, false, List, ◌++◌, map, take, Some}
 use Rattle.lane_runner.specs.Names.{AllByRecursion, AllZip, Contains, IsDistinct, filter, Dated, Entry, Line, Post, Value, Trim, Lane, AnswersLanes, Holding, OfficeOpening, IsSnapshot, Opening, commands_after, StartsWith, entries_of}
 use Rattle.policy_types.specs.declared.command.Command.{Command}
@@ -12,8 +12,8 @@ use Rattle.lane_runner.specs.declared.transcript.Outcome.TheVariants.{Posted, Tr
 use Rattle.lane_runner.specs.declared.transcript.Transcript.{Transcript}
 use Rattle.lane_runner.specs.AnsweredLines.{AnsweredLine, AreLinesOf}
 
--- what is told of a line is the reply of its first turn, and of a valuation that was pinned the snapshot of these commands
--- at that position, with terminal reserves, or that there was no memory
+-- the outcome of a line is the reply of its first turn; that of a valuation that was pinned is the snapshot of these
+-- commands at that position, with terminal reserves, or that memory was refused
 abbrev pub IsOutcome : List Command → List Dated → Line → Reply → Outcome → Type 0
 IsOutcome commands basis (Post command) reply (Posted answer) = reply ≡ reply_of answer
 IsOutcome commands basis Trim reply (Trimmed floor) = reply ≡ Floor floor
@@ -24,7 +24,7 @@ IsOutcome commands basis (Value on at workers) reply (ValueNoMemory lack) =
     (position : ℕ) × ((policies : ℕ) × (reply ≡ Pinned position policies))
 IsOutcome _ _ _ _ _ = ⊥
 
--- The transcript's line is the answered one, with the place of its first turn. What is told of it is of the commands that
+-- The transcript's line is the answered one, with the place of its first turn. Its outcome is by the commands that
 -- were accepted before this turn.
 pub record IsTold (opening : Opening) (history : List Entry) (basis : List Dated) (answered : AnsweredLine)
     (told : TranscriptLine) : Type 0 where
@@ -37,18 +37,18 @@ abbrev pub lacked_memory : Outcome → Bool
 lacked_memory (ValueNoMemory lack) = true
 lacked_memory _ = false
 
--- the dry pins: those of the valuations that are told to have found no memory
+-- the pins of the valuations whose outcome is that memory was refused
 abbrev pub dry_of : List TranscriptLine → List ℕ
 dry_of lines =
     map (λ (told : TranscriptLine). told.turn) (filter (λ (told : TranscriptLine). lacked_memory told.outcome) lines)
 
--- a line is told to have found no memory just where its turn is among the dry pins
+-- the outcome of a line is that memory was refused exactly if its turn is among these pins
 abbrev pub AreDry : List ℕ → List TranscriptLine → Type 0
 AreDry dry lines =
     AllByRecursion (λ (told : TranscriptLine). Contains dry told.turn ↔ (lacked_memory told.outcome ≡ true)) lines
 
--- The pages of the lanes' callers were added to the pass, and nothing else changed but that it has seen more and has spent
--- some of its turns. The callers differ, and none of the entries that it has seen since is its own.
+-- The pages of the lanes' callers were added to the pass, which has also seen more and has spent some of its turns;
+-- nothing else changed. The callers differ, and none of the entries that it has seen since is its own.
 pub record HasRunLanes {Opening : Type 0} (old new : Holding Opening) (callers : List ℕ) : Type 0 where
   pub turnstile : new.turnstile ≡ old.turnstile
   pub opening : new.opening ≡ old.opening
@@ -61,8 +61,8 @@ pub record HasRunLanes {Opening : Type 0} (old new : Holding Opening) (callers :
   pub ended : new.ended ≡ old.ended ++ map (λ caller. (caller, entries_of new.seen caller)) callers
   pub distinct : IsDistinct nat_eq callers
 
--- Each lane was run by a caller of its own: every line is answered once, in the order of its lane, by that caller's turns
--- in the history that the pass has seen. The transcript has these lines at the places of their first turns.
+-- Each lane was run by a caller of its own: every line is answered once, in the order of its lane, by that caller's
+-- turns in the history that the pass has seen. The transcript has these lines at the places of their first turns.
 pub record HasAnsweredLanes {D W : Type 0} (basis : List Dated) (lanes : List Lane) (old new : Holding (OfficeOpening D W))
     (transcript : Transcript) : Type 0 where
   pub pass : HasRunLanes old new transcript.callers

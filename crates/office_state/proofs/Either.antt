@@ -86,7 +86,7 @@ valid (Mature id day) = both (within 1 4294967295 id) (in_days day)
 valid (PaidUp id day amount) = three (within 1 4294967295 id) (in_days day) (within 1 10000000000 amount)
 valid Upgrade = inl tt
 
--- ---- a body behind commands
+-- ---- a body after commands
 
 is_accepted : (why : Option Refusal) → Either (why ≡ None)
 is_accepted None = inl refl
@@ -98,7 +98,7 @@ same_text xs ys = elim (cases_Bool (bytes_eq xs ys)) [
   | inr other ↦ inr (λ same. true≢false (sym ((bytes_eq-Decides xs ys).1 same) ∙ other))
 ]
 
--- the command can stand behind these in a journal
+-- the command can stand after these in a journal
 record CanFollow (commands : List Command) (command : Command) : Type 0 where
   valid : IsValid command
   accepted : judge commands command ≡ None

@@ -3,7 +3,7 @@ use Rattle.office_state.proofs.Names.{◌≡◌, ◌⊎◌, ℕ, ◌≤◌, List
 use Rattle.office_state.proofs.HistorySteps.{accepted-same, commands-same, there-push}
 use Rattle.office_state.proofs.OpeningSteps.{OnlyNow}
 
--- a beginning of a list with one more behind it is the whole, or one of the list
+-- a beginning of a list with one more after it is the whole, or one of the list
 front_or_whole : {X : Type 0} (xs front rest : List X) (x : X) → xs ++ x ∷ [] ≡ front ++ rest
     → (front ≡ xs ++ x ∷ []) ⊎ ((less : List X) × (xs ≡ front ++ less))
 front_or_whole xs [] rest x same = inr (xs, refl)
@@ -96,7 +96,7 @@ module _ {D : Type 0} (g : Ghosts D) (begun : D) (opening : Opening) where
         ];
   }
 
-  -- behind a turn that accepts nothing
+  -- after a turn that accepts nothing
   kept_still : (disk : D) (turns : List Entry) (entry : Entry) → accepted_of (entry ∷ []) ≡ []
       → HasKept g begun disk opening turns → HasKept g begun disk opening (turns ++ entry ∷ [])
   kept_still disk turns entry none kept = record {

@@ -10,7 +10,7 @@ use Rattle.office_state.proofs.HistorySteps.{faults_met}
 use Rattle.office_state.proofs.PinSteps.{among_held, live_among, pins_held-fewer, pins_held-more, pins_held-same, positions_held}
 use Rattle.office_state.proofs.TurnSteps.{stands_still}
 
--- the least of a number and others, from the front on
+-- the least of a number and others, from the start on
 fold_least : (a n other : ℕ) (ns : List ℕ) → fold min a (n ∷ ns) ≡ min a (least_or other (n ∷ ns))
 fold_least a n other [] = refl
 fold_least a n other (m ∷ ns) =

@@ -4,7 +4,7 @@ use Rattle.versioned_book.proofs.VersionSteps.{newest_of-push, value_at-past, va
 use Rattle.office_state.specs.versions.Policies.{EachSetLaw, IsSetBy, NewestPolicyLaw, PolicyAtLaw}
 use Rattle.office_state.proofs.SetSteps.{by_accepted, by_each, setting_to, sets_of-accepted, sets_of-refused, sets_of-upgrade}
 
--- a setting behind a position changes no value there
+-- a setting after a position changes no value there
 value_past : (p key : ℕ) (sets : List (Setting Policy)) (s : Setting Policy) → p < s.position → value_at p (own key (sets ++ s ∷ [])) ≡ value_at p (own key sets)
 value_past p key sets s past = by (nat_eq s.key key) refl
   where

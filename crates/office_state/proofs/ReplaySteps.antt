@@ -1,4 +1,4 @@
--- What a replay into the books tells, and what the bytes show of the record at which one stops
+-- What a replay into the books states, and what the bytes show of the record at which one stops
 use Rattle.office_state.proofs.Names.{◌≡◌, ℕ, ◌+◌, ◌<◌, List, [], ◌∷◌, ◌++◌, length, take, drop, get_or, None, add-one, refl, ap, subst, sym, ◌∙◌, take-append-drop, Ghosts, judge, IsJournal, count_of, Journal, BodiesHave, IsStoppedAt, Replays, Stops, bodies_of, Books, IsUnfollowed, commands_in, MakeJournal}
 use Rattle.std.proofs.Math.Seq.{drop-cons}
 use Rattle.journal_replay.specs.Keeping.{AreKept}

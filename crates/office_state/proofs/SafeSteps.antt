@@ -47,7 +47,7 @@ module _ {D : Type 0} (g : Ghosts D) where
         (λ image left. subst (λ all. HoldsAtLeast (all ++ command ∷ []) image) (sym (append_assoc held (first ∷ []) commands)) (since image left)),
   )
 
--- once one more is told
+-- once one more is reported
 pub told_more : (a b : Option MomentRing) (moment : ℕ) (P Q : List ℕ → Type 0) → TellsOne a b moment
     → ((moments : List ℕ) → P moments → Q (moments ++ moment ∷ [])) → IfSome a (λ ring. P (sent ring)) → IfSome b (λ ring. Q (sent ring))
 told_more None None moment P Q tells step holds = tt
@@ -61,13 +61,13 @@ pub told_on : (a : Option MomentRing) (P Q : List ℕ → Type 0) → ((moments 
 told_on None P Q step holds = tt
 told_on (Some p) P Q step holds = step (sent p) holds
 
--- before any is told
+-- before any is reported
 pub untold_safe : {D : Type 0} (g : Ghosts D) (disk : D) (held : List Command) (a : Option MomentRing) → told a ≡ []
     → IfSome a (λ ring. AreSafeSince g disk held [] (sent ring))
 untold_safe g disk held None none = tt
 untold_safe g disk held (Some p) none = subst (AreSafeSince g disk held []) (sym none) tt
 
--- once one more is told, there is room for one fewer
+-- once one more is reported, there is room for one fewer
 pub room_told : (a b : Option MomentRing) (moment many fewer : ℕ) → TellsOne a b moment → fewer + 1 ≤ many → HasRoomFor many a → HasRoomFor fewer b
 room_told None None moment many fewer tells less room = tt
 room_told None (Some q) moment many fewer tells less room = absurd tells

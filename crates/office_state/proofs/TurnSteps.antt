@@ -56,7 +56,7 @@ module _ {D W : Type 0} {g : Ghosts D} {w : WatcherGhosts W} where
     abbrev commands : List Command
     commands = commands_after opening turns
 
-    -- so many commands stand before those that the watchers were told of
+    -- so many commands stand before those that the watchers were notified of
     abbrev behind : ℕ
     behind = length opening.commands
 
@@ -117,7 +117,7 @@ module _ {D W : Type 0} {g : Ghosts D} {w : WatcherGhosts W} where
           };
         }
 
-    -- it stands for the same turns with other books of the same commands, and watchers who were told of the same
+    -- it stands for the same turns with other books of the same commands, and watchers who were notified of the same
     pub stands_with : (books : Books) (counted : records_in old.journal ≡ length (commands_in books)) → commands_in books ≡ commands_of old
         → floor_in books ≡ floor_in old.books → (watchers : W) → ((before : ℕ) (heard : List Command) → w.told old.watchers before heard → w.told watchers before heard)
         → StandsFor {w = w} (record { journal = old.journal; books = books; watchers = watchers; turns = old.turns; pins = old.pins; outlet = old.outlet; begun = old.begun; recovered = old.recovered; counted = counted }) turns
@@ -226,7 +226,7 @@ module _ {D W : Type 0} {g : Ghosts D} {w : WatcherGhosts W} where
           safe_on g (disk_of old) (disk_under journal) (λ image. HoldsNow opening turns image ⊎ JournalBytes image (commands ++ command ∷ []))
           (moments honest) opening.commands (accepted_of turns) told least safe
 
-      -- and the command that was accepted is safe since the moment that is told
+      -- and the command that was accepted is safe since the moment that is reported
       safe_accepted : (outlet : MomentOutlet D) → TellsOne old.outlet.ring outlet.ring (g.clock (disk_under journal)) → (entry : Entry)
           → accepted_of (entry ∷ []) ≡ command ∷ [] → g.honest (disk_under journal)
           → ((image : List ℕ) → g.left_since (disk_under journal) (g.clock (disk_under journal)) image → HoldsAtLeast (commands ++ command ∷ []) image)

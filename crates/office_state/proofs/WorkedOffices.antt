@@ -1,4 +1,4 @@
--- What worked files of an office are told by.
+-- What worked files of an office are stated by.
 use Rattle.office_state.proofs.Names.{◌≡◌, ◌≢◌, ◌≤◌, ◌<◌, Option, Some, None, ◌++◌, ◌∷◌, ◌∙◌, ℕ, zero, suc, List, [], length, ap, sym, subst, refl, lit<, lit≤, length-append, arith, Command, Reply, Accepted, Faulted, Blank, Entry, Refusal, Taken, IsValid, judge, accepted_of, spelling_of, one_command, HasRecords, bodies_of, IsPending, JournalBytes, hand_issue, hand_premium, issue_body, issue_record, journal_of_two, premium_turn}
 use Rattle.std.proofs.lemmas.Int.{ints}
 use Rattle.life_dates.specs.Anniversary as dates
@@ -17,7 +17,7 @@ valid_issue = record {
 pub valid_premium : IsValid hand_premium
 valid_premium = ((lit≤ tt, lit≤ tt), (omega (arith, ints), omega (arith, ints)), (lit≤ tt, lit≤ tt))
 
--- the record of the issue, whatever stands behind it
+-- the record of the issue, whatever stands after it
 one_record : (behind : List ℕ) → HasRecords (issue_record ++ behind) (bodies_of (hand_issue ∷ []))
 unfolding spelling_of
 one_record behind zero h = (refl, refl)
@@ -32,7 +32,7 @@ two_records (suc (suc n)) h = absurd (omega arith)
 longer : (front behind : List ℕ) → 82 ≤ length front → 82 < length (front ++ 0 ∷ behind)
 longer front behind long = omega (arith, long, length-append front (0 ∷ behind))
 
--- the journal of the issue: a closed gate, and whatever behind it
+-- the journal of the issue: a closed gate, and whatever after it
 pub just_the_issue : (behind : List ℕ) → JournalBytes (issue_record ++ 0 ∷ behind) (hand_issue ∷ [])
 just_the_issue behind = record {
   records = record {

@@ -13,18 +13,20 @@ pub record WasFaulted (history : List Entry) (held : List Command) (command : Co
   pub turns : history ≡ before ++ (record { caller = caller; call = Post command; reply = Faulted count }) ∷ after
   pub then : accepted_of before ≡ held
 
--- the image opens to the commands from before and these, and to at most one more, whose posting was answered `fault` then
+-- the image opens to the commands from before and these, and to at most one more, whose posting was answered `fault`
+-- when these were accepted
 abbrev pub IsThere : (List ℕ → List Command → Type 0) → List Command → List Entry → List Command → List ℕ → Type 0
 IsThere Opens commands history held image =
     Opens image (commands ++ held)
     ⊎ ((command : Command) × WasFaulted history held command × Opens image (commands ++ held ++ command ∷ []))
 
--- and so it is with a front of what the history accepted
+-- and so it is with a prefix of what the history accepted
 abbrev pub IsFrontThere : (List ℕ → List Command → Type 0) → List Command → List Entry → List ℕ → Type 0
 IsFrontThere Opens commands history image =
     (held rest : List Command) × (accepted_of history ≡ held ++ rest) × IsThere Opens commands history held image
 
--- the moments since which the commands are safe: a crash since each leaves at least the commands held by then, and that one
+-- the moments since which the commands are safe: a crash since each moment leaves at least the commands held by then,
+-- and the one of that moment
 abbrev pub AreSafeSince : {D : Type 0} → Ghosts D → D → List Command → List Command → List ℕ → Type 0
 AreSafeSince g disk held [] [] = Unit {0}
 AreSafeSince g disk held (command ∷ commands) (moment ∷ moments) =
@@ -33,8 +35,8 @@ AreSafeSince g disk held (command ∷ commands) (moment ∷ moments) =
     × AreSafeSince g disk (held ++ command ∷ []) commands moments
 AreSafeSince _ _ _ _ _ = ⊥
 
--- The disk as it stood after these turns: a crash then left what is there of just their commands, and whatever one leaves
--- since then opens to these commands, and perhaps more.
+-- The disk as it stood after these turns: a crash then left the file of exactly their commands, and whatever a crash
+-- leaves since then opens to these commands, and perhaps to more.
 pub record HasKept {D : Type 0} (g : Ghosts D) (begun new : D) (opening : Opening) (turns : List Entry) : Type 0 where
   pub stood : D
   pub honest : g.honest stood
@@ -53,10 +55,10 @@ faults_after opening history =
 abbrev pub OpensAlike : List ℕ → List ℕ → Type 0
 OpensAlike bytes image = (commands : List Command) × Opens bytes commands × Opens image commands
 
--- A disk on which no office ran, or one at which no posting was accepted or met a fault. Where it comes back honest, it
--- was honest before; since the call a crash leaves what it might have left before, or what opens to the commands to
--- which the file opened; either the disk was only looked at, or since the end of a sync a crash leaves what was read
--- before the call, or what opens alike; and no file but an unfinished creation is written to.
+-- A disk on which no office ran, or on which an office ran at which no posting was accepted or met a fault. If the
+-- disk comes back honest, it was honest before. Since the call a crash leaves what it might have left before, or what
+-- opens to the commands to which the file opened. Either the disk was only looked at, or, since the end of a sync, a
+-- crash leaves what was read before the call, or what opens alike. Only an unfinished creation is written to.
 pub record IsLeftAlone {D : Type 0} (g : Ghosts D) (old new : D) : Type 0 where
   pub honesty : g.honest new → g.honest old
   pub unwritten : g.honest new → ¬ IsUnfinished (g.reads old) → LooksOn g old new
@@ -71,10 +73,11 @@ abbrev pub AreQuiet : List Entry → Type 0
 AreQuiet history =
     AllByRecursion (λ (entry : Entry). (fault_of entry.reply ≡ None) × ((position : ℕ) → entry.reply ≢ Accepted position)) history
 
--- The disk on which an office was opened, and what became of it in the history. Where it comes back honest, it was honest
--- before, and its file had opened to the commands of the opening; a crash now leaves these and all that was accepted, in
--- a journal; since the opening began one leaves what it might have left before, or a front of that, and since the end of
--- a sync the second alone; and what was accepted stays. Where no posting was accepted or met a fault, the disk is left alone.
+-- The disk on which an office was opened, and what became of it in the history. If it comes back honest, it was
+-- honest before, and its file had opened to the commands of the opening. A crash now leaves these and all that was
+-- accepted, in a journal. Since the opening began, a crash leaves what it might have left before, or a prefix of
+-- that; since the end of a sync, only the latter. What was accepted stays. If no posting was accepted or met a fault,
+-- the disk is left alone.
 pub record IsLeftBy {D : Type 0} (g : Ghosts D) (old new : D) (opening : Opening) (history : List Entry) : Type 0 where
   pub honesty : g.honest new → g.honest old
   pub faults : g.faults new ≡ faults_after opening history

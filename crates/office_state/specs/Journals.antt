@@ -5,7 +5,7 @@ use Rattle.office_state.specs.declared.faults.StartCause.{StartCause}
 use Rattle.office_state.specs.declared.faults.StartCause.TheVariants.{DiskFault, NotAJournal, BadRecord, NoMemory}
 
 -- The file is the journal of these commands: they are valid, they are accepted one after the other, and its records
--- spell just them.
+-- spell exactly them.
 pub record JournalBytes (bytes : List ℕ) (commands : List Command) : Type 0 where
   pub records : IsJournal bytes (map spelling_of commands)
   pub valid : AllByRecursion IsValid commands
@@ -19,8 +19,8 @@ Opens bytes commands = JournalBytes bytes commands ⊎ ((commands ≡ []) × IsU
 abbrev pub OpensToNone : List ℕ → Type 0
 OpensToNone bytes = (commands : List Command) → Opens bytes commands → ⊥
 
--- The records before record n are those of commands, one accepted after the other, and its own body spells none that
--- can follow them.
+-- The records before record n are those of commands, one accepted after the other, and the body of record n spells no
+-- command that can follow them.
 pub record IsUnfollowed (bytes : List ℕ) (n : ℕ) : Type 0 where
   pub commands : List Command
   pub body : List ℕ

@@ -1,4 +1,4 @@
--- The names from elsewhere that several rooms cite, passed on from one place. Declares nothing.
+-- The names from elsewhere that several modules cite, passed on from one place. Declares nothing.
 pub use Rattle.std.specs.List.{AllByRecursion, filter_map, Contains, fold, last_or, range_with_len, cons_option, filter}
 pub use Rattle.journal_replay.specs.Replays.{bodies_of, BodiesHave, HasReplayCause, IsLookedAt, IsQuiet, StaysAs, Stops}
 pub use Rattle.moment_ring.specs.Ends.{told, SameOutlet, HasRoomFor}

@@ -10,8 +10,8 @@ use Rattle.office_state.specs.Images.{IsLeftAlone}
 use Rattle.office_state.specs.States.{begun_of, disk_of, opening_of}
 use Rattle.office_state.specs.Standing.{StandsFor}
 
--- The office stands for no turns yet, and the disk didn't fail. Where the disk is honest once the office is open, it was
--- so before, the office is that of the commands to which its file opened, and no file but an unfinished creation was
+-- The office stands for no turns yet, and the disk didn't fail. If the disk is honest once the office is open, it was
+-- honest before, the office is that of the commands to which its file opened, and only an unfinished creation was
 -- written to.
 pub record HasOpened {D W : Type 0} {g : Ghosts D} {w : WatcherGhosts W} (old : D) (state : OfficeState D W g w) : Type 0 where
   pub begun : begun_of state ≡ old
@@ -21,12 +21,12 @@ pub record HasOpened {D W : Type 0} {g : Ghosts D} {w : WatcherGhosts W} (old : 
   pub honesty : g.honest (disk_of state) → g.honest old
   pub unwritten : g.honest (disk_of state) → ¬ IsUnfinished (g.reads old) → LooksOn g old (disk_of state)
 
--- a fault of the disk has its count, which rose; any other cause leaves the count
+-- a fault of the disk has its count of faults, which rose; any other cause leaves the count as it was
 abbrev pub TellsFault : ℕ → ℕ → StartCause → Type 0
 TellsFault before now (DiskFault count) = (count ≡ now) × Rose before now
 TellsFault before now cause = now ≡ before
 
--- No office was opened, since the disk failed, or for what the bytes show, or for want of memory.
+-- No office was opened, since the disk failed, or for what the bytes show, or since memory was refused.
 pub record HasNotOpened {D : Type 0} (g : Ghosts D) (old new : D) (cause : StartCause) : Type 0 where
   pub told : TellsFault (g.faults old) (g.faults new) cause
   pub shown : g.honest new → IsShown (g.reads old) cause

@@ -3,7 +3,7 @@ use Rattle.std.specs.Prelude.{◌≡◌, ℕ, ◌≤◌, List, length, slice_get
 use Rattle.office_state.specs.Names.{Contains, filter_map, range_with_len, Entry, live_pin}
 use Rattle.office_state.specs.declared.held.Held.{Held}
 
--- the pin that the turn at a place took, as its caller holds it, where it is live
+-- the pin that the turn at a place took, as its caller holds it, if it is live
 abbrev pub held_in : ℕ → Option Entry → Option (ℕ × ℕ) → Option Held
 held_in place (Some entry) (Some pin) =
     Some (record { number = place; caller = entry.caller; position = pin.0; policies = pin.1 })
@@ -23,7 +23,7 @@ pub record IsHeldBy (pins : List Held) (caller pin : ℕ) : Type 0 where
   pub number : held.number ≡ pin
   pub holder : held.caller ≡ caller
 
--- it has policies up to an index too
+-- and its policies go up to an index
 pub record MayRead (pins : List Held) (caller pin first : ℕ) : Type 0 where
   pub held : Held
   pub among : Contains pins held

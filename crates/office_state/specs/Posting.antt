@@ -8,7 +8,7 @@ use Rattle.office_state.specs.declared.state.OfficeState.{OfficeState}
 use Rattle.office_state.specs.Images.{IsThere}
 use Rattle.office_state.specs.States.{disk_of, opened_of, outlet_of}
 
--- the reply of an answer's turn; one that lacked memory is blank
+-- the reply of an answer's turn; if memory was refused, the reply is blank
 abbrev pub reply_of : Answer → Reply
 reply_of (AcceptedAt position) = Accepted position
 reply_of (RefusedFor refusal) = Refused refusal
@@ -29,8 +29,9 @@ abbrev pub IsAcceptance : Answer → Type 0
 IsAcceptance (AcceptedAt position) = Unit {0}
 IsAcceptance _ = ⊥
 
--- Crash in a posting. At each moment since it began an image holds the commands from before, or these and the posted
--- one, or these and one whose posting faulted when just these were accepted. Once it is accepted each image holds it.
+-- Crashes in a posting. At each moment since it began, an image holds the commands from before, or these and the
+-- posted one, or these and one whose posting was answered `fault` when exactly these were accepted. Once the posting
+-- is accepted, each image holds its command.
 pub record CrashesIn {D : Type 0} (g : Ghosts D) (old new : D) (opening : Opening) (turns : List Entry)
     (command : Command) (answer : Answer) : Type 0 where
   pub during : Leaves g old new (λ image. IsThere JournalBytes opening.commands turns (accepted_of turns) image
@@ -38,8 +39,8 @@ pub record CrashesIn {D : Type 0} (g : Ghosts D) (old new : D) (opening : Openin
   pub accepted : IsAcceptance answer → (image : List ℕ) → g.may_leave new image
       → JournalBytes image (commands_after opening turns ++ command ∷ [])
 
--- What a posting leaves: what the office was opened on, and its outlet; a disk that is honest now was so before; and an
--- answer that comes before anything is written leaves it.
+-- What a posting leaves: the opening and the outlet stay; a disk that is honest now was honest before; and an answer
+-- that comes before anything is written leaves the disk as it was.
 pub record KeepsOffice {D W : Type 0} {g : Ghosts D} {w : WatcherGhosts W} (old new : OfficeState D W g w) (answer : Answer)
     : Type 0 where
   pub opened : opened_of new ≡ opened_of old

@@ -12,7 +12,7 @@ use Rattle.office_state.specs.inside.Books.{balances_in, commands_in, floor_in, 
 abbrev pub MomentRing : Type 0
 MomentRing = Producer ℕ Global AnyItems
 
--- what an office was opened on, and the disk and the auditors as they were handed in
+-- what an office was opened on, and the disk and the watchers as they were handed in
 pub record Opened (D : Type 0) : Type 0 where
   pub opening : Opening
   pub begun : D
@@ -22,14 +22,16 @@ module _ {D W : Type 0} {g : Ghosts D} {w : WatcherGhosts W} where
   abbrev pub disk_of : OfficeState D W g w → D
   disk_of state = disk_under state.journal
 
-  -- The accepted commands. It holds none of them in memory: the list stands for what contracts say of its calls.
+  -- The accepted commands. The office keeps none of them in memory: the list is what the contracts of its calls are
+  -- about.
   abbrev pub commands_of : OfficeState D W g w → List Command
   commands_of state = commands_in state.books
 
   abbrev pub count_of : OfficeState D W g w → ℕ
   count_of state = state.books.count
 
-  -- the versions that it keeps of the policy of a number, each with the number of the command that made it, from 1
+  -- the versions that it keeps of the policy with a number, each with the number of the command that made it, counted
+  -- from 1
   abbrev pub versions_left : OfficeState D W g w → ℕ → List (ℕ × Policy)
   versions_left state id = versions_in state.books.versions id
 
@@ -65,11 +67,11 @@ module _ {D W : Type 0} {g : Ghosts D} {w : WatcherGhosts W} where
   abbrev pub opening_of : OfficeState D W g w → Opening
   opening_of state = opened_on (commands_in state.recovered.value) (g.faults (begun_of state))
 
-  -- the auditors as they were handed in
+  -- the watchers as they were handed in
   abbrev pub auditors_of : OfficeState D W g w → List Auditor
   auditors_of state = w.handed state.watchers
 
-  -- the ring in which it tells since which moments the accepted commands are safe, where there is one
+  -- the ring by which it sends the moments since which the accepted commands are safe, if there is one
   abbrev pub outlet_of : OfficeState D W g w → Option MomentRing
   outlet_of state = state.outlet.ring
 

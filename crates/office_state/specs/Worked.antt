@@ -27,7 +27,7 @@ premium_body =
     0x00 ∷ 0x00 ∷ 0x00 ∷ 0x00 ∷ 0x00 ∷ 0x00 ∷ 0x9c ∷ 0x40 ∷
     0x00 ∷ 0x00 ∷ 0x00 ∷ 0x00 ∷ 0x00 ∷ 0x00 ∷ 0x00 ∷ 0x00 ∷ []) ++ replicate 36 0
 
--- the journal of the issue, up to the gate behind it
+-- the journal of the issue, up to the gate after it
 abbrev pub issue_record : List ℕ
 issue_record = 1 ∷ header_by_hand ++ 1 ∷ issue_body
 
@@ -41,7 +41,7 @@ abbrev pub JournalOfTwo : Type 0
 JournalOfTwo = JournalBytes journal_of_two (hand_issue ∷ hand_premium ∷ [])
     × (JournalBytes journal_of_two (hand_issue ∷ []) → ⊥)
 
--- while the premium is posted: a part of its body stands behind the closed gate, then all of it, then the gate is open
+-- while the premium is posted: a part of its body stands after the closed gate, then all of it, then the gate is open
 abbrev pub CrashesOfAPosting : Type 0
 CrashesOfAPosting = JournalBytes journal_of_one (hand_issue ∷ [])
     × JournalBytes (issue_record ++ 0 ∷ take 30 premium_body) (hand_issue ∷ [])
@@ -55,7 +55,8 @@ premium_turn reply = record { caller = 1; call = Post hand_premium; reply = repl
 abbrev pub hand_opening : Opening
 hand_opening = opened_on (hand_issue ∷ []) 3
 
--- the premium met a fault: with it or without it; no turn, and it can't be there; it was accepted, and then it is
+-- after the premium met a fault, the image may be with it or without it; without a turn it can't have the premium;
+-- once the premium is accepted, it has it
 abbrev pub HeldNow : Type 0
 HeldNow = IsThere JournalBytes (hand_issue ∷ []) (premium_turn (Faulted 4) ∷ []) [] journal_of_one
     × IsThere JournalBytes (hand_issue ∷ []) (premium_turn (Faulted 4) ∷ []) [] journal_of_two
@@ -68,7 +69,7 @@ HeldOnce = IsFrontThere Opens (hand_issue ∷ []) (premium_turn (Accepted 2) ∷
     × IsFrontThere Opens (hand_issue ∷ []) (premium_turn (Accepted 2) ∷ []) journal_of_two
     × IsFrontThere Opens (hand_issue ∷ []) (premium_turn (Faulted 4) ∷ []) journal_of_two
 
--- a posting faulted when just these were accepted, and not when more were
+-- a posting was answered `fault` when exactly these were accepted, and not when more were
 abbrev pub FaultedThen : Type 0
 FaultedThen = WasFaulted (premium_turn (Faulted 4) ∷ premium_turn (Refused NothingDue) ∷ []) [] hand_premium
     × (WasFaulted (premium_turn (Faulted 4) ∷ premium_turn (Accepted 2) ∷ []) (hand_premium ∷ []) hand_premium → ⊥)
@@ -85,7 +86,7 @@ FaultsCounted = (faults_after hand_opening (premium_turn (Faulted 4) ∷ premium
 abbrev pub EmptyAlike : Type 0
 EmptyAlike = OpensAlike [] (replicate 10 0)
 
--- eighteen letters A; a record cut short; the same issue twice, of which the second can't follow the first
+-- eighteen letters A; a record cut short; the same issue twice, the second of which can't follow the first
 abbrev pub ShownCauses : Type 0
 ShownCauses = IsShown (replicate 18 65) NotAJournal × IsShown issue_record (BadRecord 0)
     × IsShown (issue_record ++ 1 ∷ issue_body ++ 0 ∷ []) (BadRecord 1)

@@ -1,4 +1,4 @@
--- How a mode ends without its basis, and what its status tells of the basis
+-- How a mode ends without its basis, and what its status says of the basis
 use Rattle.program_endings.proofs.Names.{◌≡◌, ◌⊎◌, ℕ, List, refl, subst, inl, inr, Rose, bad_basis_text, Ending, BadBasis, ReadFault, NoMemory, status_of, Shelving, Stream, WroteOrFailed}
 use Rattle.outside_io.specs.Shelves.{Files}
 use Rattle.basis_shelf.specs.Answers.{IfBad}

@@ -29,7 +29,7 @@ pub part_written : (before mid after : Option (List ℕ)) (parts : List (List �
 part_written before mid after parts i d below first then =
     subst (Appends before after) (sym (joined parts i d below)) (appends_behind before mid after _ _ first then)
 
--- a front of a part is a front of the whole
+-- a prefix of a part is a prefix of the whole
 front_take : (front more : List ℕ) (n : ℕ) → take (length front + n) (front ++ more) ≡ front ++ take n more
 front_take [] more n = let none : 0 + n ≡ n = omega arith in ap (λ k. take k more) none
 front_take (x ∷ front) more n =

@@ -1,4 +1,4 @@
--- What the exit status tells of a mode that only reads the disk's file
+-- What the exit status says of a mode that only reads the disk's file
 use Rattle.program_endings.proofs.Names.{◌≡◌, ℕ, ◌⊎◌, List, refl, inl, inr, Rose, AppendsPart, Command, Ending, Done, BadJournal, WriteFault, DiskFault, NoMemory, status_of, Stream, WroteAll}
 use Rattle.outside_io.specs.declared.disks.Disk.{Ghosts}
 use Rattle.office_state.specs.declared.faults.StartCause.{StartCause}

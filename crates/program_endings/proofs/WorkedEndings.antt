@@ -1,4 +1,4 @@
--- What worked endings are told by.
+-- What worked endings are stated by.
 use Rattle.program_endings.proofs.Names.{◌≡◌, ◌≤◌, ◌<◌, ◌++◌, ◌∙◌, ℕ, zero, suc, List, [], ◌∷◌, length, take, ap, inl, inr, subst, Some, None, codes, lit<, arith, slice_get, slice_index, Rose, Command, Post, Reply, Faulted, Pinned, Blank, Entry, Stream, WroteLine}
 use Rattle.outside_io.specs.declared.disks.Disk.{Ghosts}
 use Rattle.office_state.specs.declared.faults.StartCause.{StartCause}
@@ -14,7 +14,7 @@ no_fault rose = let no : 4 ≤ 3 = rose in omega arith
 pub same_some : {A : Type 0} (a b : A) → Some a ≡ Some b → a ≡ b
 same_some a b e = cc
 
--- no front of the line stands behind the `a`
+-- no front of the line stands after the `a`
 pub no_front : (n : ℕ) → codes "aux" ≡ codes "a" ++ take n (codes "usage" ++ 10 ∷ []) → ⊥
 no_front zero e = let no : ◌≡◌ {A = ℕ} 3 1 = ap (λ (xs : List ℕ). length xs) e in omega arith
 no_front (suc zero) e = let no : ◌≡◌ {A = ℕ} 3 2 = ap (λ (xs : List ℕ). length xs) e in omega arith

@@ -1,4 +1,4 @@
--- What of a valuation can be written
+-- Which valuations can be written
 use Rattle.std.specs.Prelude.{◌≤◌, length}
 use Rattle.policy_types.specs.Limits.{most_commands}
 use Rattle.report_text.specs.Block.{AreSummable}

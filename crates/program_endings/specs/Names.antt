@@ -1,4 +1,4 @@
--- The names from elsewhere that several rooms cite, passed on from one place. Declares nothing.
+-- The names from elsewhere that several modules cite, passed on from one place. Declares nothing.
 pub use Rattle.std.specs.Io.KnownBytes.{Appends, IsAtEnd}
 pub use Rattle.office_state.specs.Images.{IsLeftAlone}
 pub use Rattle.office_state.specs.declared.faults.StartCause.TheVariants.{BadRecord, NotAJournal, DiskFault as FaultyDisk, NoMemory as NoRoom}

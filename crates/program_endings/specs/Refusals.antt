@@ -7,14 +7,15 @@ use Rattle.program_endings.specs.declared.ending.Ending.{Ending}
 use Rattle.program_endings.specs.declared.ending.Ending.TheVariants.{BadJournal, DiskFault, NoMemory}
 use Rattle.program_endings.specs.Writing.{Stream, WroteLine}
 
--- the line of a file's refusal; the second tells the first record that can't stand
+-- the line of a file's refusal; the second states the first record that can't stand
 abbrev pub SaysWhy : StartCause → Stream → Type 0
 SaysWhy NotAJournal output = WroteLine output (codes "badjournal,notajournal")
 SaysWhy (BadRecord n) output = WroteLine output (codes "badjournal,badrecord," ++ decimal n)
 SaysWhy _ _ = ⊥
 
--- How a mode ends for which no office was opened, or for which nothing ran on it for want of memory: a line says what the
--- journal's file shows, that the disk failed, or that there was no memory. But where the disk failed its count is as it was.
+-- How a mode ends for which no office was opened, or for which nothing ran on the office since memory was refused. A
+-- line says what the journal's file shows, that the disk failed, or that memory was refused. Unless the disk failed,
+-- its count of faults is as it was.
 abbrev pub EndsNoOffice : {D : Type 0} → Ghosts D → D → D → Stream → Ending → Type 0
 EndsNoOffice g old new output BadJournal =
     (cause : StartCause) × SaysWhy cause output × (g.honest new → IsShown (g.reads old) cause) × (g.faults new ≡ g.faults old)

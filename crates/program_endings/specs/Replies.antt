@@ -17,7 +17,7 @@ abbrev pub AreAnswered : List Entry → List ℕ → Type 0
 AreAnswered history dry =
     AllByRecursion (λ (entry : Entry). (fault_of entry.reply ≡ None) × (entry.reply ≢ Blank)) history × (dry ≡ [])
 
--- the disk failed in no posting, and memory was lacking for a posting, whose reply is blank, or for a valuation
+-- the disk failed in no posting, and memory was refused for a posting, whose reply is blank, or for a valuation
 abbrev pub LackMemory : List Entry → List ℕ → Type 0
 LackMemory history dry =
     AllByRecursion (λ (entry : Entry). fault_of entry.reply ≡ None) history

@@ -33,7 +33,7 @@ output_with faults before after = record {
   pieces_after = [];
 }
 
--- a line is written whole, with its line feed, behind what was written before; without a fault no less is enough
+-- a line is written whole, with its line feed, after what was written before; without a fault no less is enough
 abbrev pub LinesAreWhole : Type 0
 LinesAreWhole = WroteLine (output_with 0 (codes "a") (codes "ausage" ++ 10 ∷ [])) (codes "usage")
     × (WroteLine (output_with 0 (codes "a") (codes "ausage")) (codes "usage") → ⊥)
@@ -52,18 +52,18 @@ LinesOfRefusals = SaysWhy NotAJournal (output_with 0 [] (codes "badjournal,notaj
     × SaysBadFile (record { name = codes "q.xml"; place = 44; word = AgeGap })
     (output_with 0 [] (codes "badbasis,q.xml,44,agegap" ++ 10 ∷ [])) 4
 
--- a shelf that is told to have no file of this name, with so many faults in between
+-- a shelf that is said to have no file of this name, with so many faults in between
 abbrev pub bare_shelf : ℕ → Shelving
 bare_shelf faults = record { faults_before = 3; faults_after = 3 + faults; Agrees = λ files. files (codes "b.csv") ≡ None }
 
--- the absent file is named, at the place 0; a fault is told only where the shelf's count rose
+-- the absent file is named, at the place 0; a fault is reported only where the shelf's count rose
 abbrev pub WithoutABasis : Type 0
 WithoutABasis = EndsNoBasis (codes "b.csv") (bare_shelf 0) (output_with 0 [] (codes "badbasis,b.csv,0,absent" ++ 10 ∷ [])) BadBasisFile
     × (EndsNoBasis (codes "b.csv") (bare_shelf 0) (output_with 0 [] (codes "badbasis,b.csv,1,absent" ++ 10 ∷ [])) BadBasisFile → ⊥)
     × EndsNoBasis (codes "b.csv") (bare_shelf 1) (output_with 0 [] (codes "readfault" ++ 10 ∷ [])) ReadFault
     × (EndsNoBasis (codes "b.csv") (bare_shelf 0) (output_with 0 [] (codes "readfault" ++ 10 ∷ [])) ReadFault → ⊥)
 
--- whatever the disk, five bytes that are no journal are refused as that, and not for a record
+-- over any disk: five bytes that are no journal are refused for that, and not for a record
 abbrev pub RefusesHello : {D : Type 0} → Ghosts D → Type 0
 RefusesHello {D} g = (old new : D) (output : Stream) → g.honest new → g.reads old ≡ codes "hello"
     → EndsNoOffice g old new output BadJournal → WroteLine output (codes "badjournal,notajournal")
@@ -80,7 +80,7 @@ input_of_two left given = record {
   Ended = Unit {0};
 }
 
--- what is told to be left is just what was given
+-- what is said to be left is just what was given
 abbrev pub GivenAndLeft : Type 0
 GivenAndLeft = GaveAll (input_of_two (Some (codes "cd")) (codes "abcd")) (codes "cd")
     × (GaveAll (input_of_two (Some (codes "cde")) (codes "abcd")) (codes "cd") → ⊥)

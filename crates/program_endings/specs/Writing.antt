@@ -2,8 +2,8 @@
 use Rattle.std.specs.Prelude.{◌≡◌, ℕ, ◌⊎◌, List, [], ◌∷◌, ◌++◌, Option, Some, IfSome}
 use Rattle.program_endings.specs.Names.{Appends, IsAtEnd, Rose, Files, AppendsPart, TakenPiece}
 
--- an input at two moments: its count of faults, the bytes that are left in it where it tells them, the bytes that it gave
--- so far, and whether a read of it has seen the end
+-- an input at two moments: its count of faults, the bytes that are left in it if it reports them, the bytes that it
+-- gave so far, and whether a read of it has seen the end
 pub record Input : Type 1 where
   pub faults_before : ℕ
   pub faults_after : ℕ
@@ -26,8 +26,8 @@ input_between faults left given ended old new = record {
   Ended = ended new;
 }
 
--- the input gave just these bytes in the call, up to its end; where it tells what is left in it, that was these, and
--- nothing is left
+-- the input gave exactly these bytes in the call, up to its end; if it reports what is left in it, exactly these were
+-- left, and nothing is left now
 pub record GaveAll (input : Input) (bytes : List ℕ) : Type 0 where
   pub given : input.given_after ≡ input.given_before ++ bytes
   pub ended : input.Ended
@@ -39,7 +39,7 @@ abbrev pub IsWholeInput : Input → List ℕ → Type 0
 IsWholeInput input bytes =
     (input.left_before ≡ Some bytes) ⊎ ((input.given_after ≡ input.given_before ++ bytes) × input.Ended)
 
--- an output at two moments: its count of faults, where it tells them the bytes that were written to it, and the pieces
+-- an output at two moments: its count of faults, the bytes that were written to it if it reports them, and the pieces
 -- that it took, each with the moment by which it was handed on
 pub record Stream : Type 0 where
   pub faults_before : ℕ
@@ -65,7 +65,7 @@ between faults tells pieces old new = record {
 abbrev pub WroteAll : Stream → List ℕ → Type 0
 WroteAll output bytes = Appends output.before output.after bytes
 
--- a front of the bytes was written, and not all of them, since the output failed
+-- a prefix of the bytes was written, and not all of them, since the output failed
 abbrev pub WrotePart : Stream → List ℕ → Type 0
 WrotePart output bytes = Rose output.faults_before output.faults_after × AppendsPart output.before output.after bytes
 
@@ -77,7 +77,7 @@ WroteNothing output bytes = Appends output.before output.after []
 abbrev pub WroteOrFailed : Stream → List ℕ → Type 0
 WroteOrFailed output bytes = WroteAll output bytes ⊎ WrotePart output bytes
 
--- one line was written, or a front of it where the output failed
+-- one line was written, or, if the output failed, a prefix of it
 abbrev pub WroteLine : Stream → List ℕ → Type 0
 WroteLine output line = WroteOrFailed output (line ++ 10 ∷ [])
 

@@ -1,4 +1,4 @@
--- What the exit status tells of a run of a script
+-- What the exit status says of a run of a script
 use Rattle.script_run.proofs.Names.{◌≡◌, ℕ, ◌≤◌, ◌⊎◌, List, [], length, refl, ap, sym, ◌∙◌, subst, inl, inr, Ghosts, Rose, GivesMore, Entry, Lane, Dated, Reads, Opens, OpensToNone, Ending, Done, Usage, BadBasis, BadJournal, WriteFault, DiskFault, NoMemory, Ahead, Input, IsWholeInput, Shelving, Stream, IsReadAs, IsUnreadable, asks_for_values, WroteAsEnded}
 use Rattle.std.specs.Prelude.{true}
 use Rattle.std.proofs.lemmas.Bool.{false≢true}

@@ -45,7 +45,7 @@ use Rattle.script_run.specs.Shown.{AreSafeWhenShown}
 use Rattle.script_run.specs.inside.Hearing.{StartsHeard}
 use Rattle.script_run.proofs.ShownSteps.{all_heard, all_texts, safe_when_shown, shown_whole}
 
--- a text that is written whole ends a run by what is told of its lines
+-- a text that is written whole ends a run by what is reported of its lines
 by_lines : (lines : List TranscriptLine) (reports : List Report) (output : Stream) (faulted lacked : Bool) → any_faulted lines ≡ faulted
     → any_lacked lines ≡ lacked → WroteAll output (run_text lines reports)
     → EndsTold lines reports output (if faulted then DiskFault else if lacked then (NoMemory a_lack) else Done)
@@ -77,7 +77,7 @@ module _ {D W : Type 0} (g : Ghosts D) (w : WatcherGhosts W) (old disk : D) (lan
       subst (λ (o : OfficeOpening D W). IsLeftBy g o.begun disk o.opening closing.seen) same closed.disk in
       subst (λ (n : ℕ). IsLeftBy g old disk (opened_on started.opening.commands n) closing.seen) started.faults left
 
-  -- and the auditors report what it has seen accepted
+  -- and the watchers report what it has seen accepted
   reports_from : closing.opening ≡ Some opened → reports ≡ reports_of auditors (accepted_of closing.seen)
   reports_from is =
       let same : closed.opening ≡ opened = same_opened closed.opening opened (sym closed.opened ∙ is) in
@@ -148,7 +148,7 @@ module _ {D W : Type 0} (g : Ghosts D) (w : WatcherGhosts W) (old disk : D) (lan
         same (closed.safe honest) in
         all_heard g disk started.opening.commands (accepted_of closing.seen) outlet moments rest split (many ∙ all_told.all_accepted) safe inlet paired
 
-    -- so what was handed on of the lines, and of what stands behind them, shows nothing too soon
+    -- so what was handed on of the lines, and of what stands after them, shows nothing too soon
     shows : (before mid now : List TakenPiece) (moments rest : List ℕ) (latest : ℕ) (written : Result (Unit {0}) Unwritten)
         → HasShown told_text before mid transcript.lines moments latest written → AddsBy mid now latest
         → moments ++ rest ≡ told outlet → (inlet : Consumer ℕ Global AnyItems) → ArePaired outlet inlet

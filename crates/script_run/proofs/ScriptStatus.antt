@@ -1,11 +1,11 @@
--- What the exit status tells of a script
+-- What the exit status says of a script
 use Rattle.script_run.proofs.Names.{◌≡◌, ℕ, ◌≤◌, ◌<◌, ◌⊎◌, List, [], ◌∷◌, ◌++◌, length, refl, sym, ◌∙◌, subst, inl, inr, Option, arith, IfSome, Rose, GivesMore, Lane, IsFirstScriptFault, Reads, Ending, BadScript, InputFault, NoMemory, GaveAll, Input, IsWholeInput, Stream, EndsUnread, most_script_bytes, IsReadAs, IsReadable, IsRefused, IsUnreadable}
 use Rattle.std.proofs.lemmas.Bool.{cases_lt}
 use Rattle.command_csv.proofs.Faults.{fault_excludes}
 use Rattle.command_csv.proofs.Judging.{judged}
 use Rattle.program_endings.specs.Status.{status_of}
 
--- what stands behind the same front is the same
+-- what stands after the same front is the same
 same_behind : (front xs ys : List ℕ) → front ++ xs ≡ front ++ ys → xs ≡ ys
 same_behind [] xs ys same = same
 same_behind (byte ∷ front) xs ys same = same_behind front xs ys (cc)

@@ -1,4 +1,4 @@
--- The names from elsewhere that several rooms cite, passed on from one place. Declares nothing.
+-- The names from elsewhere that several modules cite, passed on from one place. Declares nothing.
 pub use Rattle.std.specs.List.{list_any, concat, AllZip, AllByRecursion}
 pub use Rattle.basis_book.specs.Dated.{Dated}
 pub use Rattle.lane_runner.specs.AnsweredLines.{AnsweredLine, AreLinesOf}

@@ -7,8 +7,8 @@ use Rattle.lone_office.specs.Beginning.{EndsOverBasis}
 use Rattle.script_run.specs.Outcome.{EndsScript}
 use Rattle.script_run.specs.Script.{EndsUnread, IsReadAs, asks_for_values}
 
--- What the input gave up to its end was read as a script, whose run ended so. Where no line asks for values, no basis is
--- needed and the shelf stays.
+-- What the input gave up to its end was read as a script, whose run ended so. If no line asks for values, no basis is
+-- needed and the shelf isn't touched.
 pub record EndsRead {D : Type 0} (g : Ghosts D) (old new : D) (name : List ℕ) (auditors : List Auditor)
     (input : Input) (output : Stream) (shelf : Shelving) (ShelfStays : Type 0) (ending : Ending) : Type 0 where
   pub bytes : List ℕ
@@ -34,7 +34,7 @@ pub record ReadsForValues (input : Input) : Type 0 where
   pub read : IsReadAs bytes lanes
   pub asks : asks_for_values lanes ≡ true
 
--- where a line asks for values, files that the shelf's answers agree with have the basis of this name
+-- if a line asks for values, files that agree with the shelf's answers have the basis of this name
 abbrev pub HasItsBasis : List Lane → List ℕ → Shelving → Type 0
 HasItsBasis lanes name shelf =
     asks_for_values lanes ≡ true

@@ -1,4 +1,4 @@
--- The script that the input gave, and how a run ends that has none
+-- The script that the input gave, and how a run without one ends
 use Rattle.std.specs.Prelude.{ℕ, ◌<◌, ◌≤◌, ◌⊎◌, Bool, List, ◌∷◌, ◌++◌, length, codes, decimal, IfSome}
 use Rattle.script_run.specs.Names.{list_any, Rose, GivesMore, Lane, GaveAll, Input, Stream, WroteLine, Ending, BadScript, ReadFault, NoMemory}
 use Rattle.command_csv.specs.Reads.{Reads, IsFirstScriptFault, is_valuation}
@@ -6,7 +6,7 @@ use Rattle.command_csv.specs.Reads.{Reads, IsFirstScriptFault, is_valuation}
 abbrev pub most_script_bytes : ℕ
 most_script_bytes = 16777216
 
--- the script isn't too long, and says these lanes
+-- the script isn't too long, and is read as these lanes
 abbrev pub IsReadAs : List ℕ → List Lane → Type 0
 IsReadAs bytes lanes = (length bytes ≤ most_script_bytes) × Reads bytes lanes
 
@@ -21,8 +21,9 @@ IsReadable bytes = (lanes : List Lane) × IsReadAs bytes lanes
 abbrev pub IsUnreadable : List ℕ → Type 0
 IsUnreadable bytes = (most_script_bytes < length bytes) ⊎ ((row : ℕ) × ((field : ℕ) × IsFirstScriptFault bytes row field))
 
--- The input gave more bytes in the call than a script may have, and where it tells what is left in it, that was more; or it gave
--- a script that isn't too long, up to its end, whose first row that is no line, and that row's first bad field, are named.
+-- The input gave more bytes in the call than a script may have, and if it reports what is left in it, more was left;
+-- or it gave a script that isn't too long, up to its end, and the line names the first row that is no line, and that
+-- row's first bad field.
 abbrev pub IsRefused : Input → Stream → Type 0
 IsRefused input output =
     (GivesMore most_script_bytes input.given_before input.given_after

@@ -1,11 +1,12 @@
--- What was written of the texts of a run's lines, and of the auditors' reports behind them
+-- What was written of the texts of a run's lines, and of the watchers' reports after them
 use Rattle.std.specs.Prelude.{◌≡◌, ◌⊎◌, ◌≤◌, ℕ, List, ◌++◌, length, take}
 use Rattle.script_run.specs.Names.{concat, AppendsPart, Rose, Ghosts, Entry, Stream, WroteAll, WrotePart, Ending, Done, WriteFault, DiskFault, NoMemory}
 use Rattle.program_endings.specs.Replies.{AreAnswered, HaveAFault, LackMemory}
 
--- What was written of the lines' texts and of the reports behind them, and why no more: all, and each posting and valuation
--- was answered, or the disk failed in a posting, or memory was lacking for one; or a front and not all, since the output
--- failed; or the texts before one for which memory was lacking, and the output had no fault.
+-- What was written of the lines' texts and of the reports after them, and why no more. All was written, and each
+-- posting and valuation was answered, or the disk failed in a posting, or memory was refused for one. Or a prefix and
+-- not all was written, since the output failed. Or the texts before one for which memory was refused were written,
+-- and the output had no fault.
 abbrev pub WroteAsEnded : {D : Type 0} → Ghosts D → D → D → List Entry → List ℕ → List (List ℕ) → List ℕ → Stream → Ending → Type 0
 WroteAsEnded g old new history dry texts reports output Done =
     WroteAll output (concat texts ++ reports) × AreAnswered history dry

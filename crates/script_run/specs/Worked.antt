@@ -8,7 +8,7 @@ use Rattle.script_run.specs.Script.{EndsUnread, asks_for_values}
 use Rattle.script_run.specs.inside.Ran.{WroteUpTo}
 use Rattle.script_run.specs.inside.Unread.{GaveTooMany, bad_row_text}
 
--- a valuation in the second lane, and none
+-- a valuation in the second lane, and no valuation
 abbrev pub AskedForValues : Type 0
 AskedForValues = (asks_for_values ((record { number = 1; lines = Trim ∷ [] })
     ∷ (record { number = 3; lines = Trim ∷ Value (pos 18262) Now 1 ∷ [] }) ∷ []) ≡ true)
@@ -34,7 +34,7 @@ abbrev pub OneByteTooMany : Type 0
 OneByteTooMany = ((bytes : List ℕ) → length bytes ≡ 16777217 → GaveTooMany (input_that_gave bytes ⊥ 0))
     × ((bytes : List ℕ) → length bytes ≡ 16777216 → GaveTooMany (input_that_gave bytes ⊥ 0) → ⊥)
 
--- there is no clerk 9
+-- there is no lane 9
 abbrev pub RefusedRow : Type 0
 RefusedRow = EndsUnread (input_that_gave (codes "9,lapse,1,2020-01-01") (Unit {0}) 0)
     (output_with 0 [] (codes "badscript,1,1" ++ 10 ∷ [])) BadScript
@@ -51,8 +51,8 @@ ShownInOrder = taken_bytes ((record { bytes = codes "cd"; since = 7 }) ∷ (reco
 abbrev pub two_texts : List (List ℕ)
 two_texts = codes "ab" ∷ codes "cd" ∷ []
 
--- Of two lines and the reports the first line was written, as where memory lacked for the second. That isn't so where a part of
--- the second stands there, or the output had a fault.
+-- If memory was refused for the second of two lines and the reports, the first line was written. That isn't so if a
+-- part of the second was written, or the output had a fault.
 abbrev pub StoppedShort : Type 0
 StoppedShort = WroteUpTo (output_with 0 [] (codes "ab")) two_texts (codes "e")
     × WroteUpTo (output_with 0 [] (codes "abcd")) two_texts (codes "e")

@@ -42,7 +42,7 @@ module _ {D W : Type 0} (g : Ghosts D) (w : WatcherGhosts W) where
     refl,
   )
 
-  -- an office that was closed again for want of memory, before any turn
+  -- an office that was closed again because memory was refused, before any turn
   pub unopened : (old : D) (office : OfficeState D W g w) → HasOpened old office → (disk : D)
       → IsLeftBy g (begun_of office) disk (opening_of office) [] → HasNotOpened g old disk (NoMemory a_refusal)
   unopened old office opened disk closed =

@@ -1,4 +1,4 @@
--- The names from elsewhere that several rooms cite, passed on from one place. Declares nothing.
+-- The names from elsewhere that several modules cite, passed on from one place. Declares nothing.
 pub use Rattle.std.specs.List.{AllByRecursion, list_any}
 pub use Rattle.moment_ring.specs.Ends.{HasRoomFor, SameOutlet, told as moments_told}
 pub use Rattle.office_state.specs.States.{MomentRing, auditors_of, begun_of, disk_of, opening_of, outlet_of}

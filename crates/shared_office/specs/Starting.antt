@@ -13,7 +13,7 @@ use Rattle.shared_office.specs.Offices.{OfficeOpening}
 -- The office was opened on a list of commands and the disk's count of faults, with these watchers and some outlet. Its first
 -- pass has all turns and all shares. Where the disk that the office then holds is honest, it was so before, and the commands are
 -- those of its file. It is the one that the pass's opening names, and which an office without turns leaves; that the disk
--- which any office leaves says the same stands in what closing tells.
+-- which any office leaves says the same stands in what closing states.
 pub record HasStartedOffice {D W : Type 0} (g : Ghosts D) (old : D) (watchers : W) (pass : Holding (OfficeOpening D W))
     : Type 0 where
   pub opening : Opening
@@ -27,8 +27,8 @@ pub record HasStartedOffice {D W : Type 0} (g : Ghosts D) (old : D) (watchers : 
 -- The pass has seen the whole history, and each entry is its own or that of a caller whose pass was taken back. The disk
 -- is left by this history, from the office's opening on, and without a turn it is the one that the office held once it was
 -- open. The balances are those of its accepted commands. The
--- reports are those of the auditors that were handed in, of the commands that were accepted in this history. The outlet is
--- the one that was handed in, and the moments told in it are those since which these commands are safe.
+-- reports are those of the watchers that were handed in, of the commands that were accepted in this history. The outlet is
+-- the one that was handed in, and the moments reported in it are those since which these commands are safe.
 pub record HasClosed {D W : Type 0} (g : Ghosts D) (w : WatcherGhosts W) (pass : Holding (OfficeOpening D W)) (new : D)
     (balances : Booking) (told : List Report) (outlet : Option MomentRing) : Type 0 where
   pub opening : OfficeOpening D W

@@ -1,4 +1,4 @@
--- What the parts of the fetching answer.
+-- What the parts of the fetching return.
 use Rattle.std.specs.Prelude.{◌≡◌, ℕ, ⊤, ◌⊎◌, List, Option, IsSome, IfSome, Err}
 use Rattle.memory_requests.specs.Evidence.{a_refusal}
 use Rattle.basis_shelf.specs.Names.{AnyTable, BasisRow, Dated, TableKind, IsAnyAnswer, BasisFault, IsFileFault}
@@ -15,34 +15,34 @@ use Rattle.basis_shelf.specs.Files.{IsAbsent, IsTooLong, IsFile}
 use Rattle.basis_shelf.specs.Bases.{IsTableNamed}
 use Rattle.basis_shelf.specs.FirstBad.{IsBadBook, IsBadTable}
 
--- a file is told as bad, unless memory was refused
+-- a file is reported as bad, unless memory was refused
 abbrev pub IsToldOfTable : List ℕ → ℕ → BasisWord → NoBasis → Type 0
 IsToldOfTable name place word (Bad bad) = bad ≡ record { name = name; place = place; word = word }
 IsToldOfTable name place word ReadFault = ⊥
 IsToldOfTable name place word (NoMemory lack) = ⊤
 
--- a file is told as absent or too long, at this place
+-- a file is reported as absent or too long, at this place
 abbrev pub IsUnread : (List ℕ → Option (List ℕ)) → List ℕ → ℕ → BadBasis → Type 0
 IsUnread files name place bad =
     (bad.name ≡ name) × (bad.place ≡ place)
     × (((bad.word ≡ Absent) × IsAbsent files name) ⊎ ((bad.word ≡ TooLong) × IsTooLong files name))
 
--- the basis file of this name is told as bad
+-- the basis file of this name is reported as bad
 abbrev pub IsBadBookFile : (List ℕ → Option (List ℕ)) → List ℕ → BadBasis → Type 0
 IsBadBookFile files name bad = (bad.name ≡ name) × IsBadBook files name bad.word bad.place
 
--- a table file, which the row of this number names first, is told as bad
+-- a table file, which the row of this number names first, is reported as bad
 abbrev pub IsBadTableFile : (List ℕ → Option (List ℕ)) → List ℕ → ℕ → BadBasis → Type 0
 IsBadTableFile files name number bad = (bad.name ≡ name) × IsBadTable files name number bad.word bad.place
 
--- the fault of a basis file is told
+-- the fault of a basis file is reported
 abbrev pub TellsRows : List ℕ → BasisFault → NoBasis → Type 0
 TellsRows name fault.TooManyRows told = IsToldOfTable name 1001 TooManyRows told
 TellsRows name (fault.BadBasisRow row) told = IsToldOfTable name row BadRow told
 TellsRows name (fault.NotRising row) told = IsToldOfTable name row NotRising told
 TellsRows name (fault.NoMemory lack) told = told ≡ NoMemory a_refusal
 
--- what may be wrong with a table of either kind: all but that it is a select table
+-- what may be wrong with a table of either kind: everything except that it is a select table
 abbrev pub IsOfAny : TableKind → Type 0
 IsOfAny kind.Select = ⊥
 IsOfAny kind.NotDocument = ⊤
@@ -72,7 +72,7 @@ word_of kind.BadDuration = BadDuration
 word_of kind.NoUltimate = NoUltimate
 word_of kind.UltimateGap = UltimateGap
 
--- the fault of a table file is told
+-- the fault of a table file is reported
 abbrev pub TellsTable : List ℕ → TableFault → NoBasis → Type 0
 TellsTable name (table.Bad at what) told = IsToldOfTable name at (word_of what) told
 TellsTable name (table.NoMemory lack) told = told ≡ NoMemory a_refusal
@@ -81,7 +81,7 @@ TellsTable name (table.NoMemory lack) told = told ≡ NoMemory a_refusal
 abbrev pub AreTables : (List ℕ → Option (List ℕ)) → (List ℕ → Option AnyTable) → Type 0
 AreTables files tables = (name : List ℕ) → IfSome (tables name) (IsTableNamed files name)
 
--- the names that had a table have one
+-- the names that had a table still have one
 abbrev pub KeepsKnown : (List ℕ → Option AnyTable) → (List ℕ → Option AnyTable) → Type 0
 KeepsKnown before now = (name : List ℕ) → IsSome (before name) → IsSome (now name)
 

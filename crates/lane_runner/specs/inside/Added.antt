@@ -9,7 +9,8 @@ abbrev pub all_added : Added → List TranscriptLine
 all_added Nothing = []
 all_added (Of' mark earlier told) = all_added earlier ++ told.value ∷ []
 
--- so many of the lines tell of an accepted posting and of a refused one, and whether in one the disk failed or memory was lacking
+-- how many of the lines report an accepted posting and how many a refused one, and whether in one the disk failed or
+-- memory was refused
 pub record AreTallied (lines : List TranscriptLine) (accepted refused : ℕ) (faulted lacked : Bool) : Type 0 where
   pub accepted_is : accepted ≡ accepted_lines lines
   pub refused_is : refused ≡ refused_lines lines

@@ -6,15 +6,16 @@ use Rattle.lane_runner.specs.declared.wording.Unwritten.{Unwritten}
 use Rattle.lane_runner.specs.declared.wording.Unwritten.TheVariants.{WriteFault, NoMemory}
 use Rattle.lane_runner.specs.Written.{StopsShort, line_texts}
 
--- all of the text so far was written but what is gathered, and the output had no fault
+-- all of the text so far was written except what is gathered, and the output had no fault
 pub record IsGathering (faults faults_now : ℕ) (before now : Option (List ℕ)) (text gathered : List ℕ) : Type 0 where
   pub held : faults_now ≡ faults
   pub out : List ℕ
   pub wrote : Appends before now out
   pub is : out ++ gathered ≡ text
 
--- Of the text of the lines so far all was written but what is gathered; or a front and not all of it, since the output failed,
--- or that of the lines before one for which memory was wanting; and no more will be.
+-- Of the text of the lines so far, all was written except what is gathered. Or a prefix and not all of it was
+-- written, since the output failed, or the texts of the lines before one for which memory was refused; then no more
+-- will be written.
 abbrev pub HasPutOut : (faults faults_now : ℕ) (before now : Option (List ℕ)) → (TranscriptLine → List ℕ) → List TranscriptLine
     → (gathered : List ℕ) → Option Unwritten → Type 0
 HasPutOut faults faults_now before now text lines gathered None =

@@ -15,7 +15,7 @@ HasNext inlet = 0 < inlet.left → 0 < length (known_items inlet.ring)
 abbrev pub LacksNext : Inlet → Type 0
 LacksNext inlet = (0 < inlet.left) × (length (known_items inlet.ring) ≡ 0)
 
--- one of the lanes has lines left, and hasn't told the next one
+-- one of the lanes has lines left, and hasn't reported the next one
 abbrev pub IsWaitedFor : List Inlet → Type 0
 IsWaitedFor [] = ⊥
 IsWaitedFor (inlet ∷ inlets) = LacksNext inlet ⊎ IsWaitedFor inlets
@@ -40,7 +40,7 @@ abbrev pub IsBehind : ℕ → Inlet → Type 0
 IsBehind turn inlet = 0 < inlet.left → (next : TranscriptLine) (rest : List TranscriptLine)
     → IsPrefix (known_items inlet.ring) (next ∷ rest) → AreBefore (received inlet.ring) next.turn → turn ≤ next.turn
 
--- no line's turn is before the one in front of it
+-- no line's turn is before the one before it
 abbrev pub AreInOrder : List TranscriptLine → Type 0
 AreInOrder (told ∷ next ∷ lines) = (told.turn ≤ next.turn) × AreInOrder (next ∷ lines)
 AreInOrder _ = Unit {0}

@@ -37,13 +37,13 @@ abbrev pub in_box : Result (Box Valuation Global) ValueFault → Result Valuatio
 in_box (Ok kept) = Ok kept.value
 in_box (Err fault) = Err fault
 
--- what is told of a valuation
+-- the outcome of a valuation
 abbrev pub outcome_of : Result (Box Valuation Global) ValueFault → Outcome
 outcome_of (Ok valuation) = Valued valuation
 outcome_of (Err (Pin refusal)) = ValueRefused refusal
 outcome_of (Err (NoMemory lack)) = ValueNoMemory a_refusal
 
--- the lines were answered in order by turns of the pass's caller, and this is told of them
+-- the lines were answered in order by turns of the pass's caller, with these outcomes
 pub record HasAnswered {D W : Type 0} (basis : List Dated) (number : ℕ) (lines : List Line) (old new : Holding (OfficeOpening D W))
     (tolds : List TranscriptLine) : Type 0 where
   pub answered : List AnsweredLine
@@ -57,11 +57,11 @@ pub record HasAnswered {D W : Type 0} (basis : List Dated) (number : ℕ) (lines
   pub opening : new.opening ≡ Some opened
   pub tells : AllZip (IsTold opened.opening new.seen basis) answered tolds
 
--- a lane's pass, and where it tells its lines
+-- a lane's pass, and the ring into which it reports its lines
 abbrev pub Seat : Type 0 → Type 0 → Type 0
 Seat D W = Holding (OfficeOpening D W) × Outlet
 
--- nothing was told yet, and there is room for the lane's lines
+-- nothing was reported yet, and the ring has capacity for the lane's lines
 pub record IsRoomFor (lane : Lane) (outlet : Outlet) : Type 0 where
   pub none : sent outlet.ring ≡ []
   pub enough : length lane.lines ≤ known_free outlet.ring
@@ -75,7 +75,7 @@ pub record IsInletFor (lane : Lane) (inlet : Inlet) : Type 0 where
 abbrev pub AreEnds : Outlet → Inlet → Type 0
 AreEnds outlet inlet = IsPair outlet.ring inlet.ring
 
--- the memory for lanes: a ring for each, and room for as many passes and callers
+-- the memory for lanes: a ring for each, and capacity for as many passes and callers
 pub record HasLaneRoom {D W : Type 0} (lanes : List Lane) (outlets : Vec Outlet Global) (inlets : Vec Inlet Global)
     (seats : Vec (Seat D W) Global) (callers : Vec ℕ Global) : Type 0 where
   pub fitting : AllZip IsRoomFor lanes outlets.items
@@ -86,7 +86,7 @@ pub record HasLaneRoom {D W : Type 0} (lanes : List Lane) (outlets : Vec Outlet 
   pub no_callers : callers.items ≡ []
   pub callers_enough : length lanes ≤ vec_capacity callers
 
--- the turns and the shares that are needed where so many passes are to be entered
+-- the turns and the shares that are needed if so many passes are to be entered
 abbrev pub turns_to_enter : ℕ → ℕ
 turns_to_enter zero = 33554432
 turns_to_enter (suc n) = turns_to_enter n + turns_to_enter n + 1
@@ -96,7 +96,7 @@ shares_to_enter zero = 1
 shares_to_enter (suc n) = shares_to_enter n + shares_to_enter n
 
 module _ {D W : Type 0} where
-  -- the lines that a lane has told
+  -- the lines that a lane has reported
   abbrev pub told_in : Seat D W → List TranscriptLine
   told_in seat = sent seat.1.ring
 
@@ -163,18 +163,18 @@ module _ {D W : Type 0} where
   abbrev pub IsEndOf : Seat D W → Inlet → Type 0
   IsEndOf seat inlet = AreEnds seat.1 inlet
 
-  -- no line more was told
+  -- no line more was reported
   pub record IsSameSeat (old new : Seat D W) : Type 0 where
     pub pass : new.0 ≡ old.0
     pub ring : SameProducer old.1.ring new.1.ring
     pub told : told_in new ≡ told_in old
 
-  -- as many lines were taken as the lane has told
+  -- as many lines were taken as the lane has reported
   pub record IsSpent (seat : Seat D W) (inlet : Inlet) : Type 0 where
     pub ends : AreEnds seat.1 inlet
     pub many : length (received inlet.ring) ≡ length (told_in seat)
 
-  -- the lines that were taken are those that the lane has told
+  -- the lines that were taken are those that the lane has reported
   abbrev pub IsWhole : Seat D W → Inlet → Type 0
   IsWhole seat inlet = received inlet.ring ≡ told_in seat
 

@@ -7,13 +7,13 @@ use Rattle.lane_runner.specs.Tallies.{accepted_lines}
 use Rattle.lane_runner.specs.Written.{line_texts}
 use Rattle.lane_runner.specs.Shown.{AreShown}
 
--- all of a text was handed on but what is gathered; or a front and not all of it, and no more will be
+-- all of a text was handed on except what is gathered; or a prefix and not all of it was, and no more will be
 abbrev pub IsHandingOn : List ℕ → List ℕ → List ℕ → Option Unwritten → Type 0
 IsHandingOn text handed gathered None = handed ++ gathered ≡ text
 IsHandingOn text handed gathered (Some why) = (n : ℕ) × (n < length text) × (handed ≡ take n text)
 
--- The pieces that were handed on since are of the lines' text. Each accepted line has its moment, and more moments may be
--- known.
+-- The pieces that were handed on since are pieces of the lines' text. Each accepted line has its moment, and more
+-- moments may be known.
 pub record IsShowing (text : TranscriptLine → List ℕ) (first now : List TakenPiece) (lines : List TranscriptLine)
     (moments : List ℕ) (latest : ℕ) (gathered : List ℕ) (stopped : Option Unwritten) : Type 0 where
   pub run : List TakenPiece

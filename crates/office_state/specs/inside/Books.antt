@@ -24,14 +24,15 @@ floor_in books = books.versions.floor
 abbrev pub kept_in : Books → ℕ
 kept_in books = kept_of books.versions
 
--- where the versions of the command's policy stand, or that there are none
+-- where the versions of the command's policy are, or that there are none
 abbrev pub IsPlaceOf : Books → KeyPlace → Command → Type 0
 IsPlaceOf books place command = IsPlaceIn books.versions place × (place.key ≡ id_of command)
 
--- one command more of a policy's number needs no memory
+-- one more command with a policy's number needs no further memory
 abbrev pub CanKeep : Books → ℕ → Type 0
 CanKeep books id = CanSet books.versions id
 
--- The most looks that finding one version takes: 2 ^ 22 is at most twice the most commands and one more, and 2 ^ 23 isn't.
+-- The most looks that finding one version takes: 2 ^ 22 is at most twice the most commands, plus one, and 2 ^ 23
+-- isn't.
 abbrev pub looks_at_most : ℕ
 looks_at_most = 22

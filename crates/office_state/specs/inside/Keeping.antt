@@ -7,8 +7,8 @@ use Rattle.money_ledgers.specs.declared.ledger.Ledger.{Ledger}
 use Rattle.office_state.specs.versions.Commands.{sets_of}
 use Rattle.versioned_book.specs.declared.book.VersionedBook.{VersionedBook}
 
--- The commands are accepted one after the other. Each of them but an upgrade set the version of its policy at its own
--- number, from 1, the last of them is the last that the versions saw, and the balances are theirs.
+-- The commands are accepted one after the other. Each of them except an upgrade set the version of its policy at its
+-- own number, counted from 1; the last of them is the last that the versions saw; and the balances are theirs.
 pub record Keeps (versions : VersionedBook Policy) (count upgrade : ℕ) (ledger : Ledger) (commands : List Command) : Type 0 where
   pub valid : AllByRecursion IsValid commands
   pub accepted : IsAccepted commands
@@ -41,7 +41,7 @@ IsAcceptedAfter-prop before (command ∷ commands) = ×_prop (Prim.hlevel props)
 set-prop : (versions : VersionedBook Policy) (commands : List Command) → IsProp (IsBookOf versions (sets_of commands))
 set-prop versions commands = IsBookOf-prop (Prim.hlevel props) versions (sets_of commands)
 
--- it has one proof at most
+-- it has at most one proof
 pub Keeps-prop : (versions : VersionedBook Policy) (count upgrade : ℕ) (ledger : Ledger) (commands : List Command)
     → IsProp (Keeps versions count upgrade ledger commands)
 Keeps-prop versions count upgrade ledger commands = Prim.hlevel (props, IsValid-prop, IsAcceptedAfter-prop, set-prop)

@@ -2,8 +2,8 @@
 use Rattle.std.specs.Prelude.{◌≡◌, ◌⊎◌, ℕ, false, List, [], ◌∷◌, ◌++◌, Result, OnOk, OnErr}
 use Rattle.office_state.specs.Names.{Ghosts, Leaves, StandsFor, disk_of, is_clean, Journal, IsJournal}
 
--- The journal of these bodies may have the body of an earlier fault behind them, where it isn't clean; after a fault
--- it may have that one still, or the new one.
+-- The journal of these bodies may, if it isn't clean, have the body of an earlier fault after them; after a fault it
+-- may still have that one, or the new one.
 pub record Records {D T E : Type 0} {g : Ghosts D} (old new : Journal D g) (bodies : List (List ℕ))
     (last body : List ℕ) (result : Result T E) : Type 0 where
   pub done : OnOk result (StandsFor new (bodies ++ body ∷ []) [] × (is_clean new ≡ false → ⊥))

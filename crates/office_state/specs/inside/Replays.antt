@@ -1,4 +1,4 @@
--- What deciding a journal's records anew tells, while an office is opened
+-- What deciding a journal's records again shows, while an office is opened
 use Rattle.std.specs.Prelude.{◌≡◌, List, [], Option, None, Err}
 use Rattle.memory_requests.specs.Evidence.{a_refusal}
 use Rattle.office_state.specs.Names.{AllByRecursion, Ghosts, Command, IsValid, IsAccepted, judge, disk_of, Journal, BodiesHave, HasReplayCause, IsLookedAt, IsQuiet, StaysAs, Stops, bodies_of, WatcherGhosts}

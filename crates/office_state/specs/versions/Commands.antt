@@ -7,12 +7,12 @@ abbrev pub setting_by : ℕ → ℕ → Result Policy Refusal → Option (Settin
 setting_by id position (Ok policy) = Some (record { key = id; position = position; value = policy })
 setting_by id position (Err refusal) = None
 
--- the setting that a command makes behind those before it; its position is its place among all, counted from 1
+-- the setting that a command makes after those before it; its position is its place among all, counted from 1
 abbrev pub setting_of : List Command → Command → Option (Setting Policy)
 setting_of before command =
     setting_by (id_of command) (length before + 1) (next (policy_of before (id_of command)) command)
 
--- the settings that the rest make behind those before
+-- the settings that the rest make after those before
 abbrev pub sets_after : List Command → List Command → List (Setting Policy)
 sets_after before [] = []
 sets_after before (command ∷ rest) = cons_option (setting_of before command) (sets_after (before ++ command ∷ []) rest)

@@ -1,4 +1,4 @@
--- How a run ends by what was told of its lines
+-- How a run ends, by the outcomes of its lines
 use Rattle.std.specs.Prelude.{◌≡◌, ◌⊎◌, ℕ, ◌≤◌, ◌++◌, Option, true, false, List, codes, length, map, take, Result, Ok, Err}
 use Rattle.script_run.specs.Names.{concat, Rose, AllByRecursion, AppendsPart, TakenPiece, Ending, Done, WriteFault, DiskFailed, NoRoom, Stream, WroteAll, WroteLine, HasEnded, run_text, told_text, reports_text}
 use Rattle.memory_requests.specs.declared.evidence.NoMemory.{NoMemory as Refusal}
@@ -7,8 +7,8 @@ use Rattle.lane_runner.specs.declared.transcript.TranscriptLine.{TranscriptLine}
 use Rattle.lane_runner.specs.declared.running.Ran.{Ran}
 use Rattle.lane_runner.specs.Tallies.{any_faulted, any_lacked}
 
--- The texts of the first so many lines were written, and no more: memory was wanting for the next one, or for the reports. The
--- output had no fault.
+-- The texts of the first so many lines were written, and no more: memory was refused for the next one, or for the
+-- reports. The output had no fault.
 pub record WroteUpTo (output : Stream) (texts : List (List ℕ)) (reports : List ℕ) : Type 0 where
   pub held : output.faults_after ≡ output.faults_before
   pub many : ℕ
@@ -16,8 +16,8 @@ pub record WroteUpTo (output : Stream) (texts : List (List ℕ)) (reports : List
   pub wrote : WroteAll output (concat (take many texts))
   pub part : AppendsPart output.before output.after (concat texts ++ reports)
 
--- How a run ends whose lines were answered: by what was written of its text, and then by whether the disk failed in one of
--- them, or memory was lacking
+-- How a run ends whose lines were answered: by what was written of its text, and then by whether in one of them the
+-- disk failed or memory was refused
 abbrev pub EndsTold : List TranscriptLine → List Report → Stream → Ending → Type 0
 EndsTold lines reports output Done =
     (any_faulted lines ≡ false) × (any_lacked lines ≡ false) × WroteAll output (run_text lines reports)
@@ -40,7 +40,7 @@ pub record AddsBy (before now : List TakenPiece) (since : ℕ) : Type 0 where
   pub added : now ≡ run ++ before
   pub all : AllByRecursion (λ (piece : TakenPiece). piece.since ≡ since) run
 
--- since a first moment of the output the text of the answered lines was written, or a front of it
+-- since a first moment of the output the text of the answered lines was written, or a prefix of it
 abbrev pub IsWritten : {D : Type 0} → Stream → ℕ → Option (List ℕ) → Result (Ran D) Refusal → Type 0
 IsWritten first faults after (Ok ran) =
     (first.faults_before ≤ faults) × HasEnded first.faults_before faults first.before after told_text ran.transcript.lines ran.written

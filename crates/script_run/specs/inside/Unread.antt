@@ -10,7 +10,7 @@ use Rattle.script_run.specs.Script.{most_script_bytes}
 abbrev pub bad_row_text : ℕ → ℕ → List ℕ
 bad_row_text row field = codes "badscript," ++ decimal row ++ 44 ∷ decimal field
 
--- the input gave more bytes in the call than a script may have; where it tells what is left in it, that was more
+-- the input gave more bytes in the call than a script may have; if it reports what is left in it, more was left
 pub record GaveTooMany (input : Input) : Type 0 where
   pub more : GivesMore most_script_bytes input.given_before input.given_after
   pub left : IfSome input.left_before (λ told. most_script_bytes < length told)

@@ -18,7 +18,7 @@ module _ {D W : Type 0} {g : Ghosts D} {w : WatcherGhosts W} where
     outlet = outlet_of shared.opened.value;
   }
 
-  -- The state stands for the history, its auditors are those that were handed in, and its outlet is the same end of the same
+  -- The state stands for the history, its watchers are those that were handed in, and its outlet is the same end of the same
   -- ring. Before the first turn its disk is the one that the office held once it was open.
   pub record SharedStandsFor (shared : SharedState D W g w) (history : List Entry) : Type 0 where
     pub state : StandsFor shared.state history

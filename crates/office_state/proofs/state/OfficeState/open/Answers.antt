@@ -1,4 +1,4 @@
--- What start tells of the disk, and what the replay tells of the journal.
+-- What start says of the disk, and what the replay says of the journal.
 use Rattle.office_state.proofs.Names.{ap, subst, IsOfficeOf}
 use Rattle.std.proofs.lemmas.Result.{MatchResult-weaker}
 use Rattle.office_state.proofs.OpeningSteps.{IsStarted, not_started}
