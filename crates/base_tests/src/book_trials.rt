@@ -58,8 +58,8 @@ fn key_at(sets: &[Set], index: u32, p: u32) -> Option<u32> {
     None
 }
 
-// Whether the setting at a place is needed by a position from the floor on: it's after the floor, or the last one of
-// its key up to it.
+// Whether the setting at a place is needed by a position from the floor on: it is after the floor, or is the last one
+// of its key at or before it.
 fn is_needed(sets: &[Set], place: usize, floor: u32) -> bool {
     let Some(set) = sets.get(place) else {
         return false;
@@ -77,7 +77,7 @@ fn needed(sets: &[Set], floor: u32) -> usize {
         .count()
 }
 
-// Compares what the book and the list tell of a position from the floor on.
+// Compares what the book and the list have at a position from the floor on.
 fn compares<R: Abort, L: Ledger>(
     rt: &R,
     book: &VersionedBook<u64>,

@@ -1,5 +1,5 @@
-//! Tests of what stands at the bottom: commands, cents, days, the rules, the accounts, the texts of entries, made scripts,
-//! the versions of a book.
+//! Tests of the lowest crates: commands, cents, days, the rules, the accounts, the texts of entries, generated
+//! scripts, the versions of a book.
 #![tactic(auto)]
 
 #[cfg(test)]

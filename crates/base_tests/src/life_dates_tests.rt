@@ -3,7 +3,7 @@ use test_rows::assert_rows;
 
 type Day = (&'static [u8], i32);
 
-// Days and texts of Python's calendar.
+// Days, with the texts that Python's calendar gives them.
 const DAYS: &[Day] = &[
     (b"1900-01-01", -25_567),
     (b"1900-02-28", -25_509),
@@ -21,7 +21,7 @@ const DAYS: &[Day] = &[
     (b"2199-12-31", 84_005),
 ];
 
-// Days that are printed, and that aren't read.
+// Days that are printed, but aren't read.
 const LATER_DAYS: &[Day] = &[
     (b"2200-01-01", 84_006),
     (b"2204-02-29", 85_525),
@@ -86,7 +86,7 @@ fn other_texts_are_no_days(rt: HostRuntime) {
     assert_rows!(rt; text in NO_DAYS => parse_day(text).is_none(); "{text:?}");
 }
 
-// The day of an issue, so many years, and the anniversary by Python's calendar.
+// The day of an issue, a number of years, and the anniversary by Python's calendar.
 const ANNIVERSARIES: &[(i32, u8, i32)] = &[
     (19_782, 0, 19_782),
     (19_782, 1, 20_147),

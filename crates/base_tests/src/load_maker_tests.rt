@@ -3,7 +3,7 @@ use policy_types::{Command, Line};
 use std::alloc::Global;
 use test_rows::assert_rows;
 
-// The greatest seed, with policies of three plans that are dealt out to three lanes.
+// The greatest seed, with policies of three plans that are assigned to three lanes.
 const FIVE_POLICIES: &str = "1,issue,1,2001-04-01,whole,68,0,966000.00,19320.00\n\
     1,premium,1,2001-04-01,19320.00\n\
     2,issue,2,2001-04-23,term,55,9,351000.00,7020.00\n\
@@ -60,7 +60,7 @@ fn most_policies(rt: HostRuntime) {
     assert!(rt; script.as_slice().ends_with(end.as_bytes()));
 }
 
-// The rows of the longest script as lanes: so many lines each, and the last of them.
+// The rows of the longest script as lanes: the number of lines of each, and the last of them.
 #[test]
 fn most_lanes(rt: HostRuntime) {
     let Ok(script) = make_lanes(rt.alloc(), 1, 100_000, 8) else {

@@ -13,7 +13,7 @@ const AMOUNTS: &[(i64, &str)] = &[
     (i64::MAX, "92233720368547758.07"),
 ];
 
-// Whether the cents are printed so, and read back where they are positive.
+// Whether the cents are printed so, and, if they are positive, read back.
 fn is_printed(cents: i64, text: &str) -> bool {
     let mut buf = [b'#'; 24];
     let length = print_cents(cents, &mut buf);

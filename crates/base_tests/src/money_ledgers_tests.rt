@@ -2,7 +2,8 @@ use money_ledgers::Ledger;
 use policy_types::{Command, Plan, Policy, Status};
 use test_rows::assert_rows;
 
-// A command, how it leaves an endowment of 1000.00, and the balances that it makes of empty accounts, worked by hand.
+// A command, the endowment of 1000.00 as it leaves it, and the balances that it makes of empty accounts, worked by
+// hand.
 struct Row {
     command: Command,
     status: Status,
@@ -180,7 +181,7 @@ fn after(row: &Row) -> Policy {
     }
 }
 
-// The balances after it alone, where it may be posted.
+// The balances after this command alone, if it may be posted.
 fn posted(row: &Row) -> Option<Ledger> {
     let policy = after(row);
     if !row.command.is_valid() || row.command.is_upgrade() || policy.amount > 10_000_000_000 {

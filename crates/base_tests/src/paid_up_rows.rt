@@ -1,5 +1,5 @@
-// What the commands of and on a paid-up policy are answered, by hand from the rules. The policies are those of the other
-// rows; made paid up, they are so on 2020-02-08 for 300.00.
+// The results of the commands that make a policy paid up, and of those on a paid-up policy, by hand from the rules.
+// The policies are those of the other rows; those that are made paid up are made so on 2020-02-08, for 300.00.
 use crate::policy_machine_rows::{CLAIMED, FIRST, PAID, PAID_LATE, PAID_UP, Row, Step, TERM};
 use Plan::{Endowment, Term};
 use Refusal::{

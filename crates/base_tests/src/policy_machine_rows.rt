@@ -1,5 +1,5 @@
-// What each command is answered, by hand from the rules. The policy 7001 is issued on 2020-01-01 at age 40 for
-// 1000.00 at an annual premium of 150.00: as an endowment for five years, or for two years or premiums. Its
+// The results of each command, by hand from the rules. The policy 7001 is issued on 2020-01-01 at age 40 for 1000.00
+// with an annual premium of 150.00: as an endowment for five years, or for two years or with two premiums. Its
 // anniversaries are the days 18262, 18628, 18993, 19358, 19723 and 20089.
 use Plan::{Endowment, Limited, Term};
 use Refusal::{
@@ -27,7 +27,7 @@ pub(crate) enum Step {
 // The last day, amount, premium, number of premiums paid, status and what is outstanding.
 pub(crate) type State = (i32, u64, u64, u8, Status, u64);
 
-// A name, the accepted commands before, the command and its answer.
+// A name, the accepted commands before, the command, and its result.
 pub(crate) type Row = (&'static str, &'static [Step], Step, Result<State, Refusal>);
 
 pub(crate) const FIRST: Step = Pay(18_262, 15_000);

@@ -1,4 +1,4 @@
-// Each command after others, answered by the rules.
+// Each command after others, judged by the rules.
 ghost use Rattle.policy_machine.specs.Rules.{IsSound};
 ghost use Rattle.std.specs.Prelude.{IfOk, IfSome};
 
@@ -53,7 +53,7 @@ fn state(policy: Policy) -> State {
     (last, amount, premium, paid, status, outstanding)
 }
 
-// The answer to a valid command that names the policy's number.
+// The result of a valid command that names the policy's number.
 fn answer(rt: &impl Abort, policy: Option<Policy>, command: Command) -> Result<Policy, Refusal>
     requires { IfSome policy IsSound }
     ensures { IfOk result IsSound }
@@ -102,7 +102,7 @@ const REDUCE: Command = Command::PaidUp {
     amount: 30_000,
 };
 
-/// The place of the upgrade, a command for a policy that isn't there, and its answer.
+/// The place of the upgrade, a command for a policy that doesn't exist, and its result.
 type Judged = (u32, Command, Result<Option<Policy>, Refusal>);
 
 const JUDGED: &[Judged] = &[
@@ -117,7 +117,7 @@ fn is_judged(judged: &Judged) -> bool {
     command.is_valid() && judge(*upgrade, None, command) == *answer
 }
 
-// What waits for an upgrade, and that it comes once; its place is counted from 1.
+// What needs an upgrade, and that there is only one; its place is counted from 1.
 #[test]
 fn commands_are_judged_by_the_place_of_the_upgrade(rt: HostRuntime) {
     assert_rows!(rt; (row, judged) in JUDGED.iter().enumerate() => is_judged(judged); "row {row}");

@@ -160,7 +160,7 @@ fn limits_of_an_issue(rt: HostRuntime) {
         limit.command.is_valid(), limit.valid; "row {row}");
 }
 
-// A list of lines gives back the vector that it was made of.
+// A list of lines gives back the vector from which it was made.
 #[test]
 fn lines_are_their_vector(rt: HostRuntime) {
     let lines = Lines::new(Vec::new(rt.alloc()));

@@ -150,7 +150,7 @@ const POLICIES: &[(Plan, Status, u8, &str)] = &[
     ),
 ];
 
-// An endowment of 1000.00 after a claim and a settlement of 400.00, but for what is given.
+// An endowment of 1000.00 after a claim and a settlement of 400.00, except for what is given.
 fn policy(plan: Plan, status: Status, paid: u8) -> Policy {
     Policy {
         id: 7001,

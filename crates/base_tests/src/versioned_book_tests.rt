@@ -12,7 +12,7 @@ use std::test::Fail;
 use test_rows::assert_rows;
 use versioned_book::VersionedBook;
 
-// One setting, for which room is made first.
+// One setting, for which memory is reserved first.
 pub(crate) fn put(
     book: &mut VersionedBook<u64>,
     key: u32,
@@ -30,7 +30,7 @@ pub(crate) fn put(
     Ok(())
 }
 
-// The value of the index-th key at a position, where it was set by then.
+// The value of the index-th key at a position, if it was set by then.
 pub(crate) fn value<L: Ledger>(
     book: &VersionedBook<u64>,
     index: u32,
@@ -47,7 +47,7 @@ pub(crate) fn value<L: Ledger>(
     }
 }
 
-// Keys 7 and 9 by turns, worked by hand.
+// Keys 7 and 9 in turn, worked by hand.
 #[test]
 fn a_book_against_a_list(rt: HostRuntime) -> Result<(), Fail> {
     let alloc = rt.alloc();

@@ -26,7 +26,7 @@ fn first_age(table: &AnyTable) -> Option<u8> {
     }
 }
 
-/// What a file is read as: the number of its rows, or its fault.
+/// The result of reading a file: the number of its rows, or its fault.
 fn rows_of(alloc: Global, bytes: &[u8]) -> Result<usize, BasisFault>
     requires { length bytes.now ≤ LONGEST_FILE }
 {
@@ -119,7 +119,7 @@ fn names_and_many_rows(rt: HostRuntime) -> Result<(), Fail> {
     Ok(())
 }
 
-/// A thousand right rows, one for each month from January 1900 on, whose tables have names of 64 letters.
+/// A thousand valid rows, one for each month from January 1900 on, whose tables have names of 64 letters.
 fn thousand_rows(alloc: Global) -> Result<Vec<u8>, Fail> {
     let name = [b'Q'; 64];
     let mut file = Vec::new(alloc);
@@ -132,7 +132,7 @@ fn thousand_rows(alloc: Global) -> Result<Vec<u8>, Fail> {
     Ok(file)
 }
 
-// The same, with empty lines, which are no rows, up to the length of the longest file.
+// The same with empty lines, which are no rows, up to the length of the longest file.
 fn longest_file(alloc: Global) -> Result<Vec<u8>, Fail> {
     let mut file = thousand_rows(alloc)?;
     file.resize(LONGEST_FILE, b'\n')?;
@@ -166,7 +166,7 @@ fn three_rows(alloc: Global) -> Result<BasisRows, Fail>
     }
 }
 
-/// The table of a name alone, or behind that of another name.
+/// The table of a name alone, or after that of another name.
 fn tables(alloc: Global, behind: bool) -> Result<IndexMap<String, AnyTable>, Fail> {
     let mut tables = IndexMap::new(alloc);
     if behind {

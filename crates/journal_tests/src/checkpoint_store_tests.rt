@@ -53,7 +53,7 @@ fn file_of(alloc: Global, parts: &[&[u8]]) -> Result<Vec<u8>, AllocError> {
     Ok(bytes)
 }
 
-// What starting a store and saving answer, each the count of a fault, and the disk.
+// The results of starting a store and of saving, each the count of a fault, and the disk.
 fn saved(disk: MemoryDisk, snapshot: &Snapshot) -> (Result<(), u64>, MemoryDisk)
     requires { IsSoundSnapshot snapshot.now }
 {
@@ -83,7 +83,7 @@ fn a_snapshot_is_spelled(rt: HostRuntime) -> Result<(), Fail> {
     Ok(())
 }
 
-// The bytes behind the new ones stay.
+// The bytes after the new ones stay.
 #[test]
 fn a_longer_file_is_not_cut(rt: HostRuntime) -> Result<(), Fail> {
     let alloc = rt.alloc();
@@ -95,8 +95,8 @@ fn a_longer_file_is_not_cut(rt: HostRuntime) -> Result<(), Fail> {
     Ok(())
 }
 
-// Whether each image of the disk, at each moment and with each front of the unsafe writes, has a closed gate, or is one
-// of the two files. It made fewer than 32 calls.
+// Whether each image of the disk, at each moment and with each prefix of the unsafe writes, has a closed gate, or is
+// one of the two files. The disk made fewer than 32 calls.
 fn leaves_only(
     alloc: Global,
     disk: &MemoryDisk,
@@ -135,7 +135,7 @@ fn is_closed_or(file: &[u8], old: &[u8], new: &[u8]) -> bool {
     file.is_empty() || file[0] != 1 || file == old || file == new
 }
 
-// Sync, length, gate, then the gate and a sync, the front, the policies and a sync, the gate and a sync.
+// Sync, length, gate, then the gate and a sync, the head, the policies and a sync, the gate and a sync.
 #[test]
 fn a_fault_or_a_crash_leaves_the_old_or_the_new(rt: HostRuntime) -> Result<(), Fail> {
     let alloc = rt.alloc();
@@ -187,7 +187,7 @@ fn a_save_after_a_fault_is_whole(rt: HostRuntime) -> Result<(), Fail> {
     Ok(())
 }
 
-// A gate that is known to be closed isn't written first: two calls fewer.
+// A gate that is known to be closed isn't written first: that saves two calls.
 #[test]
 fn a_closed_gate_is_left(rt: HostRuntime) -> Result<(), Fail> {
     let alloc = rt.alloc();

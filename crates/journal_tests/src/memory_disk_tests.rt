@@ -1,16 +1,17 @@
-// The disk keeps its calls, fails where it is told to, and gives the images of each moment.
+// The disk keeps its calls, fails where it is asked to, and gives the images of each moment.
 use memory_disk::*;
 use outside_io::{Disk, Failed};
 use std::alloc::Global;
 use std::test::Fail;
 use test_rows::assert_rows;
 
-// A disk that a thread can take.
+// A disk that can be given to a thread.
 fn ask_length<D: Disk + Send>(disk: &mut D) -> Result<u64, Failed> {
     disk.len()
 }
 
-/// A moment, a number, and two images: of the writes not yet synced the first so many are done whole, or of each the first
+/// A moment, a number, and two images: with the first so many unsynced writes done whole, and with the first so many
+/// bytes of each.
 /// so many bytes.
 type Case = (u32, u32, &'static [u8], &'static [u8]);
 

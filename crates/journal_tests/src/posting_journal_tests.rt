@@ -13,7 +13,7 @@ const HEAD: [u8; 16] = [
 
 const NO_RECORD: &[&[u8]] = &[&[1], &HEAD, &[0]];
 
-// A file in parts, what opening it must answer, and what must stand there afterwards.
+// A file in parts, the result that opening it must have, and what the file must be afterwards.
 struct Case {
     file: &'static [&'static [u8]],
     answer: Result<u32, JournalCause>,
@@ -28,7 +28,7 @@ fn file_of(alloc: Global, parts: &[&[u8]]) -> Result<Vec<u8>, AllocError> {
     Ok(bytes)
 }
 
-// What opening a file answers, and the disk.
+// The result of opening a file, and the disk.
 fn opened(disk: MemoryDisk) -> (Result<u32, JournalCause>, MemoryDisk) {
     match Journal::start(disk) {
         Ok(journal) => (Ok(journal.count()), journal.release()),
@@ -125,7 +125,7 @@ fn files_are_opened_or_refused(rt: HostRuntime) -> Result<(), AllocError> {
     Ok(())
 }
 
-// Whether a record is added, or a fault answered.
+// Whether a record is added, or the call returns a fault.
 fn append_to(journal: &mut Journal<MemoryDisk>, body: &[u8; 64]) -> Option<Result<(), DiskFault>> {
     if journal.is_clean() && journal.count() < 4_000_000 {
         Some(journal.append(body))
@@ -144,7 +144,7 @@ fn has_body(journal: &mut Journal<MemoryDisk>, n: u32, body: &[u8; 64]) -> bool 
     }
 }
 
-// Whether two records are added, and stand after reopening; and the disk.
+// Whether two records are added, and are there after reopening; and the disk.
 fn two_added(disk: MemoryDisk) -> (bool, MemoryDisk) {
     match Journal::start(disk) {
         Ok(mut journal) => {
@@ -191,7 +191,7 @@ fn told(call: &DiskCall) -> (u8, u64, usize) {
     }
 }
 
-// Of a creation, and of two records.
+// The calls of a creation, and of two records.
 const CALLS: &[(u8, u64, usize)] = &[
     (b's', 0, 0),
     (b'l', 0, 0),
@@ -237,7 +237,7 @@ fn records_outlive_reopening(rt: HostRuntime) -> Result<(), Fail> {
 }
 
 // Whether the call of the disk with this number makes an append fail, which leaves the journal clean or not, and
-// whether a record can be added then. Opening makes four calls, and appending the next four.
+// whether a record can be added then. Opening makes four calls, and appending makes the next four.
 fn goes_on(disk: MemoryDisk, clean: bool) -> (bool, MemoryDisk) {
     match Journal::start(disk) {
         Ok(mut journal) => {
@@ -267,7 +267,7 @@ fn faults_leave_the_journal_clean_or_to_repair(rt: HostRuntime) -> Result<(), Fa
     Ok(())
 }
 
-// A journal of so many records, each with its number in its body.
+// A journal of `count` records, each with its number in its body.
 fn long_file(alloc: Global, records: u32) -> Result<Vec<u8>, AllocError> {
     let mut bytes = file_of(alloc, &[&[1], &HEAD])?;
     for n in 0..records {
@@ -298,7 +298,7 @@ fn number_in(body: &[u8; 64]) -> u32 {
     u32::from_be_bytes([body[0], body[1], body[2], body[3]])
 }
 
-// The number in the last body of a piece that is read from a record on, if the piece holds just so many.
+// The number in the last body of a piece that is read from a record on, if the piece holds exactly so many.
 fn last_in_piece(journal: &mut Journal<MemoryDisk>, first: u32, many: u32) -> Option<u32> {
     let mut piece = Stretch::new();
     if first > journal.count() || journal.bodies(first, &mut piece).is_err() {
@@ -324,15 +324,15 @@ fn records_are_read_by_pieces(rt: HostRuntime) -> Result<(), Fail> {
     assert_rows!(rt; (first, many, last) in [(0, 1008, 1007), (1008, 1008, 2015), (2016, 84, 2099)] =>
         last_in_piece(&mut journal, first, many), Some(last); "from {first}");
     let disk = journal.release();
-    // sync, length, front, three pieces of gates; two reads for each record, one for each piece
+    // Sync, length, header, three pieces of gates; two reads for each record, one for each piece.
     assert!(rt; disk.calls() == 6 + 2 * 7 + 3);
     Ok(())
 }
 
-// How many bytes are cut off, the place of a gate and its byte, and what is answered.
+// How many bytes are cut off, the place of a gate and its byte, and the result.
 type Long = (usize, usize, u8, Result<u32, JournalCause>);
 
-// The last gate, the last body or a gate amid is wrong, far behind the first piece.
+// The last gate, the last body or a gate in the middle is wrong, far after the first piece.
 const LONG: &[Long] = &[
     (0, 2100, 0, Ok(2100)),
     (0, 2100, 1, Err(JournalCause::BadRecord(2100))),

@@ -135,7 +135,8 @@ fn is_spelled(command: Command, front: &[u8; 28]) -> bool {
     true
 }
 
-// Whether the body with this byte changed spells another command, or none, as behind its fields.
+// Whether the body with this byte changed spells another command, or none, as it must if the byte is after its
+// fields.
 fn tells_change(command: Command, body: [u8; 64], at: usize) -> bool {
     let mut other = body;
     if let Some(byte) = other.get_mut(at) {

@@ -1,4 +1,5 @@
-// A store and a journal are reopened: with a checkpoint of the count, with one that is out of date, and with none.
+// A store and a journal are reopened: with a checkpoint at the journal's count, with one that is out of date, and
+// with none.
 ghost use Rattle.std.specs.Prelude.{◌≡◌, ◌<◌, ◌≤◌, IfOk};
 ghost use Rattle.checkpoint_store.specs.Checkpoints.{IsSoundSnapshot};
 
@@ -15,10 +16,10 @@ use std::sync::ledger::{Blank, Ledger as StepLedger};
 use std::test::Fail;
 use test_rows::assert_rows;
 
-// LIFEJRNL, 1, 64 and four zeros, behind byte 0.
+// LIFEJRNL, 1, 64 and four zeros, after byte 0.
 const JOURNAL_HEAD: &[u8] = b"\x01\x4c\x49\x46\x45\x4a\x52\x4e\x4c\x00\x01\x00\x40\x00\x00\x00\x00";
 
-// LIFECHKP, 1, 48 and four zeros, behind the gate.
+// LIFECHKP, 1, 48 and four zeros, after the gate.
 const CHECKPOINT_HEAD: &[u8] = b"\x4c\x49\x46\x45\x43\x48\x4b\x50\x00\x01\x00\x30\x00\x00\x00\x00";
 
 // 0.00, -400.00, 1000.00 and -600.00; three zeros.
@@ -30,7 +31,7 @@ const CLAIMED_BALANCES: [u8; 35] =
 const CLAIMED_POLICY: [u8; 48] =
     *b"\x00\x00\x1b\x59\x03\x00\x03\x01\x03\x00\x00\x00\x00\x00\x47\x56\x00\x00\x48\x0c\x00\x00\x00\x00\x00\x01\x86\xa0\x00\x00\x00\x00\x00\x00\x9c\x40\x00\x00\x00\x00\x00\x00\xea\x60\x00\x00\x00\x00";
 
-// No place in a journal.
+// A number that is no place in a journal.
 const NONE: usize = usize::MAX;
 
 // The issue, the premium, the claim, and settlements of 400.00 and 600.00.
@@ -73,7 +74,7 @@ fn file_of(alloc: Global, parts: &[&[u8]]) -> Result<Vec<u8>, AllocError> {
     Ok(bytes)
 }
 
-// A journal of these commands, but for one whose body spells nothing.
+// A journal of these commands, except that one body spells nothing.
 fn journal_of(alloc: Global, commands: &[Command], hidden: usize) -> Result<Vec<u8>, Fail> {
     let mut bytes = Vec::from_slice(alloc, JOURNAL_HEAD)?;
     for (n, command) in commands.iter().enumerate() {
@@ -128,7 +129,7 @@ fn disk_of(alloc: Global, bytes: &[u8], failing: &[u64]) -> Result<MemoryDisk, A
     ))
 }
 
-// What reopening answers, and the disks of the store and of the journal.
+// The result of reopening, and the disks of the store and of the journal.
 #[derive(Drop)]
 enum Outcome {
     Answered(Result<Snapshot, ReopenFault>, MemoryDisk, MemoryDisk),
@@ -160,7 +161,7 @@ fn outcome_of(alloc: Global, second: MemoryDisk, first: MemoryDisk) -> Outcome {
     reopened::<Brand>(alloc, second, first, Blank::new(1))
 }
 
-// The snapshot of a journal, beside a store.
+// The snapshot of a journal, read with a store.
 fn snapshot_beside<L: StepLedger>(
     alloc: Global,
     second: MemoryDisk,
@@ -199,7 +200,8 @@ fn calls_of_start(first: MemoryDisk) -> usize {
     }
 }
 
-// The place of the first byte that these calls read, and the bytes that they read in all; none of them did anything else.
+// The place of the first byte that these calls read, and the number of bytes that they read in all; they did nothing
+// else.
 fn bytes_read(calls: &[DiskCall]) -> Option<(u64, usize)> {
     let mut from = u64::MAX;
     let mut all = 0_usize;
@@ -269,7 +271,7 @@ fn is_reopened_after(alloc: Global, second: &[u8], bodies: usize) -> Result<bool
     )
 }
 
-// With a checkpoint at four of the five one body is read, whatever stands behind it.
+// With a checkpoint at four of the five, one body is read, whatever comes before it.
 #[test]
 fn a_checkpoint_spares_reading(rt: HostRuntime) -> Result<(), Fail> {
     let alloc = rt.alloc();
@@ -280,7 +282,7 @@ fn a_checkpoint_spares_reading(rt: HostRuntime) -> Result<(), Fail> {
     Ok(())
 }
 
-// With what is none, or stands above the count, all five are.
+// With a file that is no checkpoint, or with one above the count, all five are read.
 #[test]
 fn what_is_no_checkpoint_is_not_taken(rt: HostRuntime) -> Result<(), Fail> {
     let alloc = rt.alloc();
@@ -305,7 +307,7 @@ fn what_is_no_checkpoint_is_not_taken(rt: HostRuntime) -> Result<(), Fail> {
     Ok(())
 }
 
-// Nor is one with a balance of more than 4 * 10^10 cents a command.
+// A file with a balance of more than 4 * 10^10 cents a command is no checkpoint either.
 #[test]
 fn a_balance_out_of_bounds_is_not_taken(rt: HostRuntime) -> Result<(), Fail> {
     let alloc = rt.alloc();
@@ -319,7 +321,7 @@ fn a_balance_out_of_bounds_is_not_taken(rt: HostRuntime) -> Result<(), Fail> {
     Ok(())
 }
 
-// What reopening answers where it fails: the record, or the count of a fault.
+// The result of reopening when it fails: the record, or the count of a fault.
 fn fault_of(alloc: Global, second: MemoryDisk, first: MemoryDisk) -> Option<ReopenFault> {
     match outcome_of(alloc, second, first) {
         Outcome::Answered(answer, _second, _first) => answer.err(),
@@ -341,7 +343,7 @@ fn is_first_fault(fault: Option<ReopenFault>) -> bool {
     }
 }
 
-// Record 4 is refused; record 1 spells nothing, which a checkpoint behind it hides.
+// Record 4 is refused; record 1 spells nothing, which a checkpoint after it hides.
 #[test]
 fn records_from_the_start_on_are_tested(rt: HostRuntime) -> Result<(), Fail> {
     let alloc = rt.alloc();

@@ -1,4 +1,4 @@
--- The bytes in which tests have answered lines written: the clerk, the turn, the command, and what is told
+-- The bytes as which tests have answered lines written: the lane, the turn, the command, and the outcome
 use Rattle.std.specs.Prelude.{ℕ, ◌==◌, ◌&&◌, Bool, true, false, List, [], ◌∷◌, ◌++◌, length, replicate}
 use Rattle.std.specs.Int.{w32, w64, to_be_bytes}
 use Rattle.std.specs.List.{list_all}
@@ -17,11 +17,11 @@ use Rattle.lane_runner.specs.declared.transcript.TranscriptLine.{TranscriptLine}
 use Rattle.lane_runner.specs.declared.transcript.Outcome.{Outcome}
 use Rattle.lane_runner.specs.declared.transcript.Outcome.TheVariants.{Posted, Trimmed as TrimmedTo, Valued, ValueRefused}
 
--- what is told, by its kind: a position or a floor in four bytes, and a number of rows in eight
+-- the outcome, by its kind: a position or a floor in four bytes, and a number of rows in eight
 abbrev pub numbered : (kind number rows : ℕ) → List ℕ
 numbered kind number rows = kind ∷ (to_be_bytes w32 number ++ to_be_bytes w64 rows)
 
--- of 1000.00 on an endowment of three years at age 0, after one year, by hand from the plan and the table
+-- for an endowment of 1000.00 for three years at age 0, after one year, by hand from the plan and the table
 abbrev pub is_year_worth : Worth → Bool
 is_year_worth (Bounds lo hi) = (lo == 12722) && (hi == 12723)
 is_year_worth _ = false
@@ -30,7 +30,7 @@ is_year_worth _ = false
 abbrev pub is_year_row : Row → Bool
 is_year_row row = status_eq.it row.status InForce && ((row.t == 1) && is_year_worth row.worth)
 
--- a valuation is told where all its rows are such
+-- a valuation's outcome can be written if all its rows are such
 abbrev pub valued_words : (position rows : ℕ) → Bool → List ℕ
 valued_words position rows true = numbered 3 position rows
 valued_words position rows false = numbered 0 0 0

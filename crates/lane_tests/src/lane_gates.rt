@@ -1,5 +1,5 @@
-// Gates that hold lanes until others have come as far as they say. None holds a lane for ever: where it is held too long,
-// the gate counts a miss and lets it go on.
+// Gates that make lanes wait until others have come as far as the gate says. None makes a lane wait forever: if a
+// lane has waited too long, the gate counts a miss and lets it go on.
 use outside_io::Gate;
 use std::sync::Wait;
 use std::sync::atomic::{AtomicU32, Ordering};
@@ -8,7 +8,7 @@ use std::thread::yield_now;
 /// How often a gate looks before it gives up.
 const LOOKS: u32 = 100_000_000;
 
-// Looks until the number is at least this one, and counts a miss where it doesn't come.
+// Looks until the number is at least this one, and counts a miss if it doesn't come.
 fn look_for(number: &AtomicU32, least: u32, missed: &AtomicU32) {
     for _ in 0..LOOKS {
         if number.load(Ordering::SeqCst) >= least {

@@ -1,5 +1,6 @@
-// Lanes of one office. The reserves are worked out by hand from the plan and the table: of 1000.00 on an endowment of three
-// years at age 0, after one year, 127.22 to 127.23. Each run has memory, so none may say that it wants any.
+// Lanes of one office. The reserves are worked out by hand from the plan and the table: for an endowment of 1000.00
+// for three years at age 0, after one year, 127.22 to 127.23. Each run has memory, so none may report that it was
+// refused.
 use crate::lane_gates::InTurn;
 use crate::lane_trials::{run_on, run_watched};
 use crate::line_words::{Told, Written};
@@ -19,7 +20,8 @@ pub(crate) fn lane(alloc: Global, number: u8, lines: &[Line]) -> Result<Lane, Al
     })
 }
 
-// Whether the turns rise, and each posting has the next position, and each valuation that of the postings before it, with
+// Whether the turns rise, each posting has the next position, and each valuation has the position of the postings
+// before it, with as many policies.
 // as many policies.
 fn are_as_one(lines: &[Written]) -> bool {
     let mut accepted = 0u32;
@@ -53,7 +55,7 @@ fn count_issues(lines: &[Written], lane: u8, first: u32) -> u32 {
     next.wrapping_sub(first)
 }
 
-// Whether just these lines were answered, each by its lane and so.
+// Whether exactly these lines were answered, each by its lane and in this way.
 fn are_told(lines: &[Written], dues: &[(u8, Told)]) -> bool {
     if lines.len() != dues.len() {
         return false;

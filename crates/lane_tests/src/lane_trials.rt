@@ -29,7 +29,8 @@ fn are_right(lanes: &[Lane]) -> bool
     lanes.len() <= 8 && follow(0, 1 << 24, 16, lanes)
 }
 
-// Whether these lanes have numbers that rise above this one, and right lines, so many and so many valuations at most.
+// Whether these lanes have numbers that rise above this one, and valid lines, at most so many, and at most so many
+// valuations.
 fn follow(number: u8, lines: usize, values: usize, lanes: &[Lane]) -> bool
     ensures rising { IsTrue result → AreRising (number ∷ map (λ lane. lane.number) lanes.now) }
     ensures right { IsTrue result → AllByRecursion IsRightLane lanes.now }
@@ -92,7 +93,7 @@ pub struct Run {
     pub lines: Vec<Written>,
 }
 
-/// Runs lanes where they may be run and there is memory, and reads what is written of their lines.
+/// Runs lanes if they may be run and there is memory, and reads what is written of their lines.
 pub(crate) fn run_right<
     D: Disk + Send,
     W: Watching + Send,
@@ -148,8 +149,8 @@ fn are_tallied(tallies: &TranscriptLines, lines: &[Written]) -> bool {
         && tallies.lack().is_none()
 }
 
-/// Runs these lanes on an office where the policies of the numbers from 1 to this one were issued, and closes it. Gives what
-/// the watchers have to say too.
+/// Runs these lanes on an office in which the policies with the numbers from 1 to this one were issued, and closes
+/// it. Also returns what the watchers report.
 pub fn run_watched<W: Watching + Send, G: Gate + Sync, R: Threads + Wait + Sync>(
     rt: &R,
     alloc: Global,
@@ -186,7 +187,7 @@ pub fn run_watched<W: Watching + Send, G: Gate + Sync, R: Threads + Wait + Sync>
     }
 }
 
-/// The same where nobody watches.
+/// The same without watchers.
 pub fn run_on<G: Gate + Sync, R: Threads + Wait + Sync>(
     rt: &R,
     alloc: Global,

@@ -1,4 +1,4 @@
-// What is told of the lines of lanes, as tests have it written, and read it.
+// The outcomes of lanes' lines, as tests have them written, and as they read them.
 ghost use Rattle.std.specs.Prelude.{◌≡◌, ◌++◌, OnOk, length};
 ghost use Rattle.std.specs.List.{list_all};
 ghost use Rattle.lane_runner.specs.Lanes.{IsRightLine};
@@ -24,7 +24,7 @@ pub enum Told {
     Other,
 }
 
-/// An answered line as it was written: its clerk and its turn, the command where one was posted, and what is told.
+/// An answered line as it was written: its lane and its turn, the command if one was posted, and the outcome.
 #[derive(Drop)]
 pub struct Written {
     pub lane: u8,
@@ -33,7 +33,7 @@ pub struct Written {
     pub told: Told,
 }
 
-/// The words of answered lines, 86 bytes each.
+/// The written forms of answered lines, 86 bytes each.
 pub struct LineWords;
 
 impl Wording for LineWords {
@@ -141,7 +141,7 @@ fn with_numbers(kind: u8, number: u32, rows: u64) -> [u8; 13]
     [kind, a, b, c, d, e, f, g, h, i, j, k, l]
 }
 
-/// Reads answered lines of their words, if there is memory.
+/// Reads answered lines from their written forms, if there is memory.
 pub fn read_lines(alloc: Global, words: &[u8]) -> Option<Vec<Written>> {
     if words.len() % LONG != 0 {
         return None;
@@ -188,7 +188,7 @@ fn read_told(words: &[u8]) -> Told
     }
 }
 
-/// How many of the lines tell of an accepted posting.
+/// How many of the lines report an accepted posting.
 pub fn count_accepted(lines: &[Written]) -> usize {
     lines
         .iter()

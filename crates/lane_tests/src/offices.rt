@@ -68,7 +68,7 @@ pub(crate) fn flat_basis(alloc: Global) -> Result<Basis, Fail> {
     }
 }
 
-/// Posts a command where it is valid and a turn is left.
+/// Posts a command if it is valid and a turn is left.
 pub(crate) fn post<D: Disk, W: Watching, R: Wait>(
     rt: &R,
     office: &Office<D, W>,
@@ -84,7 +84,7 @@ pub(crate) fn post<D: Disk, W: Watching, R: Wait>(
     office.post(rt, pass, command);
 }
 
-/// Issues so many policies.
+/// Issues `count` policies.
 pub(crate) fn issue_all<D: Disk, W: Watching, R: Wait>(
     rt: &R,
     office: &Office<D, W>,

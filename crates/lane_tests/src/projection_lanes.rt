@@ -45,8 +45,8 @@ fn seven_lanes(alloc: Global) -> Result<Vec<Lane>, AllocError> {
     Ok(lanes)
 }
 
-// The projection beside the lanes. Gives whether it is that of the position that was pinned, and how many lines were
-// accepted.
+// The projection while the lanes run. Returns whether it is that of the position that was pinned, and how many lines
+// were accepted.
 fn both<D: Disk + Send, W: Watching + Send, R: Threads + Wait + Sync>(
     rt: &R,
     alloc: Global,

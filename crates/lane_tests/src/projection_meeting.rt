@@ -80,7 +80,7 @@ fn claim_between<D: Disk, W: Watching, R: Wait>(
     meeting.done.store(true, Ordering::SeqCst);
 }
 
-// Both callers at once. Gives whether the projection is that of the position that was pinned.
+// Both callers at once. Returns whether the projection is that of the position that was pinned.
 fn both<D: Disk + Send, W: Watching + Send, R: Threads + Wait + Sync>(
     rt: &R,
     alloc: Global,

@@ -1,4 +1,4 @@
-// A projection beside live pins: it takes the sixteenth, and is refused where sixteen are live.
+// A projection beside live pins: it takes the sixteenth, and is refused if sixteen are live.
 ghost use Rattle.std.specs.Prelude.{◌≡◌, ◌+◌, ◌*◌, ◌≤◌};
 ghost use Rattle.shared_office.specs.Pins.{KeepsPins};
 
@@ -45,7 +45,7 @@ fn projected_beside<D: Disk, W: Watching, R: Threads + Wait + Sync>(
     }
 }
 
-// The same, where the pass has turns enough for it.
+// The same, if the pass has enough turns for it.
 fn found_beside<D: Disk, W: Watching, R: Threads + Wait + Sync>(
     rt: &R,
     alloc: Global,

@@ -1,5 +1,5 @@
-// A projection of one caller's office. The cash of one policy is worked out by hand: of 1000 that
-// pay 400.00 in advance for three years, the rates 0.1, 0.2 and 0.25 leave 900, 720 and 540.
+// A projection of one caller's office. The cash of one policy is worked out by hand: of 1000 that pay 400.00 in
+// advance for three years, the rates 0.1, 0.2 and 0.25 leave 900, 720 and 540.
 ghost use Rattle.std.specs.Prelude.{◌≡◌, ◌≤◌};
 
 use crate::offices::{flat_basis, issue_all, post};

@@ -96,7 +96,7 @@ fn post_between<D: Disk, W: Watching, R: Wait>(
     meeting.done.store(true, Ordering::SeqCst);
 }
 
-// Both callers at once. Gives whether the valuation came out right.
+// Both callers at once. Returns whether the valuation came out right.
 fn both<D: Disk + Send, W: Watching + Send, R: Threads + Wait + Sync>(
     rt: &R,
     alloc: Global,

@@ -1,4 +1,5 @@
-// Each position of a script, valued once all of it was posted: as an office values it that was given just its beginning.
+// Each position of a script, valued once all of it was posted: as an office values it that was given only its
+// beginning.
 ghost use Rattle.std.specs.Prelude.{◌≡◌};
 
 use crate::forty_commands::COMMANDS;
@@ -19,7 +20,7 @@ use watcher_set::{NoWatchers, Watching};
 // 2022-01-01, two years after the policies are issued.
 const TWO_YEARS: i32 = 18_993;
 
-// Posts so many of the commands.
+// Posts the first `count` of the commands.
 fn post_first<D: Disk, W: Watching, R: Wait>(
     rt: &R,
     office: &Office<D, W>,
@@ -35,7 +36,7 @@ fn post_first<D: Disk, W: Watching, R: Wait>(
     }
 }
 
-// The valuation at a position, where there are turns for it and it has memory.
+// The valuation at a position, if there are turns for it and memory isn't refused.
 fn valued<D: Disk, W: Watching, R: Threads + Wait + Sync>(
     rt: &R,
     alloc: Global,
@@ -63,7 +64,7 @@ fn valued<D: Disk, W: Watching, R: Threads + Wait + Sync>(
     answer.answer.ok()
 }
 
-// What an office of so many of the commands values, as it stands.
+// What an office of the first so many commands values, as it is.
 fn valued_then<R: Threads + Wait + Sync>(
     rt: &R,
     alloc: Global,
@@ -88,7 +89,7 @@ fn are_same(one: &Option<Valuation>, other: &Option<Valuation>) -> bool {
     one.position == other.position && one.rows.as_slice() == other.rows.as_slice()
 }
 
-// The first position from one on at which the office, given all commands, values otherwise than one given so many.
+// The first position, from one on, at which the office with all commands values otherwise than one with so many.
 fn first_otherwise<D: Disk, W: Watching, R: Threads + Wait + Sync>(
     rt: &R,
     alloc: Global,

@@ -1,5 +1,5 @@
-// Valuations of one caller's office. The reserves are worked out by hand from the plan and the table: of 1000.00 on an
-// endowment of three years at age 0, after one year 127.22 to 127.23 and after two 515.12 to 515.13.
+// Valuations of one caller's office. The reserves are worked out by hand from the plan and the table: for an
+// endowment of 1000.00 for three years at age 0, after one year 127.22 to 127.23, and after two 515.12 to 515.13.
 ghost use Rattle.std.specs.Prelude.{◌≡◌, ◌≤◌};
 
 use crate::offices::{ONE_YEAR, flat_basis, issue_all, post};
@@ -83,7 +83,7 @@ pub(crate) fn is_of(
 /// What is asked of an office: a position, a day, and then the policies there are, their row, and how many turns are taken.
 pub(crate) type Case = (At, i32, u32, u32, Row, u64);
 
-/// Values at each of the positions, from this turn on, and gives the number of the case that came out otherwise.
+/// Values at each of the positions, from this turn on, and returns the number of the case that came out otherwise.
 pub(crate) fn first_wrong<D: Disk, W: Watching, R: Threads + Wait + Sync>(
     rt: &R,
     alloc: Global,
@@ -126,7 +126,7 @@ pub(crate) fn first_wrong<D: Disk, W: Watching, R: Threads + Wait + Sync>(
     None
 }
 
-// The statuses of the first policies now, and the answer at a position of more commands than there are.
+// The statuses of the first policies now, and the result at a position of more commands than there are.
 fn now_and_ahead<D: Disk, W: Watching, R: Threads + Wait + Sync>(
     rt: &R,
     alloc: Global,

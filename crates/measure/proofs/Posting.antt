@@ -19,7 +19,7 @@ module _ {D W : Type 0} (g : Ghosts D) (w : WatcherGhosts W) (old new : D) (watc
   abbrev began : OfficeOpening D W
   began = record { opening = started.opening; begun = old; held = started.held; watchers = watchers; outlet = started.outlet }
 
-  -- what the last pass tells of the opening is what the first told
+  -- what the last pass says of the opening is what the first reported
   one_opening : (opening : OfficeOpening D W) → last.opening ≡ Some opening → opening ≡ began
   one_opening opening told = ap (λ o. unwrap_or o opening) (sym told ∙ (take.opening ∙ started.first.opened))
 

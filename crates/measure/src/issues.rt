@@ -70,7 +70,7 @@ fn issue(id: u32) -> Command
     }
 }
 
-/// So many callers issue so many policies each at the office of the disk's journal, which tells the watchers. Gives the
+/// So many callers issue so many policies each at the office of the disk's journal, which notifies the watchers. Gives the
 /// disk back, and how many were accepted. The caller of place `p` issues the numbers `p + 1`, `p + 33`, `p + 65` and so on.
 pub fn post_issues<D: Disk + Send, W: Watching + Send, R: Threads + Wait + Sync>(
     rt: &R,

@@ -16,7 +16,7 @@
 //!   256 of them so many times, each time at another position; gives up all but the newest versions, so many times over; and
 //!   prints `versions,POLICIES,KEPT,PAID`: how many versions are kept then, and the sum of the premiums paid that were read.
 //!
-//! The status is 2 where the words are others, 8 where the journal doesn't open, 9 where there is no memory.
+//! The status is 2 where the arguments are others, 8 where the journal doesn't open, 9 where there is no memory.
 #![tactic(auto)]
 
 mod counter;

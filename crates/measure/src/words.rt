@@ -1,4 +1,4 @@
-// The words of the command line, and how a measuring ends.
+// The arguments of the command line, and how a measuring ends.
 ghost use Rattle.std.specs.Prelude.{◌≤◌, IfSome};
 
 use crate::lane::MOST_CALLERS;

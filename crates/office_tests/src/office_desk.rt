@@ -1,4 +1,4 @@
-// An office on a disk in memory, the postings that it is given, and what it answers and shows.
+// An office on a disk in memory, the postings that it is given, and what it replies and shows.
 ghost use Rattle.std.specs.Prelude.{ℕ, []};
 
 use memory_disk::MemoryDisk;
@@ -27,10 +27,10 @@ impl<W: Watching> Model for Desk<W> {
     ghost invariant = { λ desk. (history : List Entry) × StandsFor desk.office history };
 }
 
-// An office is asked only while it answered fewer turns.
+// An office is asked only while it has answered fewer turns than this.
 pub(crate) const MOST_TURNS: u64 = 1 << 62;
 
-// That policy, as commands left it.
+// The policy, as commands have left it.
 pub(crate) fn policy(
     id: u32,
     issued: i32,
@@ -54,7 +54,7 @@ pub(crate) fn policy(
     }
 }
 
-// A command that is posted, and its answer.
+// A command that is posted, and its reply.
 #[derive(Clone, Copy)]
 pub(crate) struct Posting {
     pub(crate) command: Command,
@@ -75,7 +75,7 @@ pub(crate) fn refused(command: Command, refusal: Refusal) -> Posting {
     }
 }
 
-// An office on these bytes, with watchers who were told of nothing.
+// An office on these bytes, with watchers that have noted nothing.
 pub(crate) fn watched_on<W: Watching>(
     alloc: Global,
     bytes: &[u8],
@@ -103,7 +103,7 @@ pub(crate) fn office_on(
     watched_on(alloc, bytes, failing, NoWatchers)
 }
 
-// What the office answers a command that may be posted.
+// The office's reply to a command that may be posted.
 pub(crate) fn posted<W: Watching>(desk: &mut Desk<W>, command: &Command) -> Option<Answer> {
     if MOST_TURNS <= desk.office.turns() || !command.is_valid() {
         return None;
@@ -111,17 +111,17 @@ pub(crate) fn posted<W: Watching>(desk: &mut Desk<W>, command: &Command) -> Opti
     Some(desk.office.post(1, command))
 }
 
-// Whether the office answers a posting so.
+// Whether the office replies so to a posting.
 pub(crate) fn answers_one<W: Watching>(desk: &mut Desk<W>, posting: &Posting) -> bool {
     posted(desk, &posting.command) == Some(posting.answer)
 }
 
-// Whether a posting of the command lacks memory.
+// Whether a posting of the command is refused memory.
 pub(crate) fn lacks_memory<W: Watching>(desk: &mut Desk<W>, command: &Command) -> bool {
     matches!(posted(desk, command), Some(Answer::NoMemory(_)))
 }
 
-// Whether it answers so, one after the other.
+// Whether it replies so to each, one after the other.
 pub(crate) fn answers<W: Watching>(desk: &mut Desk<W>, postings: &[Posting]) -> bool {
     for posting in postings {
         if !answers_one(desk, posting) {
@@ -131,7 +131,7 @@ pub(crate) fn answers<W: Watching>(desk: &mut Desk<W>, postings: &[Posting]) -> 
     true
 }
 
-// Whether just these policies stood there after so many commands, and are kept.
+// Whether exactly these policies were there after so many commands, and are kept.
 pub(crate) fn shows<W: Watching>(desk: &Desk<W>, position: u32, policies: &[Policy]) -> bool {
     if desk.office.count() < position || position < desk.office.floor() {
         return false;

@@ -1,4 +1,4 @@
-// Postings and openings that a disk or the records of a journal fail.
+// Postings and openings that fail because of the disk or of a journal's records.
 use crate::office_desk::{Posting, answers, office_on};
 use crate::policies::NEW_YEAR;
 use memory_disk::MemoryDisk;
@@ -107,7 +107,7 @@ fn ids(alloc: Global, bytes: &[u8]) -> Result<Vec<u32>, AllocError> {
     Ok(ids)
 }
 
-// Whether the office answers so and has so many commands; and the numbers that it opens to again.
+// Whether the office replies so and has so many commands; and the numbers of the policies when it is opened again.
 fn opens_to(
     alloc: Global,
     failing: &[u64],
@@ -124,7 +124,7 @@ fn opens_to(
     ids(alloc, disk.bytes())
 }
 
-// The fifth is none of the accepted ones, nor of those that are opened to.
+// The fifth is neither among the accepted ones nor among those at the next opening.
 #[test]
 fn a_posting_that_faults(rt: HostRuntime) -> Result<(), AllocError> {
     // A creation makes 9 calls, a posting 4.

@@ -7,7 +7,7 @@ use std::alloc::{AllocError, Global};
 use test_rows::assert_rows;
 use watcher_set::NoWatchers;
 
-// A call of one caller that concerns pins, and its answer.
+// A call of one caller that concerns pins, and its reply.
 #[derive(Clone, Copy)]
 pub(crate) enum Pinning {
     Now(Result<PinInfo, PinRefusal>),
@@ -24,7 +24,7 @@ pub(crate) fn pinned(number: u64, position: u32, policies: u32) -> Result<PinInf
     })
 }
 
-// Whether the office answers so.
+// Whether the office replies so.
 pub(crate) fn pins_so(desk: &mut Desk<NoWatchers>, pinning: Pinning) -> bool {
     if MOST_TURNS <= desk.office.turns() {
         return false;
@@ -224,7 +224,7 @@ fn pins_all(desk: &mut Desk<NoWatchers>, pinnings: &[Pinning]) -> bool {
     true
 }
 
-// The turns of an office that answers these so, one after the other.
+// The turns of an office that replies so to these calls, one after the other.
 fn turns_after(
     alloc: Global,
     first: &[Pinning],
@@ -246,7 +246,7 @@ fn positions_that_are_pinned(rt: HostRuntime) -> Result<(), AllocError> {
     Ok(())
 }
 
-// Behind sixteen pins.
+// After sixteen pins.
 const SEVENTEENTH: &[Pinning] = &[
     Pinning::Now(Err(PinRefusal::PinsFull)),
     Pinning::At(1, Err(PinRefusal::Ahead(0))),
@@ -269,7 +269,7 @@ fn takes_sixteen(desk: &mut Desk<NoWatchers>) -> bool {
     true
 }
 
-// Sixteen pins are taken, and the next only once one of them was given up.
+// Sixteen pins are taken, and the next one only once one of them was given up.
 #[test]
 fn seventeen_pins(rt: HostRuntime) -> Result<(), AllocError> {
     let Ok(mut desk) = office_on(rt.alloc(), &[], &[])? else {
@@ -279,7 +279,7 @@ fn seventeen_pins(rt: HostRuntime) -> Result<(), AllocError> {
     Ok(())
 }
 
-// A policy that its poster reads back, and as it was once more was posted.
+// A policy that its poster reads back, and as it was when one more command was posted.
 #[test]
 fn reads_at_a_pins_position(rt: HostRuntime) -> Result<(), AllocError> {
     let alloc = rt.alloc();
@@ -328,7 +328,7 @@ const BATCHES: &[(u64, u32, usize, (u32, u32))] = &[
     (301, 299, 0, (0, 0)),
 ];
 
-// Three hundred policies, read in batches of 256 at most, as they stand and as 299 stood.
+// Three hundred policies, read in batches of at most 256, as they are now and as they were after 299.
 #[test]
 fn batches_of_many_policies(rt: HostRuntime) -> Result<(), AllocError> {
     let alloc = rt.alloc();

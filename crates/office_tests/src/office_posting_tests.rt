@@ -1,5 +1,5 @@
-// The rows of postings that an office answers, what it then shows, and what it opens to again. Days, amounts and balances
-// are worked by hand from the rules.
+// The rows of postings to which an office replies, what it then shows, and what it has when it is opened again. Days,
+// amounts and balances are worked by hand from the rules.
 use crate::office_desk::{Posting, answers, office_on, shows};
 use crate::policies::NEW_YEAR;
 use money_ledgers::Ledger;
@@ -24,7 +24,7 @@ const PAID: Command = Command::Premium {
     amount: 40_000,
 };
 
-// 2020-02-02 is out of the 31 days of grace, 2020-02-01 is in them.
+// 2020-02-02 is after the 31 days of grace, 2020-02-01 is their last.
 const GRACE: &[Posting] = &[
     Posting {
         command: ISSUED,
@@ -272,7 +272,7 @@ const ROWS: &[Row] = &[
     },
 ];
 
-// Whether the row is answered, and what it leaves stands when it is opened again.
+// Whether the office replies as the row says, and what it leaves is there when it is opened again.
 fn stands(alloc: Global, row: &Row) -> Result<bool, AllocError> {
     let Ok(mut desk) = office_on(alloc, &[], &[])? else {
         return Ok(false);
@@ -297,7 +297,7 @@ fn rows_of_postings(rt: HostRuntime) -> Result<(), AllocError> {
     Ok(())
 }
 
-// Two policies, as they stood after each of four commands.
+// Two policies, as they were after each of four commands.
 const FOUR: &[Posting] = &[
     Posting {
         command: ISSUED,
@@ -393,7 +393,7 @@ const SHOWN: &[&[Policy]] = &[
     &[FIRST_PAID_TWICE, SECOND],
 ];
 
-// Whether the office answers these postings, and shows just these policies at each position from 0 on.
+// Whether the office accepts these postings, and shows exactly these policies at each position from 0 on.
 fn shows_each(
     alloc: Global,
     postings: &[Posting],

@@ -1,5 +1,5 @@
-// What an office keeps of its policies' past: each position that a pin holds is read as it was, and what no pin needs is
-// given up.
+// What an office keeps of its policies' past: each position that a pin holds is read as it was, and what no pin needs
+// is dropped.
 use crate::office_desk::{Desk, accepted, answers_one, office_on, shows};
 use crate::office_pin_tests::{Pinning, pinned, pins_so, reads};
 use crate::policies::{NEW_YEAR, issue, premium_of};
@@ -134,7 +134,7 @@ fn reads_as_then(
     Ok(told && shows(&then, position.min(COMMANDS) as u32, batch.policies()))
 }
 
-// Five issues, then a premium for each: a trim leaves one version of each, but none is given up while the fifth
+// Five issues, then a premium for each: a trim leaves one version of each policy, but drops none while the fifth
 // position is pinned.
 #[test]
 fn five_policies_paid_once(rt: HostRuntime) -> Result<(), AllocError> {
@@ -160,8 +160,9 @@ fn five_policies_paid_once(rt: HostRuntime) -> Result<(), AllocError> {
     Ok(())
 }
 
-// A pin at each position of a script, given up one after the other, the oldest first, with a trim after each: the floor is
-// then the next pin's position, what is kept is what the rest need, and each of them reads what it held.
+// A pin at each position of a script. They are given up one after the other, the oldest first, with a trim after
+// each: the floor is then the next pin's position, what is kept is what the remaining pins need, and each of these
+// reads what it held.
 #[test]
 fn a_pin_at_each_position(rt: HostRuntime) -> Result<(), AllocError> {
     let alloc = rt.alloc();

@@ -1,4 +1,4 @@
-// Watchers of an office: one who finds no memory, and the reports of those who do.
+// Watchers of an office: one that is refused memory, and the reports of others.
 ghost use Rattle.std.specs.Prelude.{ℕ, [], IfOk};
 
 use crate::office_desk::{
@@ -11,7 +11,7 @@ use policy_types::{Command, Plan, Refusal, Report, Status, Watcher};
 use std::alloc::{AllocError, Global};
 use watcher_set::{CountWatcher, PremiumWatcher, Reports, TightWatcher, Watchers, Watching};
 
-// A set with one auditor, who has no room for the second command of which it is to be told.
+// A set with one watcher, which has no capacity for the second command.
 fn tight(alloc: Global) -> Result<Watchers<TightWatcher>, AllocError>
     ensures { IfOk result (λ watchers. (before : ℕ) → ⟦<Watchers<TightWatcher> as Watching>⟧.told watchers before []) }
 {
@@ -20,7 +20,8 @@ fn tight(alloc: Global) -> Result<Watchers<TightWatcher>, AllocError>
     Ok(Watchers::new(auditors))
 }
 
-// The second of three postings lacks the watchers' memory: it changes nothing, and the third has the next position.
+// The watcher is refused memory at the second of three postings: that changes nothing, and the third has the next
+// position.
 #[test]
 fn watchers_without_memory(rt: HostRuntime) -> Result<(), AllocError> {
     let alloc = rt.alloc();
@@ -48,8 +49,8 @@ fn watchers_without_memory(rt: HostRuntime) -> Result<(), AllocError> {
     Ok(())
 }
 
-// A policy whose issue lacks the watchers' memory, and one whose first premium is refused, leave no trace: they don't stand
-// in the book, nor in the order of issue.
+// A policy at whose issue the watcher is refused memory, and one whose first premium is refused, leave no trace: they
+// are neither in the book nor in the order of issue.
 #[test]
 fn postings_that_leave_no_trace(rt: HostRuntime) -> Result<(), AllocError> {
     let alloc = rt.alloc();
@@ -74,7 +75,7 @@ fn postings_that_leave_no_trace(rt: HostRuntime) -> Result<(), AllocError> {
     Ok(())
 }
 
-// The reports of watchers at the end of an office that answers so.
+// The reports of watchers at the end of an office that replies so.
 fn reports_after<W: Watching>(
     alloc: Global,
     failing: &[u64],
@@ -197,7 +198,7 @@ const REPORTS: &[Report] = &[
     },
 ];
 
-// One watcher counts to three, the other hears all six.
+// One watcher counts to three, the other notes all six.
 #[test]
 fn reports_of_two_watchers(rt: HostRuntime) -> Result<(), AllocError> {
     let alloc = rt.alloc();

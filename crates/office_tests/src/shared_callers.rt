@@ -1,4 +1,4 @@
-// Callers of a shared office, one or several at once, each of whom issues policies of its own.
+// Callers of a shared office, one or several at once, each of which issues policies of its own.
 ghost use Rattle.std.specs.Prelude.{◌≡◌};
 ghost use denote.Param.Send.{IsSync};
 
@@ -9,12 +9,12 @@ use std::sync::Wait;
 use std::thread::{Threads, join};
 use watcher_set::Watching;
 
-// The number of a caller's n-th policy, from 1 on.
+// The number of a caller's n-th policy, counted from 1.
 pub(crate) fn number(caller: u16, n: u16) -> u32 {
     1000 * u32::from(caller) + u32::from(n)
 }
 
-// One caller issues so many policies.
+// One caller issues `count` policies.
 pub(crate) fn issues<D: Disk, W: Watching, R: Wait>(
     rt: &R,
     office: &Office<D, W>,
@@ -34,7 +34,7 @@ pub(crate) fn issues<D: Disk, W: Watching, R: Wait>(
     }
 }
 
-// The same of as many callers, from `first` on, each in a thread of its own.
+// The same for as many callers, from `first` on, each in a thread of its own.
 pub(crate) fn callers_issue<D: Disk + Send, W: Watching + Send, R: Threads + Wait + Sync>(
     rt: &R,
     office: &Office<D, W>,

@@ -1,4 +1,4 @@
-// Several callers at once: each one's postings stand in the journal in its order.
+// Several callers at once: each one's postings are in the journal in its order.
 ghost use Rattle.std.specs.Prelude.{◌≡◌, ◌≤◌};
 ghost use denote.Param.Send.{IsSync};
 
@@ -13,8 +13,8 @@ use std::thread::{Threads, join, yield_now};
 use test_rows::assert_rows;
 use watcher_set::{NoWatchers, Watching};
 
-// The numbers of the policies that a journal's records issue. The records are 65 bytes long, stand behind 18 others,
-// and have the policy's number in their bytes 4 to 7.
+// The numbers of the policies that a journal's records issue. The records are 65 bytes long, begin after 18 other
+// bytes, and have the policy's number in their bytes 4 to 7.
 fn numbers(alloc: Global, journal: &[u8]) -> Result<Vec<u32>, AllocError> {
     let mut numbers = Vec::new(alloc);
     if let Some(records) = journal.get(18..) {
@@ -77,7 +77,7 @@ fn each_callers_postings_in_its_order(rt: HostRuntime) -> Result<(), AllocError>
     Ok(())
 }
 
-// Caller 7 waits until the others are done, for so many looks at most, and then issues a policy.
+// Caller 7 waits until the others are done, for a limited number of looks, and then issues a policy.
 fn late<D: Disk, W: Watching, R: Wait>(
     rt: &R,
     office: &Office<D, W>,
@@ -96,7 +96,7 @@ fn late<D: Disk, W: Watching, R: Wait>(
     issues(rt, office, pass, 7, 1);
 }
 
-// One caller is put off until seven others have issued fifty policies each.
+// One caller has to wait until seven others have issued fifty policies each.
 fn put_off<D: Disk + Send, W: Watching + Send, R: Threads + Wait + Sync>(
     rt: &R,
     office: &Office<D, W>,

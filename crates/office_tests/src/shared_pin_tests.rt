@@ -10,7 +10,7 @@ use std::alloc::{AllocError, Global};
 use std::sync::Wait;
 use watcher_set::{NoWatchers, Watching};
 
-// Takes pins, as many as it may and at most so many, and gives them up again. Gives how many there were.
+// Takes pins, as many as it may up to a limit, and gives them up again. Returns how many there were.
 fn pins_at_once<D: Disk, W: Watching, R: Wait>(
     rt: &R,
     office: &Office<D, W>,
@@ -36,7 +36,7 @@ fn pins_at_once<D: Disk, W: Watching, R: Wait>(
     }
 }
 
-// A caller issues a policy and reads it back. Gives the answer and what the pin holds.
+// A caller issues a policy and reads it back. Returns the reply and what the pin holds.
 fn read_back<D: Disk, W: Watching, R: Wait>(
     rt: &R,
     office: &Office<D, W>,

@@ -1,4 +1,4 @@
-// What the watchers of a shared office have to say at its end.
+// What the watchers of a shared office report at its end.
 ghost use Rattle.std.specs.Prelude.{◌≡◌, ℕ, ◌≤◌, []};
 
 use crate::policies::NEW_YEAR;
@@ -12,7 +12,7 @@ use std::sync::Wait;
 use std::thread::{Threads, join};
 use watcher_set::{CountWatcher, NoWatchers, PremiumWatcher, Reports, Watchers, Watching};
 
-// One caller issues so many policies, and then pays the first premium of each.
+// One caller issues `count` policies, and then pays the first premium of each.
 fn issues_and_pays<D: Disk, W: Watching, R: Wait>(
     rt: &R,
     office: &Office<D, W>,
@@ -69,7 +69,8 @@ fn two_pay<D: Disk + Send, W: Watching + Send, R: Threads + Wait + Sync>(
     pass
 }
 
-// An office of the disk at which two callers post so much, and the reports of its end. With no policies nobody posts.
+// An office of the disk at which two callers post so much, and the reports of its end. With no policies, nobody
+// posts.
 fn reported<D: Disk + Send, W: Watching + Send, R: Threads + Wait + Sync>(
     rt: &R,
     alloc: Global,

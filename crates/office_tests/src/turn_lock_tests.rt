@@ -1,5 +1,5 @@
-// Turns of several threads on one counter: each answers the count of all turns before it, whoever waits gets its turn, and
-// all shares come back.
+// Turns of several threads on one counter: each returns the number of all turns before it, every caller that waits
+// gets its turn, and all shares come back.
 ghost use Rattle.std.specs.Prelude.{◌≡◌, IfOk};
 ghost use Rattle.turn_lock.specs.Passes.{all_shares};
 ghost use denote.Param.Send.{IsSync};
@@ -38,7 +38,7 @@ impl Stands for Counter {
     ghost is_legal = { λ _ _ _. tt };
 }
 
-// A turn that gives the processor up so often while it has the counter, adds one, and answers the count before.
+// A turn that yields the processor so often while it has the counter, then adds one, and returns the count before.
 #[derive(Clone, Copy)]
 struct Tick {
     yields: u32,
@@ -69,7 +69,8 @@ impl Turn<Counter> for Tick {
     ghost by_caller = { λ _ _ _. refl };
 }
 
-// The turns of one caller. Gives how many weren't behind its last, or answered another count than that of the turns before.
+// The turns of one caller. Returns how many weren't after its last, or returned another count than the number of
+// earlier turns.
 fn lane<R: Wait>(
     rt: &R,
     gate: &Turnstile<Counter>,
@@ -95,7 +96,7 @@ fn lane<R: Wait>(
     wrong
 }
 
-// The same of as many callers, each in a thread of its own.
+// The same for as many callers, each in a thread of its own.
 fn lanes<R: Threads + Wait + Sync>(
     rt: &R,
     gate: &Turnstile<Counter>,
@@ -159,7 +160,7 @@ fn every_turn_sees_all_before_it(rt: HostRuntime) -> Result<(), Fail> {
     Ok(())
 }
 
-// Waits until the others are done, and then takes one turn, whose place is given.
+// Waits until the others are done, and then takes one turn, whose place is returned.
 fn late<R: Wait>(
     rt: &R,
     gate: &Turnstile<Counter>,
@@ -181,7 +182,7 @@ fn late<R: Wait>(
     Some(gate.turn(rt, pass, Tick { yields: 0 }).turn)
 }
 
-// One caller is put off until seven others have taken all their turns. Gives the place of its turn.
+// One caller has to wait until seven others have taken all their turns. Returns the place of its turn.
 fn put_off<R: Threads + Wait + Sync>(rt: &R, alloc: Global, turns: u64) -> Option<u64> {
     let Ok((gate, mut pass)) = Turnstile::new(alloc, Counter { first: 0, count: 0 }) else {
         return None;

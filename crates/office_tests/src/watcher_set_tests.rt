@@ -1,4 +1,4 @@
-// Reports of sets of auditors, expected by hand.
+// Reports of sets of watchers, expected by hand.
 ghost use Rattle.std.specs.Prelude.{◌≡◌, ℕ, [], length, IsTrue};
 ghost use Rattle.std.specs.List.{AllByRecursion};
 
@@ -12,7 +12,7 @@ use watcher_set::{
     CountWatcher, MOST_WATCHERS, NoWatchers, PremiumWatcher, Reports, Watchers, Watching,
 };
 
-// An auditor that counts, and owns a share of a token while it isn't dropped.
+// A watcher that counts, and owns a share of a token while it isn't dropped.
 #[derive(Drop)]
 struct Guest {
     count: CountWatcher,
@@ -63,7 +63,7 @@ fn are_fresh(boxes: &[Box<dyn Watcher + Send>]) -> bool
     true
 }
 
-// Tells the set of the commands. After each the token has as many owners as are expected.
+// Notifies the set of the commands. After each, the token has as many owners as are expected.
 fn told<W: Watching + Send>(
     rt: &impl Abort,
     mut watchers: W,
@@ -85,7 +85,7 @@ fn told<W: Watching + Send>(
     Ok(watchers.finish())
 }
 
-// Five issues with a watcher of the first three, in no box.
+// Five issues with a watcher of the first three, not in a box.
 #[test]
 fn done_and_dropped_at_the_third(rt: HostRuntime) -> Result<(), Fail> {
     let alloc = rt.alloc();

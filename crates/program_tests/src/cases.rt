@@ -1,4 +1,4 @@
-// What the program is given in a case, where a device fails it, and what it must end with, write and leave.
+// What the program is given in a case, where a device fails, and what it must end with, write and leave.
 use crate::devices::{Finished, Text, disk_of, run_beside, shelf_of};
 use outside_io::OpenGate;
 use std::alloc::{AllocError, Global};

@@ -11,7 +11,7 @@ use std::collections::BTreeMap;
 use std::sync::Wait;
 use std::thread::Threads;
 
-// What a run ended with and wrote, and its disk.
+// The status with which a run ended, what it wrote, and its disk.
 #[derive(Drop)]
 pub(crate) struct Finished {
     pub status: u8,
@@ -72,7 +72,7 @@ pub(crate) fn shelf_of(
     Ok(MapShelf::new(files, Vec::from_slice(alloc, failing)?))
 }
 
-// Does what the words ask for, over these devices, with these watchers and this gate.
+// Does what the arguments ask for, over these devices, with these watchers and this gate.
 pub(crate) fn run_beside<R: Threads + Wait + Sync, H: Shelf + Drop, G: Gate + Sync>(
     rt: &R,
     alloc: Global,
@@ -115,7 +115,7 @@ pub(crate) fn run_beside<R: Threads + Wait + Sync, H: Shelf + Drop, G: Gate + Sy
     })
 }
 
-// Does what the words ask for over a disk, with these watchers and an empty shelf.
+// Does what the arguments ask for over a disk, with these watchers and an empty shelf.
 pub(crate) fn run_watched<R: Threads + Wait + Sync>(
     rt: &R,
     alloc: Global,
@@ -142,7 +142,7 @@ pub(crate) fn run_watched<R: Threads + Wait + Sync>(
     )
 }
 
-// Runs a script over a disk beside a basis, with this gate.
+// Runs a script over a disk, with a basis and with this gate.
 pub(crate) fn run_gated<R: Threads + Wait + Sync, G: Gate + Sync>(
     rt: &R,
     alloc: Global,

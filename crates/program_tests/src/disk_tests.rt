@@ -1,4 +1,4 @@
-// Runs beside their disk: its calls and its faults. Texts and counts are written by hand from the formats.
+// Runs and their disk: its calls and its faults. Texts and counts are written by hand from the formats.
 use crate::devices::{disk_of, run_on};
 use memory_disk::DiskCall;
 use std::alloc::{AllocError, Global};
@@ -32,7 +32,7 @@ fn a_run_goes_on_after_a_fault(rt: HostRuntime) -> Result<(), AllocError> {
     Ok(())
 }
 
-// A call in a few words: its kind, its place, how many bytes, and whether it failed.
+// A call in a short form: its kind, its place, how many bytes, and whether it failed.
 type Wanted = (u8, u64, usize, bool);
 
 fn is_call(call: &DiskCall, wanted: Wanted) -> bool {
@@ -99,7 +99,7 @@ const CALLS: &[Calls] = &[
             SYNC,
         ],
     },
-    // A creation that was begun: its first step isn't made again.
+    // A creation that had begun: its first step isn't made again.
     Calls {
         before: "",
         file: &[0; 10],
@@ -115,7 +115,7 @@ const CALLS: &[Calls] = &[
             SYNC,
         ],
     },
-    // A journal of one record, and a posting behind it.
+    // A journal of one record, and a posting after it.
     Calls {
         before: FIRST,
         file: &[],
@@ -158,7 +158,7 @@ const CALLS: &[Calls] = &[
     },
 ];
 
-// Whether the script makes just the calls that are wanted.
+// Whether the script makes exactly the expected calls.
 fn calls_are<R: Threads + Wait + Sync>(
     rt: &R,
     alloc: Global,

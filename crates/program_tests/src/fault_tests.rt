@@ -1,5 +1,5 @@
-// Runs of six issues in which calls of the disk fail, and crashes at each moment of one. What is left is judged by what was
-// answered.
+// Runs of six issues in which calls of the disk fail, and crashes at each moment of one. What is left is compared
+// with what was printed.
 use crate::devices::{Finished, disk_of, run_on};
 use std::alloc::{AllocError, Global};
 use std::sync::Wait;
@@ -66,7 +66,7 @@ fn ids_in(alloc: Global, file: &[u8]) -> Result<Vec<u8>, AllocError> {
     Ok(ids)
 }
 
-// Whether a file opens to just the accepted ones, or these and one behind them that was answered `fault`.
+// Whether a file opens to exactly the accepted ones, or to these and one after them that was answered `fault`.
 fn left_right(alloc: Global, file: &[u8], faults: &[bool; 6]) -> Result<bool, AllocError> {
     let ids = ids_in(alloc, file)?;
     let mut left = ids.as_slice();
@@ -99,7 +99,7 @@ fn reopened<R: Threads + Wait + Sync>(
     run_on(rt, alloc, "", disk_of(alloc, file, &[])?)
 }
 
-// Whether a run in which these calls fail, so many at most, is answered and leaves what it may.
+// Whether a run in which these calls fail, up to a limit, prints and leaves what it may.
 fn holds<R: Threads + Wait + Sync>(
     rt: &R,
     alloc: Global,
@@ -120,7 +120,7 @@ fn holds<R: Threads + Wait + Sync>(
     Ok(told && left_right(alloc, again.disk.bytes(), &faults)?)
 }
 
-// Each call fails alone, and each with the one behind it.
+// Each call fails alone, and each with the one after it.
 #[test]
 fn each_failing_call_is_answered(rt: HostRuntime) -> Result<(), AllocError> {
     let alloc = rt.alloc();
@@ -130,7 +130,7 @@ fn each_failing_call_is_answered(rt: HostRuntime) -> Result<(), AllocError> {
     Ok(())
 }
 
-// A crash at each moment, when of the writes that weren't synced none, one or two had been done, or a part of each.
+// A crash at each moment, when none, one or two of the writes that weren't synced had been done, or a part of each.
 #[test]
 fn each_crash_leaves_what_was_acknowledged(rt: HostRuntime) -> Result<(), Fail> {
     let alloc = rt.alloc();

@@ -1,5 +1,5 @@
-// Runs whose lanes are held until others have come as far as a gate says: it can't be that one lane waits for another's end.
-// The reserves are worked out by hand: of each policy, after one year, 127.22 to 127.23.
+// Runs whose lanes wait until others have come as far as a gate says: a lane must never have to wait for another's
+// end. The reserves are worked out by hand: for each policy, after one year, 127.22 to 127.23.
 use crate::devices::{disk_of, run_gated, run_on};
 use crate::gates::{Between, Held, Together};
 use std::alloc::{AllocError, Global};
@@ -28,7 +28,7 @@ fn issues(alloc: Global, last: u32) -> Result<String, AllocError> {
     Ok(script)
 }
 
-// What is told of their valuation by lane 2, which the postings of lane 1 meet, and then of these.
+// What lane 2 prints of their valuation, during which lane 1 posts, and then of these.
 fn met(alloc: Global) -> Result<String, AllocError> {
     let mut text = String::from_str(alloc, "2,value,2021-01-01,300,300\n")?;
     for id in 1..=300u32 {
@@ -97,7 +97,7 @@ fn lane_at(text: &[u8], position: u8) -> u8 {
     0
 }
 
-// Eight clerks issue a policy each, which are accepted at the positions 1 to 8 in some order.
+// Eight lanes issue a policy each; the issues are accepted at the positions 1 to 8 in some order.
 #[test]
 fn eight_lanes_at_once(rt: HostRuntime) -> Result<(), AllocError> {
     let alloc = rt.alloc();
@@ -115,7 +115,8 @@ fn eight_lanes_at_once(rt: HostRuntime) -> Result<(), AllocError> {
     Ok(())
 }
 
-// The second clerk's postings are all refused, so that the first clerk's have the same positions whatever comes between.
+// The second lane's postings are all refused, so that the first lane's have the same positions whatever comes
+// between.
 const TWO_CLERKS: &str =
     "2,claim,9,2020-01-01\n1,issue,7001,2020-01-01,endowment,0,3,1000.00,400.00\n\
     2,lapse,9,2020-01-01\n1,premium,7001,2020-01-01,400.00\n2,mature,9,2020-01-01\n\
@@ -128,7 +129,7 @@ const FIRST_CLERK: &str =
 const SECOND_CLERK: &str =
     "2,claim,9,refused,unknown\n2,lapse,9,refused,unknown\n2,mature,9,refused,unknown\n";
 
-// The first lane is held for a million looks, and the other goes on.
+// The first lane waits for a million looks, and the other goes on.
 #[test]
 fn two_clerks_have_their_lines_in_order(rt: HostRuntime) -> Result<(), AllocError> {
     let alloc = rt.alloc();

@@ -1,5 +1,5 @@
-// Gates that hold lanes until others have come as far as they say. None holds a lane for ever: where it is held too long,
-// the gate counts a miss and lets it go on.
+// Gates that make lanes wait until others have come as far as the gate says. None makes a lane wait forever: if a
+// lane has waited too long, the gate counts a miss and lets it go on.
 use outside_io::Gate;
 use std::sync::Wait;
 use std::sync::atomic::{AtomicU32, Ordering};
@@ -8,7 +8,7 @@ use std::thread::yield_now;
 /// How often a gate looks before it gives up.
 const LOOKS: u32 = 100_000_000;
 
-// Looks until the number is at least this one, and counts a miss where it doesn't come.
+// Looks until the number is at least this one, and counts a miss if it doesn't come.
 fn look_for(number: &AtomicU32, least: u32, missed: &AtomicU32) {
     for _ in 0..LOOKS {
         if number.load(Ordering::SeqCst) >= least {
@@ -19,7 +19,8 @@ fn look_for(number: &AtomicU32, least: u32, missed: &AtomicU32) {
     missed.fetch_add(1, Ordering::SeqCst);
 }
 
-/// Holds lane 1 at its first line until lane 2 has valued a batch, and then lane 2 until lane 1 is before its third line.
+/// Makes lane 1 wait at its first line until lane 2 has valued a batch, and then lane 2 until lane 1 is before its
+/// third line.
 #[derive(Drop)]
 pub(crate) struct Between {
     pub(crate) lines: AtomicU32,
@@ -43,7 +44,7 @@ impl Gate for Between {
     }
 }
 
-/// Holds each lane before its line until all eight are there.
+/// Makes each lane wait before its line until all eight are there.
 #[derive(Drop)]
 pub(crate) struct Together {
     pub(crate) there: AtomicU32,
@@ -59,7 +60,7 @@ impl Gate for Together {
     }
 }
 
-/// Holds lane 1 for a million looks before its first line.
+/// Makes lane 1 wait for a million looks before its first line.
 #[derive(Drop)]
 pub(crate) struct Held {
     pub(crate) looks: AtomicU32,

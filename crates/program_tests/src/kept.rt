@@ -7,7 +7,7 @@ use std::alloc::{AllocError, Global};
 use std::sync::Wait;
 use std::thread::Threads;
 
-// What a run ended with and wrote, and its two disks.
+// The status with which a run ended, what it wrote, and its two disks.
 #[derive(Drop)]
 pub(crate) struct Kept {
     pub status: u8,
@@ -16,7 +16,8 @@ pub(crate) struct Kept {
     pub second: MemoryDisk,
 }
 
-// Does what the words ask for over two disks, beside a shelf with a basis, with an output that fails at these calls.
+// Does what the arguments ask for over two disks, with a shelf that has a basis, and with an output that fails at
+// these calls.
 pub(crate) fn keep_beside<R: Threads + Wait + Sync>(
     rt: &R,
     alloc: Global,

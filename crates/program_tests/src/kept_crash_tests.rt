@@ -1,5 +1,5 @@
-// Drawn scripts with checkpoints among their lines, and crashes at each moment of either disk: `state` writes what it writes
-// without a checkpoint.
+// Drawn scripts with checkpoints between their lines, and crashes at each moment of either disk: `state` writes what
+// it writes without a checkpoint.
 use crate::devices::disk_of;
 use crate::kept::{Kept, keep};
 use memory_disk::MemoryDisk;
@@ -10,7 +10,7 @@ use std::test::Fail;
 use std::thread::Threads;
 use test_rows::assert_rows;
 
-// Lines of which most are refused where they stand.
+// Lines, most of which are refused at the place where they are drawn.
 const LINES: [&str; 20] = [
     "1,issue,1,2020-01-01,endowment,0,3,1000.00,400.00\n",
     "1,issue,2,2020-01-01,limited,0,2,500.00,200.00\n",
@@ -59,8 +59,8 @@ fn is_stated_alike<R: Threads + Wait + Sync>(
     )
 }
 
-// Sixty lines are drawn, each run by itself; behind about every fifth a checkpoint is made, so that it is out of date, or
-// older than the upgrade, at most of the comparisons.
+// Sixty lines are drawn, and each is run by itself. After about every fifth a checkpoint is made, so that in most of
+// the comparisons it is out of date, or older than the upgrade.
 #[test]
 fn drawn_scripts_are_stated_alike(rt: HostRuntime) -> Result<(), AllocError> {
     let alloc = rt.alloc();
@@ -92,8 +92,8 @@ fn drawn_scripts_are_stated_alike(rt: HostRuntime) -> Result<(), AllocError> {
     Ok(())
 }
 
-// The images that a crash might have left at some moment, each once: of the writes that weren't safe none, one or two were
-// done, or a part of each.
+// The images that a crash might have left at some moment, each once: none, one or two of the writes that weren't safe
+// were done, or a part of each.
 fn images_of(alloc: Global, disk: &MemoryDisk) -> Result<Vec<Vec<u8>>, Fail> {
     let mut images = Vec::new(alloc);
     for moment in 0..=disk.calls() {
@@ -126,8 +126,8 @@ const FIRST_TWO: &str =
 
 const NEXT_TWO: &str = "1,issue,2,2020-01-01,limited,0,2,500.00,200.00\n1,claim,1,2020-06-01\n";
 
-// None, then two commands, then two more are kept. A crash of either disk at any moment of that, of the other at any other:
-// the images need not even belong together.
+// None, then two commands, then two more are kept. A crash of either disk at any moment of that, of the other disk at
+// any other moment: the images need not even belong together.
 #[test]
 fn a_crash_of_either_disk_is_stated_alike(rt: HostRuntime) -> Result<(), Fail> {
     let alloc = rt.alloc();

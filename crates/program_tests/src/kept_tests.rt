@@ -27,7 +27,8 @@ const SETTLED_BOOKS: &str = "policy,7001,settled,endowment,0,3,1000.00,400.00,20
 const CHECKPOINT: &[u8] =
     b"\x01\x4c\x49\x46\x45\x43\x48\x4b\x50\x00\x01\x00\x30\x00\x00\x00\x00\x00\x00\x00\x04\x00\x00\x00\x00\x00\x00\x00\x01\x00\x00\x00\x00\x00\x00\x00\x00\xff\xff\xff\xff\xff\xff\x63\xc0\x00\x00\x00\x00\x00\x01\x86\xa0\xff\xff\xff\xff\xff\xff\x15\xa0\x00\x00\x00\x00\x00\x1b\x59\x03\x00\x03\x01\x03\x00\x00\x00\x00\x00\x47\x56\x00\x00\x48\x0c\x00\x00\x00\x00\x00\x01\x86\xa0\x00\x00\x00\x00\x00\x00\x9c\x40\x00\x00\x00\x00\x00\x00\xea\x60\x00\x00\x00\x00";
 
-// Whether the last of the calls reads the bodies of the last so many of five records, and what stands before it opens them.
+// Whether the last of the calls reads the bodies of the last so many of five records, and the calls before it open
+// them.
 fn read_last(disk: &MemoryDisk, bodies: u64) -> bool {
     match disk.made().last() {
         Some(DiskCall::Read { at, many, failed }) => {
@@ -56,7 +57,8 @@ fn a_checkpoint_is_made_and_used(rt: HostRuntime) -> Result<(), AllocError> {
     assert!(rt; ran.wrote(0, "1,settle,7001,accepted,5\n"));
     assert!(rt; ran.second.bytes() == CHECKPOINT);
 
-    // One body is read of five; with the gate closed all of them are; and the second disk is only synced and read.
+    // One of the five bodies is read; with the gate closed all of them are; and the second disk is only synced and
+    // read.
     let mut closed = Vec::from_slice(alloc, CHECKPOINT)?;
     if let Some(gate) = closed.as_mut_slice().first_mut() {
         *gate = 0;
@@ -72,14 +74,15 @@ fn a_checkpoint_is_made_and_used(rt: HostRuntime) -> Result<(), AllocError> {
     Ok(())
 }
 
-// Whether a disk had no call but syncs, reads and questions for its length.
+// Whether a disk had only syncs, reads and questions for its length.
 fn is_only_read(disk: &MemoryDisk) -> bool {
     let writes = |call: &DiskCall| matches!(call, DiskCall::Write { .. });
     disk.calls() > 0 && !disk.made().iter().any(writes)
 }
 
-// Every mode but these two gives the second disk back as it got it, without a call, be it one that fails at its first.
-// The words of another mode, and what they end with.
+// Every mode but these two gives the second disk back as it was, without a call, even a disk that would fail at its
+// first call.
+// The arguments of another mode, and the status with which they end.
 struct Other {
     words: &'static [&'static str],
     status: u8,
@@ -136,7 +139,7 @@ const OTHERS: &[Other] = &[
     },
 ];
 
-// Whether the second disk comes back from them as it was, without a call, though it would fail at this one.
+// Whether these arguments leave the second disk as it was, without a call, although it would fail at this one.
 fn is_untouched<R: Threads + Wait + Sync>(
     rt: &R,
     alloc: Global,
@@ -158,10 +161,10 @@ fn no_other_mode_touches_the_second_disk(rt: HostRuntime) -> Result<(), AllocErr
     Ok(())
 }
 
-// The words of the two modes that read both disks.
+// The arguments of the two modes that read both disks.
 const BOTH: [&str; 2] = ["state", "checkpoint"];
 
-// Where the output fails the checkpoint is kept, and a part of the line may have been written.
+// If the output fails, the checkpoint is kept, and a part of the line may have been written.
 #[test]
 fn an_output_that_fails(rt: HostRuntime) -> Result<(), AllocError> {
     let alloc = rt.alloc();
@@ -175,7 +178,7 @@ fn an_output_that_fails(rt: HostRuntime) -> Result<(), AllocError> {
     Ok(())
 }
 
-// How many calls a mode makes on each disk where none fails.
+// How many calls a mode makes on each disk if none fails.
 fn calls_of<R: Threads + Wait + Sync>(
     rt: &R,
     alloc: Global,
@@ -188,8 +191,8 @@ fn calls_of<R: Threads + Wait + Sync>(
     Ok((ended.disk.calls(), ended.second.calls()))
 }
 
-// A call of either disk fails alone: the answer is 8, the journal is as it was, and what is left of the second disk is no
-// other checkpoint, so that the next `state` writes the same books.
+// A call of either disk fails alone: the status is 8, the journal is as it was, and the second disk has no other
+// checkpoint, so that the next `state` writes the same books.
 #[test]
 fn each_failing_call_of_either_disk_is_answered(rt: HostRuntime) -> Result<(), AllocError> {
     let alloc = rt.alloc();
@@ -208,7 +211,7 @@ fn each_failing_call_of_either_disk_is_answered(rt: HostRuntime) -> Result<(), A
     Ok(())
 }
 
-// Whether with these failing calls of the two disks it fails or doesn't, and leaves what it may.
+// Whether, with these failing calls of the two disks, it fails or not, and leaves what it may.
 fn is_answered<R: Threads + Wait + Sync>(
     rt: &R,
     alloc: Global,

@@ -1,4 +1,4 @@
-//! Tests of the program whole, over devices in memory.
+//! Tests of the whole program, over devices in memory.
 #![tactic(auto)]
 
 #[cfg(test)]

@@ -1,11 +1,11 @@
-// A disk that gives one wrong byte. From then on it isn't honest, so nothing is promised of it; what the program does
-// then is a test's to say.
+// A disk that gives one wrong byte. From then on it isn't honest, so nothing is promised about it; this test says
+// what the program does then.
 ghost use Rattle.std.specs.Prelude.{◌≡◌, ℕ, ◌+◌, ◌≤◌, false, List, length, take, drop, IfOk, OnOk};
 ghost use Rattle.outside_io.specs.Disks.{Elapses, HasDiskCause, Looks, Syncs, Writes};
 
 use outside_io::{Disk, Failed};
 
-/// Gives a wrong byte at this place of its read of that number, counted from 1, and does nothing any more then.
+/// Gives a wrong byte at this place in its read with that number, counted from 1, and fails from then on.
 #[derive(Drop)]
 pub(crate) struct LyingDisk<D: Disk + Drop> {
     pub disk: D,

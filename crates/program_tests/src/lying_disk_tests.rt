@@ -1,4 +1,5 @@
-// A disk that lies: what it gave is no journal or is one with other commands, and the program says so or tells of those.
+// A disk that lies: what it gave is no journal, or a journal with other commands; the program says the one, or prints
+// the others.
 use crate::devices::{disk_of, run_on, shelf_of, words_of};
 use crate::lying_disk::LyingDisk;
 use life_app::{Ended, life};
@@ -24,9 +25,9 @@ struct Lie {
     written: &'static str,
 }
 
-// The creation's gate reads as closed in a file that is longer than an unfinished creation; the first record's gate as
-// closed; the gate behind it as open, with no record there; the kind of its body as none; and no lie. The gates are
-// read at once, and then the bodies.
+// The creation's gate reads as closed, in a file that is longer than an unfinished creation; the first record's gate
+// reads as closed; the gate after it reads as open although there is no record; the kind of its body reads as none;
+// and no lie. The gates are read at once, and then the bodies.
 const LIES: &[Lie] = &[
     Lie {
         read: 1,

@@ -1,5 +1,5 @@
-// Runs whose output fails at one of its writes, however many there are of the text: what was written is a front of it, and
-// all postings stand.
+// Runs whose output fails at one of its writes, at each one that the text needs: what was written is a prefix of the
+// text, and all postings are in the journal.
 use crate::devices::{Finished, disk_of, run_beside, shelf_of};
 use outside_io::OpenGate;
 use std::alloc::{AllocError, Global};
@@ -16,7 +16,7 @@ const TEXT: &str = "1,issue,1,accepted,1\n1,issue,2,accepted,2\n1,issue,3,accept
 // A journal of three records.
 const WHOLE: usize = 18 + 3 * 65;
 
-// The run where this write fails, if it comes to it.
+// The run in which this write fails, if it gets that far.
 fn disturbed<R: Threads + Wait + Sync>(
     rt: &R,
     alloc: Global,
@@ -39,7 +39,7 @@ fn disturbed<R: Threads + Wait + Sync>(
     )
 }
 
-// Whether the text was written whole at status 0, or a front and not all of it at 7; and all was posted.
+// Whether the text was written whole with status 0, or a prefix and not all of it with 7; and all was posted.
 fn leaves_a_front(ran: &Finished) -> bool {
     let text = TEXT.as_bytes();
     let written = ran.output.bytes();

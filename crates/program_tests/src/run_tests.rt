@@ -1,4 +1,4 @@
-// Whole runs, over devices in memory, of which some fail. Texts, statuses and files are written by hand from the
+// Whole runs over devices in memory, some of which fail. Texts, statuses and files are written by hand from the
 // formats; the values and the payments that are expected are worked out by hand from the rates.
 use crate::cases::{Case, Failing, File, holds};
 use crate::devices::{BASIS, FLAT};
@@ -53,7 +53,7 @@ const TEN_DISK_CALLS: &[Failing] = &[
     Failing::Disk(10),
 ];
 
-// LIFEJRNL, 1, 64 and four zeros stand behind byte 0.
+// LIFEJRNL, 1, 64 and four zeros stand after byte 0.
 const HEAD: [u8; 16] = [
     0x4c, 0x49, 0x46, 0x45, 0x4a, 0x52, 0x4e, 0x4c, 0x00, 0x01, 0x00, 0x40, 0x00, 0x00, 0x00, 0x00,
 ];
@@ -260,7 +260,7 @@ const RUNS: &[Case] = &[
         written: "",
         left: ONE_RECORD,
     },
-    // A journal of one record is opened in five calls: sync, length, front, the piece of its gates, the piece of its
+    // A journal of one record is opened in five calls: sync, length, header, the piece of its gates, the piece of its
     // body.
     Case {
         words: &["run"],
@@ -286,7 +286,7 @@ const FILES: &[Case] = &[
         written: "",
         left: NO_RECORD,
     },
-    // What stands behind the first closed gate has no meaning.
+    // Bytes after the first closed gate have no meaning.
     Case {
         words: &["run"],
         script: POLICY,
@@ -317,7 +317,7 @@ const FILES: &[Case] = &[
         written: "badjournal,notajournal\n",
         left: &[&[65; 18]],
     },
-    // A flipped bit of the header, and of byte 0 of a file that is too long for a creation.
+    // A flipped bit in the header, and in byte 0 of a file that is too long for a creation.
     Case {
         words: &["run"],
         script: POLICY,
@@ -338,7 +338,7 @@ const FILES: &[Case] = &[
         written: "badjournal,notajournal\n",
         left: &[&[3], &HEAD, &[1], &FIELDS, &ZEROS, &[0]],
     },
-    // A creation that had all but its byte 0.
+    // A creation of which everything but byte 0 was written.
     Case {
         words: &["run"],
         script: "",
@@ -420,7 +420,7 @@ const FILES: &[Case] = &[
             &[0],
         ],
     },
-    // The kind 9 with fields, the id 0, the day 200000, a byte behind the fields, the same policy twice.
+    // The kind 9 with fields, the id 0, the day 200000, a byte after the fields, the same policy twice.
     Case {
         words: &["run"],
         script: POLICY,
@@ -501,7 +501,7 @@ const FILES: &[Case] = &[
             &[0],
         ],
     },
-    // Cut short by a byte. The journal's own fault precedes that of an earlier record.
+    // Cut short by one byte. A fault of the journal's own layout comes before a fault in an earlier record.
     Case {
         words: &["run"],
         script: POLICY,
@@ -572,7 +572,7 @@ const DEVICES: &[Case] = &[
         written: "",
         left: ONE_RECORD,
     },
-    // What a missing table is answered for can be told, or not.
+    // If a table is missing, the status is 4, even if the line that names it can't be written.
     Case {
         words: &["value", "2021-01-01"],
         script: "",
@@ -659,8 +659,7 @@ const DEVICES: &[Case] = &[
         written: ENTRIES,
         left: ONE_RECORD,
     },
-    // A script that asks for values needs its basis before anything is posted; another one takes no notice of the
-    // shelf.
+    // A script that asks for values needs its basis before anything is posted; another script ignores the shelf.
     Case {
         words: &["run"],
         script: ASKS,

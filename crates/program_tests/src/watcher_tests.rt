@@ -1,4 +1,4 @@
-// Runs with auditors: what they report behind the transcript, and when they are called and dropped. Texts are written
+// Runs with watchers: what they report after the transcript, and when they are called and dropped. Texts are written
 // by hand from the formats.
 ghost use Rattle.std.specs.Prelude.{◌≤◌, vec_len};
 
@@ -25,8 +25,8 @@ const FIVE: &str = "1,issue,1,2020-01-01,endowment,0,3,1000.00,400.00\n\
     1,issue,4,2020-01-01,endowment,0,3,1000.00,400.00\n\
     1,issue,5,2020-01-01,endowment,0,3,1000.00,400.00\n";
 
-// A script, the limit of an auditor who counts, where there is one, the command for which another one has no memory,
-// where there is one, and what is written.
+// A script, the limit of a watcher that counts, if there is one, the command at which another watcher is refused
+// memory, if there is one, and what is written.
 struct Audited {
     script: &'static str,
     limit: u32,
@@ -36,7 +36,7 @@ struct Audited {
 }
 
 const AUDITED: &[Audited] = &[
-    // An auditor that has no memory once: its command isn't posted, and the run goes on.
+    // A watcher that is refused memory once: its command isn't posted, and the run goes on.
     Audited {
         script: THREE,
         limit: 0,
@@ -62,7 +62,7 @@ const AUDITED: &[Audited] = &[
     },
 ];
 
-// A run with the auditors of a case, of whom the one that counts is the first.
+// A run with the watchers of a case, the first of which is the one that counts.
 fn run_audited<R: Threads + Wait + Sync>(
     rt: &R,
     alloc: Global,
@@ -94,8 +94,8 @@ fn auditors_report_what_was_accepted(rt: HostRuntime) -> Result<(), AllocError> 
     Ok(())
 }
 
-// An auditor that counts up to a limit, and says how often it was dropped. Each time that it is told of a command it
-// notes how often the other was.
+// A watcher that counts up to a limit, and reports how often it was dropped. At each command it notes how often the
+// other was.
 struct Guest {
     count: CountWatcher,
     drops: Arc<AtomicU32>,
@@ -143,8 +143,8 @@ impl Watcher for Guest {
     }
 }
 
-// How often each of two auditors was dropped, and how often the second found that the first was when it was last told
-// of a command: 7 where it was told of none.
+// How often each of two watchers was dropped, and how often the first had been dropped when the second was last
+// notified of a command: 7 if it was notified of none.
 #[derive(Drop)]
 struct Visit {
     first: Arc<AtomicU32>,
@@ -170,8 +170,8 @@ impl Visit {
     }
 }
 
-// The words and the script of a run over a file, the limit of the first of two auditors, the status, and how often
-// the second heard that the first was dropped.
+// The arguments and the script of a run over a file, the limit of the first of two watchers, the status, and how
+// often the first had been dropped by what the second noted.
 struct Dropping {
     words: &'static [&'static str],
     script: &'static str,
@@ -232,7 +232,7 @@ const DROPPINGS: &[Dropping] = &[
     },
 ];
 
-// A run with two auditors, of whom the first counts up to the limit.
+// A run with two watchers, the first of which counts up to the limit.
 fn run_visited<R: Threads + Wait + Sync>(
     rt: &R,
     alloc: Global,
@@ -258,7 +258,7 @@ fn run_visited<R: Threads + Wait + Sync>(
     run_watched(rt, alloc, case.words, case.script, watchers, disk)
 }
 
-// Each is dropped once: where it is done, at the end of a run, where the journal is refused, and where nothing is run.
+// Each is dropped once: when it is done, at the end of a run, if the journal is refused, and if nothing is run.
 #[test]
 fn each_auditor_is_dropped_once(rt: HostRuntime) -> Result<(), AllocError> {
     assert_rows!(rt; (row, case) in DROPPINGS.iter().enumerate() => {
@@ -269,7 +269,7 @@ fn each_auditor_is_dropped_once(rt: HostRuntime) -> Result<(), AllocError> {
     Ok(())
 }
 
-// An auditor who counts the calls to it.
+// A watcher that counts the calls to it.
 #[derive(Drop)]
 struct Called {
     calls: Arc<AtomicU32>,
@@ -315,7 +315,7 @@ impl Watcher for Called {
     }
 }
 
-// How often an auditor is called by these words.
+// How often a watcher is called with these arguments.
 struct Calling {
     words: &'static [&'static str],
     script: &'static str,
@@ -340,7 +340,7 @@ const CALLINGS: &[Calling] = &[
     },
 ];
 
-// A run with an auditor whose calls are counted.
+// A run with a watcher whose calls are counted.
 fn run_counted<R: Threads + Wait + Sync>(
     rt: &R,
     alloc: Global,
@@ -358,7 +358,7 @@ fn run_counted<R: Threads + Wait + Sync>(
     run_watched(rt, alloc, case.words, case.script, watchers, disk)
 }
 
-// A run calls an auditor three times for the one posting that is accepted, and for a refused one makes it ready alone.
+// A run calls a watcher three times for the one posting that is accepted; for a refused one it only makes it ready.
 #[test]
 fn auditors_are_called_by_a_run_alone(rt: HostRuntime) -> Result<(), AllocError> {
     let alloc = rt.alloc();

@@ -1,4 +1,4 @@
-// The lines that scripts spell, and the lanes that they are dealt out to.
+// The lines that scripts spell, and the lanes that they make.
 ghost use Rattle.std.specs.Prelude.{◌≤◌, length};
 
 use command_csv::read_script;
@@ -98,7 +98,7 @@ fn lines_are_read_as_they_are_written(rt: HostRuntime) -> Result<(), Fail> {
     Ok(())
 }
 
-// Of each lane its number, and of its lines the policies that lapse, with 0 for a trim.
+// For each lane its number, and for its lines the policies that lapse, with 0 for a trim.
 fn dealt(alloc: Global, script: &[u8]) -> Result<Vec<u32>, Fail>
     requires { length script.now ≤ MOST_BYTES }
 {
@@ -116,7 +116,8 @@ fn dealt(alloc: Global, script: &[u8]) -> Result<Vec<u32>, Fail>
     Ok(dealt)
 }
 
-// Lanes stand by number, whichever comes first, each with its rows in order; a clerk without rows has none.
+// Lanes are in the order of their numbers, whichever comes first, each with its rows in order; a number without rows
+// has no lane.
 const DEALT: &[(&[u8], &[u32])] = &[
     (b"8,trim", &[8, 0]),
     (

@@ -1,4 +1,4 @@
-// Scripts that are refused, odd ones, and those at their limits.
+// Scripts that are refused, unusual ones, and those at their limits.
 ghost use Rattle.std.specs.Prelude.{◌≤◌, length};
 
 use command_csv::{ScriptFault, read_script};
@@ -150,7 +150,7 @@ fn bad_fields(rt: HostRuntime) -> Result<(), Fail> {
     answers(&rt, rt.alloc(), BAD_FIELDS)
 }
 
-// What the rows and fields of odd texts are, by RFC 4180 and by what the library `csv` does where it says nothing.
+// The rows and fields of unusual texts, by RFC 4180, and, where it doesn't say, by what the library `csv` does.
 const ODD_TEXTS: &[Row] = &[
     (b"", 0, 0),
     (b"\n\r\n\r\r\n\n", 0, 0),
@@ -205,7 +205,7 @@ fn odd_texts(rt: HostRuntime) -> Result<(), Fail> {
 
 const VALUE: &[u8] = b"1,value,2020-01-01,now,1\n";
 
-// A piece so many times, and an end, and what is answered.
+// A piece so many times, and an end, and the result.
 type Repeated = (u32, &'static [u8], &'static [u8], u64, u64);
 
 fn repeated(alloc: Global, count: u32, piece: &[u8], end: &[u8]) -> Result<Vec<u8>, Fail> {
@@ -217,7 +217,7 @@ fn repeated(alloc: Global, count: u32, piece: &[u8], end: &[u8]) -> Result<Vec<u
     Ok(script)
 }
 
-// Sixteen valuations are read, whatever stands between them; a seventeenth is no line, but for its lane.
+// Sixteen valuations are read, whatever comes between them; a seventeenth is no line, unless its lane doesn't exist.
 const VALUATIONS: &[Repeated] = &[
     (16, VALUE, b"", 0, 16),
     (16, VALUE, b"1,trim\n1,lapse,1,2020-01-01\n", 0, 18),
@@ -255,7 +255,7 @@ fn valuations_are_few(rt: HostRuntime) -> Result<(), Fail> {
     Ok(())
 }
 
-// At most so many bytes, that begin with a front and go on with a piece, over and over, as far as it fits whole.
+// At most so many bytes, which begin with a prefix and go on with a piece, repeated as often as it fits whole.
 fn long_script(alloc: Global, most: usize, front: &[u8], piece: &[u8]) -> Result<Vec<u8>, Fail> {
     let mut script = Vec::new(alloc);
     script.extend_from_slice(front)?;
@@ -268,7 +268,7 @@ fn long_script(alloc: Global, most: usize, front: &[u8], piece: &[u8]) -> Result
     Ok(script)
 }
 
-// A script of 16 MiB is dealt out to eight clerks, and isn't refused for memory where there is enough.
+// A script of 16 MiB is distributed to eight lanes, and isn't refused for memory if there is enough.
 #[test]
 fn longest_script(rt: HostRuntime) -> Result<(), Fail> {
     let piece =
@@ -280,7 +280,7 @@ fn longest_script(rt: HostRuntime) -> Result<(), Fail> {
     Ok(())
 }
 
-// Scripts of a MiB take no worse than one pass, whatever their bytes.
+// Scripts of a MiB take no more than one pass, whatever their bytes.
 #[test]
 fn long_scripts(rt: HostRuntime) -> Result<(), Fail> {
     let alloc = rt.alloc();

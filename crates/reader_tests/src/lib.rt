@@ -1,4 +1,4 @@
-//! Tests of the readers of scripts and of the words of the command line.
+//! Tests of the readers of scripts and of the arguments of the command line.
 #![tactic(auto)]
 
 #[cfg(test)]

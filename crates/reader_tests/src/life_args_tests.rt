@@ -5,7 +5,7 @@ use std::alloc::Global;
 use std::test::Fail;
 use test_rows::assert_rows;
 
-/// The words of a line, which stand between spaces. `''` is the empty word.
+/// The arguments of a line, separated by spaces. `''` is the empty argument.
 fn words_of(alloc: Global, line: &str) -> Result<Vec<String>, Fail> {
     let mut words = Vec::new(alloc);
     for word in line.split(' ') {
@@ -74,8 +74,8 @@ fn asked(alloc: Global, line: &str) -> Result<String, Fail> {
     }
 }
 
-/// Words, and what they ask for: what shows in nothing that a run with them writes. The other forms, and words that are
-/// none, are cases of the whole program.
+/// Arguments, and what they ask for, for forms that can't be recognized in what a run with them writes. The other
+/// forms, and faulty arguments, are cases of the whole program.
 const FORMS: &[(&str, &str)] = &[
     (
         "value --workers 64 --basis 7 1970-01-01 --at=5",

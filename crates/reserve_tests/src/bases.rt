@@ -18,7 +18,7 @@ const Q: &[u32] = &[
     1_000_000_000,
 ];
 
-/// The same but for the rate at age 3, which is above one half.
+/// The same except for the rate at age 3, which is above one half.
 const HIGH: &[u32] = &[
     100_000_000,
     200_000_000,
@@ -110,8 +110,8 @@ fn rows_of(alloc: Global, file: &[u8]) -> Result<BasisRows, Fail>
     }
 }
 
-/// A basis with the tables `q.xml`, `high.xml`, in which the rate at age 3 is above one half, `late.xml`, which begins at
-/// age 1, and by the age at issue `early.xml`, from age 0 on, and `older.xml`, from age 3 on.
+/// A basis with the tables `q.xml`; `high.xml`, whose rate at age 3 is above one half; `late.xml`, which begins at
+/// age 1; and two tables by age at issue, `early.xml` from age 0 on and `older.xml` from age 3 on.
 pub fn basis(alloc: Global, file: &[u8]) -> Result<Basis, Fail> {
     match Basis::of(rows_of(alloc, file)?, tables(alloc)?) {
         Ok(basis) => Ok(basis),

@@ -13,7 +13,7 @@ use std::alloc::Global;
 use std::test::Fail;
 use test_rows::assert_rows;
 
-/// Whether an issue may make the policy.
+/// Whether an issue can make the policy.
 pub fn is_of_issue(policy: &Policy) -> bool
     ensures { IsTrue result → IsOfIssue policy.now }
 {
@@ -29,7 +29,7 @@ pub fn is_of_issue(policy: &Policy) -> bool
     issue.is_valid()
 }
 
-/// The years of policies, and how many have a word.
+/// The years of policies, and how many have no value.
 pub fn projected(
     alloc: Global,
     policies: &[Policy],
@@ -46,7 +46,7 @@ pub fn projected(
     Ok((tally.cash(alloc)?, tally.unvalued))
 }
 
-/// The years of one policy by the basis of a file, and how many have a word.
+/// The years of one policy by the basis of a file, and how many have no value.
 fn cash(
     alloc: Global,
     file: &[u8],
@@ -76,7 +76,7 @@ fn bounds(year: &Year) -> [u64; 6] {
     ]
 }
 
-/// Whether the years have just these bounds.
+/// Whether the years have exactly these bounds.
 pub fn are_bounded(years: &[Year], expected: &[[u64; 6]]) -> bool {
     if years.len() != expected.len() {
         return false;
@@ -220,7 +220,7 @@ fn policy_of(row: &Projected) -> Policy {
     }
 }
 
-// Whether the years are these, beside so many policies that have a word.
+// Whether the years are these, and so many policies have no value.
 fn holds(alloc: Global, row: &Projected) -> Result<bool, Fail> {
     let many = row.expected.len().min(131) as u8;
     let (years, unvalued) = cash(alloc, row.file, &policy_of(row), row.on, many)?;

@@ -181,7 +181,7 @@ const DRAWN: &[Case] = &[
     (G, 33, 38, 38, true, 400, 1, 30, 0, 1),
 ];
 
-/// The table, where there is memory for it.
+/// The table, if memory for it wasn't refused.
 pub(crate) fn table_of(alloc: Global, table: Rates) -> Result<Option<RateTable>, AllocError> {
     let table = match table {
         Q => RateTable::new(0, Vec::from_array(alloc, Q_RATES)?),
@@ -200,7 +200,7 @@ fn cubes(alloc: Global) -> Result<Vec<u32>, AllocError> {
     Ok(rates)
 }
 
-/// The bounds, where the shape fits the table.
+/// The bounds, if the shape fits the table.
 fn bounds(table: &RateTable, shape: &Shape, bp: u16, amount: u64, t: u8) -> Option<(u64, u64)> {
     let rate = table.rate(shape.age)?;
     let years = table.last_age() + 1 - shape.age;

@@ -261,8 +261,8 @@ const DRAWN: &[(Plan, &[Point])] = &[
     ),
 ];
 
-/// Amounts, found by a search outside this program, of which the net premium lies so near to a whole cent that its bounds
-/// don't tell on which side: one cent less, this cent, one more, and this cent at the end of the cover.
+/// Amounts, found by a search outside this program, whose net premium is so near to a whole cent that its bounds
+/// don't decide on which side it is: one cent less, this cent, one more, and this cent at the end of the cover.
 const CLOSE_BY_SEARCH: &[(Plan, &[Point])] = &[
     (
         (G, 35, 86, 86, true, 400),
@@ -293,7 +293,7 @@ const CLOSE_BY_SEARCH: &[(Plan, &[Point])] = &[
     ),
 ];
 
-/// The bounds of the minimum and the test of the premium, where the shape fits the table.
+/// The bounds of the minimum and the test of the premium, if the shape fits the table.
 fn minimum(table: &RateTable, plan: Plan, policy: (u64, u64, u8)) -> Option<(u64, u64, Adequacy)> {
     let (_, age, n, h, matures, bp) = plan;
     let (amount, charged, t) = policy;

@@ -237,7 +237,7 @@ const DRAWN: &[Case] = &[
     (G, 9, 58, 58, true, 400, 7240462, 0, InForce, 1522, 1523),
 ];
 
-/// The bounds, where the shape fits the table.
+/// The bounds, if the shape fits the table.
 fn bounds(
     table: &RateTable,
     shape: &Shape,

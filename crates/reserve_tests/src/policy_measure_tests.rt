@@ -150,7 +150,7 @@ const MEANS: &[Case] = &[
     },
 ];
 
-// Of a premium of 400.00 or of 500.00 where the net premium is 484.87 and a fraction.
+// A premium of 400.00 or of 500.00, when the net premium is 484.87 and a fraction.
 const DEFICIENCIES: &[Case] = &[
     Case {
         name: "year 1",

@@ -101,7 +101,7 @@ pub fn worth_of(expected: Expected) -> Worth {
     }
 }
 
-/// The row of a policy by a basis and a cache that serves others too.
+/// The row of a policy by a basis and a cache that serves other policies too.
 pub fn row_of(
     basis: &Basis,
     policy: &Policy,
@@ -128,7 +128,7 @@ pub fn row_of(
     }
 }
 
-/// The same by a cache that has served others, of other ages at issue.
+/// The same by a cache that has served policies of other ages at issue.
 fn row_after_others(
     basis: &Basis,
     policy: &Policy,

@@ -163,7 +163,8 @@ const RESERVES: &[Case] = &[
     },
 ];
 
-// Of a paid-up policy of 300.00 the benefits alone, by hand: at 5 percent 300 * (0.2 / 1.05 + 0.2 / 1.1025) = 49200 / 441.
+// A paid-up policy of 300.00 has the benefits alone, by hand: at 5 percent 300 * (0.2 / 1.05 + 0.2 / 1.1025) = 49200
+// / 441.
 const PAID_UP_RESERVES: &[Case] = &[
     Case {
         name: "paid up: endowment",

@@ -1,4 +1,4 @@
-// Rows of a valuation without a reserve: the words, and policies of which nothing is insured.
+// Rows of a valuation without a reserve: those with a word, and those of policies that aren't insured.
 use crate::policy_rows::{Case, Expected, FLAT, ISSUED, OLD, TERM, TWO_YEARS, all_hold};
 use Expected::{Bounds, Word};
 use Measure::{Deficiency, Mean, Terminal};
@@ -108,7 +108,7 @@ const WORDS: &[Case] = &[
     },
 ];
 
-// Of each two, one has a reserve while it is insured, and the other a word.
+// Of each pair, one policy has a reserve while it is insured, and the other a word.
 const NOTHING_INSURED: &[Case] = &[
     Case {
         name: "lapsed",

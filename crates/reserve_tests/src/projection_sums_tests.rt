@@ -12,7 +12,7 @@ use std::alloc::Global;
 use std::test::Fail;
 use test_rows::assert_rows;
 
-/// Whether issues may make the policies.
+/// Whether issues can make the policies.
 fn are_of_issue(policies: &[Policy]) -> bool
     ensures { IsTrue result → AllByRecursion IsOfIssue policies.now }
 {
@@ -66,7 +66,7 @@ const GREATEST: Policy = Policy {
     outstanding: 0,
 };
 
-/// So many policies alike, and the six bounds of each year.
+/// `count` equal policies, and the six bounds of each year.
 struct Sum {
     name: &'static str,
     policy: Policy,
@@ -75,7 +75,7 @@ struct Sum {
     expected: &'static [[u64; 6]],
 }
 
-// The sums of all are rounded, and not what each policy has; and a thousand of the greatest amounts.
+// The sums over all policies are rounded, and not each policy's part; and a thousand of the greatest amounts.
 const SUMS: &[Sum] = &[
     Sum {
         name: "three",

@@ -66,7 +66,7 @@ struct Told {
     text: &'static str,
 }
 
-// The first issue, no policy, and the greatest of all.
+// The first issue, no policy, and the greatest of everything.
 const TOLD: &[Told] = &[
     Told {
         position: 1,
@@ -116,7 +116,7 @@ fn years_of(alloc: Global, years: &[[u64; 6]]) -> Result<Years, Fail> {
     Ok(Years::new(made))
 }
 
-// Whether that is its text.
+// Whether this is its text.
 fn holds(alloc: Global, told: &Told) -> Result<bool, Fail> {
     let years = years_of(alloc, told.years)?;
     if years.as_slice().len() > 131 || !are_tellable(&years) {

@@ -116,7 +116,7 @@ const ROWS: &[(Told, &str)] = &[
         (7001, Settled, 0, Bounds(0, 0)),
         "row,7001,settled,0,0.00,0.00\n",
     ),
-    // the minimum reserve, too: a premium that is short, one that is enough, one of which the bounds don't tell
+    // and the minimum reserve: a premium that is short, one that is enough, one for which the bounds don't decide
     (
         (
             7001,
@@ -215,7 +215,7 @@ const TOTALS: &[(u32, Told, Measure, &str)] = &[
         Terminal,
         "total,0.00,0.00,4000000\n",
     ),
-    // by the measure of deficiency with the minimum reserves, which rows without bounds don't show
+    // by the measure of deficiency, with the minimum reserves, to which rows without bounds add nothing
     (
         1,
         (7001, InForce, 0, Word(PastTable)),
@@ -395,8 +395,8 @@ fn blocks(rt: HostRuntime) -> Result<(), Fail> {
     Ok(())
 }
 
-// A long valuation, by its length, its first and its last lines. The longest, of 4,000,000 rows, is asked of the built
-// program by .ci/checks/hostile.sh: `rt try` takes a minute and more over it.
+// A long valuation, by its length, its first and its last lines. The longest, of 4,000,000 rows, is printed by the
+// built program in `tests/program/test_hostile.py`: `rt try` takes more than a minute for it.
 #[test]
 fn many_policies(rt: HostRuntime) -> Result<(), Fail> {
     let row = row_of((7001, InForce, 1, Bounds(GREATEST, GREATEST)));
@@ -425,7 +425,7 @@ const SHARED: &[(u32, u8, usize)] = &[
     (30_001, 4, 5),
 ];
 
-// Rows with ascending numbers.
+// Rows with rising numbers.
 fn numbered(alloc: Global, count: u32) -> Result<Rows, Fail> {
     let mut rows = Vec::new(alloc);
     for id in 0..count {

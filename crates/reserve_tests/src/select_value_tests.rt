@@ -1,4 +1,4 @@
-// Rows by select and ultimate tables, with the reserves reckoned as fractions.
+// Rows by select and ultimate tables. The reserves were worked out as fractions.
 use crate::policy_rows::{
     Case, DAY_BEFORE, EARLY, ENDOWMENT, Expected, FLAT, LIMITED, OLD, ONE_YEAR, PAID_UP_TERM, TERM,
     THREE_YEARS, TWO_YEARS, all_hold,

@@ -21,7 +21,7 @@ const SPELLINGS: &[(&[u8], Result<u32, RateFault>)] = &[
     (b"1.000000001", Err(RateFault::AboveOne)),
     (b"0.0000000001", Err(RateFault::TooFine)),
     (b"1E-999", Err(RateFault::TooFine)),
-    // Both above 1 and too fine.
+    // Texts that are both above 1 and too fine.
     (b"1.0000000001", Err(RateFault::AboveOne)),
     (b"7.5E-05", Ok(75_000)),
     (b"4.8E-06", Ok(4_800)),
@@ -50,7 +50,7 @@ fn spellings_and_their_rates(rt: HostRuntime) {
     assert_rows!(rt; (text, expected) in SPELLINGS => is_read(text, *expected); "{text:?}");
 }
 
-// A text of zeros but for its first and its last byte.
+// A text of zeros except for its first and its last byte.
 fn longest_text(alloc: Global, first: u8, last: u8) -> Result<Vec<u8>, Fail> {
     let mut text = vec![in alloc; b'0'; LONGEST_TEXT - 1]?;
     if let Some(byte) = text.as_mut_slice().first_mut() {

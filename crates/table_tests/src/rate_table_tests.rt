@@ -3,7 +3,7 @@ use std::alloc::{AllocError, Global};
 use std::test::Fail;
 use test_rows::assert_rows;
 
-/// The fault of a list of rates, and of a table its first and last age.
+/// The fault of a list of rates; for a table, its first and last age.
 fn ages(
     alloc: Global,
     first_age: u8,

@@ -1,4 +1,4 @@
-// Select tables: which rates hold at which issue age, with the rates reckoned by hand.
+// Select tables: which rates hold at which issue age. The rates were worked out by hand.
 
 ghost use Rattle.std.specs.Prelude.{◌≡◌, ◌∷◌, [], IfOk};
 ghost use Rattle.select_rates.specs.Worked.{late_q, selected_q, table_q};

@@ -1,12 +1,12 @@
-// Files of select and ultimate tables: which fault stands where. Places were counted by a script that marks them in the
-// files.
+// Files of select and ultimate tables: which fault is at which place. Places were counted by a script that marks them
+// in the files.
 
 use crate::select_table_tests::{TWO_AGES, ULTIMATE, fault_of, file_of};
 use std::test::Fail;
 use test_rows::assert_rows;
 use xtbml_subset::*;
 
-/// The first table of a file, what stands behind it, the place of the fault in the file, and the fault.
+/// The first table of a file, what comes after it, the place of the fault in the file, and the fault.
 const FAULTS: &[(&[u8], &[u8], u32, TableKind)] = &[
     (TWO_AGES, b"", 7, TableKind::NoUltimate),
     (TWO_AGES, b"<Table/>", 7, TableKind::NoUltimate),

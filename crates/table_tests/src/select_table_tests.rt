@@ -17,7 +17,7 @@ pub const ULTIMATE: &[u8] =
 pub const TWO_AGES: &[u8] =
     b"<Table><Values><Axis t=\"0\"><Axis><Y t=\"1\">0.05</Y><Y t=\"2\">0.1</Y></Axis></Axis><Axis t=\"1\"><Axis><Y t=\"1\">0.1</Y><Y t=\"2\">0.2</Y></Axis></Axis></Values></Table>";
 
-/// The same in each layout.
+/// The same table in each layout.
 const LAYOUTS: &[&[u8]] = &[
     TWO_AGES,
     b"<Table><Values><Axis t=\"0\"><Axis><Y t=\"1\">0.05</Y><Y t=\"2\">0.1</Y><Y t=\"3\"/></Axis></Axis><Axis t=\"1\"><Axis><Y t=\"1\">0.1</Y><Y t=\"2\">0.2</Y><Y t=\"3\"/></Axis></Axis></Values></Table>",
@@ -67,7 +67,7 @@ pub fn file_of(alloc: Global, first: &[u8], second: &[u8]) -> Result<Vec<u8>, Fa
     Ok(file)
 }
 
-/// What is read of a file, none of which here is longer.
+/// What is read of a file. No file here is longer than the longest that is read.
 fn any_of(alloc: Global, bytes: &[u8]) -> Result<AnyTable, TableFault> {
     read_any(alloc, &bytes[..bytes.len().min(LONGEST)])
 }
@@ -110,7 +110,7 @@ fn each_layout_is_read(rt: HostRuntime) -> Result<(), Fail> {
     Ok(())
 }
 
-/// Files of tables by age alone: the first axis has a label and rates, whatever stands behind it.
+/// Files of tables by age alone: the first axis has a label and rates, whatever comes after it.
 const AGGREGATE: &[&[u8]] = &[
     b"<Table><Values><Axis><Y t=\"3\">0.5</Y><Y t=\"4\">1</Y></Axis></Values></Table>",
     b"<Table><Values><Axis t=\"0\"><Y t=\"3\">0.5</Y><Y t=\"4\">1</Y></Axis><Axis t=\"1\"><Axis><Y t=\"1\">0.1</Y></Axis></Axis></Values></Table>",
@@ -128,7 +128,7 @@ fn tables_by_age_alone_are_read_as_before(rt: HostRuntime) -> Result<(), Fail> {
     Ok(())
 }
 
-/// Rates of all issue ages, each up to age 130, of which the last behind each issue age is as given.
+/// Rates of all issue ages, each up to age 130; the last rate of each issue age is the one given.
 fn every_age(alloc: Global, last: &[u8]) -> Result<Vec<u8>, Fail> {
     let mut part = b"<Table><Values>".to_vec(alloc)?;
     for age in 0..131u8 {
@@ -161,7 +161,7 @@ fn all_issue_ages_with_all_durations(rt: HostRuntime) -> Result<(), Fail> {
     Ok(())
 }
 
-/// What a long file holds behind an issue age's rates, each with as many bytes between the two as fit.
+/// What a long file has after an issue age's rates, with as many bytes in between as fit.
 const FILLINGS: &[(&[u8], &[u8])] = &[
     (b"", b""),
     (b"<!--", b"-->"),

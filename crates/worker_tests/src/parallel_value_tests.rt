@@ -31,8 +31,8 @@ impl Piece<u32, u64> for Squares {
     }
 }
 
-// A worker that squares, and at its first item waits until all workers together have begun so many items. It doesn't wait
-// for ever: where it looked too often, it counts a miss and goes on.
+// A worker that squares, and at its first item waits until all workers together have begun so many items. It doesn't
+// wait forever: if it has looked too often, it counts a miss and goes on.
 #[derive(Clone, Copy)]
 struct Held<'a> {
     until: u32,
@@ -55,7 +55,7 @@ impl Piece<u32, u64> for Held<'_> {
     }
 }
 
-// Looks until the number is at least this one, and counts a miss where it doesn't come.
+// Looks until the number is at least this one, and counts a miss if it doesn't come.
 fn look_for(number: &AtomicU32, least: u32, missed: &AtomicU32) {
     for _ in 0..LOOKS {
         if number.load(Ordering::SeqCst) >= least {
@@ -159,7 +159,7 @@ fn numbers(alloc: Global, many: u32) -> Result<Vec<u32>, Fail> {
     Ok(items)
 }
 
-// Three workers, by each of the three calls; what stood in a place or in front of it. Parts of one item and of many.
+// Three workers, by each of the three calls, with what was in a place or before it. Parts of one item and of many.
 #[test]
 fn the_squares_stand_in_order(rt: HostRuntime) -> Result<(), Fail> {
     let alloc = rt.alloc();
@@ -184,7 +184,7 @@ fn the_squares_stand_in_order(rt: HostRuntime) -> Result<(), Fail> {
     Ok(())
 }
 
-// Whether these are the squares of the first so many numbers, of 8,192 at most.
+// Whether these are the squares of the first so many numbers, at most of 8,192.
 fn are_squares(values: &[u64], many: usize) -> bool {
     for (value, item) in values.iter().zip(0_u64..8_192) {
         if *value != item.wrapping_mul(item) {
@@ -194,7 +194,7 @@ fn are_squares(values: &[u64], many: usize) -> bool {
     values.len() == many && many <= 8_192
 }
 
-// Workers, items and items of a part: each item is gone through once, and by no more workers than there are parts.
+// Workers, items and items of a part: each item is gone through once, by no more workers than there are parts.
 #[test]
 fn each_part_is_taken_once(rt: HostRuntime) -> Result<(), Fail> {
     let alloc = rt.alloc();
@@ -219,7 +219,7 @@ fn each_part_is_taken_once(rt: HostRuntime) -> Result<(), Fail> {
     Ok(())
 }
 
-// Whether the workers have done so many items together, and none behind the first so many of them any.
+// Whether the workers have done so many items together, and those after the first so many of them have done none.
 fn are_done(pieces: &[Squares], workers: usize, many: u32) -> bool {
     let mut done = 0_u64;
     for (piece, number) in pieces.iter().zip(0_usize..8) {
@@ -246,7 +246,7 @@ fn all_workers_are_at_work_at_the_same_time(rt: HostRuntime) -> Result<(), Fail>
     Ok(())
 }
 
-// It waits at its first item until the others have begun all items but those of the part that it is at.
+// It waits at its first item until the others have begun all items except those of its own part.
 #[test]
 fn a_worker_that_is_held_up_leaves_the_other_parts_to_the_others(
     rt: HostRuntime,
