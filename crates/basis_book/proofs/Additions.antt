@@ -36,7 +36,7 @@ not_both rows day a f =
     let earlier = f.falls in
     omega (arith, ints)
 
--- where the day of a row falls, the days don't rise
+-- if the day of a row falls, the days don't rise
 pub no_rise : (rows : List BasisRow) (row : BasisRow) → Falls rows row.from_day → DaysRise (rows ++ row ∷ []) → ⊥
 no_rise rows row f rise = not_both rows row.from_day (rises_after rows row [] rise) f
 

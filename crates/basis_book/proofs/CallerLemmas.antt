@@ -12,7 +12,7 @@ later_cannot_begin before after entry issued all begun =
     let later : issued <ℤ entry.from_day = at_cut (λ (other : Dated). issued <ℤ other.from_day) before entry after all in
     omega (arith, ints)
 
--- where no row has begun, none is picked
+-- if no row has begun, none is picked
 pub none_picked : (basis : List Dated) (issued : ℤ) (index : ℕ) (entry : Dated) → All (λ (other : Dated). issued <ℤ other.from_day) basis → IsPicked basis issued index entry → ⊥
 none_picked basis issued index entry all h =
     later_cannot_begin h.before h.after entry issued (subst (λ (xs : List Dated). All (λ (other : Dated). issued <ℤ other.from_day) xs) h.split all) h.begun

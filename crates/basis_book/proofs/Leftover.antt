@@ -73,7 +73,7 @@ more_read bytes old new left rows row config source reached r =
     let less = row_shortens (reader_state old) (reader_state new) left one.0 row one.2 in
     (more.0, more.1, more.2, rw (source, one.1) less)
 
--- where no row is read, none is left
+-- if no row is read, none is left
 pub none_left : (old new : Reader (Bor (List ℕ))) (left : List ℕ) (row : List (List ℕ)) → reader_config old ≡ default_config → source_of left_in old ≡ Some left
     → ReadRecord left_in old new false row → next_record default_config (reader_state old) [] [] left ≡ None
 none_left old new left row config source r = csv_end left_in old new row default_config left config source r

@@ -6,7 +6,7 @@ use Rattle.rate_table.specs.declared.shape.Shape.{Shape}
 use Rattle.cash_projection.proofs.Survivors.{alive_lo_most, alive_hi_most, dying_lo_most, dying_hi_most}
 use Rattle.cash_projection.proofs.Dues.{due_cases, due_same, due_shifted, maturity_is}
 
--- a policy of which nothing is due
+-- a policy for which nothing is due
 no_gain : (years : ℕ) (part : (ℕ → ℕ → ℕ) → ℕ → Prospect → ℕ) (p : Prospect) (sums : List Sums) → length sums ≡ 131
     → ((quotient : ℕ → ℕ → ℕ) (j : ℕ) → part quotient j p ≡ 0) → HasGained years part p sums sums
 no_gain years part p sums places none = record {

@@ -17,7 +17,7 @@ never_rise = record {
         let whole : ONE - r + r ≡ ONE = omega arith in
         sym (mul-add a (ONE - r) r) ∙ ap (λ w. a * w) whole
 
--- a sum of which each term is so many times another's
+-- a sum in which each term is the same multiple of another sum's term
 scaled_sum : (a : ℕ) (f g : ℕ → ℕ) (count : ℕ) → ((k : ℕ) → k < count → f k ≡ a * g k) → sum_below f count ≡ a * sum_below g count
 unfolding sum_below
 scaled_sum a f g zero same = sym (mul-zero a)
@@ -27,7 +27,7 @@ scaled_sum a f g (suc count) same =
     let spread = mul-add a (sum_below g count) (g count) in
     omega arith
 
--- of one who is alive now
+-- for one life that is alive now
 unfoldable pub deaths_to : (ℕ → ℕ) → ℕ → ℕ
 deaths_to rates left = sum_below (λ j. dying rates j * ONE ^ (left - (j + 1))) left
 

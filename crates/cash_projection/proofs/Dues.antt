@@ -37,7 +37,7 @@ due_most from to cents y = elim (due_cases from to cents y) [
 pub due_shifted : (from to cents t j : ℕ) → due (from - t) (to - t) cents j ≡ due from to cents (t + j)
 due_shifted from to cents t j = due_same (from - t) (to - t) from to cents j (t + j) (λ a b. (omega (arith, a, b), omega (arith, a, b))) (λ a b. (omega (arith, a, b), omega (arith, a, b)))
 
--- among so many years
+-- the same within a number of years
 pub due_within : (from to years first last cents j : ℕ) → last ≡ min to years → first ≡ min from last → j < years → due first last cents j ≡ due from to cents j
 due_within from to years first last cents j last_is first_is below =
     due_same first last from to cents j j (λ a b. (omega (arith, a, b), omega (arith, a, b))) (λ a b. (omega (arith, a, b), omega (arith, a, b)))

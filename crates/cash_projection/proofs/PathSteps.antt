@@ -41,7 +41,7 @@ dying_next : (rates : ℕ → ℕ) (k rate : ℕ) (now pair : Pair) → now ≡ 
 dying_next rates k rate now pair now_is rate_is lo hi =
     pair_is pair _ _ (lo ∙ rw (now_is, rate_is) refl) (hi ∙ rw (now_is, rate_is) refl)
 
--- one year more is known
+-- one more year is known
 pub one_more_known : (rates : ℕ → ℕ) (k rate : ℕ) (living dead : List Pair) (p q : Pair) → KnowsYears rates k living dead → k < 131 → rate ≡ rates k
     → p.lo ≡ down ((pair_at living k).lo * rate) ONE → p.hi ≡ up ((pair_at living k).hi * rate) ONE
     → q.lo ≡ down ((pair_at living k).lo * (ONE - rate)) ONE → q.hi ≡ up ((pair_at living k).hi * (ONE - rate)) ONE

@@ -59,7 +59,7 @@ module _ (basis : List Dated) (on : ℤ) (years : ℕ) where
       zip_more (MayGive GivesTally projectors) (λ (portion : Portion) (tally : Tally). IsTallyOf basis on years portion.policies.now tally)
       portions tallies (may_tally projectors each) values
 
-  -- where the tallies were added to none
+  -- if the tallies were added to none
   pub all_added : (projectors : List Projector) (portions : List Portion) (old new : List Tally) → AllByRecursion (IsProjectorFor basis on years) projectors
       → old ≡ [] → AddsBehind (AreValues GivesTally projectors portions) old new → AreTallies basis on years portions new
   all_added projectors portions old new each none adds =

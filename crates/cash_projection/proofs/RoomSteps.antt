@@ -13,7 +13,7 @@ use Rattle.cash_projection.specs.declared.tallier.Tallier.{Tallier}
 use Rattle.cash_projection.proofs.Portioning.{CanJoin}
 use Rattle.cash_projection.proofs.Tallying.{tally_sized}
 
--- the workers, written back into the memory where they stand
+-- the workers, written back into the memory from which they came
 pub still_with : (projectors : Vec Projector Global) (new : List Projector) → AreAsBefore TakesPortion GivesTally projectors.items new
     → AreAsBefore TakesPortion GivesTally projectors.items (with_items projectors new).items
 still_with projectors new still =

@@ -9,7 +9,7 @@ one_pos = omega arith
 pub power_pos : (j : ℕ) → 0 < ONE ^ j
 power_pos j = let h = one-le-pow j ONE one_pos in omega arith
 
--- one year more, of whom a part s of w stays
+-- after one more year the part s of w is left
 year_above : (u w p n s a x : ℕ) → x * w ≤ a * s → a * p ≤ u * n → x * (w * p) ≤ u * (n * s)
 year_above u w p n s a x e h =
     let e' = mul-le-mul_right p e in
@@ -22,7 +22,7 @@ year_below u w p n s a x e h =
     let h' = mul-le-mul_right s h in
     omega arith
 
--- bounds that lie k apart, and a part of them
+-- bounds that differ by k, and a part of each
 year_near : (lo hi k s w : ℕ) → s ≤ w → hi ≤ lo + k → hi * s ≤ lo * s + k * w
 year_near lo hi k s w part near =
     let h = mul-le-mul_right s near in

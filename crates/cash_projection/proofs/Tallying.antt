@@ -52,7 +52,7 @@ none_tallied basis on years tally same policies unvalued a b d premium death mat
   };
 }
 
--- one policy more
+-- one more policy
 one_more_summed : (years : ℕ) (part : (ℕ → ℕ → ℕ) → ℕ → Prospect → ℕ) (ps : List Prospect) (p : Prospect) (old new : List Sums)
     → AreSums years part ps old → HasGained years part p old new → AreSums years part (ps ++ p ∷ []) new
 one_more_summed years part ps p old new sums gained = record {
@@ -199,7 +199,7 @@ cash_told basis on policies tally years most many each is =
       exact = λ j below. year_encloses ps j is.tallied.small (omega arith);
     }
 
--- one year more is reported
+-- one more year is reported
 pushed_at : (xs : List Year) (y d : Year) (f : ℕ → Year) → ((k : ℕ) → k < length xs → get_or xs k d ≡ f k) → y ≡ f (length xs)
     → (k : ℕ) → k < length xs + 1 → get_or (xs ++ y ∷ []) k d ≡ f k
 pushed_at [] y d f each is zero below = is

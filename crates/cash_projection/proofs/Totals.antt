@@ -9,7 +9,7 @@ use Rattle.cash_projection.specs.inside.Parts.{MOST_PART}
 use Rattle.cash_projection.proofs.Survivors.{power_pos, alive_above, alive_below, alive_near, alive_hi_most, dying_above, dying_below, dying_near, dying_hi_most}
 use Rattle.cash_projection.proofs.Dues.{due_cases, due_most, maturity_most}
 
--- how far the bounds of one policy's part lie apart at most, and how far those of so many
+-- how far the bounds of one policy's part may differ, and how far those of several policies
 abbrev pub APART : ℕ
 APART = 1320000000000
 
@@ -31,7 +31,7 @@ both_parts m n e f den a b c d p q = record {
   most = omega (arith, p.most, q.most);
 }
 
--- cents times bounds in units that lie at most so many apart
+-- cents times bounds in units that differ by at most so many
 scaled_part : (cents exact den lo hi k : ℕ) → cents ≤ 10000000000 → lo * den ≤ UNIT * exact → UNIT * exact ≤ hi * den → hi ≤ lo + k → k ≤ 132 → hi ≤ UNIT
     → IsPart 1 (cents * exact) den (cents * lo) (cents * hi)
 scaled_part cents exact den lo hi k small above below near few most =
@@ -73,7 +73,7 @@ maturity_part p j small year =
     (le_trans (maturity_most p j) small.amount) (alive_above p.rates (j + 1)) (alive_below p.rates (j + 1)) (alive_near p.rates (j + 1)) (omega arith)
     (alive_hi_most p.rates (j + 1))
 
--- of a list
+-- the same for a list
 pub list_part : (exact lo hi : Prospect → ℕ) (den : ℕ) (ps : List Prospect) → AllByRecursion IsSmall ps
     → ((p : Prospect) → IsSmall p → IsPart 1 (exact p) den (lo p) (hi p))
     → IsPart (length ps) (sum_by exact ps) den (sum_by lo ps) (sum_by hi ps)

@@ -16,7 +16,7 @@ longer first (y ∷ ys) (suc j) d below =
     ap (λ z. year_text first y ++ z) (longer (first + 1) ys j d (omega arith) ∙ ap (λ n. years_text (first + 1) (take j ys) ++ year_text n (get_or ys j d)) place)
     ∙ sym (append_assoc (year_text first y) (years_text (first + 1) (take j ys)) (year_text (first + suc j) (get_or ys j d)))
 
--- one year more, from the first on
+-- one more year, from the first on
 pub years_more : (ys : List Year) (j : ℕ) (d : Year) (before lines new : List ℕ) → j < length ys → lines ≡ before ++ years_text 0 (take j ys)
     → new ≡ lines ++ year_text j (get_or ys j d) → new ≡ before ++ years_text 0 (take (j + 1) ys)
 years_more ys j d before lines new below was is =

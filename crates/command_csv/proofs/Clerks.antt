@@ -1,4 +1,4 @@
--- The lines of rows, the lanes where all are of clerk 1, and the room for valuations
+-- The lines of rows, the lanes if all rows are of lane 1, and how many valuations may still come
 use Rattle.command_csv.proofs.Names.{◌≡◌, ℕ, zero, suc, ◌+◌, ◌≤◌, ◌<◌, Bool, true, false, eqb, cond, List, [], ◌∷◌, length, map, refl, ap, ◌∙◌, arith, AllZip, AllByRecursion, filter, ne_eqb, false≢true, Line, Post, Value, Trim, ClerkLine, by_first, IsScriptLine, IsLineRow, MayStandBehind, is_valuation, valuations_in, all_lines, lines_of, lane_of, lanes_of, lanes_up_to, most_valuations}
 use Rattle.std.proofs.lemmas.List.{append-nil}
 
@@ -32,13 +32,13 @@ one_first false line others = omega arith
 pub valuations-cons : (line : Line) (lines : List Line) → valuations_in (line ∷ lines) ≡ valuations_in (line ∷ []) + valuations_in lines
 valuations-cons line lines = one_first (is_valuation line) line (filter is_valuation lines)
 
--- a line that may stand after so many valuations leaves no more than there may be
+-- a line that may come after so many valuations leaves no more than there may be
 pub room_counted : (valued : ℕ) (line : Line) → valued ≤ most_valuations → MayStandBehind valued line → valued + valuations_in (line ∷ []) ≤ most_valuations
 room_counted valued (Post c) few h = omega (arith, few)
 room_counted valued (Value on at workers) few h = let room : valued < most_valuations = h refl in omega arith
 room_counted valued Trim few h = omega (arith, few)
 
--- and where it doesn't, it may stand there
+-- and a line that leaves no more may come there
 pub room_left : (valued : ℕ) (line : Line) → valued + valuations_in (line ∷ []) ≤ most_valuations → MayStandBehind valued line
 room_left valued (Post c) few = λ no. absurd (false≢true no)
 room_left valued (Value on at workers) few = λ _. omega (arith, few)

@@ -7,7 +7,7 @@ use Rattle.command_csv.proofs.Words.{plan_word_injective, kind_word_injective}
 abbrev pub Carries : {X : Type 0} → (X → Type 0) → (X → List ℕ) → (X → List (List ℕ) → Type 0) → X → Type 0
 Carries {X} Fits text_of More x = (y : X) → Fits y → text_of x ≡ text_of y → (rest : List (List ℕ)) → More y rest → More x rest
 
--- the first field fits, and then so many do
+-- the first field fits, and so many after it
 pub goes_on : {X : Type 0} (Fits : X → Type 0) (text_of : X → List ℕ) (More : X → List (List ℕ) → Type 0) (x : X) (left : List (List ℕ)) (n : ℕ)
     → Fits x → Carries Fits text_of More x → StopsAfter (More x) left n → StopsAfter (Then Fits text_of More) (text_of x ∷ left) (suc n)
 goes_on Fits text_of More x left n fits carry h = record {
@@ -106,7 +106,7 @@ any_kind_possible valued = then_possible (KindMayStandBehind valued) kind_spelli
 pub row_possible : (valued : ℕ) → IsPossible (RowForm valued)
 row_possible valued = then_possible IsClerk decimal (λ clerk. KindForm valued) 1 (lit≤ tt, lit≤ tt) (any_kind_possible valued)
 
--- where nothing rests on the value, anything carries
+-- if nothing rests on the value, anything carries
 pub carries_all : {X : Type 0} (Fits : X → Type 0) (text_of : X → List ℕ) (More : List (List ℕ) → Type 0) (x : X) → Carries Fits text_of (λ y. More) x
 carries_all Fits text_of More x = λ y fits same rest more. more
 
@@ -120,7 +120,7 @@ pub age_carries : (plan : Plan) (age : ℕ) → IsIssueAge age → Carries IsIss
 age_carries plan age h = λ other fits same rest more.
     subst (λ (n : ℕ). YearsOn plan n rest) (sym (decimal_injective age other (omega (arith, h)) (omega (arith, fits)) same)) more
 
--- the same of a row that is read
+-- the same for a row that is read
 took : {X : Type 0} (Fits : X → Type 0) (text_of : X → List ℕ) (More : X → List (List ℕ) → Type 0) (x : X) (old mid new : LineFields)
     → Carries Fits text_of More x → Took (Fits x) (text_of x) old mid → StopsIn (More x) mid new → StopsIn (Then Fits text_of More) old new
 took Fits text_of More x old mid new carry t h = record {

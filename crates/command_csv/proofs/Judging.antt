@@ -56,7 +56,7 @@ both (inl p) (inr bad) = inr (λ h. bad h.1)
 at_most : (n m : ℕ) → (n ≤ m) ⊎ (n ≤ m → ⊥)
 at_most n m = elim (cases_lt m n) [ inl more ↦ inr (λ h. omega (arith, more, h)) | inr less ↦ inl less ]
 
--- a number of which it is known that it is below another
+-- a number that is known to be below another
 decide : (Fits : ℕ → Type 0) (text_of : ℕ → List ℕ) (n : ℕ) → ((x : ℕ) → Fits x ⊎ (Fits x → ⊥)) → ((x : ℕ) → Fits x → x < n) → (word : List ℕ) → Decides Fits text_of word
 decide Fits text_of n fits less word = elim (below Fits text_of word n fits) [
   | inl found ↦ inl found
@@ -270,7 +270,7 @@ record Stops (valued : ℕ) (rows : List (List (List ℕ))) : Type 0 where
   field : ℕ
   bad : IsFirstBadField (valued + valuations_in (all_lines goes.entries)) faulty field
 
--- one more row before those that go
+-- one more row before the remaining ones
 one_before : (valued : ℕ) (row : List (List ℕ)) (rows : List (List (List ℕ))) (entry : ClerkLine) → IsLineRow row entry → Goes (valued + valuations_in (entry.line ∷ [])) rows → Goes valued (row ∷ rows)
 one_before valued row rows entry is g = record {
   entries = entry ∷ g.entries;

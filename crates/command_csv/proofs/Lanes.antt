@@ -71,7 +71,7 @@ lines_more lanes n lines =
     flat_map-append (λ (lane : Lane). lane.lines) lanes (lane_of n lines)
     ∙ ap (λ more. lines_in lanes ++ more) (lines_of_lane n lines)
 
--- Of the lines that pass a test, the lanes hold as many as the rows.
+-- The lanes hold as many lines that pass a test as the rows do.
 module _ (p : Line → Bool) where
   abbrev passing : List Line → ℕ
   passing lines = length (filter p lines)
@@ -105,7 +105,7 @@ module _ (p : Line → Bool) where
       let before = of_later n entry entries (omega (arith, later)) in
       omega (arith, same, before)
 
-  -- that of one of them counts once
+  -- a line of one lane counts once
   of_one : (n : ℕ) (entry : ClerkLine) (entries : List ClerkLine) → 1 ≤ entry.clerk → entry.clerk ≤ n
       → of_clerks n (entry ∷ entries) ≡ of_clerks n entries + passing (entry.line ∷ [])
   of_one zero entry entries first last = absurd (omega (arith, first, last))

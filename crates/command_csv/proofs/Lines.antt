@@ -115,7 +115,7 @@ has_form valued (command.Mature id day) h = then_is kind.Mature tt (then_is id h
 has_form valued (command.PaidUp id day amount) h = then_is kind.PaidUp tt (then_is id h.0 (then_is day h.1 (then_is amount h.2 refl)))
 has_form valued command.Upgrade h = then_is kind.Upgrade tt refl
 
--- and so have those of a line that may stand where it does
+-- and so do the fields of a line that may come where it comes
 line_form : (valued : ℕ) (line : Line) → IsScriptLine line → MayStandBehind valued line → KindForm valued (line_fields line)
 line_form valued (Post c) h room = has_form valued c h
 line_form valued (Value on at workers) h room = then_is kind.Value (room refl) (then_is on h.0 (then_is at h.1 (then_is workers h.2 refl)))
@@ -233,7 +233,7 @@ bad_field valued fields n place e h =
 pub stopped : {valued : ℕ} {old new : LineFields} → old.asked ≡ 0 → StopsIn (RowForm valued) old new → IsFirstBadField valued (left_of old) new.asked
 stopped {valued} {old} {new} none h = bad_field valued (left_of old) h.fitting new.asked (omega (arith, none, h.number)) h.bad
 
--- a line stands where one of its kind may
+-- a line may come if one of its kind may
 room_of : (valued : ℕ) (line : Line) (k : Kind) → kind_of line ≡ k → KindMayStandBehind valued k → MayStandBehind valued line
 room_of valued (Post c) k e h = λ no. absurd (false≢true no)
 room_of valued (Value on at workers) k e h = λ _. subst (KindMayStandBehind valued) (sym e) h
@@ -301,7 +301,7 @@ surplus valued entry {fields} {left} {place} right room e some number =
           too_long entry.line other.entry.line entry.clerk other.entry.clerk left some (ap (take (suc (length (line_fields entry.line) + 1))) (sym e) ∙ same);
     }
 
--- the same of a row that is read
+-- the same for a row that is read
 pub one_more : {valued : ℕ} (k : Kind) (line : Line) (clerk : ℕ) {old mid head new : LineFields} {place : ℕ} → Took (IsClerk clerk) (decimal clerk) old mid → Took (KindMayStandBehind valued k) (kind_spelling k) mid head → HoldsLine k head new line
     → left_of new ≢ [] → place ≡ length (line_fields line) + 2 → IsFirstBadField valued (left_of old) place
 one_more {valued} k line clerk {old} {mid} {head} {new} a b h some number =

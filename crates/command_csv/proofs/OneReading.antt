@@ -44,7 +44,7 @@ same_id a b h k e = decimal_injective a b (omega (arith, h)) (omega (arith, k)) 
 same_cents : (a b : ℕ) → a ≤ 40000000000 → b ≤ 40000000000 → cents_text a ≡ cents_text b → a ≡ b
 same_cents a b h k e = cents_text_injective a b (omega (arith, h)) (omega (arith, k)) e
 
--- what some commands hold and others don't
+-- fields that some commands have and others don't
 day_in : Command → ℤ
 day_in c = unwrap_or (day_of c) (pos 0)
 

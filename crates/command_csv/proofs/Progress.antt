@@ -113,7 +113,7 @@ row_faulty bytes old new count valuations field entries row h r bad =
       bad = subst (λ (n : ℕ). IsFirstBadField n row field) h.valued bad;
     }
 
--- where no row is left, all are right
+-- if no row is left, all are right
 pub no_row : (bytes : List ℕ) (old new : Reader (Bor (List ℕ))) (count valuations : ℕ) (entries : List ClerkLine) (row : List (List ℕ)) → IsReadTo bytes old count valuations entries → ReadRecord left_in old new false row
     → AreLineRows (rows_of bytes) entries
 no_row bytes old new count valuations entries row h r =

@@ -10,7 +10,7 @@ use Rattle.csv.specs.declared.parser.Action.{Action}
 use Rattle.csv.specs.declared.parser.Action.TheVariants as act
 use Rattle.csv.specs.declared.parser.Terminator.TheVariants as term
 
--- where a step ends a record, the end of the text ends no further one
+-- if a step ends a record, the end of the text ends no further one
 abbrev EndsWell : State × Action → Type 0
 EndsWell p = is_end p.1 ≡ true → ends_at_end p.0 ≡ false
 
@@ -127,7 +127,7 @@ rows_begin bytes rows s ys h =
     let m = length (strip_bom bytes) + 1 - length rows in
     (records_from default_config m s ys, records_reached (length (strip_bom bytes) + 1) st.StartRecord (strip_bom bytes) rows s ys m h (omega (arith, few)))
 
--- where nothing is left they are its rows
+-- if nothing is left they are its rows
 pub rows_end : (bytes : List ℕ) (rows : List (List (List ℕ))) (s : State) (ys : List ℕ) → Reached default_config st.StartRecord (strip_bom bytes) rows s ys → next_record default_config s [] [] ys ≡ None → rows_of bytes ≡ rows
 rows_end bytes rows s ys h none =
     let few = rows_take st.StartRecord (strip_bom bytes) rows s ys refl h in

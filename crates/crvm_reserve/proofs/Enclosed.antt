@@ -1,4 +1,4 @@
--- The rounded premium and reserve enclose the exact ones, and lie close together.
+-- The rounded premium and reserve enclose the exact ones, and their bounds are close together.
 use Rattle.crvm_reserve.proofs.Names.{ℕ, ◌+◌, ◌-◌, ◌*◌, ◌<◌, ◌≤◌, arith, Between, over, Cover, year, death, ben, ann, term_premium, level_premium, excess, beta, reserve, Encloses, UNIT, ben_lo, ben_hi, ann_lo, ann_hi, down-le, le-up, apart, plus-between, less-between, lesser-between, over-between, times-between, scaled-between, ben-between, ann-between, ben-narrow, ann-narrow, ben_hi-most, ben_lo-most, ann_lo-most, ann_lo-least, ordered, term_lo, term_hi, level_lo, level_hi, excess_lo, excess_hi, beta_lo, beta_hi, reserve_lo, reserve_hi, amount_lo, amount_hi, IsReserved, AreClose, level_bound, excess_bound, beta_bound, reserve_bound}
 use Rattle.std.proofs.Math.Nat.{mul-le-mul_right, mul-le-mul_left}
 use Rattle.rate_table.specs.Rates.{ONE}

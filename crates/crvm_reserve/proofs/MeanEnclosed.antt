@@ -1,4 +1,4 @@
--- The rounded mean reserve encloses the exact one, and its bounds lie close together.
+-- The rounded mean reserve encloses the exact one, and its bounds are close together.
 use Rattle.crvm_reserve.proofs.Names.{◌≡◌, ℕ, zero, suc, ◌+◌, ◌*◌, ◌<◌, ◌≤◌, refl, subst, ap, ap₂, inl, inr, arith, Fraction, Between, whole, plus, over, Cover, ben, reserve, Encloses, UNIT, down, up, ben_lo, ben_hi, plus-between, less-between, scaled-between, apart, up-le, ben-between, ben-narrow, rounded, rounded_paid_up, net_lo, net_hi, double_lo, double_hi, mean_lo, mean_hi, rounded_mean, paid_up_mean_lo, paid_up_mean_hi, rounded_paid_up_mean, IsReserved, AreClose, net_bound}
 use Rattle.std.proofs.Math.Nat.{mul-le-mul_left, mul-le-mul_right}
 use Rattle.std.proofs.lemmas.Bool.Decides.{leb_tells}
@@ -33,7 +33,7 @@ net-narrow c cap (suc t) r =
       | inr h ↦ rw h.0 (omega arith)
     ]
 
--- each bound lies within 100,000 units of the exact net premium
+-- each bound differs by at most 100,000 units from the exact net premium
 pub net-close : (c cap : Cover) (t : ℕ) → IsReserved c cap → AreClose (net_lo c cap t) (net_hi c cap t) (net_premium c cap t)
 net-close c cap t r =
     let between = net-between c cap t r in

@@ -1,8 +1,8 @@
--- How far apart the bounds of a premium and of a reserve lie.
+-- How far the bounds of a premium and of a reserve may differ.
 use Rattle.crvm_reserve.proofs.Names.{ℕ, ◌+◌, ◌*◌, ◌<◌, ◌≤◌, arith, down, up, down-le, lt-down, up-lt, apart, up-le}
 use Rattle.std.proofs.Math.Nat.{mul-le-mul_left, mul-le-mul_right, le_of_mul-le-mul_right, lt_of_mul-lt-mul_right}
 
--- a premium is at most the benefits, where the payments are worth at least 1
+-- a premium is at most the benefits, if the payments are worth at least 1
 pub level_most : (u n d k : ℕ) → 0 < u → u ≤ d → n ≤ k * u → down (n * u) d ≤ k * u
 level_most u n d k positive least most =
     let low = down-le (n * u) d in
@@ -17,7 +17,7 @@ level_up_most u n d k positive least most =
     let spread = mul-le-mul_right u most in
     up-le (n * u) d (k * u) (omega arith) (omega arith)
 
--- the bounds of a quotient, from how far apart those of its parts lie: e above, and r below
+-- how far the bounds of a quotient differ, by how far those of its parts do: by e above, and by r below
 pub level_narrow : (u nlo nhi dlo dhi e r k : ℕ) → 0 < u → u ≤ dlo → dlo ≤ dhi → dhi ≤ dlo + r → r ≤ u
     → nhi ≤ nlo + e → nlo ≤ k * u → up (nhi * u) dlo ≤ down (nlo * u) dhi + (e + k * r + 2)
 level_narrow u nlo nhi dlo dhi e r k positive least order near_below small near_above most =

@@ -42,7 +42,7 @@ pub term_is : (c cap : Cover) (parts : PremiumParts) → ArePremiumPartsOf c cap
     × (up (10000 * parts.rate * UNIT) (ONE * (10000 + parts.bp)) ≡ term_hi c)
 term_is c cap parts are = rw (are.rate, are.interest) (refl, refl)
 
--- what a quotient of a year's values asks, where a premium is due
+-- what a quotient of a year's values requires, if a premium is due
 pub record AreDue (values : Values) : Type 0 where
   pub lo : UNIT ≤ values.ann.lo
   pub hi : UNIT ≤ values.ann.hi

@@ -14,7 +14,7 @@ pub record CanReserve (table : Rates) (shape : Shape) (bp : ℕ) : Type 0 where
   pub renewed : 2 ≤ shape.h
   pub first : rate_at table shape.age ≤ 500000000
 
--- the same of a cover, and of the cover of its cap
+-- the same for a cover, and of the cover of its cap
 pub record IsReserved (c cap : Cover) : Type 0 where
   pub renewed : 2 ≤ c.h
   pub covered : c.h ≤ c.n
@@ -99,7 +99,7 @@ pub record IsPaidUpAt (values : Values) : Type 0 where
   pub year : ℕ
   pub made : IsPaidUpFor cover year values
 
--- the same of columns
+-- the same for columns
 pub record ArePaidUpFor (c : Cover) (columns : Columns) : Type 0 where
   pub years : c.n ≤ 131
   pub rates : (k : ℕ) → k < c.n → c.rates k ≤ ONE

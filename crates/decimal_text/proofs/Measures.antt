@@ -5,7 +5,7 @@ use Rattle.std.proofs.Math.Nat.{mul-le-mul_left, mul-le-mul_right, mul-lt-mul_of
 use Rattle.std.proofs.lemmas.Int.Digits.{digits_value-lt}
 use Rattle.decimal_text.proofs.Numbers.{number-append, AreDigits-append, AreDigits-drop}
 
--- so many whole units and a rest, which is 0 exactly where no digit but 0 stands below the units
+-- so many whole units and a rest, which is 0 exactly if no digit but 0 stands below the units
 pub record Measures (top bottom units below : ℕ) : Type 0 where
   pub rest : ℕ
   pub split : 1000000000 * top ≡ units * bottom + rest
@@ -43,7 +43,7 @@ measured_whole digits raised down left e =
     let tens : 10 ^ left * 10 ^ down ≡ 1000000000 * 10 ^ raised = sym (pow-add 10 left down) ∙ ap (λ n. 10 ^ n) e ∙ pow-add 10 9 raised in
     record { rest = 0; split = whole_split digits (10 ^ left) (10 ^ down) (10 ^ raised) tens; small = one-le-pow down 10 (omega arith); none = λ h. refl; some = λ h. h }
 
--- k digits stand below the units; where the point is far to the left of them there is no unit at all
+-- k digits come after the units; if the point is too far to the left of them, there is no unit at all
 measured_cut : (kept below k raised down far : ℕ) → below < 10 ^ k → down ≡ k + (9 + raised) + far → (0 < far → kept ≡ 0)
     → Measures ((kept * 10 ^ k + below) * 10 ^ raised) (10 ^ down) kept below
 measured_cut kept below k raised down far small e none =

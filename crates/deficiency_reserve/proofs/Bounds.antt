@@ -1,4 +1,4 @@
--- The bounds of the minimum enclose it, and lie close together.
+-- The bounds of the minimum enclose it, and are close together.
 use Rattle.deficiency_reserve.proofs.Names.{◌≡◌, ℕ, ◌+◌, ◌-◌, ◌*◌, ◌<◌, ◌≤◌, refl, sym, inl, inr, max, arith, Fraction, Between, less, times, Cover, ben, ann, beta, reserve, Encloses, ben_lo, ben_hi, ann_lo, ann_hi, gross, greater, minimum, gross_lo, gross_hi, IsAtMost}
 use Rattle.std.proofs.Math.Nat.{mul-le-mul_left, mul-le-mul_right, mul-pos, le_of_mul-le-mul_right, le_trans, le-max_left, le-max_right, max-le, max-eq_left, max-eq_right}
 use Rattle.std.proofs.lemmas.Bool.Decides.{leb_tells}
@@ -31,7 +31,7 @@ max_most x y d z p q = elim (leb_tells x y) [
   | inr h ↦ let g : y ≤ x = omega (arith, h.1) in rw (max-eq_left g) p
 ]
 
--- a value, where another is at most as great
+-- a value, if another is at most as great
 pub floor-between : (u : ℕ) (a b : Fraction) (alo ahi blo bhi : ℕ)
     → Between alo ahi u a → Between blo bhi u b → IsAtMost b a → Between (max alo blo) (max ahi bhi) u a
 floor-between u a b alo ahi blo bhi p q most = record {
@@ -112,7 +112,7 @@ gross-narrow c amount premium t years few cheap =
 
 -- the minimum
 
--- where the premium isn't short, it takes off at least as much
+-- if the premium isn't short, it subtracts at least as much
 at_most_ordinary : (c cap : Cover) (amount premium t : ℕ) → IsAtMost (beta c cap) (gross amount premium)
     → IsAtMost (less (ben c t) (times (gross amount premium) (ann c t))) (reserve c cap t)
 unfolding reserve

@@ -16,7 +16,7 @@ total_level c x t (suc count) =
     (sum_below (λ k. survivors c t k * year c ^ (c.n - t - k)) count) (survivors c t count * year c ^ (c.n - t - count))
     (total_level c x t count)
 
--- the same each year is worth as much as so much of the annuity
+-- the same payment each year is worth that payment times the annuity
 pub level : (c : Cover) (x : Fraction) (t : ℕ) → AreEqual (value_of_dues c (λ k. x) t) (times x (ann c t))
 unfolding value_of_dues times ann
 level c x t = rw (sum_below-is (λ k. survivors c t k * year c ^ (c.n - t - k)) (c.h - t)) (total_level c x t (c.h - t))

@@ -46,7 +46,7 @@ pub never_below : (c cap : Cover) (amount premium t : ℕ) → IsAtMost (reserve
 unfolding minimum greater
 never_below c cap amount premium t = greater-left (reserve c cap t) (anew c cap amount premium t)
 
--- where as much as a premium is counted, the reserve is that by the premium
+-- if as much as a premium is counted, the reserve is that by the premium
 pub anew_by : (c cap : Cover) (amount premium t : ℕ) (by : Fraction) → counted c cap amount premium ≡ by
     → AreEqual (anew c cap amount premium t) (less (ben c t) (times by (ann c t)))
 anew_by c cap amount premium t by same = rw same refl
@@ -71,7 +71,7 @@ falls c cap amount premium more t some positive most =
     (less-antitone (ben c t) (times (counted c cap amount premium) (ann c t)) (times (counted c cap amount more) (ann c t))
     (times-monotone (counted c cap amount premium) (counted c cap amount more) (ann c t) (counted-rises c cap amount premium more some most)))
 
--- nothing is taken off
+-- nothing is subtracted
 nothing_off : (xn xd an ad : ℕ) → an ≡ 0 → (xn * ad - an * xd) * xd ≡ xn * (xd * ad)
 nothing_off xn xd an ad none =
     let all : xn * ad - 0 ≡ xn * ad = omega arith in

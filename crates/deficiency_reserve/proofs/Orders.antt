@@ -103,7 +103,7 @@ pub greater-monotone : (a b more : Fraction) → 0 < more.den → IsAtMost b mor
 greater-monotone a b more positive most =
     greater-most (greater a more) a b (greater-left a more) (at_most-trans b more (greater a more) positive most (greater-right a more))
 
--- where both are equal to a value, so is the greater
+-- if both are equal to a value, so is the greater
 pub greater-equal : (x a b : Fraction) → AreEqual a x → AreEqual b x → AreEqual (greater a b) x
 unfolding greater
 greater-equal x a b p q = elim (leb_tells (a.num * b.den) (b.num * a.den)) [

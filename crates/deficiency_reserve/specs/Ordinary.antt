@@ -20,7 +20,7 @@ pub record HasOrdinary (values : Values) (ordinary : ℕ × ℕ) (amount : ℕ) 
   pub year : ℕ
   pub has : HasOrdinaryFor cover cap year values ordinary amount
 
--- the same of columns
+-- the same for columns
 pub record HaveOrdinaryFor (c cap : Cover) (t : ℕ) (columns : Columns) (ordinary : ℕ × ℕ) (amount : ℕ) : Type 0 where
   pub columns_are : ArePaidUpFor c columns
   pub ordinary_is : IsOrdinary c cap t amount ordinary

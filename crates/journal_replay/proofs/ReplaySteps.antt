@@ -1,4 +1,4 @@
--- One record more after those that were replayed, and what is known where it isn't kept
+-- One more record after those that were replayed, and what is known if its command isn't kept
 use Rattle.std.proofs.Common.{◌≡◌, ℕ, ◌+◌, ◌<◌, ◌≤◌, List, [], ◌∷◌, ◌++◌, length, take, get_or, slice_index_or, refl, ap, sym, ◌∙◌, arith}
 use Rattle.std.proofs.Math.Seq.{take-length}
 use Rattle.std.proofs.lemmas.List.{take_more, length_push, map-append}
@@ -23,7 +23,7 @@ module _ {D : Type 0} {g : Ghosts D} (start : Journal D g) (commands : List Comm
     front = λ bodies last honest is same. ap (λ m. take m bodies) (sym counted) ∙ same;
   }
 
-  -- one record is
+  -- one record is replayed
   pub replays_one : (Kept : List Command → Type 0) (now : D) (n : ℕ) (command : Command) → length commands ≡ n
       → n < count_of start → Kept (commands ++ command ∷ [])
       → ((bodies : List (List ℕ)) (last : List ℕ) → g.honest now → StandsFor start bodies last
@@ -42,7 +42,7 @@ module _ {D : Type 0} {g : Ghosts D} (start : Journal D g) (commands : List Comm
   }
 
   module _ (Kept : List Command → Type 0) (Follows : List Command → Command → Type 0) where
-    -- it isn't, for what its body spells
+    -- it isn't replayed, because of what its body spells
     pub stops_here : (now : D) (n : ℕ) → Kept commands → length commands ≡ n → n < count_of start
         → ((bodies : List (List ℕ)) (last : List ℕ) → g.honest now → StandsFor start bodies last → (command : Command)
         → slice_index_or bodies n [] ≡ spelling_of command → IsValid command → Follows commands command → ⊥)
@@ -59,7 +59,7 @@ module _ {D : Type 0} {g : Ghosts D} (start : Journal D g) (commands : List Comm
       },
     )
 
-    -- it would be, unless memory is refused
+    -- it would be replayed, unless memory is refused
     pub wants_here : (now : D) (n : ℕ) (command : Command) → Kept commands → length commands ≡ n → n < count_of start
         → IsValid command → Follows commands command
         → ((bodies : List (List ℕ)) (last : List ℕ) → g.honest now → StandsFor start bodies last

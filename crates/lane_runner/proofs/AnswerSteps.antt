@@ -42,7 +42,7 @@ zip_append R [] fs (b ∷ bs) ds none all = absurd none
 zip_append R (a ∷ es) fs [] ds none all = absurd none
 zip_append R (a ∷ es) fs (b ∷ bs) ds some all = (some.0, zip_append R es fs bs ds some.1 all)
 
--- a relation that stays where elements of the first list have a property
+-- a relation that stays true if elements of the first list have a property
 pub zip_moved : {A B : Type 0} (P : A → Type 0) (R S : A → B → Type 0) → ((a : A) (b : B) → P a → R a b → S a b)
     → (es : List A) (bs : List B) → AllByRecursion P es → AllZip R es bs → AllZip S es bs
 zip_moved P R S moves [] [] have all = tt
@@ -69,7 +69,7 @@ follows_drier dry more within pin Unpinned calls h = absurd h
 follows_drier dry more within pin (Floor n) calls h = absurd h
 follows_drier dry more within pin Blank calls h = absurd h
 
--- the answer of a line stays one where more pins are out of memory
+-- the answer of a line stays an answer if more pins are out of memory
 pub answers_drier : (dry more : List ℕ) → ((x : ℕ) → Contains dry x → Contains more x) → (line : Line) (turns : List Placed)
     → AnswersLine dry line turns → AnswersLine more line turns
 answers_drier dry more within (Post command) [] h = absurd h
@@ -154,7 +154,7 @@ pinned_dry basis commands on Unpinned valuation h = absurd h
 pinned_dry basis commands on (Floor n) valuation h = absurd h
 pinned_dry basis commands on Blank valuation h = absurd h
 
--- what lies in a box is answered so, too
+-- what is in a box is an answer too
 pub valued_boxed : {D W : Type 0} (basis : List Dated) (on : ℤ) (at : At) (workers turn : ℕ) (answer : Result Valuation ValueFault)
     (kept : Result (Box Valuation Global) ValueFault) (old new : Holding (OfficeOpening D W)) → IsBoxed answer kept
     → HasValued basis on Terminal at workers old new turn answer → HasValued basis on Terminal at workers old new turn (in_box kept)
@@ -248,7 +248,7 @@ module _ {D W : Type 0} (basis : List Dated) (number : ℕ) where
           (told_later then.opened.opening mid.seen then.grows.begins.0 basis one told below
           (subst (λ (opened : OfficeOpening D W). IsTold opened.opening mid.seen basis one told) same is))
 
-  -- one line more
+  -- one more line
   pub answered_next : (asked : List Line) (i : ℕ) (d : Line) (old mid new : Holding (OfficeOpening D W)) (tolds more : List TranscriptLine) (told : TranscriptLine)
       → i < length asked → more ≡ tolds ++ told ∷ []
       → HasAnswered basis number (take i asked) old mid tolds → HasAnswered basis number (get_or asked i d ∷ []) mid new (told ∷ [])

@@ -1,10 +1,10 @@
--- What is known where lanes are run by a first pass, which then has the whole history
+-- What is known if lanes are run by a first pass, which then has the whole history
 use Rattle.lane_runner.proofs.Names.{◌≡◌, ℕ, ◌==◌, Bool, true, false, List, [], ◌∷◌, ◌++◌, map, inl, inr, refl, ap, sym, ◌∙◌, subst, AllByRecursion, Contains, eq-eqb, false≢true, Dated, Entry, Lane, IsMerge, entries_of, Holding, OwnsAll, Page, PassFacts, OfficeOpening, HasAnsweredLanes, dry_of}
 use Rattle.lane_runner.specs.declared.transcript.Transcript.{Transcript}
 use Rattle.lane_runner.proofs.RunSteps.{numbers_of}
 use Rattle.lane_runner.proofs.MergeSteps.{In, contains_in, in_contains}
 
--- where a caller made no entry, all are of the others
+-- if a caller made no entry, all are of the others
 only_others : (history : List Entry) (number : ℕ) (others : List ℕ) → entries_of history number ≡ []
     → AllByRecursion (λ (entry : Entry). Contains (number ∷ others) entry.caller) history
     → AllByRecursion (λ (entry : Entry). Contains others entry.caller) history

@@ -62,7 +62,7 @@ module _ (text : TranscriptLine → List ℕ) where
   part_line before now lines told part =
       subst (AppendsPart before now) (sym (texts_push text lines told)) (part_more before now (line_texts text lines) (text told) part)
 
-  -- where no more is written, nothing changes
+  -- if no more is written, nothing changes
   put_stopped : (faults now : ℕ) (first last : Option (List ℕ)) (lines : List TranscriptLine) (told : TranscriptLine) (gathered other : List ℕ)
       (why : Unwritten) → HasPutOut faults now first last text lines gathered (Some why)
       → HasPutOut faults now first last text (lines ++ told ∷ []) other (Some why)
@@ -76,7 +76,7 @@ module _ (text : TranscriptLine → List ℕ) where
     part = part_line first last lines told put.part;
   }
 
-  -- it is gathered
+  -- the text is gathered
   pub put_kept : (faults now : ℕ) (first last : Option (List ℕ)) (lines : List TranscriptLine) (told : TranscriptLine)
       (words gathered bytes : List ℕ) (stopped after : Option Unwritten)
       → stopped ≡ None → bytes ≡ gathered ++ words → words ≡ text told → after ≡ stopped
@@ -125,7 +125,7 @@ module _ (text : TranscriptLine → List ℕ) where
     owed : HasPutOut faults now first mid text (lines ++ told ∷ []) (gathered ++ words) stopped
     owed = put_kept faults now first mid lines told words gathered (gathered ++ words) stopped stopped going refl words_are refl put
 
-    -- more is written where nothing is gathered
+    -- more is written, and nothing is gathered
     pub put_through : later ≡ now → Appends mid last words → HasPutOut faults later first last text (lines ++ told ∷ []) gathered stopped
     put_through held wrote =
         put_out faults now later first mid last (lines ++ told ∷ []) (gathered ++ words) gathered stopped going held none

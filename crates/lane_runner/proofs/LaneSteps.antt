@@ -156,7 +156,7 @@ module _ {D W : Type 0} (opening : Opening) (history : List Entry) (basis : List
       lanes_answered lanes seats are.1 (λ told is. within told (in_back told (told_in seat) (items_in seats) is)),
     )
 
-  -- where all lines rise, those of each clerk are its lane's
+  -- if all lines rise, those of each lane are the lane's
   each_of : (all : List AnsweredLine) → Rises 0 all → (lanes : List Lane) (seats : List (Seat D W)) (are : AreLanesOf opening history basis lanes seats)
       → AreRising (numbers lanes) → ((z : AnsweredLine) → In z all → In z.clerk (numbers lanes) → In z (answered_in lanes seats are))
       → ((z : AnsweredLine) → In z (answered_in lanes seats are) → In z all) → AreOfLanes all history lanes (callers_in seats)

@@ -73,7 +73,7 @@ pub in_all : {A : Type 0} (P : A → Type 0) (xs : List A) → ((x : A) → In x
 in_all P [] each = tt
 in_all P (x ∷ xs) each = (each x (inl refl), in_all P xs (λ y is. each y (inr is)))
 
--- two lists that are alike place by place stay so where both are put into another order
+-- two lists that are alike place by place stay so if both are put into another order
 zip_set : {A B : Type 0} (R : A → B → Type 0) (xs : List A) (ys : List B) (i : ℕ) (x : A) (y : B) → AllZip R xs ys → R x y
     → AllZip R (slice_set xs i x) (slice_set ys i y)
 zip_set R [] [] i x y all one = tt
@@ -235,7 +235,7 @@ rising_sorted (told ∷ next ∷ more) sorted apart = (below sorted.0 apart.0.0,
         by : (b : Bool) → (told.turn == next.turn) ≡ b → told.turn < next.turn
         by b is = omega (arith, least, apart_is)
 
--- numbers that differ, of which none stands in both lists
+-- numbers that differ, none of which is in both lists
 pub distinct_append : (xs ys : List ℕ) → IsDistinct nat_eq xs → IsDistinct nat_eq ys
     → AllByRecursion (λ x. AllByRecursion (λ y. nat_eq x y ≡ false) ys) xs → IsDistinct nat_eq (xs ++ ys)
 unfolding IsDistinct
@@ -351,7 +351,7 @@ dry_to told lines is lacks = in_contains told.turn (dry_of lines) (by (filter te
     by (other ∷ more) (inl same) = inl (ap (λ (l : TranscriptLine). l.turn) same)
     by (other ∷ more) (inr later) = inr (by more later)
 
--- lines whose turns differ are the same where their turns are
+-- lines whose turns differ are the same if their turns are
 one_of_turn : (lines : List TranscriptLine) (one other : TranscriptLine) → IsDistinct nat_eq (map (λ (told : TranscriptLine). told.turn) lines)
     → In one lines → In other lines → one.turn ≡ other.turn → one ≡ other
 unfolding IsDistinct

@@ -1,7 +1,7 @@
 -- The places of turns in a history
 use Rattle.lane_runner.proofs.Names.{◌≡◌, ℕ, ◌+◌, ◌≤◌, ◌<◌, ◌==◌, Bool, true, false, List, [], ◌∷◌, ◌++◌, length, refl, ap, sym, ◌∙◌, arith, AllByRecursion, enumerate_from, filter, Entry, Placed, turns_of, entries_of}
 
--- the turns of a caller, the first of which stands at a place
+-- the turns of a caller, the first of which is at a place
 abbrev pub turns_from : ℕ → List Entry → ℕ → List Placed
 turns_from n history caller = filter (λ (placed : Placed). placed.1.caller == caller) (enumerate_from n history)
 
@@ -32,7 +32,7 @@ below_only m (turn ∷ turns) all = (all.0.1, below_only m turns all.1)
 pub turns_inside : (history : List Entry) (caller : ℕ) → AllByRecursion (λ (placed : Placed). placed.0 < length history) (turns_of history caller)
 turns_inside history caller = below_only (length history) (turns_of history caller) (turns_between 0 (length history) history caller (omega arith))
 
--- where no entry is the caller's, no turn is
+-- if no entry is the caller's, no turn is
 pub no_turns : (n : ℕ) (history : List Entry) (caller : ℕ) → entries_of history caller ≡ [] → turns_from n history caller ≡ []
 no_turns n [] caller none = refl
 no_turns n (entry ∷ history) caller none = by (entry.caller == caller) refl (no_turns (n + 1) history caller)
@@ -51,7 +51,7 @@ no_turns n (entry ∷ history) caller none = by (entry.caller == caller) refl (n
 tail_of : {A : Type 0} (x : A) (xs ys : List A) → x ∷ xs ≡ x ∷ ys → xs ≡ ys
 tail_of x xs ys same = cc
 
--- the caller's turns stay where no later entry is its own
+-- the caller's turns stay as they are if no later entry is the caller's
 pub turns_stay : (n : ℕ) (seen rest : List Entry) (caller : ℕ) → entries_of (seen ++ rest) caller ≡ entries_of seen caller
     → turns_from n (seen ++ rest) caller ≡ turns_from n seen caller
 turns_stay n [] rest caller same = no_turns n rest caller same

@@ -14,7 +14,7 @@ shares_enough : (n : ℕ) → 1 ≤ shares_to_enter n
 shares_enough zero = omega arith
 shares_enough (suc n) = omega (arith, shares_enough n)
 
--- the elements that are left, where one more is taken
+-- the remaining elements, after one more is taken
 pub lines_left : (lanes : List Lane) (i : ℕ) (d : Lane) → i < length lanes
     → length (lines_in (drop i lanes)) ≡ length (get_or lanes i d).lines + length (lines_in (drop (i + 1) lanes))
 lines_left [] i d below = absurd (omega arith)
@@ -199,7 +199,7 @@ module _ {D W : Type 0} where
         ∙ sym (flat_map-append (λ (seat : Seat D W). pages seat.0) seats ((gone, outlet) ∷ [])));
   }
 
-  -- each lane was run in its seat, where it was so at each place
+  -- each lane was run in its seat, given that it was at each place
   pub have_run : (basis : List Dated) (lanes : List Lane) (olds news : List (Seat D W)) → length lanes ≡ length olds → length lanes ≡ length news
       → ((i : ℕ) (lane : Lane) (old new : Seat D W) → slice_get lanes i ≡ Some lane → slice_get olds i ≡ Some old → slice_get news i ≡ Some new
       → HasRunIn basis lane old new)

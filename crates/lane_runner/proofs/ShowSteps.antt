@@ -14,7 +14,7 @@ in_front [] ys i x is = absurd (cc)
 in_front (y ∷ xs) ys zero x is = is
 in_front (y ∷ xs) ys (suc i) x is = in_front xs ys i x is
 
--- each element of which something holds
+-- each element that satisfies a condition
 got_all : {A : Type 0} (P : A → Type 0) (xs : List A) (i : ℕ) → i < length xs → AllByRecursion P xs → (x : A) × (slice_get xs i ≡ Some x) × P x
 got_all P [] i below all = absurd (omega arith)
 got_all P (x ∷ xs) zero below all = (x, refl, all.0)
@@ -28,7 +28,7 @@ all_up : (xs : List ℕ) (m n : ℕ) → m ≤ n → AllByRecursion (λ x. x ≤
 all_up [] m n up all = tt
 all_up (x ∷ xs) m n up all = (omega (arith, up, all.0), all_up xs m n up all.1)
 
--- where a list with one more element parts, at an element
+-- how a list with one more element is divided at an element
 pub record PartsInside {A : Type 0} (xs before after : List A) (x one : A) : Type 0 where
   pub rest : List A
   pub after_is : after ≡ rest ++ x ∷ []
@@ -57,7 +57,7 @@ parts_push {A} (y ∷ xs) (b ∷ before) after x one is =
     by same (inl inside) = inl (record { rest = inside.rest; after_is = inside.after_is; is = λ i. same i ∷ inside.is i })
     by same (inr last) = inr (record { before_is = λ i. sym same i ∷ last.before_is i; one_is = last.one_is })
 
--- where two lists put together part, at an element
+-- how two lists put together are divided at an element
 pub record PartsBehind {A : Type 0} (ys earlier : List A) (one : A) : Type 0 where
   pub later : List A
   pub is : ys ≡ later ++ one ∷ earlier
@@ -106,14 +106,14 @@ module _ (text : TranscriptLine → List ℕ) where
       by earlier piece [] is = cc
       by earlier piece (x ∷ later) is = cc
 
-  -- one moment more
+  -- one more moment
   shown_moment : (run : List TakenPiece) (lines : List TranscriptLine) (moments : List ℕ) (moment : ℕ) → AreShown text run lines moments
       → AreShown text run lines (moments ++ moment ∷ [])
   shown_moment run lines moments moment shown = λ later earlier piece is before after told at accepted past.
       let found = shown later earlier piece is before after told at accepted past in
       (found.0, in_front moments (moment ∷ []) (accepted_lines before) found.0 found.1, found.2)
 
-  -- one line more, of whose text nothing was handed on
+  -- one more line, of whose text nothing was handed on
   shown_line : (run : List TakenPiece) (lines : List TranscriptLine) (moments : List ℕ) (told : TranscriptLine)
       → length (taken_bytes run) ≤ length (line_texts text lines) → AreShown text run lines moments
       → AreShown text run (lines ++ told ∷ []) moments
@@ -218,7 +218,7 @@ module _ (text : TranscriptLine → List ℕ) (first : List TakenPiece) where
         enough = omega (arith, is.enough, length-append moments (moment ∷ []));
       })
 
-  -- one line more is to be handed on
+  -- one more line is to be handed on
   pub showing_line : (now : List TakenPiece) (lines : List TranscriptLine) (moments : List ℕ) (latest : ℕ) (gathered : List ℕ)
       (stopped : Option Unwritten) (told : TranscriptLine) → accepted_lines (lines ++ told ∷ []) ≤ length moments
       → IsShowing text first now lines moments latest gathered stopped
@@ -233,7 +233,7 @@ module _ (text : TranscriptLine → List ℕ) (first : List TakenPiece) where
     enough = enough;
   }
 
-  -- where no more is handed on, nothing changes
+  -- if no more is handed on, nothing changes
   pub showing_held : (now : List TakenPiece) (lines : List TranscriptLine) (moments : List ℕ) (latest : ℕ) (gathered other : List ℕ)
       (stopped : Option Unwritten) → is_some stopped ≡ true
       → IsShowing text first now lines moments latest gathered stopped → IsShowing text first now lines moments latest other stopped
@@ -317,7 +317,7 @@ module _ (text : TranscriptLine → List ℕ) (first : List TakenPiece) where
         enough = is.enough;
       })
 
-  -- one line more is gathered
+  -- one more line is gathered
   pub showing_kept : (now : List TakenPiece) (lines : List TranscriptLine) (moments : List ℕ) (latest : ℕ) (words gathered bytes : List ℕ)
       (stopped after : Option Unwritten) (told : TranscriptLine) → bytes ≡ gathered ++ words → words ≡ text told → after ≡ stopped
       → accepted_lines (lines ++ told ∷ []) ≤ length moments → IsShowing text first now lines moments latest gathered stopped
@@ -326,7 +326,7 @@ module _ (text : TranscriptLine → List ℕ) (first : List TakenPiece) where
       showing_same now (lines ++ told ∷ []) moments latest (gathered ++ text told) bytes stopped after
       (kept ∙ ap (λ back. gathered ++ back) words_are) same (showing_line now lines moments latest gathered stopped told enough is)
 
-  -- one line more, of which no more is handed on
+  -- one more line, of which no more is handed on
   pub showing_past : (now : List TakenPiece) (lines : List TranscriptLine) (moments : List ℕ) (latest : ℕ) (gathered bytes : List ℕ)
       (stopped : Option Unwritten) (told : TranscriptLine) → is_some stopped ≡ true
       → accepted_lines (lines ++ told ∷ []) ≤ length moments → IsShowing text first now lines moments latest gathered stopped
@@ -335,7 +335,7 @@ module _ (text : TranscriptLine → List ℕ) (first : List TakenPiece) where
       showing_held now (lines ++ told ∷ []) moments latest (gathered ++ text told) bytes stopped held
       (showing_line now lines moments latest gathered stopped told enough is)
 
-  -- one line more, for which there is no memory
+  -- one more line, for which there is no memory
   pub showing_lacking : (now : List TakenPiece) (lines : List TranscriptLine) (moments : List ℕ) (latest : ℕ) (gathered bytes : List ℕ)
       (stopped after : Option Unwritten) (why : Unwritten) (told : TranscriptLine) → stopped ≡ None → after ≡ Some why → 0 < length (text told)
       → accepted_lines (lines ++ told ∷ []) ≤ length moments → IsShowing text first now lines moments latest gathered stopped
@@ -351,7 +351,7 @@ module _ (text : TranscriptLine → List ℕ) (first : List TakenPiece) where
     owed = showing_same mid (lines ++ told ∷ []) moments latest (gathered ++ text told) words stopped stopped
         (words_are ∙ ap (λ front. front ++ text told) (sym none)) refl (showing_line mid lines moments latest gathered stopped told enough is)
 
-    -- one line more was handed on, where nothing was gathered
+    -- one more line was handed on, where nothing was gathered
     pub showing_through : {T E : Type 0} (done : T) → AddsPieces {E = E} mid now latest words (Ok done)
         → IsShowing text first now (lines ++ told ∷ []) moments latest gathered stopped
     showing_through {T} {E} done adds =

@@ -15,7 +15,7 @@ prefix_trans xs ys zs first then =
 heads : {A : Type 0} (x y : A) (xs ys : List A) → x ∷ xs ≡ y ∷ ys → x ≡ y
 heads x y xs ys same = cc
 
--- what is after a turn stays so where more is known
+-- what comes after a turn stays so if more is known
 looked_behind : (turn : ℕ) (old new : Inlet) → HasLooked old new → IsBehind turn old → IsBehind turn new
 looked_behind turn old new looked behind = λ some next rest front before.
     behind (omega (arith, some, looked.left)) next rest (prefix_trans (known_items old.ring) (known_items new.ring) (next ∷ rest) looked.ring.2 front)
@@ -55,7 +55,7 @@ all_spent : (inlets : List Inlet) → AllByRecursion (λ (inlet : Inlet). inlet.
 all_spent [] none = refl
 all_spent (inlet ∷ inlets) none = omega (arith, none.0, all_spent inlets none.1)
 
--- where lines are left, one of them is the nearest
+-- if lines are left, one of them is the nearest
 pub some_nearest : (olds news : List Inlet) (found : Option Near) → AllZip HasLooked olds news → IsNearest news found
     → 0 < all_to_come olds → found ≡ None → ⊥
 some_nearest olds news None looked nearest some none =

@@ -1,4 +1,4 @@
--- The tallies of one line more
+-- The tallies of one more line
 use Rattle.lane_runner.proofs.Names.{◌≡◌, ℕ, ◌+◌, ◌||◌, Bool, true, false, List, [], ◌∷◌, ◌++◌, refl, ap, sym, ◌∙◌, subst, count_by, list_any, TranscriptLine, has_faulted, lacks_memory, tells_accepted, tells_refused, AreTallied}
 use Rattle.std.proofs.lemmas.List.Folds.{list_any-append}
 use Rattle.std.proofs.lemmas.List.Sums.{sum_by_push}

@@ -125,7 +125,7 @@ accepted_is lane named k =
 pub free_accepted : (lane : ℕ) (named : Command) (k : ℕ) → IsFree (accepted_content lane named k)
 free_accepted lane named k = free_content (decimal lane) (accepted_fields named k) (bare_any lane) (bare_fields named k)
 
--- it begins with a digit, or with a comma
+-- the text begins with a digit, or with a comma
 low_content : (lane : ℕ) (named : Command) (k : ℕ) → get_or (accepted_content lane named k) 0 0 < 58
 low_content lane named k = by (decimal lane) (are_digits lane)
   where
@@ -133,9 +133,9 @@ low_content lane named k = by (decimal lane) (are_digits lane)
     by [] are = omega arith
     by (b ∷ bytes) are = are.0.1
 
--- ---- texts of whole lines, of which some may be this one
+-- ---- texts of whole lines, some of which may be this one
 
--- The text is these lines, and where one of them is this content, it is so.
+-- The text is these lines, and each of them with this content satisfies the condition.
 pub record HasLines (text : List ℕ) (content : List ℕ) (Says : Type 0) : Type 0 where
   pub lines : List (List ℕ)
   pub free : AllByRecursion IsFree lines
@@ -169,7 +169,7 @@ letter_line line lane named k free high =
     one_line line (accepted_content lane named k) ⊥ free
     (λ same. let low = low_content lane named k in let first = ap (λ (bytes : List ℕ). get_or bytes 0 0) same in omega (arith, low, high, first))
 
--- a line of other fields, of which the third isn't `accepted`
+-- a line of other fields, the third of which isn't `accepted`
 pub other_line : (Says : Type 0) (first : List ℕ) (fields : List (List ℕ)) (lane : ℕ) (named : Command) (k : ℕ) → IsBare first → AreBare fields
     → (get_or (get_or fields 2 []) 0 0 ≡ 97 → ⊥) → HasLines (line_of first fields) (accepted_content lane named k) Says
 other_line Says first fields lane named k one bare other =
@@ -354,7 +354,7 @@ module _ (Says : Type 0) (lane : ℕ) (named : Command) (k : ℕ) where
 text_of : (text other content : List ℕ) (Says : Type 0) → text ≡ other → HasLines other content Says → HasLines text content Says
 text_of text other content Says same are = record { lines = are.lines; free = are.free; are = same ∙ are.are; only = are.only }
 
--- the text of a clerk's line has that of an accepted posting only where it is one
+-- the text of a lane's line contains that of an accepted posting only if it is one
 told_lines : (IsRow : ℤ → Policy → Row → Type 0) (clerk : ℕ) (line : Line) (reply : Reply) (commands : List Command) (IsDry : Type 0) (text : List ℕ)
     (lane : ℕ) (named : Command) (k : ℕ) → IsToldText run_wording IsRow clerk line reply commands IsDry text
     → HasLines text (accepted_content lane named k) (SaysAccepted line reply named k)
@@ -391,7 +391,7 @@ report_lines (report ∷ reports) from lane named k =
 pub reports_lines : (reports : List Report) (lane : ℕ) (named : Command) (k : ℕ) → HasLines (run_wording.reports reports) (accepted_content lane named k) ⊥
 reports_lines reports lane named k = report_lines reports 1 lane named k
 
--- ---- where the line stands
+-- ---- where the line is
 
 among_all : (P : List ℕ → Type 0) (front back : List (List ℕ)) (line : List ℕ) (lines : List (List ℕ)) → lines ≡ front ++ line ∷ back
     → AllByRecursion P lines → P line

@@ -1,4 +1,4 @@
--- Where the count of faults of one of the disks rose and the output didn't fail, the ending states it, unless memory is refused
+-- If the count of faults of one of the disks rose and the output didn't fail, the ending states it, unless memory is refused
 use Rattle.life_app.proofs.Names.{◌≡◌, ◌<◌, ◌⊎◌, ℕ, ℤ, List, [], ◌∷◌, ◌++◌, refl, ap, ◌∙◌, inl, inr, Option, None, Some, arith, AllByRecursion, cons_option, filter_map, last_or, Ghosts, Rose, Command, At, Entry, Lane, fault_of, opened_on, Dated, Measure, Auditor, IsLeftBy, Mode, Run, Value, Project, State, Checkpoint, Generate, Load, Ending, Done, BadJournal, WriteFault, DiskFault, NoMemory, status_of, EndsReadOnly, Input, Shelving, Stream, WroteAll, EndsScript, EndsLanes, EndsRun, policy_account, EndsState, IsStated, EndsValue, IsValued, EndsProject, IsProjected, EndsLoad, EndsLoading, HasNewFault, filing_between, Does, EndsBooks, EndsMode, EndsSave, WroteAsEnded, EndsNoOffice, reports_text, reports_of, accepted_of, books_of}
 use Rattle.std.specs.Option.{unwrap_or}
 use Rattle.program_endings.proofs.ReplyNames.{IsAnswered}
@@ -17,7 +17,7 @@ none_met (entry ∷ history) answered =
 abbrev IsTold : Ending → Type 0
 IsTold ending = (status_of ending ≡ 8) ⊎ (status_of ending ≡ 9)
 
--- the journal's disk alone
+-- for the journal's disk alone
 module _ {D : Type 0} (g : Ghosts D) (old new : D) (output : Stream) (held : Rose output.faults_before output.faults_after → ⊥)
     (rose : g.faults old < g.faults new) where
   stood : g.faults new ≡ g.faults old → ⊥
@@ -26,7 +26,7 @@ module _ {D : Type 0} (g : Ghosts D) (old new : D) (output : Stream) (held : Ros
   untouched : new ≡ old → ⊥
   untouched same = stood (ap (λ (d : D). g.faults d) same)
 
-  -- where every posting was answered the count stood
+  -- if every posting was answered, the count stood still
   all_answered : (commands : List Command) (history : List Entry) → AllByRecursion (λ (entry : Entry). IsAnswered entry.reply) history
       → IsLeftBy g old new (opened_on commands (g.faults old)) history → ⊥
   all_answered commands history answered left =
@@ -120,7 +120,7 @@ module _ {D E : Type 0} (g : Ghosts D) (e : Ghosts E) (old new : D) (output : St
   abbrev OneRose : (second kept : Option E) → Type 0
   OneRose second kept = HasNewFault (filing_between g old new) (second_between e second kept)
 
-  -- of a mode that leaves the second disk the journal's did
+  -- for a mode that leaves the second disk alone, the journal's disk failed
   first_rose : (second kept : Option E) → OneRose second kept → kept ≡ second → g.faults old < g.faults new
   first_rose None kept rose same = rose
   first_rose (Some second) None rose same = rose

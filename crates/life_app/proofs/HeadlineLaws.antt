@@ -130,7 +130,7 @@ module _ {D : Type 0} (g : Ghosts D) (old new : D) (output : Stream) where
     abbrev Says : Ending → Type 0
     Says ending = EndsUnread input output ending ⊎ EndsNoBasis name shelf output ending ⊎ EndsNoOffice g old new output ending
 
-    -- a run that answered no line, and left the disk alone, or didn't touch it
+    -- a run that answered no line, and left the disk alone or didn't touch it
     unrun_alone : (ending : Ending) → Says ending → IsLeftAlone g old new
         → IsUnrun g Opens old new name input output shelf (status_of ending)
     unrun_alone ending says alone = record { ending = ending; exits = refl; says = says; since = alone.since }
@@ -165,7 +165,7 @@ module _ {D : Type 0} (g : Ghosts D) (old new : D) (output : Stream) where
           → EndsNoBasis name shelf output ending → Told lanes basis auditors (status_of ending)
       without_basis lanes basis auditors ending same ends = inr (unrun_untouched ending (inr (inl ends)) same only_now)
 
-      -- nor without a script
+      -- and there is none without a script
       without_script : (lanes : List Lane) (basis : List Dated) (auditors : List Auditor) (ending : Ending) → new ≡ old
           → EndsUnread input output ending → Told lanes basis auditors (status_of ending)
       without_script lanes basis auditors ending same ends = inr (unrun_untouched ending (inl ends) same only_now)

@@ -1,4 +1,4 @@
--- How each mode leaves the disk: by the turns of an office, alone, or untouched
+-- How each mode leaves the disk: as the turns of an office left it, alone, or untouched
 use Rattle.life_app.proofs.Names.{◌≡◌, ℕ, ℤ, List, [], refl, inl, inr, Option, None, Some, Ghosts, Command, At, Entry, Lane, Opening, opened_on, Auditor, Dated, Measure, Mode, Run, Value, Project, State, Checkpoint, Generate, Load, IsLeftAlone, IsLeftBy, Ending, Done, BadJournal, WriteFault, DiskFault, NoMemory, EndsReadOnly, Input, Shelving, Stream, EndsScript, EndsLanes, EndsRun, books_of, policy_account, EndsState, IsStated, EndsValue, IsValued, EndsProject, IsProjected, EndsLoad, EndsLoading, IsLoadOf, Does, EndsBooks, EndsMode, EndsSave, IsLeftSo}
 
 module _ {D : Type 0} (g : Ghosts D) (old new : D) where
@@ -95,7 +95,7 @@ module _ {D : Type 0} (g : Ghosts D) (old new : D) where
   state_left text_of output ending ends =
       read_only (IsStated g old new text_of) output ending (λ Wrote is. by_turns (opened_on is.commands (g.faults old)) [] is.disk) ends
 
-  -- both disks leave the journal's alone
+  -- modes over both disks leave the journal's disk alone
   books_left : {E : Type 0} (e : Ghosts E) (second kept : Option E) (output : Stream) (ending : Ending)
       → EndsBooks g e old new second kept output ending → Left
   books_left e None None output ending ends = state_left books_of output ending ends

@@ -1,4 +1,4 @@
--- That a script's run is answered legally follows from what is promised of it
+-- A script's run is answered legally: this follows from what is promised of it
 use Rattle.std.proofs.Common.{◌≡◌, ◌⊎◌, inl, inr, ℕ, List, [], ◌++◌, refl, sym, append-nil, subst, arith, take, drop}
 use Rattle.std.proofs.lemmas.List.{take-append-drop}
 use Rattle.std.specs.Prelude.{ℤ}
@@ -20,7 +20,7 @@ gives_reply : (IsRow : ℤ → Policy → Row → Type 0) (clerk : ℕ) (line : 
 gives_reply IsRow clerk line command reply commands IsDry text posts told =
     subst (λ (l : Line). IsToldText run_wording IsRow clerk l reply commands IsDry text) posts told
 
--- of texts a prefix was written; all of them where the status says so
+-- a prefix of the texts was written, and all of them if the status says so
 abbrev WrotePrefix : Stream → List ℕ → ℕ → Type 0
 WrotePrefix output texts status = (written rest : List ℕ) × (written ++ rest ≡ texts) × Appends output.before output.after written
     × ((status ≡ 0) ⊎ (status ≡ 8) → rest ≡ [])

@@ -1,4 +1,4 @@
--- A text of whole lines has just one list of lines
+-- A text of whole lines has only one list of lines
 use Rattle.std.proofs.Common.{◌≡◌, ℕ, ◌+◌, ◌==◌, ◌⊎◌, Bool, true, false, List, [], ◌∷◌, ◌++◌, get_or, refl, ap, ap₂, sym, ◌∙◌, inl, inr, append_assoc}
 use Rattle.std.proofs.lemmas.Bool.{eqb-false}
 use Rattle.std.proofs.lemmas.Map.Views.{exact_unsigned_eq}
@@ -44,7 +44,7 @@ no_bytes : (front : List ℕ) → front ++ 10 ∷ [] ≡ [] → ⊥
 no_bytes [] same = cc
 no_bytes (b ∷ front) same = cc
 
--- one byte more before the first line
+-- one more byte before the first line
 before_first : (b : ℕ) (bytes : List ℕ) (lines : List (List ℕ)) → (b ≡ 10 → ⊥) → AllByRecursion IsFree lines → bytes ≡ lines_text lines
     → (bytes ≡ [] → ⊥) → AreLines (b ∷ bytes)
 before_first b bytes [] other free are some = absurd (some are)

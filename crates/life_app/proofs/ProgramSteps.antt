@@ -105,7 +105,7 @@ module _ {D E : Type 0} (g : Ghosts D) (e : Ghosts E) (old new : D) (second kept
     abbrev other : Second
     other = second_between e second kept
 
-    -- both disks are opened for `state` of all policies and `checkpoint`, where there is a second one
+    -- both disks are opened for `state` of all policies and `checkpoint`, if there is a second one
     books_done : (second kept : Option E) (commands : List Command) (ending : Ending) → HasJournal filing (second_between e second kept) commands
         → (Rose output.faults_before output.faults_after → ⊥) → EndsBooks g e old new second kept output ending
         → (status_of ending ≡ 0) ⊎ (status_of ending ≡ 9)

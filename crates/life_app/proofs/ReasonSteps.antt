@@ -7,7 +7,7 @@ use Rattle.life_app.specs.Reasons.{HasReason}
 use Rattle.life_app.proofs.BooksSteps as both
 use Rattle.life_app.proofs.BooksSteps.{second_between, two_disks}
 
--- of the journal's disk as much is known beside a second one
+-- as much is known of the journal's disk if there is a second one
 trusted_alone : (disk : Filing) (second : Second) → AreTrusted disk second → disk.Honest
 trusted_alone disk Without trusted = trusted
 trusted_alone disk (With second) trusted = trusted.0

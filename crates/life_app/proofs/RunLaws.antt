@@ -37,7 +37,7 @@ module _ {D : Type 0} (g : Ghosts D) (P : List Command → Type 0) (run : OneRun
     images = λ image left. (commands, subst (λ (bytes : List ℕ). Opens bytes commands) (sym (safe image left)) opens, is, inl refl);
   }
 
-  -- where no office was opened, the images are as before, or open to what the file did
+  -- if no office was opened, the images are as before, or open to what the file did
   still : (disk : D) → run.answered ≡ [] → Starts g P disk → Starts g (Grown P run) disk
   still disk none starts = record {
     base = starts.base;
@@ -198,7 +198,8 @@ module _ {D : Type 0} (g : Ghosts D) (facts : Facts g) (P : List Command → Typ
           )
     ]
 
-    -- of an image from before the run, too: then no more than one was answered, which had been in flight before
+    -- the same for an image from before the run: then no more than one posting was answered, which had been in flight
+    -- before
     cut_early : WasCut g old run → Held P starts.base (g.reads run.next)
         → (commands : List Command) × Opens (g.reads run.next) commands × Grown P run commands
     cut_early cut held = elim cut.when [

@@ -28,7 +28,7 @@ module _ {D : Type 0} (g : Ghosts D) (old new : D) (output : Stream) (fresh : Is
   abbrev pub Durable : Type 0
   Durable = IsDurable g SpellsCommands new output.pieces_after
 
-  -- of a run as it is promised
+  -- for a run as it is promised
   pub promised_durable : (reserves : Reserves) (lanes : List Lane) (basis : List Dated) (auditors : List Auditor) (status : ℕ)
       → IsPromised g Opens run_wording reserves old new lanes basis auditors output status → g.honest new → Durable
   promised_durable reserves lanes basis auditors status is honest =
@@ -40,7 +40,7 @@ module _ {D : Type 0} (g : Ghosts D) (old new : D) (output : Stream) (fresh : Is
       (front_ended g old new is.history is.dry is.texts (run_wording.reports (reports_of auditors (accepted_of is.history))) output is.ending fresh is.wrote)
       (subst (λ (pieces : List TakenPiece). AreSafeWhenShown g Opens new is.commands is.history is.lines is.texts pieces) all shown.2)
 
-  -- of a line in place of a transcript, which begins with a letter
+  -- for a line in place of a transcript, which begins with a letter
   pub line_durable : (line : List ℕ) → IsFree line → 58 ≤ get_or line 0 0 → WroteLine output line → Durable
   line_durable line free high wrote =
       none_durable g new output.pieces_after (line ++ 10 ∷ []) (front_or output fresh (line ++ 10 ∷ []) wrote)

@@ -15,7 +15,7 @@ IsOneMore history held [] = Unit {0}
 IsOneMore history held (command ∷ []) = WasFaulted history held command
 IsOneMore _ _ _ = ⊥
 
--- the commands from before the run, then a prefix of what it accepted, then at most one command more, whose posting
+-- the commands from before the run, then a prefix of what it accepted, then at most one more command, whose posting
 -- was answered `fault` when exactly these were accepted
 pub record AreHeld (opening : Opening) (history : List Entry) (commands : List Command) : Type 0 where
   pub held : List Command

@@ -42,7 +42,7 @@ filing_between g old new = record {
   faults_after = g.faults new;
 }
 
--- the file of the second disk, where there is one
+-- the file of the second disk, if there is one
 pub data Second : Type 1 where
   Without : Second
   With : Filing → Second

@@ -51,7 +51,7 @@ abbrev pub AreRuns : {D : Type 0} → Ghosts D → D → List (OneRun D) → D �
 AreRuns g first [] last = last ≡ first
 AreRuns g first (run ∷ runs) last = IsRunOn g first run × AreRuns g run.next runs last
 
--- What a run adds: a prefix of what it accepted, and at most one command more, whose posting was answered `fault`
+-- What a run adds: a prefix of what it accepted, and at most one more command, whose posting was answered `fault`
 -- when exactly that was accepted. What it had reported as accepted is a prefix of this.
 pub record AddsCommands {D : Type 0} (run : OneRun D) (held more : List Command) : Type 0 where
   pub front : (rest : List Command) × (accepted_of run.history ≡ held ++ rest)

@@ -17,7 +17,7 @@ pub fn scripts_are_read_or_refused()
 {}
 
 /// A crash at any moment of a run leaves the commands from before it, a prefix of what it accepted, and at most one
-/// command more. A crash after it leaves all that it accepted, and at most one command more.
+/// command more. A crash after it leaves all that it accepted, and at most one more command.
 pub fn crashes_of_a_run<D: Disk>()
     ensures during { (old new : D) (opening : Opening) (history : List Entry) (image : List ℕ)
         → HasRun D.Disk old new opening history → D.left_since new (D.clock old) image
@@ -46,7 +46,7 @@ pub fn crashes_of_an_opening<D: Disk>()
 {}
 
 /// The runs of a list, each ended by its return or by a crash at any moment, leave, in their order: for each, what it
-/// had reported as accepted, perhaps more of what it accepted, and at most one command more, which was answered
+/// had reported as accepted, perhaps more of what it accepted, and at most one more command, which was answered
 /// `fault`. The first run begins on a disk of which a crash leaves exactly what is read. Each call of the program,
 /// over a second disk or none, leaves the disk as such a run does.
 pub fn runs_in_a_row<S: Source, K: Sink, H: Shelf, D: Disk, E: Disk>()

@@ -21,7 +21,7 @@ handed_on (Ok answer) fault Q is none = absurd is
 handed_on (Err Usage) fault Q is none = none (sym is)
 handed_on (Err (NoMemory lack)) fault Q is none = tt
 
--- so is the fault of a part that each answer has
+-- and so is the fault of a part that each result has
 pub refused : {T U : Type 0} (P : T → Type 0) (Q : U → Type 0) (r : Result U WordsFault) (fault : WordsFault) → IsErrAnd r (λ y. y ≡ fault) → GivesAsked P (Err fault)
     → ((answer : U) → Q answer → (part : T) × P part) → GivesAsked Q r
 refused P Q r Usage is none part = handed_on r Usage Q is (λ usage answer asked. let of_it = part answer asked in none of_it.0 of_it.1)

@@ -11,11 +11,11 @@ use Rattle.life_args.proofs.Asking.{asked, good}
 use Rattle.life_args.proofs.Answering.{asked_by, asked_of, asking_by, odd_refused}
 use Rattle.life_args.proofs.Saying.{Said, its_verb, mode_with, said_by}
 
--- it is so, or it isn't
+-- a fact is true, or it isn't
 abbrev Either : Type 0 → Type 0
 Either P = P ⊎ (P → ⊥)
 
--- one below a bound is so, or none is
+-- one number below a bound has the property, or none has
 search : (P : ℕ → Type 0) → ((n : ℕ) → Either (P n)) → (bound : ℕ) → Either ((n : ℕ) × (n < bound) × P n)
 search P decide zero = inr (λ one. let below = one.1 in omega (arith, below))
 search P decide (suc bound) = elim (decide bound) [
@@ -126,13 +126,13 @@ nothing_in : (values : List Text) → Either (values ≡ [])
 nothing_in [] = inl refl
 nothing_in (x ∷ values) = inr (λ never. cc)
 
--- just one value that is a day
+-- exactly one value, which is a day
 just_day : (values : List Text) → Either ((on : ℤ) × JustOne values (λ value. IsDayValue value on))
 just_day (x ∷ []) = mapped (day x) (λ on. (on.0, (x, refl, on.1)))
     (λ one. let e = one.1.1 in let same : one.1.0 ≡ x = cc in (one.0, subst (λ (t : Text). IsDayValue t one.0) same one.1.2))
 just_day values = inr (λ one. let e = one.1.1 in cc)
 
--- just two values, a day and a number of years
+-- exactly two values, a day and a number of years
 ahead : (values : List Text) → Either ((both : ℤ × ℕ) × AreDayAndYears values both.0 both.1)
 ahead (x ∷ y ∷ []) = mapped (both (day x) (number 1 131 y)) (λ t. ((t.0.0, t.1.0), (x, (let z = t.1.3 in cc), t.0.1, (t.1.1, t.1.2))))
     (λ one.
@@ -148,7 +148,7 @@ drawn (a ∷ b ∷ c ∷ []) = mapped (both (number 0 2147483647 a) (both (numbe
     (λ one. let e = one.1.0 in ((one.0.0, omega arith, one.1.1.0, (cc)), ((one.0.1, one.1.1.1.0, one.1.1.1.1, (cc)), (one.0.2, one.1.1.2.0, one.1.1.2.1, (cc)))))
 drawn values = inr (λ one. let e = one.1.0 in cc)
 
--- and four, the last of which is a number of workers
+-- exactly four values, the last of which is a number of workers
 loaded : (values : List Text) → Either (Said Load (λ id. values))
 loaded (a ∷ b ∷ c ∷ d ∷ []) = mapped (both (drawn (a ∷ b ∷ c ∷ [])) (number 1 64 d))
     (λ t. ((t.0.0.0, t.0.0.1, t.0.0.2, t.1.0), ((let x = t.0.1.0 in let y = t.1.3 in cc), t.0.1.1, (t.1.1, t.1.2))))

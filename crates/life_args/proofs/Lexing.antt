@@ -5,7 +5,7 @@ use Rattle.clap.specs.Walk.{Text}
 use Rattle.clap.proofs.CutLemmas.{Lacks}
 use Rattle.clap.proofs.LexerLemmas.{name_and_value-at, name_and_value-without}
 
--- the word is read as a value where one may stand
+-- the argument is read as a value if one may come
 pub record IsValueWord (word : Text) : Type 0 where
   pub no_hyphens : bytes_eq word (45 ∷ 45 ∷ []) ≡ false
   pub no_long : long_of word ≡ None

@@ -35,7 +35,7 @@ pub record IsGood (name : Text) : Type 0 where
   pub named : IsOptionName name
   pub other : bytes_eq alone_id name ≡ false
 
--- so are all names, and no option that has a value has a flag's name
+-- and so are all names, and no option with a value has the name of a flag
 pub record AreGood (names : OptionNames) : Type 0 where
   pub valued : (name : Text) → IsAmong names.valued name → IsGood name
   pub flags : (name : Text) → IsAmong names.flags name → IsGood name

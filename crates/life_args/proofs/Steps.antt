@@ -1,4 +1,4 @@
--- One word of `clap`'s walk over a line
+-- One argument in `clap`'s walk over a line
 use Rattle.life_args.proofs.Names.{◌≡◌, ℕ, Bool, true, false, cond, List, [], ◌∷◌, Option, Some, None, option_map, refl, ap, ap₂, ◌∙◌, bytes_eq, codes, nat_lt, ⊤, long_of, Shape, new_shape, settle_fault, turn_fault, use_fault, word_fault, other_fault, step_fault, flag_word_fault, bundle_fault, long_fault, Kinds, or_else, InvalidValue, TooManyValues, UnknownArgument, OptionNames, alone_id}
 use Rattle.std.proofs.Math.Bool.{and-false}
 use Rattle.std.specs.Option.{option_map_or}
@@ -30,7 +30,7 @@ at_walk rows pending waiting = record { held = at rows pending; waiting = waitin
 abbrev pub held : List Row → Option Use → Held
 held rows last = at rows (option_map (λ (u : Use). (u.0, u.1 ∷ [])) last)
 
--- where the walk stands: nothing waits for a value; or an option does
+-- the state of the walk: nothing waits for a value, or an option does
 abbrev pub stand : List Row → Option Use → Waiting → Walk
 stand rows last waiting = at_walk rows (held rows last).pending waiting
 
@@ -59,7 +59,7 @@ module _ (names : OptionNames) where
   abbrev pub s : Shape
   s = leaf (rules names)
 
-  -- a word without fault, and where the walk stands after it
+  -- an argument without fault, and the state of the walk after it
   pub record Goes (w : Walk) (word : Text) (after : Walk) : Type 0 where
     pub fault : turn_fault s [] w word ≡ []
     pub walk : walked c [] w word ≡ after
@@ -203,13 +203,13 @@ module _ (names : OptionNames) where
   faulty rows pending waiting word name given k is fault =
       (k, [], (turn_is rows pending waiting word _ _ refl (named_fault waiting word name given (at rows pending) is ∙ fault)).0)
 
-  -- where no option has the name
+  -- if no option has the name
   pub unknown_faulty : (rows : List Row) (pending : Option (Text × List Text)) (waiting : Waiting) (word name : Text) (given : Option Text) → IsNamed word name given
       → arg_by_long c name ≡ None → IsFaulty (at_walk rows pending waiting) word
   unknown_faulty rows pending waiting word name given is none =
       faulty rows pending waiting word name given UnknownArgument is (ap (λ o. long_fault c false o given (at rows pending)) none)
 
-  -- where an option waits for its value
+  -- if an option waits for its value
   pub unfilled : (rows : List Row) (name : Text) → IsKnown names name → settle_fault c false (want rows name).held ≡ InvalidValue ∷ []
   unfilled rows name known = ap (λ o. option_map_or (λ r. use_fault false r [] rows) o []) known.found ∙ known.wants rows
 
@@ -222,7 +222,7 @@ module _ (names : OptionNames) where
       both None = unfilled rows other known
       both (Some v) = ap (λ k. or_else k (use_fault false (filled_option name) (v ∷ []) (settled c (want rows other).held).rows)) (unfilled rows other known)
 
-  -- where a flag has a value, and where it stands in the place of one
+  -- if a flag has a value, and where it stands in the place of one
   pub valued_flag_faulty : (rows : List Row) (pending : Option (Text × List Text)) (waiting : Waiting) (word name given : Text) → IsNamed word name (Some given)
       → arg_by_long c name ≡ Some (filled_flag name) → IsFaulty (at_walk rows pending waiting) word
   valued_flag_faulty rows pending waiting word name given is found =

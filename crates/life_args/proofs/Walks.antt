@@ -1,4 +1,4 @@
--- `clap`'s walk over the words that pieces spell, and the pieces of the words that it takes
+-- `clap`'s walk over the arguments that pieces spell, and the pieces of the arguments that it takes
 use Rattle.life_args.proofs.Names.{◌≡◌, false, fold, List, [], ◌∷◌, ◌++◌, Option, Some, None, refl, sym, ap, ap₂, ◌∙◌, inl, inr, or_parts, settle_fault, walk_fault, Kinds, or_else, WordPiece, bare, flag, spelled, IsAmong, HasOnly, apart_piece, joined_piece, ArePlain, OptionNames, Spelling, alone_id, has_odd, is_odd}
 use Rattle.clap.specs.Walk.{Row, Text, Waiting, Walk, arg_by_long, idle, positional, walked}
 use Rattle.life_args.proofs.Lexing.{IsNamed, Seen, alone, apart, joined, seen, plain_word, apart_named, joined_named}

@@ -51,6 +51,6 @@ module _ {D E : Type 0} (g : Ghosts D) (e : Ghosts E) (old new : D) (second kept
     unopened = unopened;
   }
 
-  -- where there was no memory to begin, 9 is right in every case
+  -- if there was no memory to begin, 9 is right in every case
   pub given_up : status ≡ 9 → new ≡ old → IsShipped g e old new second kept words input output shelf A B status
   given_up nine same = shipped (NoMemory a_lack, nine, tt) (λ ending is. inr nine) (λ honest none. ap g.reads same)

@@ -16,7 +16,7 @@ IsDay-date day h =
     let years = IsDay-year (date_of day) here.0 (rw here.1 h) in
     (here.0, here.1, years.0, years.1)
 
--- each anniversary of a day of commands up to the 134th lies before the year 2400
+-- each anniversary, up to the 134th, of a day of commands is before the year 2400
 pub anniversary_in : (issued : ℤ) (t : ℕ) → IsDay issued → t ≤ 134 → IsTermDay (anniversary_of issued t)
 unfolding anniversary_of
 anniversary_in issued t h most =
@@ -50,7 +50,7 @@ epoch_day-anniversary issued t x h most parts =
     let tie = days_from_civil-day_number (years_later (date_of issued) t) (years_later_is (date_of issued) t here.0 (omega (arith, here.3))) in
     rw (parts.0, parts.1, parts.2) tie
 
--- t years are completed where anniversary t has come and the next, if it counts, hasn't
+-- t years are completed if anniversary t has come and the next one, if it counts, hasn't
 pub IsCompleted-next : (issued on : ℤ) (t : ℕ) → IsDay issued → t ≤ 131 → anniversary_of issued t ≤ℤ on → (t < 131 → on <ℤ anniversary_of issued (suc t)) → IsCompleted issued on t
 IsCompleted-next issued on t h most reached next = record {
   most = most;
@@ -93,7 +93,7 @@ last_year : (date_of (pos 157_053)).year ≡ 2399
 unfolding date_of
 last_year = refl
 
--- a day lies in the year of an earlier one or in a later one
+-- a day is in the year of an earlier day or in a later year
 pub later_year : (issued last : ℤ) → IsDay issued → IsTermDay last → issued ≤ℤ last → (date_of issued).year ≤ (date_of last).year
 later_year issued last h k le = elim (cases_lt (date_of last).year (date_of issued).year) [
   | inr year ↦ year

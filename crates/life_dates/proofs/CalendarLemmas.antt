@@ -95,7 +95,7 @@ date_parts_are n y m low high begun month d e =
     let next = days_of_months_more (pos y) m month.0 in
     rw e (record { year_low = low; year_high = omega arith; month_low = month.0; month_high = month.1; day_low = omega arith; day_high = omega (arith, month.3) }, omega (arith, month.2))
 
--- the n-th day after 0001-01-01 has a date, which n days lie before
+-- the n-th day after 0001-01-01 has a date, and n days are before that date
 pub date_at_is : (n : ℕ) → n < 900_000 → IsDate (date_at n) × (days_before (date_at n) ≡ n)
 unfolding date_at
 date_at_is n h =
@@ -128,7 +128,7 @@ plain_is x day h e =
     let here = date_of_is day h in
     epoch_day_injective x (plain (date_of day) here.0) (e ∙ sym (days_from_civil-day_number (date_of day) here.0 ∙ here.1))
 
--- a date lies among the days of its year
+-- a date is among the days of its year
 pub days_before-year : (d : Date) → IsDate d → (days_before_year d.year ≤ days_before d) × (days_before d < days_before_year (suc d.year))
 unfolding days_before
 days_before-year d h =

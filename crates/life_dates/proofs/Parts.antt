@@ -9,7 +9,7 @@ unfoldable pub days_before : Date → ℕ
 days_before date =
     days_before_year date.year + days_of_months (pos date.year) (date.month - 1) + (date.day - 1)
 
--- the year in which the n-th day after 0001-01-01 lies
+-- the year of the n-th day after 0001-01-01
 unfoldable pub year_of : ℕ → ℕ
 unfolding days_before_year
 year_of n = let low = 4 * n / 1461 + 1 in

@@ -13,7 +13,7 @@ first_day : day_number (ymd 1900 1 1) ≡ negsuc 25_566
 unfolding day_number
 first_day = refl
 
--- no day of the range lies in the year 0
+-- no day of the range is in the year 0
 after_zero : (x : Plain) → negsuc 25_566 ≤ℤ epoch_day x → (y : ℕ) → x.year ≡ pos y → 1 ≤ y
 unfolding plain
 after_zero x h y e = elim (cases_lt 0 y) [

@@ -43,7 +43,7 @@ right_policy id x first last =
     (drawn_below 1000 fourth) (drawn_below 3650 fifth) first last
     (below 60 second (omega arith)) (below 20 third (omega arith)) (below 1000 fourth (omega arith)) (below 3650 fifth (omega arith))
 
--- a row of one of so many lanes, with a valid command that names a policy
+-- a row of a lane, with a valid command that names a policy
 pub record IsRowFor (lanes : ℕ) (row : ClerkLine) : Type 0 where
   pub first : 1 ≤ row.clerk
   pub last : row.clerk ≤ lanes

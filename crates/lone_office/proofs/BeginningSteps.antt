@@ -7,7 +7,7 @@ use Rattle.program_endings.specs.Writing.{Shelving, Stream}
 use Rattle.program_endings.specs.declared.ending.Ending.{Ending}
 use Rattle.lone_office.specs.Beginning.{EndsOverBasis, HasNotBegun, IsUnopened}
 
--- there was no basis, though one is asked for
+-- there was no basis, although one is asked for
 pub not_begun : {D : Type 0} (g : Ghosts D) (disk : D) (asked : Option (List ℕ)) (name : List ℕ) (shelf : Shelving) (ShelfStays : Type 0)
     (output : Stream) (ending : Ending) → asked ≡ Some name → EndsNoBasis name shelf output ending
     → HasNotBegun g disk disk asked shelf ShelfStays output ending

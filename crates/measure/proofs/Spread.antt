@@ -1,4 +1,5 @@
--- The entries of a whole history lie on the pages of its callers, each on one: so the turns on all pages are those of the history.
+-- The entries of a whole history are on the pages of its callers, each on one page: so the turns on all pages are
+-- those of the history.
 use Rattle.std.proofs.Common.{◌≡◌, ℕ, zero, suc, ◌+◌, ◌<◌, Bool, true, false, cond, eqb, List, [], ◌∷◌, length, sum_by, count_by, map, slice_index_or, sym, refl, ap, ◌∙◌, subst, arith, ne_eqb, eq-eqb}
 use Rattle.std.specs.List.{AllByRecursion, Contains, IsDistinct}
 use Rattle.std.proofs.lemmas.Bool.{false≢true}
@@ -59,7 +60,7 @@ module _ (F : List Entry → ℕ) (w : Entry → ℕ) (none : F [] ≡ 0) (more 
   nobody : (e : Entry) (ps : List Page) → AllByRecursion (λ n. eqb e.caller n ≡ false) (numbers ps) → sum_by (share e) ps ≡ 0
   nobody e ps a = sum_zero (share e) ps (all_then (λ p. eqb e.caller p.0 ≡ false) (λ p. share e p ≡ 0) ps (share_off e) (all_map (λ n. eqb e.caller n ≡ false) (λ (p : Page). p.0) ps a))
 
-  -- an entry adds to one page alone
+  -- an entry adds to only one page
   once : (e : Entry) (ps : List Page) → IsDistinct eqb (numbers ps) → (k : ℕ) → k < length (numbers ps) → slice_index_or (numbers ps) k e.caller ≡ e.caller → sum_by (share e) ps ≡ w e
   unfolding IsDistinct
   once e [] d k l is = absurd (omega arith)

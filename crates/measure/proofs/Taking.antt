@@ -1,4 +1,4 @@
--- One turn more of a caller, and the turns of two callers together.
+-- One more turn of a caller, and the turns of two callers together.
 use Rattle.std.proofs.Common.{◌≡◌, ℕ, ◌+◌, ◌-◌, ◌*◌, ◌/◌, ◌≤◌, Bool, true, false, cond, List, [], ◌∷◌, ◌++◌, length, sum_by, count_by, refl, ap, ◌∙◌, arith, length-append, add-mul}
 use Rattle.std.proofs.lemmas.List.Sums.{sum_by-cons, sum_by-append, sum_by_push}
 use Rattle.policy_types.specs.declared.entry.Entry.{Entry}
@@ -71,7 +71,7 @@ module _ {O : Type 0} (counts : Entry → Bool) where
         counted = omega (arith, sum_by_push (λ e. cond (counts e) 1 0) mid.made entry);
       }
 
-  -- a caller alone
+  -- a single caller
   pub alone : (turns count : ℕ) (old new : Holding O) → Takes counts turns count old new → AllTake counts turns count old new
   alone turns count old new took =
       let made = took.made in
@@ -90,7 +90,7 @@ module _ {O : Type 0} (counts : Entry → Bool) where
   added : (f : Page → ℕ) (gone one new : Holding O) → LeavesLock gone one new → sum_by f (pages new) ≡ sum_by f (pages one) + sum_by f (pages gone)
   added f gone one new leaves = ap (λ (p : Holding O). sum_by f (pages p)) leaves.new_is ∙ sum_by-append f (pages one) (pages gone)
 
-  -- two callers, of which one entered by the other's pass and left into it
+  -- two callers, one of which entered by the other's pass and left into it
   pub together : (turns a b x y : ℕ) (old kept given one gone new : Holding O) → turns ≡ a + b → Enters old kept given
       → AllTake counts a x kept one → AllTake counts b y given gone → LeavesLock gone one new → AllTake counts turns (x + y) old new
   together turns a b x y old kept given one gone new sum enters first second leaves =

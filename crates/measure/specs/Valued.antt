@@ -26,7 +26,7 @@ IsWorth policy table None = IsErr (shape_by policy.plan policy.age policy.years 
 abbrev pub plus_at_most : ℕ → ℕ → ℕ
 plus_at_most sum more = min (sum + more) (2 ^ 64 - 1)
 
--- the totals have one policy more: its bounds are added, or it is counted as one without a value
+-- the totals have one more policy: its bounds are added, or it is counted as one without a value
 abbrev pub Adds : Totals → Totals → Option (ℕ × ℕ) → Type 0
 Adds old new (Some bounds) =
     (new.policies ≡ plus_at_most old.policies 1) × (new.unvalued ≡ old.unvalued)

@@ -1,4 +1,4 @@
--- A history with one call more is one.
+-- A history with one more call is one.
 use Rattle.memory_disk.proofs.Names.{◌≡◌, ℕ, ◌≤◌, Bool, true, false, cond, List, [], ◌∷◌, ◌++◌, length, Vec, refl, ap, sym, ◌∙◌, Option, Some, None, IsSome, both_true, le-leb, first_bytes, reaching, bytes_after, images_after, IsImage, WasImage, all_within, WritesNothing, put, Looks, Elapses, Only, Follows, Torn, bytes_as_image, length-reaching, torn_put, DiskCall, Len, Read, Write, Sync}
 use Rattle.std.specs.declared.alloc.Global.{Global}
 use Rattle.memory_disk.proofs.Pushed.{bytes_after-append, all_within-append, images_after-append, elapses_push, elapses_not}

@@ -49,7 +49,7 @@ pub possible : (image first : List ℕ) (calls : List DiskCall) (n keep : ℕ) �
 possible image first calls n keep within same =
     rw same (kept_as_image (take n calls) first first keep keep (λ earlier. earlier ≡ first) refl (λ some. omega arith) (all_within-take n calls first within))
 
--- the same of an answer, where it gives one
+-- the same for an answer, where it gives one
 pub answer_possible : {E : Type 0} (answer : Result (Vec ℕ Global) E) (first : List ℕ) (calls : List DiskCall) (n keep : ℕ) → all_within first calls ≡ true
     → IfOk answer (λ image. image.items ≡ image_of_writes first keep (take n calls)) → IfOk answer (λ image. IsImage first (take n calls) image.items)
 answer_possible (Ok image) first calls n keep within same = possible image.items first calls n keep within same

@@ -23,7 +23,7 @@ torn_as_image (Sync true ∷ calls) bytes image keep images known = torn_as_imag
 pub torn_possible : (image first : List ℕ) (calls : List DiskCall) (reached : ℕ) → image ≡ torn_after first first reached calls → IsImage first calls image
 torn_possible image first calls reached same = rw same (torn_as_image calls first first reached (λ earlier. earlier ≡ first) refl)
 
--- the same of an answer, where it gives one
+-- the same for an answer, where it gives one
 pub torn_answer_possible : {E : Type 0} (answer : Result (Vec ℕ Global) E) (first : List ℕ) (calls : List DiskCall) (reached : ℕ)
     → IfOk answer (λ image. image.items ≡ torn_after first first reached calls) → IfOk answer (λ image. IsImage first calls image.items)
 torn_answer_possible (Ok image) first calls reached same = torn_possible image.items first calls reached same

@@ -39,7 +39,7 @@ pub(crate) fn image_of(
 }
 
 impl Replay {
-    // One call more.
+    // One more call.
     fn go_on(&mut self, call: &DiskCall, keep: u32) -> Result<(), NoMemory>
         ensures { OnOk result ((rest : List Call)
             → kept_after self.new.bytes.items self.new.image.items keep self.new.left rest

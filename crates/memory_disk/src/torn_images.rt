@@ -27,7 +27,7 @@ pub(crate) fn torn_image_of(
     Ok(image)
 }
 
-// One call more.
+// One more call.
 fn go_on(
     bytes: &mut Vec<u8>,
     image: &mut Vec<u8>,

@@ -56,7 +56,7 @@ not_minus n rest small e =
     ap (λ (t : List ℕ). get_or t 0 0) e ∙ get_or_append_left (decimal (n / 100)) (hundredths_text (n % 100)) 0 0 numeral.0.0 in
     omega arith
 
--- and so has each amount with a sign
+-- the same for an amount with a sign
 pub signed_cents_text_injective : (y z : ℤ) → unsigned_abs y < 10 ^ 64 → unsigned_abs z < 10 ^ 64 → signed_cents_text y ≡ signed_cents_text z → y ≡ z
 signed_cents_text_injective (pos m) (pos n) small_m small_n e = ap pos (cents_text_injective m n small_m small_n e)
 signed_cents_text_injective (pos m) (negsuc n) small_m small_n e = absurd (not_minus m (cents_text (suc n)) small_m (sym e))

@@ -4,7 +4,7 @@ use Rattle.money_core.proofs.Names.{◌≡◌, ℕ, ◌^◌, ◌<◌, List, leng
 own : IsNumeralModel (AllDigits 10) (digits_value 10)
 own = numerals_by_value (AllDigits 10) tells_digits
 
--- the text has digits alone, at least one and no leading zero, and they write n
+-- the text is digits alone, at least one and without a leading zero, and they write n
 pub record Writes (n : ℕ) (ds : List ℕ) : Type 0 where
   pub digits : AllDigits 10 ds
   pub some : 0 < length ds

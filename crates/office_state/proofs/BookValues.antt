@@ -32,7 +32,7 @@ until-sets_of = by_each (λ commands. (p : ℕ) → until p (sets_of commands) �
             ∙ sym (ap sets_of (take_all p (commands ++ command ∷ []) all))
         by (inr within) = is ∙ before within ∙ here ∙ sym (ap sets_of (take-append-le p commands (command ∷ []) within))
 
--- a key is among the keys exactly where it has a version
+-- a key is among the keys exactly if it has a version
 either : (a b c : Bool) → ((a || b) || c) ≡ (a || (b || c))
 either true b c = refl
 either false b c = refl
@@ -88,7 +88,7 @@ any-after key ks (s ∷ sets) =
     by true false e f = let yes : nat_eq s.key key ≡ true = eq-eqb s.key key (sym (eqb-true key s.key e)) in grind arith
     by false true e f = let yes : nat_eq key s.key ≡ true = eq-eqb key s.key (sym (eqb-true s.key key f)) in grind arith
 
--- so a number is among them exactly where it has a policy
+-- so a number is among them exactly if it has a policy
 key_known : (commands : List Command) (id : ℕ) → list_any (nat_eq id) (keys_of (sets_of commands)) ≡ is_some (policy_of commands id)
 key_known commands id = any-after id [] (sets_of commands) ∙ ap is_some (newest_of-sets_of commands id)
 

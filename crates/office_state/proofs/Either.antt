@@ -107,7 +107,7 @@ record CanFollow (commands : List Command) (command : Command) : Type 0 where
 abbrev IsUnspelled : List ℕ → List Command → Type 0
 IsUnspelled body commands = (command : Command) → body ≡ spelling_of command → CanFollow commands command → ⊥
 
--- it spells one command that can follow them, or none
+-- the body spells one command that can follow them, or none
 abbrev Follows : List Command → List ℕ → Type 0
 Follows commands body = ((command : Command) × (body ≡ spelling_of command) × CanFollow commands command) ⊎ IsUnspelled body commands
 

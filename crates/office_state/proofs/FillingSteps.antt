@@ -4,7 +4,7 @@ use Rattle.std.proofs.Math.Nat.{pow-le-pow_right}
 use Rattle.policy_types.specs.Limits.{most_commands}
 use Rattle.office_state.proofs.SetSteps.{length-sets_of}
 
--- one policy more is copied
+-- one more policy is copied
 pub copy_more : (policies : List Policy) (first index : ℕ) (policy : Policy) → first ≤ index → slice_get policies index ≡ Some policy
     → take (index - first) (drop first policies) ++ policy ∷ [] ≡ take (index + 1 - first) (drop first policies)
 copy_more policies first index policy from at =
@@ -62,7 +62,7 @@ few_at spent n looks few = elim (cases_lt spent 23) [
   | inr more ↦ let big : 8388608 ≤ 2 ^ spent = pow-le-pow_right {n = 2} (omega arith) {i = 23} more in absurd (omega (arith, looks, few, big))
 ]
 
--- so one is found in few looks
+-- so a policy is found in few looks
 pub looks_few : (commands : List Command) (floor key before now : ℕ) → IsAccepted commands → length commands ≤ most_commands
     → AreFewSteps before now (length (versions_from floor (own key (sets_of commands)))) → now ≤ before + looks_at_most
 looks_few commands floor key before now accepted few looks =

@@ -95,7 +95,7 @@ pub is_refused : (commands : List Command) (command : Command) (refusal : Refusa
     → judged_after commands command ≡ Err refusal → refusal_due commands command ≡ Some refusal
 is_refused commands command refusal decided = rw decided refl
 
--- where more commands may be accepted, fewer than the most were
+-- if more commands may be accepted, fewer than the most were
 pub few_accepted : (opening : Opening) (history : List Entry) (commands : List Command) → commands ≡ commands_after opening history
     → length commands ≤ 4000000 → (length commands ≡ 4000000 → ⊥) → length (accepted_of history) < 4000000
 few_accepted opening history commands kept few not_full =
@@ -109,7 +109,7 @@ few_accepted opening history commands kept few not_full =
       | inr more ↦ let same : n ≡ m = omega (arith, few, more) in absurd (other same)
     ]
 
--- the position of one command more, counted on from the opening
+-- the position of one more command, counted on from the opening
 pub next_position : (opening : Opening) (history : List Entry) (commands : List Command) (command : Command) (position : ℕ)
     → commands ≡ commands_after opening history → position ≡ length (commands ++ command ∷ [])
     → position ≡ length opening.commands + length (accepted_of history) + 1
@@ -210,7 +210,7 @@ pub all_before : {X : Type 0} (P : X → Type 0) (xs ys : List X) → AllByRecur
 all_before P [] ys all = tt
 all_before P (x ∷ xs) ys all = (all.0, all_before P xs ys all.1)
 
--- so a posting faulted only where the disk's count rose since the opening
+-- so a posting faulted only if the disk's count rose since the opening
 pub rose_in : (opening : Opening) (history : List Entry) (held : List Command) (command : Command) (now : ℕ) → IsLegalAfter opening [] history
     → AllByRecursion (λ n. n ≤ now) (faults_met history) → WasFaulted history held command → Rose opening.faults now
 rose_in opening history held command now legal met this =

@@ -18,7 +18,7 @@ use Rattle.versioned_book.proofs.KeptFew.{kept_few}
 use Rattle.versioned_book.proofs.VersionSteps.{newest_of-trimmed}
 use Rattle.office_state.specs.inside.Keeping.{Keeps}
 
--- one more that has P
+-- one more element that has P
 pub all-more : {X : Type 0} (P : X → Type 0) (xs : List X) (x : X) → AllByRecursion P xs → P x → AllByRecursion P (xs ++ x ∷ [])
 all-more P [] x all here = (here, tt)
 all-more P (first ∷ xs) x all here = (all.0, all-more P xs x all.1 here)
@@ -41,7 +41,7 @@ module _ (old new : VersionedBook Policy) (count upgrade : ℕ) (before after : 
   abbrev setting : ℕ → Setting Policy
   setting n = record { key = id_of command; position = n + 1; value = policy }
 
-  -- the books keep one command more
+  -- the books keep one more command
   pub keeps_more : IsValid command → length commands < most_commands → Keeps old count upgrade before commands
       → next (policy_of commands (id_of command)) command ≡ Ok policy → judge commands command ≡ None → is_upgrade command ≡ false
       → ((sets : List (Setting Policy)) → IsBookOf old sets → IsBookOf new (sets ++ setting count ∷ []))
@@ -143,7 +143,7 @@ module _ (versions : VersionedBook Policy) (count upgrade : ℕ) (ledger : Ledge
       until_all (length commands) 0 (sets_of commands) (length commands) (sets_of-rise commands) (omega arith) in
       omega (arith, at_most, all, ap (λ sets. length (keys_of sets)) whole, few_after commands versions.floor, length-drop versions.floor commands)
 
-  -- the ledger has room for one booking more
+  -- the ledger has room for one more booking
   pub has_room : HasRoom ledger
   has_room =
       let few : 40000000000 * length commands ≤ 2 ^ 63 - 1 - 40000000000 = omega (arith, keeps.few) in

@@ -58,7 +58,7 @@ now_still opening turns entry image none now =
     (there-push JournalBytes opening.commands turns (accepted_of turns) entry image now)
 
 module _ {D : Type 0} (g : Ghosts D) (begun : D) (opening : Opening) where
-  -- as a disk stands now
+  -- a disk as it is now
   pub kept_now : (disk : D) (turns : List Entry) → OnlyNow g → g.honest disk → g.clock begun ≤ g.clock disk
       → ((image : List ℕ) → g.may_leave disk image → HoldsNow opening turns image) → HasKept g begun disk opening turns
   kept_now disk turns only_now honest later images = record {
@@ -75,7 +75,7 @@ module _ {D : Type 0} (g : Ghosts D) (begun : D) (opening : Opening) where
   pub keeps_first : (disk : D) → HasKept g begun disk opening [] → KeepsAccepted g begun disk opening []
   keeps_first disk kept front rest same = subst (HasKept g begun disk opening) (sym (no_front front rest same)) kept
 
-  -- a history of which the turns before the first are asked for
+  -- a history whose turns before the first are asked for
   pub keeps_none : (disk : D) (history : List Entry) → KeepsAccepted g begun disk opening history → KeepsAccepted g begun disk opening []
   keeps_none disk history keeps = keeps_first disk (keeps [] history refl)
 
@@ -124,7 +124,7 @@ module _ {D : Type 0} (g : Ghosts D) (begun : D) (opening : Opening) where
   module _ (old new : D) (turns : List Entry) (entry : Entry) (P : List ℕ → Type 0) (moments : Leaves g old new P)
       (least : (image : List ℕ) → P image → HoldsAtLeast (commands_after opening turns) image)
       (keeps : KeepsAccepted g begun old opening turns) where
-    -- a turn that wrote, of which the whole is known
+    -- a turn that wrote, about which everything is known
     pub keeps_more : HasKept g begun new opening (turns ++ entry ∷ []) → KeepsAccepted g begun new opening (turns ++ entry ∷ [])
     keeps_more whole front rest same = elim (front_or_whole turns front rest entry same) [
       | inl all ↦ subst (HasKept g begun new opening) (sym all) whole

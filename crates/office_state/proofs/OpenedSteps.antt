@@ -1,4 +1,4 @@
--- The office of a journal that was started on a disk, and what is known where there is none
+-- The office of a journal that was started on a disk, and what is known if there is none
 use Rattle.office_state.proofs.Names.{◌≡◌, inl, inr, ℕ, ◌-◌, ◌<◌, ◌≤◌, true, false, List, Option, [], ◌++◌, length, ◌∙◌, sym, subst, refl, append-nil, arith, None, Err, Ghosts, Rose, judge, Opening, opened_on, OpensToBodies, JournalStands, disk_under, is_clean, Journal, WatcherGhosts, HasReplayCause, IsStoppedAt, Stops, bodies_of, told, HasRoomFor, most_commands, StartCause, BadRecord, OfficeState, HoldsNow, Opens, IsShown, LeavesSince, StandsFor, JournalHolds, IsOfficeOf, HasNoOffice, MakeJournal, as_replay_cause}
 use Rattle.posting_journal.specs.Starting.{HasStarted}
 use Rattle.journal_replay.specs.declared.replaying.ReplayFault.{ReplayFault}
@@ -35,7 +35,7 @@ module _ {D : Type 0} (g : Ghosts D) (old : D) (journal : Journal D g) (started 
       let opened = started.opened (honesty honest) in
       unfollowed (g.reads old) n opened.bodies opened.opened (stops.1 opened.bodies [] honest opened.stands refl)
 
-  -- a journal of which no office was made
+  -- a journal for which no office was made
   pub no_office : CountsNow g → ReadsImage g → (new : D) (cause : StartCause) → HasNoOffice journal new cause → HasNotOpened g old new cause
   no_office counts_now reads_image new cause none = record {
     told = subst (TellsFault (g.faults old) (g.faults new)) (sym none.same) (replay_told new none.fault none.told);
@@ -164,7 +164,7 @@ module _ {D : Type 0} (g : Ghosts D) (old : D) (journal : Journal D g) (started 
         unwritten = λ (honest : g.honest (disk_of state)). looked_on g old journal started counts_now (disk_of state) honest made.stays.disk;
       }
 
-      -- a journal of which an office was made
+      -- a journal for which an office was made
       pub made_office : HasOpened old state
       made_office =
           subst (λ recovered. HasOpened old (record state { recovered = record state.recovered { value = recovered } })) (sym made.recovered)

@@ -200,7 +200,7 @@ among_lookups {Y} f (k ∷ ks) y among = by (f k) refl (among_lookups f ks y) am
     by (Some x) some rest (zero, within, at) = (k, some ∙ ap Some at)
     by (Some x) some rest (suc i, within, at) = rest (i, omega (arith, within), at)
 
--- it is live, and was taken by its caller
+-- the pin is live, and was taken by its caller
 pub among_held : (turns : List Entry) (held : Held) → Contains (pins_held turns) held → HeldParts turns held.number held
 among_held turns held among =
     let found = among_lookups (held_at turns) (range_with_len 0 (length turns)) held among in

@@ -129,7 +129,7 @@ module _ {D W : Type 0} {g : Ghosts D} {w : WatcherGhosts W} (old : OfficeState 
       step entry refl refl (subst (λ r. IsDue opening turns caller entry.call (pin_at_turn caller p (Err r)).reply) (sym full.told) due) refl
       pins (pins_still entry pins (λ n. refl) refl full.stay)
 
-  -- one that is ahead
+  -- a position that is ahead
   pub stands_ahead : (caller p count : ℕ) → count ≡ length (commands_of old) → count < p
       → StandsFor {w = w} (after old.pins) (turns ++ pin_at_turn caller p (Err (Ahead count)) ∷ [])
   stands_ahead caller p count counted ahead =
@@ -138,7 +138,7 @@ module _ {D W : Type 0} {g : Ghosts D} {w : WatcherGhosts W} (old : OfficeState 
       (omega (arith, counted, ahead, ap length stands.listed), counted ∙ ap length stands.listed) in
       step entry refl refl due refl old.pins (pins_still entry old.pins (λ n. refl) refl refl)
 
-  -- one that lies below the floor
+  -- a position that is below the floor
   pub stands_trimmed : (caller p : ℕ) → p ≤ length (commands_of old) → p < floor_kept old
       → StandsFor {w = w} (after old.pins) (turns ++ pin_at_turn caller p (Err (Trimmed (floor_kept old))) ∷ [])
   stands_trimmed caller p reached below =

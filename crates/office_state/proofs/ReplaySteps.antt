@@ -12,7 +12,7 @@ module _ {D : Type 0} (g : Ghosts D) (journal : Journal D g) (now : D) where
   bodies_replayed books all bodies last honest stands =
       all_replayed (λ commands. commands_in books ≡ commands) journal now [] all bodies last honest stands refl ∙ ap bodies_of (sym all.kept)
 
-  -- the books keep just what may be a journal
+  -- the books keep exactly what may be a journal
   pub books_stopped : (fault : ReplayFault)
       → Stops (AreKept (λ (books : Books) commands. commands_in books ≡ commands)) (λ commands command. judge commands command ≡ None) journal now [] fault
       → Stops MakeJournal (λ commands command. judge commands command ≡ None) journal now [] fault
@@ -26,7 +26,7 @@ parts : (bodies : List (List ℕ)) (n : ℕ) → n < length bodies
     → bodies ≡ take n bodies ++ get_or bodies n [] ∷ drop (n + 1) bodies
 parts bodies n within = rw (add-one, ← drop-cons bodies n []) (sym (take-append-drop n bodies))
 
--- where the bodies are those of a journal, it shows the record that stopped the replay
+-- if the bodies are those of a journal, it shows the record that stopped the replay
 pub stopped_shown : (bytes : List ℕ) (bodies : List (List ℕ)) (n : ℕ) → IsJournal bytes bodies
     → IsStoppedAt MakeJournal (λ commands command. judge commands command ≡ None) n bodies → IsUnfollowed bytes n
 stopped_shown bytes bodies n journal at = record {

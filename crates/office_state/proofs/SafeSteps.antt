@@ -28,7 +28,7 @@ module _ {D : Type 0} (g : Ghosts D) where
         (λ image now. subst (λ all. HoldsAtLeast all image) (sym (append_assoc held (command ∷ []) commands)) (least image now)) safe.2,
   )
 
-  -- one command more is safe since a moment
+  -- one more command is safe since a moment
   pub safe_more : (disk : D) (held commands : List Command) (moments : List ℕ) (command : Command) (moment : ℕ)
       → AreSafeSince g disk held commands moments → moment ≤ g.clock disk
       → ((image : List ℕ) → g.left_since disk moment image → HoldsAtLeast ((held ++ commands) ++ command ∷ []) image)
@@ -55,7 +55,7 @@ told_more None (Some q) moment P Q tells step holds = absurd tells
 told_more (Some p) None moment P Q tells step holds = absurd tells
 told_more (Some p) (Some q) moment P Q tells step holds = subst Q (sym tells.1) (step (sent p) holds)
 
--- of the same moments, later
+-- the same moments, at a later time
 pub told_on : (a : Option MomentRing) (P Q : List ℕ → Type 0) → ((moments : List ℕ) → P moments → Q moments) → IfSome a (λ ring. P (sent ring))
     → IfSome a (λ ring. Q (sent ring))
 told_on None P Q step holds = tt
@@ -74,12 +74,12 @@ room_told None (Some q) moment many fewer tells less room = absurd tells
 room_told (Some p) None moment many fewer tells less room = absurd tells
 room_told (Some p) (Some q) moment many fewer tells less room = omega (arith, tells.2, less, room)
 
--- and where there is room for many, there is for fewer
+-- and if there is capacity for many, there is for fewer
 pub room_fewer : (a : Option MomentRing) (many fewer : ℕ) → fewer ≤ many → HasRoomFor many a → HasRoomFor fewer a
 room_fewer None many fewer less room = tt
 room_fewer (Some p) many fewer less room = omega (arith, less, room)
 
--- one command more was accepted, so one fewer may be
+-- one more command was accepted, so one fewer may be
 pub one_fewer : (count more : ℕ) → count ≤ most_commands → (count ≡ 4000000 → ⊥) → more ≡ count + 1
     → (most_commands - more) + 1 ≤ most_commands - count
 one_fewer count more few full is = omega (arith, few, full, is)
@@ -89,7 +89,7 @@ pub room_for_one : (a : Option MomentRing) (count : ℕ) → count ≤ most_comm
     → HasRoomFor 1 a
 room_for_one a count few full room = room_fewer a (most_commands - count) 1 (omega (arith, few, full)) room
 
--- the same end
+-- the same end of the ring
 pub outlet_itself : (a : Option MomentRing) → SameOutlet a a
 outlet_itself None = tt
 outlet_itself (Some p) = ((refl, refl, refl, refl), refl)

@@ -56,11 +56,11 @@ module _ {D W : Type 0} {g : Ghosts D} {w : WatcherGhosts W} where
     abbrev commands : List Command
     commands = commands_after opening turns
 
-    -- so many commands stand before those that the watchers were notified of
+    -- so many commands come before those of which the watchers were notified
     abbrev behind : ℕ
     behind = length opening.commands
 
-    -- books of the same commands leave as much room for moments
+    -- books of the same commands leave capacity for as many moments
     room_with : (books : Books) → commands_in books ≡ commands_of old → HasRoomFor (most_commands - length (commands_in books)) old.outlet.ring
     room_with books as_was = subst (λ (cs : List Command). HasRoomFor (most_commands - length cs) old.outlet.ring) (sym as_was) stands.room
 
@@ -117,7 +117,8 @@ module _ {D W : Type 0} {g : Ghosts D} {w : WatcherGhosts W} where
           };
         }
 
-    -- it stands for the same turns with other books of the same commands, and watchers who were notified of the same
+    -- the state stands for the same turns with other books of the same commands, and with watchers that were notified
+    -- of the same commands
     pub stands_with : (books : Books) (counted : records_in old.journal ≡ length (commands_in books)) → commands_in books ≡ commands_of old
         → floor_in books ≡ floor_in old.books → (watchers : W) → ((before : ℕ) (heard : List Command) → w.told old.watchers before heard → w.told watchers before heard)
         → StandsFor {w = w} (record { journal = old.journal; books = books; watchers = watchers; turns = old.turns; pins = old.pins; outlet = old.outlet; begun = old.begun; recovered = old.recovered; counted = counted }) turns
@@ -240,7 +241,7 @@ module _ {D W : Type 0} {g : Ghosts D} {w : WatcherGhosts W} where
           (safe_more g (disk_under journal) opening.commands (accepted_of turns) told command now (safe_still honest told safe) (omega arith) since))
           (stands.safe (honesty honest))
 
-      -- and there is room for the moments of all that may follow it
+      -- and there is capacity for the moments of all commands that may follow
       room_accepted : (books : Books) → commands_in books ≡ commands_of old ++ command ∷ [] → (length (commands_of old) ≡ 4000000 → ⊥)
           → (outlet : MomentOutlet D) → TellsOne old.outlet.ring outlet.ring (g.clock (disk_under journal))
           → HasRoomFor (most_commands - length (commands_in books)) outlet.ring

@@ -79,7 +79,7 @@ tail_of : List Entry → List Entry
 tail_of [] = []
 tail_of (entry ∷ more) = more
 
--- of two turns the first faulted, before the second was accepted
+-- the first of two turns met a fault, before the second was accepted
 pub not_then : (before after : List Entry) (caller count : ℕ) (command : Command)
     → premium_turn (Faulted 4) ∷ premium_turn (Accepted 2) ∷ [] ≡ before ++ (record { caller = caller; call = Post command; reply = Faulted count }) ∷ after
     → accepted_of before ≡ hand_premium ∷ [] → ⊥

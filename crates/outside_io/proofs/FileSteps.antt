@@ -4,12 +4,12 @@ use Rattle.outside_io.specs.Disks.{Syncs}
 use Rattle.outside_io.specs.FileCalls.{FileCall, Synced, file_reads, writes_within, sync_failed, SafeUnless, AreAllowed, FileImage}
 use Rattle.outside_io.specs.FileLaws.{reads_as_left}
 
--- where a safe one was left before too
+-- an image after a sync was left before it, if each safe image was
 was_left : (failed : Bool) (safe before : Type 0) → (safe → before) → SafeUnless failed safe before → before
 was_left true safe before is left = left
 was_left false safe before is left = is left
 
--- where no sync failed before
+-- an image after a sync is safe, if no sync failed before
 is_safe : (failed : Bool) (safe before : Type 0) → failed ≡ false → SafeUnless failed safe before → safe
 is_safe true safe before none left = cc
 is_safe false safe before none left = left

@@ -7,7 +7,7 @@ module _ {D : Type 0} (clock : D → ℕ) (left_since : D → ℕ → List ℕ �
   pub started : (old : D) (P : List ℕ → Type 0) → ((image : List ℕ) → left_since old (clock old) image → P image) → LeavesOnly clock left_since old old P
   started old P here = record { later = omega arith; each = here; before = λ moment image passed left. inl left }
 
-  -- one call more, after which each image has P
+  -- one more call, after which each image has P
   pub goes_on : (old mid new : D) (P images : List ℕ → Type 0) → LeavesOnly clock left_since old mid P
       → Elapses (clock mid) (clock new) (left_since mid) (left_since new) images → ((image : List ℕ) → images image → P image) → LeavesOnly clock left_since old new P
   goes_on old mid new P images so_far time here = record {

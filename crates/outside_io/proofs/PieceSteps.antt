@@ -14,7 +14,7 @@ pub record HasAdded (before now : List TakenPiece) (since : ℕ) (bytes : List �
 pub none_added : (before : List TakenPiece) (since : ℕ) → HasAdded before before since []
 none_added before since = record { run = []; added = refl; all = tt; bytes_are = refl }
 
--- one piece more
+-- one more piece
 pub adds_one : (before mid now : List TakenPiece) (since : ℕ) (bytes : List ℕ) (k n : ℕ) → HasAdded before mid since (take k bytes)
     → now ≡ (record { bytes = take n (drop k bytes); since = since }) ∷ mid → HasAdded before now since (take (k + n) bytes)
 adds_one before mid now since bytes k n first more = record {

@@ -19,7 +19,7 @@ pub front_and_rest : (bytes copied : List ℕ) (at n : ℕ) → take n copied �
 front_and_rest bytes copied at n same =
     sym (take-append-drop n (drop at bytes)) ∙ ap (λ w. w ++ drop n (drop at bytes)) (sym same) ∙ ap (λ w. take n copied ++ w) (drop-drop n at bytes)
 
--- Where nothing could be copied into some room, nothing is left.
+-- If nothing could be copied into a buffer that isn't empty, nothing is left.
 pub none_left : (bytes : List ℕ) (at n room : ℕ) → n ≡ min (length (drop at bytes)) room → n ≡ 0 → 0 < room → drop (at + n) bytes ≡ []
 none_left bytes at n room many none some = drop_all (at + n) bytes (omega (arith, length-drop at bytes))
 
@@ -56,18 +56,18 @@ pub gives_none : (before mid after front piece : List ℕ) (n : ℕ) → n ≡ 0
 gives_none before mid after front piece n none first then =
     let same = rw none at then in same ∙ append-nil mid ∙ first
 
--- What was given is longer than a limit, where one read gave more than there was room for.
+-- What was given is longer than a limit, if one read gave more than the limit allowed.
 pub longer : (front piece : List ℕ) (n limit : ℕ) → n ≤ length piece → limit - length front < n → length front ≤ limit → limit < length (front ++ take n piece)
 longer front piece n limit within many short = omega (arith, length-append front (take n piece), length-take-le n piece within)
 
--- What was left was longer than a limit, where a prefix of it is.
+-- What was left was longer than a limit, if a prefix of it is.
 pub had_more : (before after : Option (List ℕ)) (front : List ℕ) (limit : ℕ) → Consumes before after front → limit < length front
     → IfSome before (λ told. limit < length told)
 had_more None after front limit taken more = tt
 had_more (Some xs) None front limit taken more = absurd taken
 had_more (Some xs) (Some ys) front limit taken more = rw taken (omega (arith, more, length-append front ys))
 
--- What was given is something, where one read gave something.
+-- What was given isn't empty, if one read gave something.
 pub some_more : (front piece : List ℕ) (n : ℕ) → n ≤ length piece → (n ≡ 0 → ⊥) → 0 < length (front ++ take n piece)
 some_more front piece n within some = omega (arith, some, length-append front (take n piece), length-take-le n piece within)
 

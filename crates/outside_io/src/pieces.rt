@@ -27,7 +27,7 @@ impl Pieces {
         }
     }
 
-    // One piece more, and the length of the buffer that it was read into or written from.
+    // One more piece, and the length of the buffer that it was read into or written from.
     #[inline(always)]
     pub(crate) fn note(&mut self, room: usize, bytes: &[u8])
         ensures { self.new ≡ record { room = room; bytes = bytes.now } ∷ self.old }

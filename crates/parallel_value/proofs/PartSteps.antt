@@ -48,7 +48,7 @@ module _ {I O : Type 0} (Gives : I → O → Type 0) where
   pub adds_none : (items : List I) (old : List O) → AddsBehind (AllZip Gives (take 0 items)) old old
   adds_none items old = ([], sym (append-nil old), tt)
 
-  -- one value more
+  -- one more value
   pub adds_next : (items : List I) (i : ℕ) (x : I) (old ys zs : List O) (y : O) → i < length items → x ≡ get_or items i x
       → AddsBehind (AllZip Gives (take i items)) old ys → zs ≡ ys ++ y ∷ [] → Gives x y → AddsBehind (AllZip Gives (take (i + 1) items)) old zs
   adds_next items i x old ys zs y within here adds longer given = (
@@ -105,7 +105,7 @@ module _ {P I O : Type 0} (takes : P → I → Type 0) (gives : P → I → O �
   made_of_both ps qs size items (Err fault) right (Ok made) first last both = absurd both
   made_of_both ps qs size items left right (Err fault) first last both = tt
 
-  -- the workers in front are at work, and the others stay as they are
+  -- the first workers are at work, and the others stay as they are
   pub take_at_work : (ps front back : List P) (items : List I) → ps ≡ front ++ back → TakeAll takes ps items → TakeAll takes front items
   take_at_work ps front back items whole all = all_front _ front back (subst (λ l. TakeAll takes l items) whole all)
 

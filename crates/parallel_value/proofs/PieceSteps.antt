@@ -31,14 +31,14 @@ pub zip_push : {X Y : Type 0} (P : X → Y → Type 0) (xs : List X) (ys : List 
     → AllZip P (xs ++ x ∷ []) (ys ++ y ∷ [])
 zip_push P xs ys x y all last = zip_append P xs ys (x ∷ []) (y ∷ []) all (last, tt)
 
--- one item more, and its value
+-- one more item, and its value
 pub values_next : {X Y : Type 0} (P : X → Y → Type 0) (xs : List X) (i : ℕ) (x : X) (ys zs : List Y) (y : Y) → i < length xs
     → x ≡ get_or xs i x → AllZip P (take i xs) ys → zs ≡ ys ++ y ∷ [] → P x y → AllZip P (take (i + 1) xs) zs
 values_next P xs i x ys zs y lt is all longer last =
     subst (λ l. AllZip P (take (i + 1) xs) l) (sym longer)
     (subst (λ l. AllZip P l (ys ++ y ∷ [])) (ap (λ z. take i xs ++ z ∷ []) is ∙ sym (take_more xs i x lt)) (zip_push P (take i xs) ys x y all last))
 
--- one place more is filled
+-- one more place is filled
 pub filled_next : {X Y : Type 0} (P : X → Y → Type 0) (xs : List X) (i : ℕ) (x : X) (ys : List Y) (y : Y) → i < length xs → length ys ≡ length xs
     → x ≡ get_or xs i x → AllZip P (take i xs) (take i ys) → P x y → AllZip P (take (i + 1) xs) (take (i + 1) (set ys i y))
 filled_next P xs i x ys y lt places is all last =
@@ -54,7 +54,7 @@ module _ {P I O : Type 0} (takes : P → I → Type 0) (gives : P → I → O �
   may_back [] qs item value may = may
   may_back (p ∷ ps) qs item value may = inr (may_back ps qs item value may)
 
-  -- the workers of the front take the first items, and those of the back the last
+  -- the first workers take the first items, and the others the last
   pub take_front : (ps qs : List P) (xs ys : List I) → TakeAll takes (ps ++ qs) (xs ++ ys) → TakeAll takes ps xs
   take_front ps qs xs ys all = all_more _ _ ps (λ p each. all_front (takes p) xs ys each) (all_front _ ps qs all)
 
@@ -67,7 +67,7 @@ module _ {P I O : Type 0} (takes : P → I → Type 0) (gives : P → I → O �
   values_append ps qs xs ys vs ws front back =
       zip_append _ xs vs ys ws (zip_more _ _ xs vs (may_front ps qs) front) (zip_more _ _ ys ws (may_back ps qs) back)
 
-  -- one worker is as it was before two items one after the other
+  -- one worker is as before, after two items one after the other
   pub still_as_before : (one two three : P) → IsAsBefore takes gives one two → IsAsBefore takes gives two three → IsAsBefore takes gives one three
   still_as_before one two three first then_ = record {
     takes_still = λ item taken. then_.takes_still item (first.takes_still item taken);

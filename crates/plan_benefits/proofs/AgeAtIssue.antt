@@ -18,7 +18,7 @@ has_rates table age given above along is holds =
     let is_along = subst (λ (t : Rates). IsAlong table age t) is along in
     record { above = above; holds = subst (λ (t : Rates). HoldsAge t age) is holds; rates = rates_of table age (table_along table age) is_along }
 
--- none is below where the age before isn't
+-- no age is below if the age before isn't
 pub next_above : (table : AnyTable) (age : ℕ) → (IsBelow table age → ⊥) → IsBelow table (age + 1) → ⊥
 next_above (Aggregate table) age above below = below
 next_above (Select table) age above below = above (omega arith)

@@ -1,4 +1,4 @@
--- By a table by age alone the cap has no say: where the cover has two years the table holds the next age.
+-- By a table by age alone the cap makes no difference: if the cover has two years, the table holds the next age.
 use Rattle.std.proofs.Common.{◌≡◌, ◌+◌, ◌≤◌, ◌||◌, Bool, true, false, nat_lt, length, refl, arith}
 use Rattle.std.proofs.lemmas.Grind.{common_steps}
 use Rattle.rate_table.specs.Rates.{Rates, last_age_of}
@@ -9,7 +9,7 @@ use Rattle.rate_table.specs.Rates.{rate_at}
 use Rattle.plan_benefits.specs.declared.fault.NotValued.{NotValued}
 use Rattle.plan_benefits.specs.declared.fault.NotValued.TheVariants.{BelowTable, PastTable, RateHigh}
 
--- the answer where the next age is held, or where it isn't
+-- the result if the next age is held, and if it isn't
 abbrev pub capped : Bool → Result Shape NotValued → Result Shape NotValued
 capped holds answer = by holds answer
   where

@@ -13,7 +13,7 @@ pub record IsIssueHere (command : Command) : Type 0 where
   pub premium : ℕ
   pub is : command ≡ Issue id day plan age years amount premium
 
--- the command issues nothing, and is refused where there is no policy of its number
+-- the command issues nothing, and is refused if there is no policy with its number
 pub record NeedsPolicy (command : Command) : Type 0 where
   pub none : issue_id command ≡ None
   pub refused : next None command ≡ Err Unknown
@@ -40,13 +40,13 @@ issue_or_other (Mature id day) = inr (record { none = refl; refused = refl })
 issue_or_other (MakePaidUp id day amount) = inr (record { none = refl; refused = refl })
 issue_or_other Upgrade = inr (record { none = refl; refused = refl })
 
--- where a decision is no refusal its first check doesn't apply
+-- if a decision is no refusal, its first check doesn't apply
 passed : (applies : Bool) (refusal : Refusal) (others : Option Refusal) (after kept : Policy)
     → decided (if applies then Some refusal else others) after ≡ Ok kept → (applies ≡ false) × (decided others after ≡ Ok kept)
 passed true refusal others after kept e = absurd (cc)
 passed false refusal others after kept e = (refl, e)
 
--- nor do the others, and the policy is the changed one
+-- nor do the other checks, and the policy is the changed one
 pub accepted : (checks : List Check) (after kept : Policy) → decided (first_refusal checks) after ≡ Ok kept
     → AllByRecursion (λ check. check.applies ≡ false) checks × (after ≡ kept)
 accepted [] after kept e = (tt, (cc))

@@ -1,5 +1,5 @@
 -- What one more accepted command does to the book: an issue adds its policy at the end, another command changes one
--- policy where it stands
+-- policy in its place
 use Rattle.policy_machine.proofs.Names.{◌≡◌, ℕ, Bool, true, false, cond, ◌==◌, nat_eq, List, [], ◌∷◌, ◌++◌, map, refl, sym, ap, ◌⊎◌, inl, inr, ◌∙◌, append_assoc, append-nil, subst, None, Some, Option, Ok, Err, Result, IfSome, eqb-true, eq-eqb, ne_eqb, filter_map, arith, AllByRecursion, IsDistinct, fold, cons_option, eqb-false, filter-append, filter_map-append, fold-append, Command, Upgrade, Policy, Refusal, Taken, id_of, next, own, kept, policy_of, issue_id, book, judge, IsAccepted, IsAcceptedAfter}
 use Rattle.policy_machine.proofs.AcceptedLemmas.{IsIssueHere, NeedsPolicy, issue_or_other, next-keeps}
 use Rattle.policy_machine.proofs.BookLemmas.{policy_of-own, policy_of-push_own, policy_of-push_other}
@@ -216,7 +216,7 @@ among_more None ids id among = among
 among_more (Some other) ids id among =
     record { front = other ∷ among.front; back = among.back; split = ap (λ rest. other ∷ rest) among.split }
 
--- a number that has no policy yet gets one by its issue alone
+-- a number without a policy gets one only by its issue
 no_policy_yet : (command : Command) (id : ℕ) → id_of command ≡ id → (issue_id command ≡ Some id) ⊎ (kept None (next None command) ≡ None)
 no_policy_yet command id own_id = by_kind (issue_or_other command)
   where
@@ -267,7 +267,7 @@ apart_around (other ∷ front) back id distinct =
     middle [] all = all.0
     middle (first ∷ front) all = middle front all.1
 
--- how the book changes: one policy where it stands
+-- how the book changes: one policy in its place
 pub record BookChange (commands more : List Command) (before after : Policy) : Type 0 where
   pub front : List Policy
   pub back : List Policy
@@ -281,7 +281,7 @@ filter_map-around policy ids front back id p split found =
     ap (filter_map policy) split ∙ filter_map-append policy front (id ∷ back)
     ∙ ap (λ first. filter_map policy front ++ cons_option first (filter_map policy back)) found
 
--- an accepted command that issues nothing changes its policy where it stands
+-- an accepted command that issues nothing changes its policy in its place
 pub book-push_change : (commands : List Command) (command : Command) (before after : Policy) → IsAccepted commands
     → issue_id command ≡ None → policy_of commands (id_of command) ≡ Some before → next (Some before) command ≡ Ok after
     → BookChange commands (commands ++ command ∷ []) before after

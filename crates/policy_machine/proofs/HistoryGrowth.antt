@@ -387,6 +387,6 @@ PinsHold-nil opening = record { floor_in = omega arith; pins_in = λ pin positio
         no_turn : (entry : Entry) → None ≡ Some entry → ⊥
         no_turn entry e = grind arith
 
--- in a legal history each live pin lies from the floor up to the count
+-- in a legal history the position of each live pin is from the floor up to the count
 pub PinsHold-legal : (opening : Opening) (history : List Entry) → IsLegalAfter opening [] history → PinsHold opening history
 PinsHold-legal opening history legal = PinsHold-after opening [] history (PinsHold-nil opening) legal

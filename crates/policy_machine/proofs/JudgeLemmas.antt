@@ -1,4 +1,4 @@
--- What it reports that the rules accept a command, and where the upgrade stands
+-- What follows if the rules accept a command, and where the upgrade is
 use Rattle.policy_machine.proofs.Names.{◌≡◌, ℕ, ◌+◌, ◌≤◌, ◌==◌, Bool, true, false, if◌then◌else◌, ◌⊎◌, inl, inr, List, [], ◌∷◌, ◌++◌, length, refl, sym, ap, ◌∙◌, append_assoc, append-nil, ne_eqb, Some, None, Option, Ok, Err, Result, ℤ, arith, cases_lt, Command, Issue, Premium, Alter, Lapse, Reinstate, Claim, Settle, Mature, PaidUp, Upgrade, Policy, Refusal, Unknown, NotUpgraded, Upgraded, id_of, is_upgrade, next, policy_of, upgrade_from, upgrade_of, left_by, judged, refusal_in, judge, IsAccepted, IsAcceptedAfter}
 
 -- an upgrade names no policy
@@ -18,7 +18,7 @@ upgrade_or_other (Settle id day amount) = inr refl
 upgrade_or_other (Mature id day) = inr refl
 upgrade_or_other (PaidUp id day amount) = inr refl
 
--- so what makes a policy is no upgrade
+-- so a command that makes a policy is no upgrade
 pub next-no_upgrade : (policy : Option Policy) (command : Command) (after : Policy) → next policy command ≡ Ok after → is_upgrade command ≡ false
 next-no_upgrade policy command after e = by_kind (upgrade_or_other command)
   where
@@ -26,7 +26,7 @@ next-no_upgrade policy command after e = by_kind (upgrade_or_other command)
     by_kind (inl upgraded) = let refused : next policy command ≡ Err Unknown = ap (next policy) upgraded ∙ next-upgrade policy in absurd (cc)
     by_kind (inr other) = other
 
--- nor is what names a policy
+-- and neither is a command that names a policy
 pub named-no_upgrade : (command : Command) → 1 ≤ id_of command → is_upgrade command ≡ false
 named-no_upgrade command some = by_kind (upgrade_or_other command)
   where
@@ -118,7 +118,7 @@ judged_some upgrade policy command after e = by_kind (judged_as upgrade policy c
     by_kind (inr (inl before)) = absurd (cc)
     by_kind (inr (inr left)) = made_left (next policy command) after (sym left ∙ e)
 
--- and where it leaves none it is an upgrade
+-- and if it leaves no policy, it is an upgrade
 pub judged_none : (upgrade : ℕ) (policy : Option Policy) (command : Command) → judged upgrade policy command ≡ Ok None → command ≡ Upgrade
 judged_none upgrade policy command e = by_kind (judged_as upgrade policy command)
   where
@@ -153,7 +153,7 @@ upgrade_from-other place (first ∷ before) command other =
     by_first true onward = refl
     by_first false onward = onward
 
--- so does what follows the first upgrade
+-- and so is what follows the first upgrade
 pub upgrade_from-more : (place : ℕ) (before rest : List Command) → 1 ≤ upgrade_from place before
     → upgrade_from place (before ++ rest) ≡ upgrade_from place before
 upgrade_from-more place [] rest some = absurd (omega arith)

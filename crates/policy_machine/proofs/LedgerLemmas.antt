@@ -7,7 +7,7 @@ use Rattle.policy_machine.proofs.Parts.{booked_at_term, booked_on, booked_after,
 use Rattle.policy_machine.proofs.AcceptedLemmas.{IsIssueHere, NeedsPolicy, issue_or_other}
 use Rattle.policy_machine.proofs.BookLemmas.{policy_of-push_own}
 
--- one booking more
+-- one more booking
 bookings_after-push : (before rest : List Command) (command : Command)
     → bookings_after before (rest ++ command ∷ []) ≡ bookings_after before rest ++ booked_after (before ++ rest) command ∷ []
 bookings_after-push before [] command = rw append-nil
@@ -200,7 +200,7 @@ AreWithin-added : (m n : ℕ) (a b : Booking) → AreWithin m a → AreWithin n 
 AreWithin-added m n a b first second =
     (IsWithin-added m n a.cash b.cash first.0 second.0, IsWithin-added m n a.premiums b.premiums first.1 second.1, IsWithin-added m n a.incurred b.incurred first.2 second.2, IsWithin-added m n a.payable b.payable first.3 second.3)
 
--- and one booking more
+-- and one more booking
 pub within_added : (position : ℕ) (b : Booking) (command : Command) (after : Policy) → IsValid command → after.amount ≤ 10000000000
     → AreWithin (40000000000 * position) b → AreWithin (40000000000 * (position + 1)) (added b (booking_of command after))
 within_added position b command after valid modest within =
@@ -236,7 +236,7 @@ AreWithin-ledger commands valid =
     let none : 0 + 40000000000 * length commands ≡ 40000000000 * length commands = omega arith in
     subst (λ n. AreWithin n (ledger_of commands)) none (AreWithin-after 0 [] commands nothing_booked tt valid (nothing_within 0))
 
--- more room than is needed
+-- more than is needed
 pub AreWithin-wider : (m n : ℕ) (b : Booking) → m ≤ n → AreWithin m b → AreWithin n b
 AreWithin-wider m n b wide within =
     let wider : (balance : ℤ) → IsWithin m balance → IsWithin n balance =

@@ -3,7 +3,7 @@ use Rattle.policy_machine.proofs.Names.{◌≡◌, ℕ, zero, suc, ◌+◌, ◌-
 use Rattle.std.proofs.lemmas.List.FromFn.{length-range_with_len}
 use Rattle.life_dates.proofs.AnniversaryLemmas.{IsCompleted-come}
 
--- of n numbers from a on, those up to t are counted
+-- among n numbers from a on, those up to t are counted
 count_by-up_to : (f : ℕ → Bool) (t a n : ℕ) → ((j : ℕ) → j < a + n → ((f j ≡ true) × (j ≤ t)) ⊎ ((f j ≡ false) × (t < j)))
     → count_by f (range_with_len a n) ≡ min (t + 1) (a + n) - a
 count_by-up_to f t a zero tells = omega arith

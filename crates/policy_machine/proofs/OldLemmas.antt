@@ -169,7 +169,7 @@ pub book-old : (commands : List Command) → AllByRecursion IsOldCommand command
 book-old commands old =
     filter_map-same (policy_of commands) (old_policy_of commands) (λ id. policy_of-old commands id old) (filter_map issue_id commands)
 
--- an old command is judged by its policy alone
+-- an old command is judged only by its policy
 judged_then : (before : List Command) (command : Command) → IsOldCommand command
     → judge before command ≡ refusal_in (left_by (next (policy_of before (id_of command)) command))
 judged_then before (Issue id day plan age years amount premium) old = refl

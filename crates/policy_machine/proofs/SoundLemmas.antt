@@ -31,7 +31,7 @@ nothing_outstanding p sound idle = elim (cases_lt 0 p.outstanding) [
   | inr none ↦ omega arith
 ]
 
--- nor is any benefit due then
+-- and no benefit is due then
 idle_when : (status : Status) (cents : ℕ) → awaits_settlement status ≡ false → cents ≡ 0 → (0 < cents) ↔ IsTrue (awaits_settlement status)
 idle_when status cents idle none = (λ some. absurd (omega arith), λ awaits. absurd (cc))
 
@@ -144,7 +144,7 @@ awaiting_when : (awaits : Bool) → not awaits ≡ false → awaits ≡ true
 awaiting_when true e = refl
 awaiting_when false e = absurd (cc)
 
--- settled exactly where nothing is left
+-- a policy is settled exactly if nothing is left
 left_when : (status : Status) (outstanding amount : ℕ) (all : Bool) → (amount == outstanding) ≡ all → amount ≤ outstanding
     → awaits_settlement status ≡ true
     → (0 < outstanding - amount) ↔ IsTrue (awaits_settlement (if all then Settled else status))

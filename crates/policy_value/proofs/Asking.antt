@@ -21,7 +21,7 @@ module _ {K V : Type 0} (test : K → Bool) where
     | false ↦ λ t. let on = entry_found es v (rw t at h) in (on.0, rw t on.1, on.2, Contains-tail e.0 (keys_of es) on.0.0 on.3)
   ]) refl
 
-  -- where nothing is found no entry's key passes
+  -- if nothing is found no entry's key passes
   none_found : (es : List (K × V)) → lookup test es ≡ None → (lookup_entry test es ≡ None) × ((k : K) → Contains (keys_of es) k → test k ≡ false)
   none_found [] h = (refl, λ k at. absurd (Contains-nil k at))
   none_found (e ∷ es) h = (elim (test e.0) as (λ y. test e.0 ≡ y → (lookup_entry test (e ∷ es) ≡ None) × ((k : K) → Contains (keys_of (e ∷ es)) k → test k ≡ false)) [
@@ -55,7 +55,7 @@ asked_hit key old new v found is unkept =
       miss = λ absent. absurd (absent (subst (λ (k : CacheKey). Contains (keys_of es) k) (sym same) entry.3));
     }
 
--- one that isn't is put in front, or not
+-- a key that isn't found is put first, or isn't kept
 pub missing : (key : CacheKey) (es : List (CacheKey × Premium)) → lookup (eq-value.it key) es ≡ None → Contains (keys_of es) key → ⊥
 missing key es none at =
     let no = (none_found (eq-value.it key) es none).1 key at in
@@ -84,7 +84,7 @@ asked_unkept key old new none stays unkept = record {
   miss = λ absent. inr (record { keys = ap (λ (l : LruCache CacheKey Premium). keys_of l.entries) stays; unkept = unkept });
 }
 
--- the same of a cache with the same keys
+-- the same for a cache with the same keys
 pub asked_from : (key : CacheKey) (older old new : ColumnCache) → old.premiums ≡ older.premiums → old.unkept ≡ older.unkept → HasAsked key old new
     → HasAsked key older new
 asked_from key older old new premiums unkept asked = record {

@@ -1,4 +1,4 @@
--- What is kept of the reserves per unit of amount is right, and lies where it is looked for.
+-- What is kept of the reserves per unit of amount is right, and is in the place where it is looked for.
 use Rattle.policy_value.proofs.Names.{◌≡◌, ℕ, ◌<◌, true, List, [], ◌∷◌, ◌++◌, All, Option, None, Some, IfSome, get_or, length, set, slice_get, refl, subst, sym, ap, ◌∙◌, get_or-set_same, length-set, All-push, IsUnitFor, Dated, IsRightPlace, IsRightUnit, Covered, CacheKey, IsCoverOf, cap_by, cover_by, kept_unit, unit_place}
 use Rattle.std.proofs.lemmas.Option.{get_or_from_slice_get, slice_get_read}
 use Rattle.present_value.specs.declared.pair.Pair.{Pair}
@@ -6,7 +6,7 @@ use Rattle.policy_value.specs.contracts.key.CacheKeyPartialEq.TheImpl.{eq-value}
 use Rattle.policy_value.specs.declared.units.KeptUnit.{KeptUnit}
 use Rattle.policy_value.proofs.Keeping.{one_entry, same_key}
 
--- that of a cover by a row of the basis is right by it
+-- the reserve of a cover by a row of the basis is right by that row
 pub unit_by_row : (basis : List Dated) (key : CacheKey) (covered : Covered) (t : ℕ) (unit : Pair) → IsCoverOf basis key.plan key.age key.years covered
     → key.basis_row ≡ covered.own.basis_row → IsUnitFor (cover_by covered) (cap_by covered) t unit → IsRightUnit basis (kept_unit key t unit)
 unit_by_row basis key covered t unit cover row is entry shape at has =
@@ -38,7 +38,7 @@ pub right_found : (basis : List Dated) (places : List (Option KeptUnit)) (place 
 right_found basis places place found key t None all within here is = tt
 right_found basis places place found key t (Some unit) all within here is = rw (sym here ∙ is) at (all place found within)
 
--- it lies there
+-- it is in its place
 pub holds_found : (places : List (Option KeptUnit)) (place : ℕ) (found : Option KeptUnit) (key : CacheKey) (t : ℕ) (result : Option Pair)
     → place ≡ unit_place key t (length places) → place < length places → found ≡ get_or places place found → IfSome result (λ unit. found ≡ Some (kept_unit key t unit))
     → IfSome result (λ unit. slice_get places (unit_place key t (length places)) ≡ Some (Some (kept_unit key t unit)))
@@ -48,7 +48,7 @@ holds_found places place found key t (Some unit) at within here is =
     subst (λ k. slice_get places k ≡ Some one) at
     (slice_get_read places (length places) place one refl within (subst (λ (o : Option KeptUnit). o ≡ get_or places place o) is here))
 
--- and what lies there is found
+-- and what is in its place is found
 pub found_held : (places : List (Option KeptUnit)) (place : ℕ) (found : Option KeptUnit) (key : CacheKey) (t : ℕ) (unit : Pair)
     → place ≡ unit_place key t (length places) → found ≡ get_or places place found
     → slice_get places (unit_place key t (length places)) ≡ Some (Some (kept_unit key t unit)) → found ≡ Some (kept_unit key t unit)
@@ -56,7 +56,7 @@ found_held places place found key t unit at here holds =
     let one : Option KeptUnit = Some (kept_unit key t unit) in
     here ∙ get_or_from_slice_get places place one found (subst (λ k. slice_get places k ≡ Some one) (sym at) holds)
 
--- one that is put at its place is found there
+-- a unit that is put in its place is found there
 pub holds_set : (places : List (Option KeptUnit)) (key : CacheKey) (t : ℕ) (unit : Pair) (place : ℕ) → place ≡ unit_place key t (length places) → place < length places
     → slice_get (set places place (Some (kept_unit key t unit))) (unit_place key t (length (set places place (Some (kept_unit key t unit))))) ≡ Some (Some (kept_unit key t unit))
 holds_set places key t unit place is within =

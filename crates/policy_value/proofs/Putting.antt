@@ -16,7 +16,7 @@ put_none table bp stream end lowest old = record {
   values = λ age above below. absurd (omega (arith, above, below));
 }
 
--- one value more
+-- one more value
 pub put_more : (table : Rates) (bp : ℕ) (stream : Stream) (end lowest age : ℕ) (old new : List Pair) (pair : Pair) → lowest ≤ age
     → HasPut table bp stream end lowest age old new → pair ≡ value_to table bp stream end age → HasPut table bp stream end lowest (age + 1) old (new ++ pair ∷ [])
 put_more table bp stream end lowest age old new pair first put is = record {
@@ -70,7 +70,7 @@ later_age columns place key low age later at = record {
   here = λ none. let has = at.here none in (has.0, has.1, has.2, has.3, omega (arith, has.4, later));
 }
 
--- the value at an age in the column that lies where that of a key is kept
+-- the value at an age in the column that is where that of a key is kept
 pub kept_value : (basis : List Dated) (pairs : List Pair) (columns : List KeptColumn) (place age : ℕ) (key : ColumnKey) (table : Rates) (bp : ℕ) (none : KeptColumn) (nil : Pair)
     → All (IsRightColumn basis pairs) columns → HasAgeAt columns place key age → IsRowOf basis key.basis_row key.issue table bp → age ≤ key.end
     → get_or pairs ((get_or columns place none).first + (age - (get_or columns place none).lowest)) nil ≡ value_to table bp key.stream key.end age

@@ -1,4 +1,4 @@
--- The reserves by the status of a policy, at the end of cover and where no premium is due
+-- The reserves by the status of a policy, at the end of cover and if no premium is due
 use Rattle.policy_value.proofs.Names.{◌≡◌, ℕ, ◌≤◌, refl, sym, InForce, Lapsed, Claimed, Matured, Expired, Settled, PaidUp, Cover, Encloses, Terminal, Mean, exact_reserve, rounded_reserve}
 use Rattle.policy_types.specs.declared.policy.Status.{Status}
 use Rattle.present_value.specs.Fractions.{Fraction}
@@ -15,7 +15,7 @@ exact_minimum status c cap amount premium t = by status
     by InForce = minimum c cap amount premium t
     by other = exact_reserve Terminal other c cap t
 
--- of a policy that isn't paid up
+-- for a policy that isn't paid up
 pub mean-other : (status : Status) (c cap : Cover) (t : ℕ) → (status ≡ PaidUp → ⊥) → exact_reserve Mean status c cap t ≡ mean_reserve c cap t
 mean-other InForce c cap t other = refl
 mean-other Lapsed c cap t other = refl
@@ -25,7 +25,7 @@ mean-other Expired c cap t other = refl
 mean-other Settled c cap t other = refl
 mean-other PaidUp c cap t other = absurd (other refl)
 
--- where no premium is due the bounds of the reserve serve for the minimum reserve
+-- if no premium is due the bounds of the reserve serve for the minimum reserve
 pub least-other : (status : Status) (c cap : Cover) (amount premium t lo hi : ℕ) → 1 ≤ amount → (status ≡ InForce → c.h ≤ t)
     → Encloses lo hi amount (exact_reserve Terminal status c cap t) → Encloses lo hi amount (exact_minimum status c cap amount premium t)
 least-other InForce c cap amount premium t lo hi some paid encloses = paid-encloses c cap amount premium t lo hi some (paid refl) encloses

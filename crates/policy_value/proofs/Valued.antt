@@ -14,7 +14,7 @@ use Rattle.policy_value.specs.Measures.{IsExactFor, IsWorthOf, no_reserve}
 use Rattle.policy_value.specs.Rows.{IsInsured, IsValuedRow, IsYear}
 use Rattle.policy_value.specs.inside.Valued.{IsExact, IsReserveOf, IsValueOf}
 
--- the worth by an entry is exact where there is a shape
+-- the worth by an entry is exact if there is a shape
 by_shape : (policy : Policy) (entry : Dated) (on : ℤ) (measure : Measure) (t : ℕ) (worth : Worth) (r : Result Shape NotValued)
     → shape_of policy.plan policy.age policy.years entry.table ≡ r → IsReserveOf policy entry.table entry.bp on measure r t worth
     → IsExact measure policy entry.table entry.bp t worth

@@ -20,7 +20,7 @@ is_header bytes = elim (cases_Bool (bytes_eq (take 16 (drop 1 bytes)) header)) [
 
 -- ---- creations
 
--- of 18 bytes, the first of which is neither 0 nor 1
+-- a file of 18 bytes, the first of which is neither 0 nor 1
 nearly : (bytes : List ℕ) → length bytes ≡ 18 → slice_index bytes 0 ≢ 0 → slice_index bytes 0 ≢ 1 → IsUnfinished bytes ⊎ (IsUnfinished bytes → ⊥)
 nearly bytes long not_begun not_made = elim (is_header bytes) [
   | inr other ↦ inr (λ is. elim is [
@@ -38,7 +38,7 @@ nearly bytes long not_begun not_made = elim (is_header bytes) [
   ]
 ]
 
--- of more than one byte, the first of which isn't 0
+-- a file of more than one byte, the first of which isn't 0
 not_begun_yet : (bytes : List ℕ) → 1 < length bytes → slice_index bytes 0 ≢ 0 → IsUnfinished bytes ⊎ (IsUnfinished bytes → ⊥)
 not_begun_yet bytes some not_begun = elim (eqb_tells (length bytes) 18) [
   | inr other ↦ inr (λ is. elim is [
@@ -87,7 +87,7 @@ module _ (bytes : List ℕ) (made : IsMade bytes) where
     | inr last ↦ (let same : n ≡ k = omega (arith, low, last) in subst (λ (m : ℕ). slice_index bytes (gate_place m) ≡ 1) same opened)
   ]
 
-  -- record n, where those before it are open and can stand; it goes on where its gate is open and it is whole
+  -- record n, if those before it are open and valid; it counts if its gate is open and it is whole
   record_at : (n : ℕ) → n ≤ 4000000 → gate_place n < length bytes
       → ((k : ℕ) → k < n → slice_index bytes (gate_place k) ≡ 1)
       → (slice_index bytes (gate_place n) ≡ 1 → gate_place (n + 1) < length bytes → Shows bytes) → Shows bytes

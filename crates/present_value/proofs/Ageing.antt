@@ -93,7 +93,7 @@ value_to-most table bp Insurance end age few rates = benefits_to-most table bp f
 value_to-most table bp Endowment end age few rates = benefits_to-most table bp true end age rates
 value_to-most table bp Annuity end age few rates = premiums_to-most table bp end age few
 
--- the same of the value of a later age, which is at hand
+-- the same for the value of a later age, which is at hand
 pub next_most : (table : Rates) (bp : ℕ) (stream : Stream) (end age t : ℕ) (pair : Pair) (rates : List ℕ) → pair ≡ value_to table bp stream end (age + t)
     → CanEnd table bp end age → AreRatesFrom table age rates → EachIndex rates (λ k. get_or rates k 0 ≤ ONE) → age + length rates ≤ 131
     → (pair.lo ≤ most stream) × (pair.hi ≤ most stream)

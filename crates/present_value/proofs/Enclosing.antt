@@ -1,4 +1,5 @@
--- The rounded values enclose the exact ones, and lie as many units apart as years are left.
+-- The rounded values enclose the exact ones, and their bounds differ by at most as many units as there are years
+-- left.
 use Rattle.present_value.proofs.Names.{◌≡◌, ℕ, zero, suc, ◌+◌, ◌-◌, ◌*◌, ◌^◌, ◌<◌, ◌≤◌, arith, Bool, true, false, if◌then◌else◌, inl, inr, leb_tells, ONE, Between, Cover, year, UNIT, down, up, benefit_dividend, annuity_dividend, rounded_ben, rounded_ann}
 use Rattle.std.proofs.Math.Nat.{mul-le-mul_left, mul-le-mul_right, mul-pos, pow-succ', pow-zero, one-le-pow}
 use Rattle.present_value.proofs.Quotients.{down-le, le-up, apart, up-le}
@@ -10,7 +11,7 @@ year_pos c = omega arith
 pub power_pos : (c : Cover) (k : ℕ) → 0 < year c ^ k
 power_pos c k = let h = one-le-pow k (year c) (year_pos c) in omega arith
 
--- one year of benefits, below and above
+-- one year of benefits, the lower and the upper bound
 ben_above : (u p n w r q lo x : ℕ) → x * w ≤ 10000 * (r * u + q * lo) → lo * p ≤ u * n
     → x * (w * p) ≤ u * (10000 * r * p + 10000 * q * n)
 ben_above u p n w r q lo x e h =
@@ -25,7 +26,7 @@ ben_below u p n w r q hi x e h =
     let h' = mul-le-mul_left (10000 * q) h in
     omega arith
 
--- one year of premiums, below and above
+-- one year of premiums, the lower and the upper bound
 ann_above : (u p n w q lo x : ℕ) → x * w ≤ 10000 * q * lo → lo * p ≤ u * n
     → (u + x) * (w * p) ≤ u * (w * p + 10000 * q * n)
 ann_above u p n w q lo x e h =

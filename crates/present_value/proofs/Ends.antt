@@ -1,4 +1,4 @@
--- Two covers of which as much is left, with the same interest and the same rates from there on, have the same values.
+-- Two covers with as many years left, with the same interest and the same rates from there on, have the same values.
 use Rattle.present_value.proofs.Names.{true, false, ◌≡◌, ℕ, zero, suc, ◌+◌, ◌-◌, ◌<◌, ◌≤◌, refl, ap, sym, ◌∙◌, arith, add-zero, Bool, true, if◌then◌else◌, Rates, rate_at, UNIT, down, up, Cover, cover_of, rounded_ben, rounded_ann, ben_is_rounded, ann_is_rounded, ben_lo, ben_hi, ann_lo, ann_hi, pair_of, cover_to, benefits_to, premiums_to, value_to, benefit_stream}
 use Rattle.rate_table.specs.declared.shape.Shape.{Shape}
 use Rattle.present_value.specs.declared.column.Stream.TheVariants.{Annuity}

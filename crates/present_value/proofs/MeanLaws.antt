@@ -1,4 +1,4 @@
--- Why the mean reserve lies where it does.
+-- Why the mean reserve is between the terminal ones.
 use Rattle.present_value.proofs.Names.{◌≡◌, ℕ, suc, ◌+◌, ◌*◌, ◌<◌, ◌≤◌, refl, inl, inr, arith, leb_tells, Fraction, whole, plus, over, Cover, survivors, ben, net_premium, mean_reserve, paid_up_mean}
 use Rattle.std.proofs.Math.Nat.{mul-le-mul_left}
 use Rattle.present_value.specs.Reserve.{reserve}
@@ -18,7 +18,7 @@ half_within x net y order = record {
   below = below x.num x.den net.num net.den y.num y.den order;
 }
 
--- the same, where it is the greater
+-- the same, if it is the greater
 falling_above : (x p n d y q : ℕ) → y * p ≤ x * q → (y * (d * 2) + (n * 1) * q) * ((p * d * q) * 2) ≤ (((x * d + n * p) * q + y * (p * d)) * 1) * (q * (d * 2))
 falling_above x p n d y q order = let wide = mul-le-mul_left (2 * d * d * q) order in omega arith
 
@@ -52,7 +52,7 @@ mean_end c cap = elim (leb_tells (suc c.n) c.n) [
   | inr h ↦ rw h.0 refl
 ]
 
--- of a paid-up policy
+-- for a paid-up policy
 
 plain_above : (x p y q : ℕ) → x * q ≤ y * p → x * ((p * q) * 2) ≤ ((x * q + y * p) * 1) * p
 plain_above x p y q order = let wide = mul-le-mul_left p order in omega arith

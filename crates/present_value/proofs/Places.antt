@@ -37,6 +37,6 @@ ann_pair-before c t rate w later pair below due rate_is w_is later_is lo hi =
     let high : pair.hi ≡ ann_hi c t = rw (ann_hi-before c t below due, hi, later_is, rate_is, w_is) refl in
     ap (λ n. pair_of n pair.hi) low ∙ ap (λ n. pair_of (ann_lo c t) n) high
 
--- a year's denominator, of which the code divides by the ten thousandth part
+-- a year's denominator; the code divides by a ten-thousandth of it
 pub year_is : (bp divisor : ℕ) → divisor ≡ 100000 * (10000 + bp) → 10000 * divisor ≡ ONE * (10000 + bp)
 year_is bp divisor p = omega arith

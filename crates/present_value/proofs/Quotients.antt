@@ -13,7 +13,7 @@ le-up n d positive = let h = lt-down (n + (d - 1)) d positive in omega arith
 pub up-lt : (n d : ℕ) → 0 < d → up n d * d < n + d
 up-lt n d positive = let h = down-le (n + (d - 1)) d in omega arith
 
--- how far apart two rounded quotients lie, where the dividends lie at most k times the divisor apart
+-- how far two rounded quotients differ, if the dividends differ by at most k times the divisor
 pub apart : (m n d k : ℕ) → 0 < d → m ≤ n + k * d → up m d ≤ down n d + k + 1
 apart m n d k positive near =
     let low = lt-down n d positive in

@@ -65,7 +65,7 @@ ann_hi-most c t = rw (ann_is_rounded up c t) (ann_most c (c.n - t))
 pub ann_lo-least : (c : Cover) (t : ℕ) → t < c.n → t < c.h → UNIT ≤ ann_lo c t
 ann_lo-least c t below due = rw (ann_is_rounded down c t) (ann_least c (c.n - t) (omega arith) (omega arith))
 
--- the bounds enclose the exact values, and lie at most a unit apart for each year that is left
+-- the bounds enclose the exact values, and differ by at most one unit for each year that is left
 pub ben-between : (c : Cover) (t : ℕ) → t ≤ c.n → Between (ben_lo c t) (ben_hi c t) UNIT (ben c t)
 ben-between c t within = rw (ben_is_rounded down c t, ben_is_rounded up c t, ben_is c t (c.n - t) refl) (ben_between c t (c.n - t) (omega arith))
 

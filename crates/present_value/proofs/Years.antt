@@ -2,7 +2,7 @@
 use Rattle.present_value.proofs.Names.{◌≡◌, ℕ, zero, suc, ◌+◌, ◌-◌, ◌*◌, ◌^◌, ◌<◌, refl, sym, ◌∙◌, arith, true, false, if◌then◌else◌, add-zero, one-mul, mul-one, Cover, year, survival, death, survivors, sum_below, sum_below-is, ben, ann}
 use Rattle.std.proofs.Math.Nat.{mul-add, mul_assoc, mul-zero}
 
--- the first term apart, and a factor of all the others
+-- the first term separately, and a common factor of all the others
 sum_first : (a : ℕ) (f g : ℕ → ℕ) (count : ℕ) → ((k : ℕ) → k < count → f (suc k) ≡ a * g k)
     → sum_below f (suc count) ≡ f 0 + a * sum_below g count
 unfolding sum_below
@@ -13,7 +13,7 @@ sum_first a f g (suc count) same =
     let spread = mul-add a (sum_below g count) (g count) in
     omega arith
 
--- those alive k + 1 years on are those alive k years on of those alive one year on
+-- those alive k + 1 years later are those, among the ones alive one year later, who are alive k years after that
 survivors_first : (c : Cover) (t k : ℕ) → survivors c t (suc k) ≡ survival c t * survivors c (suc t) k
 unfolding survivors
 survivors_first c t zero = rw (add-zero t) (one-mul _ ∙ sym (mul-one _))

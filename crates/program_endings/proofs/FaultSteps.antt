@@ -1,4 +1,4 @@
--- Where a posting faulted the disk's count rose
+-- If a posting faulted the disk's count rose
 use Rattle.program_endings.proofs.Names.{◌≡◌, ℕ, List, [], ◌∷◌, ◌++◌, ap, sym, ◌∙◌, subst, Some, None, Option, AllByRecursion, cons_option, filter_map, last_or, filter_map-append, Rose, Command, Call, Post, Pin, PinAt, Read, Unpin, Trim, Reply, Accepted, Refused, Faulted, Pinned, PinRefused, Slice, Unpinned, Floor, Blank, Entry, Opening, IsAbove, IsDue, IsLegalAfter, fault_of}
 use Rattle.std.specs.Option.{unwrap_or}
 use Rattle.office_state.specs.Images.{WasFaulted, faults_after}

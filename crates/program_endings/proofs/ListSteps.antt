@@ -1,4 +1,4 @@
--- Elements of lists, and where they stand
+-- Elements of lists, and their places
 use Rattle.program_endings.proofs.Names.{◌≡◌, ℕ, zero, suc, ◌+◌, ◌-◌, ◌≤◌, ◌⊎◌, Bool, true, false, List, [], ◌∷◌, ◌++◌, map, take, Some, refl, ap, sym, ◌∙◌, subst, inl, inr, arith, ◌||◌, slice_get, cond-false, cond-true, Contains-append_cases, Contains-append_right, Contains-push_cases}
 use Rattle.std.specs.List.{AllByRecursion, AllZip, Contains, enumerate_from, filter, flat_map, list_any}
 

@@ -59,7 +59,7 @@ part_failed before mid after parts i d below first then =
           (appends_behind before mid after front (take then.taken part) first then.written);
     })
 
--- what holds anyway holds where it failed
+-- what is true in any case is true after a failure
 pub on_err : {T E X : Type 0} (result : Result T E) → X → OnErr result X
 on_err (Ok value) holds = tt
 on_err (Err fault) holds = holds

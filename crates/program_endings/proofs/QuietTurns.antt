@@ -19,7 +19,7 @@ none_accepted [] quiet = refl
 none_accepted (entry ∷ history) quiet =
     ap (λ first. cons_option first (accepted_of history)) (no_command entry.call entry.reply quiet.0) ∙ none_accepted history quiet.1
 
--- where all turns are of one caller
+-- if all turns are of one caller
 pub all_own : (caller n : ℕ) (history : List Entry) → AllByRecursion (λ (entry : Entry). entry.caller ≡ caller) history
     → filter (λ (turn : Placed). turn.1.caller == caller) (enumerate_from n history) ≡ enumerate_from n history
 all_own caller n [] own = refl

@@ -57,7 +57,7 @@ module _ {D : Type 0} (g : Ghosts D) (old new : D) where
     read_refused WriteFault ends never disk_held = absurd (never (AppendsPart output.before output.after) ends.1)
     read_refused _ ends never disk_held = absurd ends.0
 
--- one that wasn't opened
+-- a journal that wasn't opened
 module _ {D : Type 0} (g : Ghosts D) (old disk : D) (output : Stream) where
   pub no_office : (cause : StartCause) (ending : Ending) → HasNotOpened g old disk cause → SaysUnopened cause output ending
       → EndsNoOffice g old disk output ending × IsLeftAlone g old disk

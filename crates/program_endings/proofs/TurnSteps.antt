@@ -49,7 +49,7 @@ quiet_reply opening before caller (Read pin first) Blank due quiet = absurd due
 quiet_reply opening before caller (Unpin pin) Blank due quiet = absurd due
 quiet_reply opening before caller TrimCall Blank due quiet = absurd due
 
--- nor is it that of an accepted posting
+-- and it isn't that of an accepted posting
 pub unposted_reply : (opening : Opening) (before : List Entry) (caller : ℕ) (call : Call) (reply : Reply) → IsDue opening before caller call reply
     → posts call ≡ false → IsQuietReply reply
 unposted_reply opening before caller call (Refused refusal) due quiet = (refl, λ position no. cc)

@@ -56,7 +56,7 @@ LinesOfRefusals = SaysWhy NotAJournal (output_with 0 [] (codes "badjournal,notaj
 abbrev pub bare_shelf : ℕ → Shelving
 bare_shelf faults = record { faults_before = 3; faults_after = 3 + faults; Agrees = λ files. files (codes "b.csv") ≡ None }
 
--- the absent file is named, at the place 0; a fault is reported only where the shelf's count rose
+-- the absent file is named, at the place 0; a fault is reported only if the shelf's count rose
 abbrev pub WithoutABasis : Type 0
 WithoutABasis = EndsNoBasis (codes "b.csv") (bare_shelf 0) (output_with 0 [] (codes "badbasis,b.csv,0,absent" ++ 10 ∷ [])) BadBasisFile
     × (EndsNoBasis (codes "b.csv") (bare_shelf 0) (output_with 0 [] (codes "badbasis,b.csv,1,absent" ++ 10 ∷ [])) BadBasisFile → ⊥)
@@ -93,7 +93,7 @@ lapse_turn reply = record { caller = 1; call = Post (Lapse 7001 (pos 18262)); re
 abbrev pub pinned_turn : Entry
 pinned_turn = record { caller = 1; call = Pin; reply = Pinned 5 2 }
 
--- a refused posting is answered; one that faulted, or found no memory, isn't
+-- a refused posting is answered; one that faulted, or was refused memory, isn't
 abbrev pub AnsweredOrNot : Type 0
 AnsweredOrNot = AreAnswered (lapse_turn (Accepted 6) ∷ lapse_turn (Refused Unknown) ∷ pinned_turn ∷ []) []
     × (AreAnswered (pinned_turn ∷ []) (0 ∷ []) → ⊥)

@@ -17,7 +17,7 @@ full before = nat_le most_pins (length (live_positions before))
 abbrev count : Opening → List Entry → ℕ
 count opening before = length (commands_after opening before)
 
--- the pin at a position, where it isn't refused
+-- the pin at a position, if it isn't refused
 abbrev pin_there : Opening → List Entry → ℕ → Reply
 pin_there opening before p =
     cond (full before) (PinRefused PinsFull) (Pinned p (length (book (take p (commands_after opening before)))))

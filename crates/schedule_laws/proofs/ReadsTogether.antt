@@ -123,7 +123,7 @@ batches pin from (suc len) policies =
     ∙ take_parts policies_per_read (policies_per_read * len) here
     ∙ ap (λ n. take n here) more
 
--- where the batches end at the last policy, a number of them is cut off nowhere
+-- if the batches end at the last policy, a number of them is cut off nowhere
 take_enough : (k policies : ℕ) (xs : List Policy) → policies ≡ length xs
     → take (policies_per_read * min k ((policies + 255) / policies_per_read)) xs ≡ take (policies_per_read * k) xs
 take_enough k policies xs number = by_order (grind arith)

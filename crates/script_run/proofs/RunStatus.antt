@@ -89,7 +89,7 @@ module _ {D : Type 0} (g : Ghosts D) (old new : D) (auditors : List Auditor) whe
   script_unfit : (lanes : List Lane) (basis : List Dated) (output : Stream) → EndsScript g old new lanes basis auditors output BadBasis → ⊥
   script_unfit lanes basis output ends = elim ends [ inl ran ↦ ran.wrote | inr said ↦ said.0 ]
 
-  -- the same of lanes with the basis that they need
+  -- the same for lanes with the basis that they need
   module _ (lanes : List Lane) (name : List ℕ) (shelf : Shelving) (output : Stream) (ShelfStays : Type 0) where
     lanes_as_before : (ending : Ending) → EndsLanes g old new lanes name auditors shelf output ShelfStays ending
         → g.honest new → OpensToNone (g.reads old) → g.reads new ≡ g.reads old
@@ -99,7 +99,7 @@ module _ {D : Type 0} (g : Ghosts D) (old new : D) (auditors : List Auditor) whe
       | inr (asks, inr no_basis) ↦ ap g.reads no_basis.0
     ]
 
-    -- where there is no basis though the shelf has it and didn't fail, memory was refused
+    -- if there is no basis although the shelf has it and didn't fail, memory was refused
     has_its_basis : (ending : Ending) → asks_for_values lanes ≡ true → HasItsBasis lanes name shelf
         → (asks_for_values lanes ≡ true → Rose shelf.faults_before shelf.faults_after → ⊥) → EndsNoBasis name shelf output ending
         → status_of ending ≡ 9
@@ -202,7 +202,7 @@ module _ {D : Type 0} (g : Ghosts D) (old new : D) (auditors : List Auditor) whe
       | inr unread ↦ unread_refused input output ending unread.2 held
     ]
 
-    -- and so is one that is too long
+    -- and so is a script that is too long
     pub run_too_long : (ending : Ending) → EndsRun g old new name auditors input output shelf ShelfStays ending
         → GivesMore 16777216 input.given_before input.given_after → (Rose input.faults_before input.faults_after → ⊥)
         → (status_of ending ≡ 3) ⊎ (status_of ending ≡ 9)
@@ -211,7 +211,7 @@ module _ {D : Type 0} (g : Ghosts D) (old new : D) (auditors : List Auditor) whe
       | inr unread ↦ unread_refused input output ending unread.2 held
     ]
 
-    -- one that can be read is read as these lanes
+    -- a script that can be read is read as these lanes
     module _ (bytes : List ℕ) (lanes : List Lane) (whole : IsWholeInput input bytes) (short : length bytes ≤ 16777216)
         (reads : Reads bytes lanes) (held : Rose input.faults_before input.faults_after → ⊥) where
       its_lanes : (ending : Ending) → EndsRun g old new name auditors input output shelf ShelfStays ending

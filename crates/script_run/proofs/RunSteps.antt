@@ -148,7 +148,7 @@ module _ {D W : Type 0} (g : Ghosts D) (w : WatcherGhosts W) (old disk : D) (lan
         same (closed.safe honest) in
         all_heard g disk started.opening.commands (accepted_of closing.seen) outlet moments rest split (many ∙ all_told.all_accepted) safe inlet paired
 
-    -- so what was handed on of the lines, and of what stands after them, shows nothing too soon
+    -- so what was handed on of the lines, and of what comes after them, shows nothing too soon
     shows : (before mid now : List TakenPiece) (moments rest : List ℕ) (latest : ℕ) (written : Result (Unit {0}) Unwritten)
         → HasShown told_text before mid transcript.lines moments latest written → AddsBy mid now latest
         → moments ++ rest ≡ told outlet → (inlet : Consumer ℕ Global AnyItems) → ArePaired outlet inlet
@@ -163,7 +163,7 @@ module _ {D W : Type 0} (g : Ghosts D) (w : WatcherGhosts W) (old disk : D) (lan
               all_told.told all_told.in_order safe whole.0 whole.2,
         )
 
-  -- where there was no memory to run them, nothing was turned
+  -- if there was no memory to run them, no turn was taken
   untouched : closing ≡ first → IsLeftAlone g old disk × (g.faults disk ≡ g.faults old)
   untouched same =
       let is : closing.opening ≡ Some opened = ap (λ (p : Holding (OfficeOpening D W)). p.opening) same ∙ started.first.opened in
@@ -208,7 +208,7 @@ pub ends_unopened : {D : Type 0} (g : Ghosts D) (old new : D) (lanes : List Lane
     → EndsScript g old new lanes basis auditors output ending
 ends_unopened g old new lanes basis auditors output cause ending not said = inr (no_office g old new output cause ending not said)
 
--- one that read none leaves the shelf and the disk
+-- a run that read no script leaves the shelf and the disk as they were
 pub ends_unread : {D : Type 0} (g : Ghosts D) (disk : D) (name : List ℕ) (auditors : List Auditor) (input : Input) (output : Stream)
     (shelf : Shelving) (ShelfStays : Type 0) (unread : Unread) (ending : Ending) → ShelfStays → StopsReading input unread
     → SaysUnread unread output ending → EndsRun g disk disk name auditors input output shelf ShelfStays ending

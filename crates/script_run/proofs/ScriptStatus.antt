@@ -5,7 +5,7 @@ use Rattle.command_csv.proofs.Faults.{fault_excludes}
 use Rattle.command_csv.proofs.Judging.{judged}
 use Rattle.program_endings.specs.Status.{status_of}
 
--- what stands after the same front is the same
+-- what comes after the same prefix is the same
 same_behind : (front xs ys : List ℕ) → front ++ xs ≡ front ++ ys → xs ≡ ys
 same_behind [] xs ys same = same
 same_behind (byte ∷ front) xs ys same = same_behind front xs ys (cc)
@@ -45,7 +45,7 @@ pub never_readable : {A : Type 0} (input : Input) (gave bytes : List ℕ) (lanes
 never_readable input gave bytes lanes all read whole unreadable =
     never_read bytes lanes (subst (λ (bs : List ℕ). IsReadAs bs lanes) (one_whole input gave bytes all whole) read) unreadable
 
--- nor one of an input that gave too much
+-- and neither is one of an input that gave too much
 pub never_long : {A : Type 0} (input : Input) (gave : List ℕ) (lanes : List Lane) → GaveAll input gave → IsReadAs gave lanes
     → GivesMore 16777216 input.given_before input.given_after → A
 never_long input gave lanes all read more =
@@ -66,7 +66,7 @@ read_or_refused bytes = elim (cases_lt 16777216 (length bytes)) [
 pub not_both : (bytes : List ℕ) → IsReadable bytes → IsUnreadable bytes → ⊥
 not_both bytes readable unreadable = never_read bytes readable.0 readable.1 unreadable
 
--- a script that can be read isn't refused where the input doesn't fail
+-- a script that can be read isn't refused if the input doesn't fail
 pub unread_readable : (input : Input) (output : Stream) (ending : Ending) (bytes : List ℕ) (lanes : List Lane)
     → EndsUnread input output ending → IsWholeInput input bytes → length bytes ≤ 16777216 → Reads bytes lanes
     → (Rose input.faults_before input.faults_after → ⊥) → status_of ending ≡ 9
@@ -75,7 +75,7 @@ unread_readable input output InputFault bytes lanes ends whole short reads held 
 unread_readable input output BadScript bytes lanes ends whole short reads held = absurd (not_refused input bytes lanes output whole short reads ends)
 unread_readable input output _ bytes lanes ends whole short reads held = absurd ends
 
--- one that can't be read is
+-- a script that can be read is read
 pub unread_refused : (input : Input) (output : Stream) (ending : Ending) → EndsUnread input output ending
     → (Rose input.faults_before input.faults_after → ⊥) → (status_of ending ≡ 3) ⊎ (status_of ending ≡ 9)
 unread_refused input output BadScript ends held = inl refl

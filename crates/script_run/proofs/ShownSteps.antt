@@ -120,7 +120,7 @@ since_at g disk held (c ∷ commands) (m ∷ moments) (suc k) moment safe there 
     subst (λ (n : ℕ). HoldsAtLeast (held ++ take n (c ∷ commands)) image) long
     (subst (λ (cs : List Command). HoldsAtLeast cs image) (append_assoc held (c ∷ []) (take (k + 1) commands)) rest)
 
--- a list of which a prefix is known to be as long as the whole is that front
+-- a list with a prefix that is known to be as long as the whole is that prefix
 front_is_all : {A : Type 0} (front rest whole : List A) → front ++ rest ≡ whole → length front ≡ length whole → front ≡ whole
 front_is_all front [] whole same long = sym (append-nil front) ∙ same
 front_is_all front (x ∷ rest) whole same long =
@@ -188,8 +188,8 @@ told_accepted Trim reply (ValueNoMemory lack) commands basis said is = absurd sa
 told_accepted (Value on at workers) reply (Posted answer) commands basis said is = absurd said
 told_accepted (Value on at workers) reply (Trimmed floor) commands basis said is = absurd said
 
--- A disk on which time goes one way, the moments since which the accepted commands of a history are safe, and the lines of which
--- each that is accepted has one of them.
+-- A disk whose time goes one way, the moments since which the accepted commands of a history are safe, and the lines;
+-- each accepted line has one of these moments.
 module _ {D : Type 0} (g : Ghosts D) (new : D) (opening : Opening) (history : List Entry) (basis : List Dated)
     (text : TranscriptLine → List ℕ) (answered : List AnsweredLine) (lines : List TranscriptLine) (moments : List ℕ)
     (sooner : (early late : ℕ) (image : List ℕ) → early ≤ late → g.left_since new late image → g.left_since new early image)
@@ -222,7 +222,8 @@ module _ {D : Type 0} (g : Ghosts D) (new : D) (opening : Opening) (history : Li
       let opens = subst (λ (cs : List Command). HoldsAtLeast (opening.commands ++ cs) image) commands holds in
       opens
 
--- all moments that were reported were heard, where one is heard for each accepted line and reported for each accepted command
+-- all moments that were sent were received: one is received for each accepted line, and one is sent for each accepted
+-- command
 pub all_heard : {D A P : Type 0} (g : Ghosts D) (disk : D) (held commands : List Command) (outlet : Option (Producer ℕ A P))
     (heard rest : List ℕ) → heard ++ rest ≡ told outlet → length heard ≡ length commands
     → IfSome outlet (λ (ring : Producer ℕ A P). AreSafeSince g disk held commands (sent ring))

@@ -44,7 +44,7 @@ module _ (lines : List TranscriptLine) (reports : List Report) (first : Stream) 
       → EndsTold lines reports (output_until first faults mid pieces) Failed
   told_failed ended = (ended.0, part_more first.before mid (told_texts lines) (reports_text reports) ended.1)
 
-  -- memory was wanting for a line
+  -- memory was refused for a line
   pub told_short : HasEnded first.faults_before faults first.before mid told_text lines (Err (NoMemory a_refusal))
       → EndsTold lines reports (output_until first faults mid pieces) (NoRoom a_lack)
   told_short ended = inl (record {

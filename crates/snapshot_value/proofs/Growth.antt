@@ -21,7 +21,7 @@ turns_from-append n front back caller =
     ap (filter (λ (placed : Placed). placed.1.caller == caller)) (enumerate_from-append n front back)
     ∙ filter-append (λ (placed : Placed). placed.1.caller == caller) (enumerate_from n front) (enumerate_from (n + length front) back)
 
--- where no entry is the caller's, no turn is
+-- if no entry is the caller's, no turn is
 no_turns : (n : ℕ) (history : List Entry) (caller : ℕ) → entries_of history caller ≡ [] → turns_from n history caller ≡ []
 no_turns n [] caller none = refl
 no_turns n (entry ∷ history) caller none = by (entry.caller == caller) refl (no_turns (n + 1) history caller)

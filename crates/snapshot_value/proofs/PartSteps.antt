@@ -3,7 +3,7 @@ use Rattle.snapshot_value.proofs.Names.{◌≡◌, ℕ, suc, zero, ◌+◌, ◌*
 use Rattle.std.proofs.lemmas.List.FromFn.{get_or-map-range_with_len, length-range_with_len}
 use Rattle.policy_types.specs.declared.entry.Call.TheVariants.{Read}
 
--- of all items, those of a part
+-- the items of a part
 pub all_part : {X : Type 0} (P : X → Type 0) (m n : ℕ) (xs : List X) → AllByRecursion P xs → AllByRecursion P (take n (drop m xs))
 all_part P m n xs all =
     all_front P (take n (drop m xs)) (drop n (drop m xs)) (rw take-append-drop

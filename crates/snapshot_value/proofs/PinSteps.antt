@@ -66,7 +66,7 @@ module _ {D W : Type 0} where
       there : (floor_of pass.seen ≤ pin.position) × (pin.position ≤ length commands) × (pin.policies ≡ length (book (take pin.position commands)))
       there = (PinsHold-legal opened.opening pass.seen facts.lawful.2.legal.due).pins_in pin.number pin.position pin.policies is_live
 
-  -- they stay, whatever the pass sees further
+  -- they stay, whatever else the pass sees
   pub stays : (old new : Holding (OfficeOpening D W)) (pin : Held) → IsKnown old pin → new.opening ≡ old.opening
       → StartsWith new.seen old.seen → policies_at new pin.position ≡ policies_at old pin.position
   stays old new pin is same begins =

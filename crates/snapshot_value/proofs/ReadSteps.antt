@@ -28,7 +28,7 @@ module _ {D W : Type 0} (pin : Held) where
   pub first_none : (Has : List Policy → Type 0) (pass : Holding (OfficeOpening D W)) → Has [] → HasReadFirst Has pin 0 pass pass
   first_none Has pass has = record { reads = []; grows = grows_none pass; calls = refl; stays = refl; has = has }
 
-  -- those that were read are not more than policies may be
+  -- those that were read are no more than there may be policies
   pub first_few : (k : ℕ) (old : Holding (OfficeOpening D W)) → IsKnown old pin
       → length (take (policies_per_read * k) (policies_at old pin.position)) ≤ most_commands
   first_few k old is =
@@ -132,13 +132,13 @@ module _ {D W : Type 0} (pin : Held) where
   some_left old mid is read left = omega (arith, some_few old mid is read, read.grows.left, left)
 
   module _ {Made : Type 0} (IsOf : ℕ → List Policy → Made → Type 0) where
-    -- something was made of all policies, or memory was wanting for it
+    -- something was made of all policies, or memory was refused for it
     pub made_of_reads : (old new : Holding (OfficeOpening D W)) (result : Result Made Refusal) → HasReadEach pin old new
         → IfOk result (IsOf pin.position (policies_at old pin.position)) → HasMadeOfReads IsOf pin old new result
     made_of_reads old new (Ok made) read is = (read, is)
     made_of_reads old new (Err lack) read is = some_each old new read
 
-    -- memory was wanting
+    -- memory was refused
     pub lacking : (old new : Holding (OfficeOpening D W)) (result : Result Made Refusal) → HasReadSome pin old new → IsErr result
         → HasMadeOfReads IsOf pin old new result
     lacking old new (Ok made) some failed = let no : false ≡ true = failed in absurd (cc)
@@ -288,7 +288,7 @@ module _ {D W Made : Type 0} (IsOf : ℕ → List Policy → Made → Type 0) (a
           answered = answers_pinned (made.later, made.grows) is (calls_of made.later) answer made.follows;
         }
 
-    -- it is none of the pins that the pass held before
+    -- the pin is none of those that the pass held before
     pub others_kept : (new : Holding (OfficeOpening D W)) → KeepsPins old mid → KeepsOtherPins pin.number mid new → KeepsPins old new
     others_kept new kept others other holds = others other apart (kept other holds)
       where

@@ -85,7 +85,7 @@ saves_nothing g e disks output image are empty left = (
   ],
 )
 
--- a file that is no journal is refused as one alone is
+-- a file that is no journal is refused as with one disk
 pub hello_refused : {D E : Type 0} (g : Ghosts D) (e : Ghosts E) (disks : TwoDisks D E) (output : Stream) → AreTrue g e disks
     → g.reads disks.old ≡ codes "hello" → IsLeftAlone g disks.old disks.new → EndsTelling g e disks (Writes snapshot_text) output BadJournal
     → WroteLine output (codes "badjournal,notajournal")

@@ -80,7 +80,7 @@ module _ {D : Type 0} (g : Ghosts D) (old mid : D) (commands : List Command)
   pub finished_left : ReadsImage g → g.honest mid → ¬ IsUnfinished (g.reads mid)
   finished_left reads_image honest = journal_finished (g.reads mid) _ (file_left reads_image honest).records
 
-  -- the commands may be named otherwise where they are the same
+  -- the commands may be named otherwise if they are the same
   pub left_renamed : (others : List Command) → (g.honest mid → others ≡ commands)
       → IsLeftBy g old mid (opened_on others (g.faults old)) []
   left_renamed others same = record {

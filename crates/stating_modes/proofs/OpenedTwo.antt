@@ -91,7 +91,7 @@ module _ {D : Type 0} (g : Ghosts D) (reads_image : ReadsImage g) (counts_now : 
   opened_so : g.honest (disk_of now) → HasStarted disk journal
   opened_so honest = on.opened (stays.disk.honesty honest)
 
-  -- commands which the bodies spell, where the disk comes back honest: the disk holds them still
+  -- commands that the bodies spell, if the disk comes back honest: the disk holds them still
   module _ (only_now : OnlyNow g) (quiet : g.faults (disk_of now) ≡ g.faults disk) (commands : List Command) (decided : AreDecided commands)
       (spelled : g.honest (disk_of now) → (opened : HasStarted disk journal) × (opened.bodies ≡ bodies_of commands)) where
     abbrev opening : Opening
@@ -152,7 +152,7 @@ module _ {D : Type 0} (g : Ghosts D) (reads_image : ReadsImage g) (counts_now : 
     }
 
   module _ (only_now : OnlyNow g) (quiet : g.faults (disk_of now) ≡ g.faults disk) (snapshot : Snapshot) where
-    -- of an honest disk whose bodies are all decided
+    -- for an honest disk whose bodies are all decided
     snapshot_held : (here : g.honest (disk_of now)) → IsSnapshotOfAll (opened_so here).bodies snapshot
         → HoldsStill g disk (disk_of now) (λ commands. IsSnapshotOf commands snapshot)
     snapshot_held here all = record {
@@ -161,7 +161,7 @@ module _ {D : Type 0} (g : Ghosts D) (reads_image : ReadsImage g) (counts_now : 
       disk = left_by only_now quiet all.commands (all.valid, all.accepted) (λ honest. (opened_so here, all.spelled));
     }
 
-    -- of any, whose records were all read with no store, by the name of the disk that is given back
+    -- for any disk whose records were all read without a store, under the name of the disk that is given back
     pub books_on : IsSoundSnapshot snapshot → IsSnapshotRead journal (disk_of now) snapshot → (back : D) → back ≡ disk_of now
         → AreBooksOn g disk back snapshot
     books_on sound read back same = subst (λ (d : D). AreBooksOn g disk d snapshot) (sym same) (record {
@@ -279,7 +279,7 @@ module _ {D E : Type 0} (g : Ghosts D) (e : Ghosts E) (reads_image : ReadsImage 
       shown (why.BadRecord n) {bodies} answer opened = unfollowed (g.reads disk) n bodies opened (stopped_at bodies n answer.bad)
       shown (why.NoMemory lack) answer opened = tt
 
--- the same disks and the same cause by other names
+-- the same disks and the same cause under other names
 pub renamed : {D E : Type 0} (g : Ghosts D) (e : Ghosts E) (old new first : D) (second kept other : E) (cause why : StartCause)
     → first ≡ new → other ≡ kept → why ≡ cause
     → HasNoSnapshot g e (record { old = old; new = new; second = second; kept = kept }) cause

@@ -77,13 +77,13 @@ decided_after : (account : Account) (commands : List Command) (command : Command
 decided_after account commands command decision holds own decided =
     ap (λ id. next (policy_of commands id) command) own ∙ ap (λ p. next p command) (sym holds.policy) ∙ decided
 
--- one that the rules accept can be next
+-- a command that the rules accept can be next
 pub can_be_next : (account : Account) (commands : List Command) (command : Command) (after : Policy) → IsAccount account commands
     → id_of command ≡ account.id → next account.policy command ≡ Ok after → CanBeNext commands command
 can_be_next account commands command after holds own decided =
     inr (subst (λ (r : Result Policy Refusal). IsOk r) (sym (decided_after account commands command (Ok after) holds own decided)) refl)
 
--- one that they refuse can't
+-- a command that they refuse can't
 pub not_next : (account : Account) (commands : List Command) (command : Command) (refusal : Refusal) → 1 ≤ account.id → IsAccount account commands
     → id_of command ≡ account.id → next account.policy command ≡ Err refusal → CanBeNext commands command → ⊥
 not_next account commands command refusal some holds own decided can = by_kind can
@@ -122,7 +122,7 @@ module _ {D : Type 0} (g : Ghosts D) (journal : Journal D g) (now : D) where
         all_replayed (λ commands. IsAccount account commands) journal now [] all bodies last honest stands refl;
   }
 
-  -- and where one isn't, those before it are valid
+  -- and if a command isn't valid, those before it are
   pub reading_stopped : (fault : ReplayFault)
       → Stops (AreKept (λ (account : Account) commands. IsAccount account commands)) CanBeNext journal now [] fault
       → Stops (AllByRecursion IsValid) CanBeNext journal now [] fault

@@ -67,7 +67,7 @@ module _ {D : Type 0} (g : Ghosts D) (old new : D) (id : ℕ) (output : Stream) 
   reading_ends account _ (Ok text) read same ends = absurd ends
   reading_ends account _ (Err lack) read same ends = absurd ends
 
-  -- one that wasn't
+  -- a journal that wasn't opened
   pub reading_refused : (cause : StartCause) (ending : Ending) → HasNotRead g old new cause → SaysUnopened cause output ending
       → EndsReading g old new id output ending
   reading_refused (FaultyDisk count) DiskFault not said = (count, said, not)

@@ -180,7 +180,8 @@ front_of history m =
     ap accepted_of parts.1 ∙ filter_map-append (λ (entry : Entry). accepted_by entry.call entry.reply) (take m history) parts.0 in
     sym (ap (take (length front)) split ∙ take_at front (accepted_of parts.0) (length front) refl)
 
--- Where the lines are reported by rising turns, and report just the turns that were accepted postings.
+-- The lines have rising turns, and those that report an accepted posting are exactly the turns that were accepted
+-- postings.
 module _ (history : List Entry) (lines : List TranscriptLine) (rising : AreRising (map (λ (line : TranscriptLine). line.turn) lines))
     (told_place : (line : TranscriptLine) → Has lines line → tells_accepted line.outcome ≡ true → Has (places accepts 0 history) line.turn)
     (place_told : (n : ℕ) → Has (places accepts 0 history) n → Has (accepted_turns lines) n) where
@@ -191,7 +192,7 @@ module _ (history : List Entry) (lines : List TranscriptLine) (rising : AreRisin
       subst (λ (k : ℕ). Has (places accepts 0 history) k) found.2 (told_place found.0 found.1 found.3))
       place_told
 
-  -- up to the turn of an accepted line one command more was accepted than in the lines before
+  -- up to the turn of an accepted line one more command was accepted than in the lines before
   pub accepted_to : (before after : List TranscriptLine) (line : TranscriptLine) → lines ≡ before ++ line ∷ after → tells_accepted line.outcome ≡ true
       → accepted_of (take (line.turn + 1) history) ≡ take (accepted_lines before + 1) (accepted_of history)
   accepted_to before after line split is =

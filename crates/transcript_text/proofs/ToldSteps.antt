@@ -136,7 +136,7 @@ told_answered command reply (Valued valuation) commands basis told whole found =
 told_answered command reply (ValueRefused refusal) commands basis told whole found = absurd told
 told_answered command reply (ValueNoMemory lack) commands basis told whole found = absurd told
 
--- memory was lacking for a posting, or for a valuation
+-- memory was refused for a posting, or for a valuation
 pub lacked_which : (outcome : Outcome) → lacks_memory outcome ≡ true → (outcome ≡ Posted (NoMemory a_lack)) ⊎ (lacked_memory outcome ≡ true)
 lacked_which (Posted (NoMemory lack)) lacked = inl refl
 lacked_which (ValueNoMemory lack) lacked = inr refl

@@ -1,4 +1,4 @@
--- What is reported of a line that a legal history answers can be written, and its text is not empty
+-- What is printed for a line that a legal history answers can be written, and its text is not empty
 use Rattle.transcript_text.proofs.Names.{◌≡◌, ℕ, ℤ, ◌<◌, List, [], ◌∷◌, ◌++◌, length, take, Result, Ok, Err, sym, subst, length-append, arith, OnErr, codes, decimal, flat_map, id_of, Call, PostCall, Reply, Line, IsDue, commands_after, reply_of, TranscriptLine, Outcome, Posted, Trimmed, Valued, ValueRefused, ValueNoMemory, IsWritable, IsWritableOutcome, outcome_text, told_text, reply_fields, reports_text, watcher_texts}
 use Rattle.life_dates.specs.DayText.{day_text}
 use Rattle.policy_types.specs.Words.{kind_word}

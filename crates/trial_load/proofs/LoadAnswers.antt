@@ -50,7 +50,7 @@ in_front [] ys n entry there = absurd (cc)
 in_front (x ∷ xs) ys zero entry there = there
 in_front (x ∷ xs) ys (suc n) entry there = in_front xs ys n entry there
 
--- a valuation that found no memory was pinned
+-- a valuation that was refused memory was pinned
 pub pinned_if_dry : (commands : List Command) (basis : List Dated) (reply : Reply) → IsValueAnswer commands basis load_day Terminal reply (Err (NoValues a_refusal)) → IsPinned reply
 pinned_if_dry commands basis (Pinned position policies) is = (position, policies, refl)
 pinned_if_dry commands basis (PinRefused refusal) is = absurd is

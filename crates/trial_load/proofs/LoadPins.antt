@@ -1,4 +1,4 @@
--- Where callers only posted, no pin is live, so that the next pin is taken
+-- If callers only posted, no pin is live, so that the next pin is taken
 use Rattle.trial_load.proofs.Names.{◌≡◌, ℕ, ◌≤◌, ◌==◌, true, List, [], ◌∷◌, ◌++◌, length, Option, Some, None, filter_map, refl, ap, sym, ◌∙◌, subst, inl, inr, arith, AllByRecursion, cons_option, enumerate_from, range_with_len, eq-eqb, false≢true, Call, PostCall, Pin, PinAt, Read, Unpin, TrimCall, Entry, Reply, Accepted, Refused, Faulted, Pinned, PinRefused, Slice, Unpinned, Floor, Blank, Line, Post, Value, Trim, Lane, Opening, IsDue, IsLegalAfter, live_pin, live_positions, pin_of, pinned_position, AnswersLanes, AnswersLine, AnswersLines, Placed, turns_of, lines_in, IsValidPosting, Has, has_at, has_either, has_enumerate, has_filter, of_all, posts}
 use Rattle.policy_types.specs.declared.entry.PinRefusal.{PinRefusal}
 use Rattle.policy_types.specs.declared.entry.PinRefusal.TheVariants.{Ahead, Trimmed, PinsFull}

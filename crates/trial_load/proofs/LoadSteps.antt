@@ -284,7 +284,7 @@ module _ {D W : Type 0} (g : Ghosts D) (w : WatcherGhosts W) (old disk : D) (lan
       by (Err (NoValues lack)) is _ ends = absurd ends
       by (Err (NoPin refusal)) is ending ends = absurd ends
 
--- where there was no memory to run the lanes, nothing was turned
+-- if there was no memory to run the lanes, nothing was turned
 pub ends_unrun : {D W : Type 0} (g : Ghosts D) (w : WatcherGhosts W) (old disk : D) (lanes : List Lane) (workers : ℕ) (basis : List Dated) (watchers : W)
     (first closing : Holding (OfficeOpening D W)) (balances : Booking) (reports : List Report) (output : Stream)
     → HasStartedOffice g old watchers first → {outlet : Option MomentRing} → HasClosed g w closing disk balances reports outlet → closing ≡ first

@@ -210,7 +210,7 @@ not_valued (Post command) valid = refl
 not_valued (Value on at workers) valid = absurd valid
 not_valued Trim valid = absurd valid
 
--- one line more reads as its fields, and then what its rest reads as
+-- one more line reads as its fields, and then what its rest reads as
 one_more : (first : List ℕ) (fields : List (List ℕ)) (tail : List ℕ) (more : ℕ) (later : List (List (List ℕ)))
     → 1 ≤ length fields → Plain first → AllByRecursion Plain fields → records_from default_config (suc more) st.StartRecord tail ≡ later
     → records_from default_config (suc (suc more)) st.StartRecord (line_of first fields ++ tail) ≡ (first ∷ fields) ∷ later

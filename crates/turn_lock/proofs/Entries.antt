@@ -15,7 +15,7 @@ entries-own xs e n is = entries-append xs (e ∷ []) n ∙ ap (λ (b : Bool). en
 pub entries-other : (xs : List Entry) (e : Entry) (n : ℕ) → e.caller ≢ n → entries_of (xs ++ e ∷ []) n ≡ entries_of xs n
 entries-other xs e n not = entries-append xs (e ∷ []) n ∙ (ap (λ (b : Bool). entries_of xs n ++ cond b (e ∷ []) []) (ne_eqb e.caller n not) ∙ append-nil (entries_of xs n))
 
--- where all callers are below m there is no entry of m
+-- if all callers are below m there is no entry of m
 pub entries-none : (xs : List Entry) (m n : ℕ) → m ≤ n → AllByRecursion (λ e. e.caller < m) xs → entries_of xs n ≡ []
 entries-none [] m n le all = refl
 entries-none (x ∷ xs) m n le all = let below = all.0 in ap (λ (b : Bool). cond b (x ∷ entries_of xs n) (entries_of xs n)) (ne_eqb x.caller n (λ e. omega arith)) ∙ entries-none xs m n le all.1
@@ -80,7 +80,7 @@ longer_cases xs ys F less more = elim (cases_lt (length xs) (length ys)) [
   | inr l ↦ subst (λ (b : Bool). F (cond b ys xs) (cond b xs ys)) (sym (le-ltb (length xs) (length ys) l)) (more l)
 ]
 
--- where the whole has no entry of n, a beginning has none
+-- if the whole has no entry of n, a beginning has none
 pub none_at_start : (h xs : List Entry) (n : ℕ) → StartsWith h xs → entries_of h n ≡ [] → entries_of xs n ≡ []
 none_at_start h xs n s none = first_nil (entries_of xs n) (entries_of s.0 n) (sym (entries-append xs s.0 n) ∙ (ap (λ l. entries_of l n) (sym s.1) ∙ none))
   where

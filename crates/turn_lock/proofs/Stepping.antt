@@ -111,7 +111,7 @@ module _ {T O : Type 0} (opens : T → O) (legal : O → List Entry → Type 0) 
           (refl, (λ le. nested r.history v.seen v.also k.seen k.also le), told legal opening r.history r.names r.lock r.owner r.holder id w is_named mine (fits_in s r at (named_live v.stage is_named))),
         )
 
-    -- where the value is given back, its turn is one page line more
+    -- if the value is given back, its turn is one page line more
     module _ (x : Kept T) (e : Entry) (word : ℕ) (is : v.stage ≡ Inside) (more : 1 ≤ v.left) (untaken : word ≢ 1) (carried : me.1 ≡ (0, Some x) ∷ []) (by : e.caller ≡ v.number) (stood : stands x.value (v.seen ++ e ∷ []))
         (opened : v.opened ≡ Some (opens x.value)) (turns : x.turns ≡ length v.seen + 1) where
       abbrev opening_or : O → Option O → O

@@ -74,7 +74,7 @@ module _ {Opening : Type 0} where
     pub begins_gone : StartsWith new.seen gone.seen
 
   -- A turn: what the pass has seen now begins with what it had seen before, and ends, at this place, with this entry,
-  -- which is its caller's. No entry in between is its caller's. The pass has made this one entry more, and has one
+  -- which is its caller's. No entry in between is its caller's. The pass has made this one more entry, and has one
   -- turn less left.
   pub record TakesTurn (turn : ℕ) (entry : Entry) (old new : Holding Opening) : Type 0 where
     pub between : List Entry

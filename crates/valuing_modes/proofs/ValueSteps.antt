@@ -28,7 +28,7 @@ module _ (opening : Opening) (caller : ℕ) (on : ℤ) (measure : Measure) (basi
   abbrev commands : List Command
   commands = commands_after opening []
 
-  -- a pin is refused only where there are fewer commands
+  -- a pin is refused only if there are fewer commands
   refused_ahead : (at : At) (refusal : PinRefusal) → IsDue opening [] caller (pin_call at) (PinRefused refusal) → IsLoneAnswer (Err (Pin refusal))
   refused_ahead at (PastTheEnd count) due = tt
   refused_ahead Now (Trimmed floor) due = absurd due

@@ -12,7 +12,7 @@ any-push x k (y ∷ ks) h e = by (nat_eq x y) h (any-push x k ks)
     by true g rest = cc
     by false g rest = rest g e
 
--- where a key isn't among others, it isn't the first of them, nor among the rest
+-- if a key isn't among others, it isn't the first of them, nor among the rest
 not_first : (k x : ℕ) (ks : List ℕ) → (nat_eq k x || list_any (nat_eq k) ks) ≡ false → (nat_eq x k ≡ false) × (list_any (nat_eq k) ks ≡ false)
 not_first k x ks h = by (nat_eq k x) (nat_eq x k) refl refl h
   where

@@ -165,7 +165,7 @@ module _ {V : Type 0} where
             total = omega (arith, rest.total);
           }
 
-  -- what stands at a place, where it is the key's or the key has nothing
+  -- what stands at a place, if it is the key's or the key has nothing
   pub own_is_older : (ps : List (ℕ × List (ℕ × V))) (n key : ℕ) → AreApart (entry_keys ps) → is_key key (slice_get ps n) ≡ list_any (nat_eq key) (entry_keys ps)
       → own_older key (slice_get ps n) ≡ older_of key ps
   own_is_older ps n key apart seen = by (slice_get ps n) refl
@@ -310,7 +310,7 @@ module _ {V : Type 0} where
   older_at (p ∷ ps) zero q key at is = ap (λ x. Some (older_in x)) (some_same p q at) ∙ ap Some (pair_same q.key key q.older.items q.older.items is refl)
   older_at (p ∷ ps) (suc n) q key at is = older_at ps n q key at is
 
-  -- one version more at the place of a key's past
+  -- one more version at the place of a key's past
   module _ (ps : List (Past V)) (n key : ℕ) (q r : Past V) (v : ℕ × V) (seen : is_key {X = ℕ} key (slice_get (map place_of ps) n) ≡ true)
       (at : q ≡ get_or ps n q) (same : r.key ≡ q.key) where
     pub places_kept : r.index ≡ q.index → map place_of (set ps n r) ≡ map place_of ps
@@ -344,7 +344,7 @@ module _ {V : Type 0} where
   place_seen (p ∷ ps) zero key r at is = ap (λ x. nat_eq x.key key) (some_same p r at) ∙ eq-eqb r.key key is
   place_seen (p ∷ ps) (suc n) key r at is = place_seen ps n key r at is
 
-  -- where a place isn't the key's, no version there is
+  -- if a place isn't the key's, no version there is
   pub none_own : (ps : List (Past V)) (n key : ℕ) → is_key {X = ℕ} key (slice_get (map place_of ps) n) ≡ false → own_older key (slice_get (map older_in ps) n) ≡ []
   none_own [] n key none = refl
   none_own (p ∷ ps) zero key none = by (nat_eq key p.key) refl
@@ -375,7 +375,7 @@ module _ {V : Type 0} where
     fresh = λ _. (listing, ready);
   }
 
-  -- where no older version is left, there is none of any key
+  -- if no older version is left, there is none of any key
   pub none_left : (ps : List (ℕ × List (ℕ × V))) (key : ℕ) → older_total ps ≡ 0 → older_of key ps ≡ []
   none_left [] key none = refl
   none_left (p ∷ ps) key none = by (nat_eq key p.0) p.1 (omega (arith, none)) (none_left ps key (omega (arith, none)))
@@ -388,7 +388,7 @@ module _ {V : Type 0} where
   pub none_told : (es : List (ℕ × Chain V)) (places : List (ℕ × ℕ)) → places ≡ [] → AreWhereTold es places
   none_told es places none n key index at = let clash : ◌≡◌ {A = Option (ℕ × ℕ)} None (Some (key, index)) = ap (λ l. slice_get {X = ℕ × ℕ} l n) (sym none) ∙ at in cc
 
--- at most one place more
+-- at most one more place
 pub few_after : (before after : List (ℕ × ℕ)) (key index place now : ℕ) → PlacesAfter before after key index place now → length after ≤ length before + 1
 few_after before after key index place now (inl same) = omega (arith, ap length same.0)
 few_after before after key index place now (inr more) = omega (arith, ap length more.0, length_push before (key, index))

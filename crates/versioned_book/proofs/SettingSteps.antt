@@ -2,7 +2,7 @@
 use Rattle.versioned_book.proofs.Names.{◌≡◌, ℕ, zero, suc, ◌+◌, ◌<◌, ◌≤◌, Bool, true, false, nat_eq, nat_le, nat_lt, List, [], ◌∷◌, ◌++◌, length, filter, slice_get, None, Some, refl, sym, ap, ◌∙◌, subst, if◌then◌else◌, cond, ◌||◌, eq-eqb, append-nil, arith, leb-true, leb-false, le-leb, lt-leb, list_any, lookup, entry_keys, IsRising, IsRisingTo, Setting, settings_after, keys_after, keys_of, own, positions, until, with_key}
 use Rattle.std.proofs.lemmas.List.Elements.{filter-append}
 
--- a key is among the keys exactly where a look-up finds it
+-- a key is among the keys exactly if a look-up finds it
 pub any_found : {X : Type 0} (key : ℕ) (es : List (ℕ × X)) (x : X) → lookup (nat_eq key) es ≡ Some x → list_any (nat_eq key) (entry_keys es) ≡ true
 any_found key [] x h = cc
 any_found key (e ∷ es) x h = by (nat_eq key e.0) h (any_found key es x)

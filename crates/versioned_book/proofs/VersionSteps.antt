@@ -185,7 +185,7 @@ module _ {V : Type 0} where
         by false true e f rest all = omega (arith, all (omega (arith, leb-false w.0 floor e)) h.1.1)
         by false false e f rest all = absurd (omega (arith, leb-false w.0 floor e, leb-false (suc floor) w.0 f))
 
-    -- a trim leaves at most one version more than those after the floor
+    -- a trim leaves at most one more version than those after the floor
     pub few_trimmed : (low : ℕ) (vs : List (ℕ × V)) → IsRising low vs → length (versions_from floor vs) ≤ length (filter (λ v. nat_lt floor v.0) vs) + 1
     few_trimmed low [] h = omega arith
     few_trimmed low (x ∷ vs) h = by (nat_lt floor x.0) (few_from low x vs h)

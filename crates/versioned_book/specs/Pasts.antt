@@ -44,7 +44,7 @@ module _ {V : Type 0} where
   older_total [] = 0
   older_total (past ∷ pasts) = length past.1 + older_total pasts
 
-  -- one version more of a key
+  -- one more version of a key
   pub record IsDeeper (before after : List (ℕ × List (ℕ × V))) (key : ℕ) (version : ℕ × V) : Type 0 where
     pub own : older_of key after ≡ older_of key before ++ version ∷ []
     pub others : (k : ℕ) → nat_eq key k ≡ false → older_of k after ≡ older_of k before

@@ -1,4 +1,4 @@
--- What one command more changes in what a watcher notes
+-- What one more command changes in what a watcher notes
 use Rattle.std.proofs.Common.{◌≡◌, ℕ, zero, suc, ◌<◌, Bool, true, false, List, [], ◌∷◌, ◌++◌, length, take, refl, ap, inl, inr, lit<, arith}
 use Rattle.std.specs.Prelude.{◌||◌, if◌then◌else◌}
 use Rattle.policy_types.specs.declared.command.Command.{Command}
@@ -33,7 +33,7 @@ noted_all stops (first ∷ later) h =
     let no = neither (stops (first ∷ [])) (is_done (λ list. stops (first ∷ list)) later) h in
     rw no.0 (ap (λ list. first ∷ list) (noted_all (λ list. stops (first ∷ list)) later no.1))
 
--- one command more is noted, and the test of the whole list decides
+-- one more command is noted, and the test of the whole list decides
 pub is_done-more : (stops : List Command → Bool) (commands : List Command) (command : Command)
     → is_done stops commands ≡ false → is_done stops (commands ++ command ∷ []) ≡ stops (commands ++ command ∷ [])
 is_done-more stops [] command h = or_false (stops (command ∷ []))

@@ -1,8 +1,8 @@
--- The machine goes through pieces exactly where they nest.
+-- The machine goes through pieces exactly if they nest.
 use Rattle.xtbml_subset.proofs.Names.{◌≡◌, ℕ, ◌<◌, Bool, true, false, cond, ltb, List, [], ◌∷◌, ◌++◌, length, Option, Some, None, refl, sym, ap, subst, ◌∙◌, arith, append-nil, append_assoc, ltb-true, lt-ltb, true≢false, bytes_eq-Decides, bytes_eq, fold, unwrap_or, AllByRecursion, drop, White, Phase, Opening, Prolog, Epilog, is_in, Piece, byte, comment, declaration, start, whole, finish, IsWhiteByte, State, outside, past, after_names, after_piece, Steps, IsWalked}
 use Rattle.xtbml_subset.specs.Nesting.{open_behind, open_after, MayStart, MayFollow, IsNested}
 
--- ---- one piece more
+-- ---- one more piece
 
 fold_more : (names : Option (List (List ℕ))) (before : List Piece) (p : Piece) → fold open_behind names (before ++ p ∷ []) ≡ open_behind (fold open_behind names before) p
 fold_more names [] p = refl
@@ -76,7 +76,7 @@ begun_open before names h e = h.1 ∙ ap (λ (ns : List (List ℕ)). Some ns) (s
 begun_once : (before : List Piece) → IsBegun before → open_after before ≡ None → ⊥
 begun_once before h none = absurd (let no : None ≡ Some h.0 = sym none ∙ h.1 in cc)
 
--- where something is open, a tag stood
+-- if something is open, a tag stood
 inside_phase : (before : List Piece) (phase : Phase) (name : List ℕ) (names : List (List ℕ)) → Tied before phase (name ∷ names) → phase ≡ Epilog
 inside_phase before Opening name names t = absurd (let none : name ∷ names ≡ [] = sym t.open_is ∙ ap names_in (none_open before t.phase_is) in cc)
 inside_phase before Prolog name names t = absurd (let none : name ∷ names ≡ [] = sym t.open_is ∙ ap names_in t.phase_is.1 in cc)

@@ -8,7 +8,7 @@ pub hit_first : (name : List ℕ) (parent : Found) (search : Search) (e : Elemen
     → children_at name parent ≡ found_of e ∷ siblings_at name (found_of e)
 hit_first name parent search e is first_is = subst (λ s. IsFirstIn name parent (sought_of s)) is first_is
 
--- where none was found there is none
+-- if none was found there is none
 pub none_first : (name : List ℕ) (parent : Found) (search : Search) → (search ≡ Seeking) ⊎ (search ≡ Missed) → IsFirstIn name parent (sought_of search) → children_at name parent ≡ []
 none_first name parent search (inl e) first_is = subst (λ s. IsFirstIn name parent (sought_of s)) e first_is
 none_first name parent search (inr e) first_is = subst (λ s. IsFirstIn name parent (sought_of s)) e first_is

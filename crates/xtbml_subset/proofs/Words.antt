@@ -58,7 +58,7 @@ IsIssuedAt due issue age read =
     MatchOption age (read ≡ Err (Bad issue.at BadAge))
     (λ found. MatchBool (is_due due found) (ReadsPeriod issue.at found issue.rates read) (read ≡ Err (Bad issue.at AgeGap)))
 
--- a table, where there is no gap
+-- a table, if there is no gap
 abbrev pub without_gap : Option ℕ → Selected → Result Selected TableFault
 without_gap gap table = option_map_or (λ at. Err (Bad at UltimateGap)) gap (Ok table)
 

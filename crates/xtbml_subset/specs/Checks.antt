@@ -52,7 +52,7 @@ ReadsAll One due (item ∷ items) read =
 
 -- ---- a row
 
--- a number with one digit more
+-- a number with one more digit
 abbrev pub digit_then : ℕ → ℕ → Option ℕ
 digit_then number b = if is_between 48 57 b then Some (number * 10 + (b - 48)) else None
 

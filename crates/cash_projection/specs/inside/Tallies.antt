@@ -68,7 +68,7 @@ pub record IsTallyOf (basis : List Dated) (on : ℤ) (years : ℕ) (policies : L
   pub each : AllZip (IsProspect basis on) policies prospects
   pub tallied : IsTally years prospects tally
 
--- no sum of so many years is above what 4,000,000 policies can add up to
+-- no sum, of so many years, is above what 4,000,000 policies can add up to
 pub record IsRoomy (years : ℕ) (sums : List Sums) : Type 0 where
   pub places : length sums ≡ 131
   pub lo : (j : ℕ) → j < years → (sum_at sums j).lo ≤ most_commands * MOST_PART

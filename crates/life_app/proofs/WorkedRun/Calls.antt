@@ -86,7 +86,7 @@ module _ (first : List ℕ) (calls : List FileCall) (bodies : List (List ℕ)) (
   posted_left moment image (inr now) =
       inr (inr (subst (λ (e : List ℕ). IsJournal e (bodies ++ spelling_of command ∷ [])) (sym (posted_safe image now.1)) is_posted))
 
-  -- where the last sync failed, the record is there or not
+  -- if the last sync failed, the record is there or not
   pub failed_image : (image : List ℕ) → Image first (fails (length bodies) command calls) image → IsJournal image bodies ⊎ IsJournal image (bodies ++ spelling_of command ∷ [])
   failed_image image left = staged_either bodies (spelling_of command) image (opening image left)
 
@@ -95,7 +95,7 @@ module _ (first : List ℕ) (calls : List FileCall) (bodies : List (List ℕ)) (
   failed_left moment image (inr now) = inr (failed_image image now.1)
   failed_left moment image (inl before) = posted_left moment image (inl before)
 
-  -- as a step of a run
+  -- the same as a step of a run
   step_leaves : (new : List FileCall) → length calls ≤ length new
       → ((moment : ℕ) (image : List ℕ) → Left first new moment image
       → Left first calls moment image ⊎ (IsJournal image bodies ⊎ IsJournal image (bodies ++ spelling_of command ∷ [])))
@@ -148,7 +148,7 @@ no_commands image unfinished = inr (refl, unfinished)
 no_records : (image : List ℕ) → HasRecords image []
 no_records image n within = absurd (omega arith)
 
--- byte 0 alone may be torn of a journal without records
+-- byte 0 alone may be torn in a journal without records
 last_step : (image : List ℕ) → Torn 0 1 (0 ∷ header ++ 0 ∷ []) image → Opens image []
 last_step image torn =
     let long : length image ≡ 18 = omega (arith, torn.no_shorter, torn.no_longer) in
@@ -172,7 +172,7 @@ last_step image torn =
       ]
     ]
 
--- of one byte that says that the creation goes on, and what is after it
+-- the same for one byte that says that the creation goes on, and what comes after it
 second_step : (image : List ℕ) → Torn 1 17 (0 ∷ []) image → Opens image []
 second_step image torn = no_commands image (inr (inl (torn.no_longer, same_byte 1 0 (0 ∷ []) image torn.before (lit< tt))))
 

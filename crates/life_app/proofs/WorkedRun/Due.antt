@@ -21,7 +21,7 @@ script = record { bytes = premium_script; whole = inr (refl, tt); read = (lit≤
 journal : HasJournal cut_filing Without (hand_issue ∷ [])
 journal = record { trusted = honest_last; so = second_left.opened honest_last; held = none_failed }
 
--- one byte more than a script may have
+-- one more byte than a script may have
 long_script : (n : ℕ) → most_script_bytes < n
     → (bytes : List ℕ) × GivesMore most_script_bytes [] bytes × IsDueEnding (codes "run" ∷ []) (input_that_gave bytes ⊥ 0) (output_of []) (shelf_that_told []) cut_filing Without BadScript
 long_script n many =

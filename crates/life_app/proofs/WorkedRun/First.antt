@@ -87,7 +87,7 @@ honest_calls = ((tt, refl), honest_paid, (tt, refl), honest_last)
 
 -- ---- what a crash leaves of the first run
 
--- so many of both commands are held
+-- so many of the two commands are held
 none_held : (image : List ℕ) → Opens image [] → HoldsOnce first_opening first_turns image
 none_held image opens = ([], both_commands, refl, inl opens)
 

@@ -62,7 +62,7 @@ written : flat_map (λ (text : List ℕ). text) (told ∷ []) ++ reports_text (r
 unfolding digits told
 written = refl
 
--- one alone is the one among these
+-- a list of one item has only that item
 pub one_alone : {A : Type 0} (x y : A) (before after : List A) → x ∷ [] ≡ before ++ y ∷ after → x ≡ y
 one_alone {A} x y [] after same = ap head same
   where
@@ -97,7 +97,7 @@ shown later earlier piece split before after line there position accepted reache
 pub staged_file : List ℕ
 staged_file = file_reads cut_file untorn (stages 1 hand_premium reopening)
 
--- where the gate isn't made safe, a crash may leave it so
+-- if the gate isn't made safe, a crash may leave it so
 pub staged_opens : Opens staged_file (hand_issue ∷ [])
 unfolding staged_file
 staged_opens = inl (journal_of_issue staged_file
@@ -110,7 +110,7 @@ still_staged moment before = inl (inr (
   (staged_file, refl, record { before = refl; after = refl; no_shorter = omega arith; no_longer = omega arith }),
 ))
 
--- it doesn't open to the premium too
+-- the file doesn't also open to the premium
 pub not_both : (more : List Command) → Opens staged_file ((hand_issue ∷ []) ++ hand_premium ∷ more) → ⊥
 not_both more opens =
     let same : hand_issue ∷ [] ≡ (hand_issue ∷ []) ++ hand_premium ∷ more =

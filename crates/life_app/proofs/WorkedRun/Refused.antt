@@ -42,7 +42,7 @@ never_refused output (inr bad) =
     never_readable given_script premium_script bad.0 premium_lanes gave (lit≤ tt, reads_premium) (inr (bad.1.given, bad.1.ended))
     (inr (bad.3.0, (bad.3.1.0, bad.3.1.1)))
 
--- where all files are absent the basis is, and where all are empty no file is absent
+-- if all files are absent, so is the basis; if all are empty, no file is absent
 no_file : List ℕ → ABadBasis
 no_file name = record { name = name; place = 0; word = Absent }
 

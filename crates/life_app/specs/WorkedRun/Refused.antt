@@ -48,7 +48,7 @@ TruthByHand = (new : CalledDisk) (output : Stream)
     × AreSafeWhenShown called Opens new (hand_issue ∷ []) (premium_turn_by caller ∷ []) (answered_by caller ∷ [])
     ((codes "1,premium,7001,accepted,2" ++ 10 ∷ []) ∷ []) run))
 
--- `nomemory` in place of the answer, and one line more after the transcript
+-- `nomemory` in place of the answer, and one more line after the transcript
 abbrev pub unanswered_text : List ℕ
 unanswered_text = codes "1,premium,7001,nomemory" ++ 10 ∷ codes "watcher,1,1,1" ++ 10 ∷ codes "watcher,2,1,40000" ++ 10 ∷ []
 

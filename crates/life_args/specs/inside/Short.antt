@@ -7,6 +7,6 @@ use Rattle.life_args.specs.Pieces.{WordPiece, piece_words}
 abbrev pub spelled : List WordPiece → List (List ℕ)
 spelled pieces = flat_map piece_words pieces
 
--- the values that an option of one name gets here, where it has the other name
+-- the values that an option of one name gets here, if it has the other name
 abbrev pub value_under : List ℕ → List ℕ → List ℕ → List (List ℕ) → List (List ℕ)
 value_under name other value values = cond (bytes_eq other name) (value ∷ values) values

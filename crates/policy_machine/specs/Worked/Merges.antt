@@ -53,7 +53,7 @@ WholeMerge = IsMerge whole_turns two_lanes (5 ∷ 6 ∷ []) [] × IsMerge whole_
 abbrev pub DryMerge : Type 0
 DryMerge = IsMerge dry_turns two_lanes (5 ∷ 6 ∷ []) (1 ∷ [])
 
--- reads aren't left out where another valuation found no memory, or none
+-- reads aren't left out where another valuation was refused memory, or none
 abbrev pub NoReadLeftOut : Type 0
 NoReadLeftOut = IsMerge dry_turns two_lanes (5 ∷ 6 ∷ []) (2 ∷ []) → ⊥
 
@@ -95,7 +95,7 @@ NoStranger =
 abbrev pub NoSharedCaller : Type 0
 NoSharedCaller = IsMerge [] (idle_lane ∷ idle_lane ∷ []) (6 ∷ 6 ∷ []) [] → ⊥
 
--- where the pin of a valuation is refused, nothing else answers its line
+-- if the pin of a valuation is refused, nothing else answers its line
 abbrev pub RefusedMerge : Type 0
 RefusedMerge =
     IsMerge (turn 6 (PinAt 2) (PinRefused (Ahead 1)) ∷ []) (record { number = 2; lines = Value (pos 18628) (Position 2) 1 ∷ [] } ∷ [])

@@ -58,7 +58,7 @@ PaidUpUnknown = Refuses (upgraded []) (PaidUp 7001 (pos 18597) 30000) Unknown
 abbrev pub PaidUpBeforeLast : Type 0
 PaidUpBeforeLast = Refuses (upgraded lapsed_once) (PaidUp 7001 (pos 18659) 30000) (BeforeLast (pos 18660))
 
--- a lapsed policy on the day its term ends; a policy that is paid up already, though its amount isn't reduced
+-- a lapsed policy on the day its term ends; a policy that is paid up already, although its amount isn't reduced
 abbrev pub PaidUpWrongStatus : Type 0
 PaidUpWrongStatus = Refuses (upgraded lapsed_once) (PaidUp 7001 (pos 19358) 30000) (WrongStatus Lapsed)
     × Refuses reduced (PaidUp 7001 (pos 18597) 30000) (WrongStatus IsPaidUp)

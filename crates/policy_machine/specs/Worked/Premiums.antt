@@ -16,12 +16,12 @@ abbrev pub PremiumWrongStatus : Type 0
 PremiumWrongStatus = Refuses lapsed_once (premium_on (pos 19358)) (WrongStatus Lapsed)
     × Refuses claimed (premium_on (pos 18414)) (WrongStatus Claimed)
 
--- the term is over on 2023-01-01, though all premiums are paid; on the day before it isn't
+-- the term is over on 2023-01-01, although all premiums are paid; on the day before it isn't
 abbrev pub PremiumTermOver : Type 0
 PremiumTermOver = Refuses paid_up (premium_on (pos 19358)) (TermOver (pos 19358))
     × Refuses paid_up (premium_on (pos 19357)) NothingDue
 
--- no fourth premium is due on the day of the third, though it would be early for one and the amount is wrong
+-- no fourth premium is due on the day of the third, although it would be early for one and the amount is wrong
 abbrev pub PremiumNothingDue : Type 0
 PremiumNothingDue = Refuses paid_up (Premium 7001 (pos 18993) 39999) NothingDue
 

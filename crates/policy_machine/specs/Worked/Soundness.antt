@@ -20,7 +20,7 @@ NoLastBeforeIssue = IsSound (policy_with (pos 18261) 0 InForce 0) → ⊥
 abbrev pub NoMoreThanTheAmount : Type 0
 NoMoreThanTheAmount = IsSound (policy_with (pos 18414) 1 Claimed 100001) → ⊥
 
--- something is outstanding exactly where a benefit awaits its settlement
+-- something is outstanding exactly if a benefit awaits its settlement
 abbrev pub NothingOutstandingInForce : Type 0
 NothingOutstandingInForce = IsSound (policy_with (pos 18414) 1 InForce 1) → ⊥
 

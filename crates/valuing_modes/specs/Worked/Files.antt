@@ -7,7 +7,7 @@ use Rattle.basis_shelf.specs.FirstBad.{IsBadBook, IsBadTable}
 abbrev pub shelf_of : List ℕ → List ℕ → Option (List ℕ)
 shelf_of bytes name = Some bytes
 
--- the basis file is too long with one byte more than 4 MiB, which is reported at place 0
+-- the basis file is too long with one more byte than 4 MiB, which is reported at place 0
 abbrev pub LongBases : Type 0
 LongBases = ((bytes : List ℕ) → length bytes ≡ 4194305 → IsBadBook (shelf_of bytes) (codes "b.csv") TooLong 0)
     × ((bytes : List ℕ) → length bytes ≡ 4194304 → IsBadBook (shelf_of bytes) (codes "b.csv") TooLong 0 → ⊥)

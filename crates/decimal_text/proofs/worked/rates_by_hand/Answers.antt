@@ -2,7 +2,7 @@ use Rattle.decimal_text.proofs.Names.{◌≡◌, ℕ, List, [], ◌∷◌, ◌++
 use Rattle.decimal_text.proofs.Spelt.{spelt}
 use Rattle.decimal_text.proofs.worked.rates_by_hand.Goals as goal
 
--- a text that is empty has no digit, and so it is with a point alone
+-- an empty text has no digit, and neither has a text that is a point alone
 no_digit : (text plain exponent whole fraction : List ℕ) → text ≡ plain ++ exponent → IsPlain plain whole fraction → 0 < length whole + length fraction → text ≡ [] → ⊥
 no_digit text [] exponent [] [] joined (inl is) some e = omega (arith, some)
 no_digit text [] exponent (w ∷ whole) fraction joined (inl is) some e = let no = is.0 in cc

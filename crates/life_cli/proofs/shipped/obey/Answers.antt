@@ -9,7 +9,7 @@ use Rattle.life_cli.proofs.Promised.{given_up, obeys_with, seen_of_two, shipped}
 use Rattle.life_cli.proofs.shipped.obey.OwnLists.{own-1}
 use Rattle.life_cli.proofs.shipped.obey.Goals as goal
 
--- counts commands, and is done at so many
+-- the watcher counts commands, and is done at four million
 abbrev counting : ℕ → Auditor
 counting limit = record { stops = λ commands. length commands == limit; number = λ commands. length commands }
 

@@ -6,7 +6,7 @@ use Rattle.load_maker.specs.declared.generator.Drawn.{Drawn}
 use Rattle.load_maker.proofs.Dealing.{drawn_next}
 use Rattle.load_maker.proofs.script.make_script.Goals as goal
 
--- the rows of one policy more
+-- the rows of one more policy
 written_more : (seed lanes n : ℕ) (lines more : List ℕ) (p : Drawn) → lines ≡ generated_text seed lanes n → p ≡ policy_drawn (state_after seed n)
     → more ≡ lines ++ flat_map script_row_text (policy_rows (1 + n % lanes) (n + 1) p) → more ≡ generated_text seed lanes (n + 1)
 unfolding generated_text generated_rows

@@ -1,5 +1,5 @@
--- So far the bytes are those that the source gave, and came off the start of what it had left; each turn gave one at
--- least, and its count stands.
+-- So far the bytes are those that the source gave, and a prefix of what it had left; each read gave at least one, and
+-- the count of reads is right.
 use Rattle.std.proofs.Common.{◌≡◌, ◌-◌, ◌+◌, ◌≤◌, ◌++◌, vec_len}
 use Rattle.std.specs.Io.KnownBytes.{Consumes}
 use Rattle.outside_io.specs.Streams.{StillTells}

@@ -1,4 +1,5 @@
--- So far the sink took the prefix of the bytes that was counted, in pieces by this moment, and its count didn't fall.
+-- So far the sink took the prefix of the bytes that was counted, in pieces with this moment, and its count didn't
+-- fall.
 use Rattle.std.proofs.Common.{◌≡◌, length, take, ◌-◌, ◌≤◌}
 use Rattle.std.specs.Io.KnownBytes.{Appends}
 use Rattle.outside_io.specs.Streams.{StillTells}

@@ -1,4 +1,4 @@
--- Where the file was made, its records are counted.
+-- If the file was made, its records are counted.
 use Rattle.posting_journal.proofs.Names.{◌≡◌, ◌≤◌, ◌∙◌, subst, arith, IfErr, OnOk, OpenedTo, EndsAt, IsBadFrom, ShowsWhy}
 use Rattle.posting_journal.specs.inside.Kinds.{IsOfKind}
 use Rattle.posting_journal.specs.inside.Unopened.{TellsCount}

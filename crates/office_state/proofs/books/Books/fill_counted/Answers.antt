@@ -1,4 +1,4 @@
--- One policy more is copied, until all are.
+-- One more policy is copied, until all are.
 use Rattle.office_state.proofs.Names.{◌≡◌, List, ◌+◌, ◌-◌, ◌∷◌, [], ◌++◌, length, take, drop, min, ap, ◌∙◌, arith, Policy, book, commands_in}
 use Rattle.office_state.proofs.FillingSteps.{copied_all, copy_more}
 use Rattle.office_state.proofs.books.Books.fill_counted.Goals as goal
