@@ -1,22 +1,22 @@
-//! Does one thing again and again, so that it can be timed. The first word says what, the others how often:
+//! Does one thing again and again, so that it can be timed. The first argument says what, and the others how often.
 //!
-//! - `tables TIMES FILE..` reads each file so many times. One whose name ends in `.xml` is a table file, any other a basis
-//!   file. For each there is a line, `table,FILE,FIRST_AGE,LAST_AGE` or `basis,FILE,ROWS`, or in place of the numbers what
-//!   is wrong with the file, or `unread` where it is to be read no times; `toolong,FILE` for one of more than 4 MiB.
-//! - `reserves SEED COUNT` values so many policies drawn from a seed below 2^31, and prints the sums of the bounds in
-//!   cents: `reserves,POLICIES,UNVALUED,LOWER,UPPER`.
-//! - `projections SEED COUNT YEARS` projects so many policies, at most 4,000,000, drawn from a seed over so many years, at
-//!   most 131, and prints the sums of all bounds in cents: `projections,POLICIES,UNVALUED,LOWER,UPPER`.
-//! - `turns CALLERS TURNS` has so many callers, 1 to 32, take so many turns each on a counter, and prints the count at the
+//! - `tables TIMES FILE..` reads each file TIMES times. A file whose name ends in `.xml` is a table file, any other a basis
+//!   file. For each file it prints `table,FILE,FIRST_AGE,LAST_AGE` or `basis,FILE,ROWS`; in place of the numbers, what is
+//!   wrong with the file, or `unread` if TIMES is 0; or `toolong,FILE` if the file has more than 4 MiB.
+//! - `reserves SEED COUNT` values COUNT policies drawn from a seed below 2^31, and prints the sums of the bounds in cents:
+//!   `reserves,POLICIES,UNVALUED,LOWER,UPPER`.
+//! - `projections SEED COUNT YEARS` projects COUNT policies, at most 4,000,000, drawn from a seed over YEARS years, at most
+//!   131, and prints the sums of all bounds in cents: `projections,POLICIES,UNVALUED,LOWER,UPPER`.
+//! - `turns CALLERS TURNS` has CALLERS callers, 1 to 32, take TURNS turns each on a counter, and prints the count at the
 //!   end: `turns,CALLERS,COUNT`.
-//! - `postings CALLERS COUNT` has so many callers issue COUNT policies in all, each as many (a rest is left out), at the
-//!   office of `journal.life` in the folder where it runs, and prints `postings,CALLERS,ACCEPTED`.
+//! - `postings CALLERS COUNT` has CALLERS callers issue COUNT policies together, each the same number (a remainder is left
+//!   out), at the office of `journal.life` in the folder in which it runs, and prints `postings,CALLERS,ACCEPTED`.
 //! - `sleeping CALLERS COUNT` does the same on a disk in memory whose sync sleeps 50 microseconds.
-//! - `versions POLICIES VERSIONS READS TRIMS` sets so many policies so many times each in a book of versions, in turn; reads
-//!   256 of them so many times, each time at another position; gives up all but the newest versions, so many times over; and
-//!   prints `versions,POLICIES,KEPT,PAID`: how many versions are kept then, and the sum of the premiums paid that were read.
+//! - `versions POLICIES VERSIONS READS TRIMS` sets POLICIES policies VERSIONS times each in a book of versions, in turn;
+//!   reads 256 of them READS times, each time at another position; drops all but the newest versions, TRIMS times; and
+//!   prints `versions,POLICIES,KEPT,PAID`: how many versions are then kept, and the sum of the premiums paid that were read.
 //!
-//! The status is 2 where the arguments are others, 8 where the journal doesn't open, 9 where there is no memory.
+//! The status is 2 if the arguments are others, 8 if the journal doesn't open, and 9 if memory is refused.
 #![tactic(auto)]
 
 mod counter;
