@@ -53,6 +53,8 @@ Prints each policy in order of issue, the balances and the number of commands;
 with the number of a policy, what was accepted of it, and the policy.
 
 Example: $called state 7001
+Status 0: all is printed. 5: the journal is refused. 8: the disk failed, or
+another process has the book. 66: there is no book in this folder.
 WORDS
             ;;
         checkpoint) cat <<WORDS
@@ -65,7 +67,9 @@ how many commands.
                          COUNT commands
 
 Example: $called checkpoint
-Status 67: the book is damaged.
+Status 0: the books are saved. 5: the journal is refused. 8: a disk failed, or
+another process has the book. 66: there is no book in this folder. 67: the book
+is damaged.
 WORDS
             ;;
         value) cat <<WORDS
@@ -79,6 +83,9 @@ Values each policy on the day ON, YYYY-MM-DD, and prints the total.
   --mean        mean reserves; --deficiency: the minimum reserves beside
 
 Example: $called value 2025-12-31 --workers 4 > december.value
+Status 0: all is printed. 4: a file of the basis is refused. 5: the journal is
+refused. 8: the disk failed, or another process has the book. 10: the book has
+fewer commands than P. 66: there is no book in this folder.
 WORDS
             ;;
         project) cat <<WORDS
@@ -88,6 +95,9 @@ Prints the premiums and benefits that are expected in each of the next YEARS
 years, 1 to 131, from the year of the day ON on.
 
 Example: $called project 2025-12-31 20
+Status 0: all is printed. 4: a file of the basis is refused. 5: the journal is
+refused. 8: the disk failed, or another process has the book. 66: there is no
+book in this folder.
 WORDS
             ;;
         generate) cat <<WORDS
@@ -97,6 +107,8 @@ Prints a drawn script that issues COUNT policies in LANES lanes, and takes a
 premium of each.
 
 Example: $called generate 1 1000 8 > drawn.csv
+Status 0: the script is printed. 2: a number is out of its range. 7: the output
+failed.
 WORDS
             ;;
         load) cat <<WORDS
@@ -106,6 +118,9 @@ Posts the script that generate draws, values the book on 2020-12-31, and prints
 one line. It writes to the book in this folder: try it in a new one.
 
 Example: $called load 1 1000 8 4
+Status 0: each line was processed. 4: a file of the basis is refused. 5: the
+journal is refused. 8: the disk failed, or another process has the book. 67: the
+book is damaged.
 WORDS
             ;;
         --wait | wait) cat <<WORDS
@@ -115,6 +130,7 @@ Waits until no other process has the book, SECONDS at most, then runs the
 command; standard error states what it waits for.
 
 Example: $waits 600 run < monday.csv > monday.transcript
+Status: that of the command, which is also run if the time is over.
 WORDS
             ;;
         *) return 1 ;;
