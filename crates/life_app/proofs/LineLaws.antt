@@ -1,4 +1,4 @@
--- A text of whole lines has only one list of lines
+-- A text of whole lines has just one list of lines
 use Rattle.std.proofs.Common.{◌≡◌, ℕ, ◌+◌, ◌==◌, ◌⊎◌, Bool, true, false, List, [], ◌∷◌, ◌++◌, get_or, refl, ap, ap₂, sym, ◌∙◌, inl, inr, append_assoc}
 use Rattle.std.proofs.lemmas.Bool.{eqb-false}
 use Rattle.std.proofs.lemmas.Map.Views.{exact_unsigned_eq}
@@ -9,7 +9,7 @@ use Rattle.life_app.specs.Durable.{AreWholeLines}
 abbrev pub IsFree : List ℕ → Type 0
 IsFree line = AllByRecursion (λ b. b ≡ 10 → ⊥) line
 
--- the lines, each with a line feed after it
+-- the lines, each with a line feed behind it
 abbrev pub lines_text : List (List ℕ) → List ℕ
 lines_text [] = []
 lines_text (line ∷ lines) = line ++ 10 ∷ lines_text lines
@@ -25,7 +25,7 @@ pub tails : (c d : ℕ) (xs ys : List ℕ) → c ∷ xs ≡ d ∷ ys → xs ≡ 
 unfolding tail_of
 tails c d xs ys same = ap tail_of same
 
--- the first line, and what stands after it
+-- the first line, and what stands behind it
 pub same_first : (a b x y : List ℕ) → IsFree a → IsFree b → a ++ 10 ∷ x ≡ b ++ 10 ∷ y → (a ≡ b) × (x ≡ y)
 same_first [] [] x y one two same = (refl, tails 10 10 x y same)
 same_first [] (d ∷ b) x y one two same = absurd (two.0 (sym (heads 10 d x (b ++ 10 ∷ y) same)))
@@ -44,7 +44,7 @@ no_bytes : (front : List ℕ) → front ++ 10 ∷ [] ≡ [] → ⊥
 no_bytes [] same = cc
 no_bytes (b ∷ front) same = cc
 
--- one more byte before the first line
+-- one byte more before the first line
 before_first : (b : ℕ) (bytes : List ℕ) (lines : List (List ℕ)) → (b ≡ 10 → ⊥) → AllByRecursion IsFree lines → bytes ≡ lines_text lines
     → (bytes ≡ [] → ⊥) → AreLines (b ∷ bytes)
 before_first b bytes [] other free are some = absurd (some are)
@@ -84,7 +84,7 @@ pub lines_free : (front back : List (List ℕ)) → AllByRecursion IsFree front 
 lines_free [] back one two = two
 lines_free (line ∷ front) back one two = (one.0, lines_free front back one.1 two)
 
--- A line that begins after so many lines is one of these, or stands after them all.
+-- A line that begins behind so many lines is one of these, or stands behind them all.
 pub record IsBeyond (lines starts : List (List ℕ)) (tail line after : List ℕ) : Type 0 where
   pub rest : List (List ℕ)
   pub free : AllByRecursion IsFree rest

@@ -97,10 +97,9 @@ pub fn lanes_by_hand()
     ensures reopened { ReopenedLanes }
 {}
 
-/// The promise refuses what wrong programs would leave of the script of the third posting: a made-up cause of another
-/// status; and with status 0 a forged transcript, a missing answer, nothing posted, a line printed too soon, and a
-/// file that was unmade in between. For the valuation's script it refuses that the valuation was reported without its
-/// rows.
+/// What wrong programs would leave of the script of the third posting is refused by the promise: a made-up cause of another
+/// status; and with 0 a forged transcript, a missing answer, nothing posted, a line told too soon, and a file that was unmade on
+/// the way. Of a valuation's, that it was told without its rows.
 pub fn refused_by_hand()
     ensures causes { CausesByHand }
     ensures truth { TruthByHand }

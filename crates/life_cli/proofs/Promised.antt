@@ -24,7 +24,7 @@ seen_of_two see none ready one two first second a b e₁ e₂ e₃ e₄ is_a is_
 asked_for : (name : List ℕ) (words options : List (List ℕ)) → words ≡ codes "run" ∷ options → IsRun options name → AreWords words (Run name)
 asked_for name words options same run = rw same (refl, run)
 
--- The watchers that were handed over are these.
+-- The auditors that were handed over are these.
 module _ {D E : Type 0} (g : Ghosts D) (e : Ghosts E) (old new : D) (second kept : Option E) (words : List (List ℕ)) (input : Input) (output : Stream)
     (shelf : Shelving) (A B : Type 0) (status : ℕ) where
   pub obeys_with : (auditors others : List Auditor) → auditors ≡ others → Obeys g e old new second kept words auditors input output shelf A B status
@@ -51,6 +51,6 @@ module _ {D E : Type 0} (g : Ghosts D) (e : Ghosts E) (old new : D) (second kept
     unopened = unopened;
   }
 
-  -- if there was no memory to begin, 9 is right in every case
+  -- where there was no memory to begin, 9 is right in every case
   pub given_up : status ≡ 9 → new ≡ old → IsShipped g e old new second kept words input output shelf A B status
   given_up nine same = shipped (NoMemory a_lack, nine, tt) (λ ending is. inr nine) (λ honest none. ap g.reads same)

@@ -1,5 +1,5 @@
-// The whole program except what the system hands it, on the devices with which it is shipped. Of the system it has
-// threads and waiting, and these devices; nothing in it leads to anything else of the system.
+// All of the program but what the system hands it, on the devices that it is shipped with. Of the system it has threads and
+// waiting, and these devices: no way leads to another.
 ghost use Rattle.std.specs.Prelude.{◌≡◌, ◌≢◌, ◌⊎◌, ℕ, Some, None, List, [], ◌∷◌, codes, map, string_bytes, IsSome};
 ghost use Rattle.std.specs.Process.{exit_status};
 ghost use Rattle.basis_book.specs.Dated.{Dated};
@@ -75,8 +75,7 @@ pub fn run_shipped<R: Threads + Wait + Sync, F: FoundFile, C: FoundFile>(
     // output is a line that names a file.
     ensures durable { result.status ≢ 4 → ⟦<JournalDisk<F> as Disk>⟧.honest result.disk
         → IsDurable ⟦<JournalDisk<F> as Disk>⟧ SpellsCommands result.disk (⟦<OutputOf<F> as Sink>⟧.pieces result.output) }
-    // The lines of a run's transcript are answers of one legal history, each lane's lines once and in order; or
-    // nothing was run.
+    // The lines of a run's transcript are answers of one legal history, each lane's lines once and in order; or nothing was run.
     ensures legal { (name script : List ℕ) (options : List (List ℕ)) (lanes : List Lane) (basis : List Dated)
         → map string_bytes words.now ≡ codes "run" ∷ options → IsRun options name
         → IsWholeInput (input_between (⟦<Input as Source>⟧.faults) (⟦<Input as Source>⟧.left) (⟦<Input as Source>⟧.given)

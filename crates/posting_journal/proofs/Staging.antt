@@ -57,7 +57,7 @@ gating g old new bodies body byte result staged images only_now puts =
           (λ image from. torn_gate bodies body from.0 image (images from.0 from.1) from.2));
     }
 
--- the same write, stated in other terms
+-- the same write, told by other terms
 pub puts_at : {D T E : Type 0} (g : Ghosts D) (old new : D) (at place : ℕ) (bytes same : List ℕ) (result : Result T E) → PutsOn g old new at bytes result → at ≡ place → bytes ≡ same → PutsOn g old new place same result
 puts_at g old new at place bytes same result puts here is =
     subst (λ b. PutsOn g old new place b result) is (subst (λ a. PutsOn g old new a bytes result) here puts)
@@ -83,7 +83,7 @@ pub unclean_kept : (clean : Bool) (bodies : List (List ℕ)) (faulted bytes : Li
 unclean_kept true bodies faulted bytes is staged = absurd (cc)
 unclean_kept false bodies faulted bytes is staged = staged
 
--- What was done was noted.
+-- What was done was told.
 pub told_ok : {T E F : Type 0} (done : Result T E) (result : Result T F) (value : T) (fault : F) (P : Type 0) → result ≡ Ok value → MatchResult done (λ u. result ≡ Ok u) (λ f. result ≡ Err fault) → OnOk done P → P
 told_ok (Ok u) result value fault P is told holds = holds
 told_ok (Err e) result value fault P is told holds = absurd (cc)

@@ -1,11 +1,4 @@
-// The layout of the file. The code calls a commit byte a gate: it is open if it is 1, and closed otherwise.
-//
-// | bytes                  | what they hold                                                           |
-// |------------------------|--------------------------------------------------------------------------|
-// | 0                      | the gate of the creation                                                 |
-// | 1 to 16                | the header: LIFEJRNL, the version 1, the size 64 of a body, four zeros   |
-// | 17 + 65 n              | the gate of record n, counted from 0                                     |
-// | 18 + 65 n to 81 + 65 n | the body of record n                                                     |
+// Where the parts of the file stand.
 
 /// The most records that a journal takes.
 pub const MAX_RECORDS: u32 = 4_000_000;

@@ -40,7 +40,7 @@ at_most [] latest k all within = absurd (omega (arith, within))
 at_most (m ∷ ms) latest zero all within = (m, refl, all.0)
 at_most (m ∷ ms) latest (suc k) all within = at_most ms latest k all.1 (omega (arith, within))
 
--- Pieces that were handed on after the lines, by the latest of their moments, show no line too soon.
+-- Pieces that were handed on behind the lines, by the latest of their moments, show no line too soon.
 module _ (text : TranscriptLine → List ℕ) (lines : List TranscriptLine) (moments : List ℕ) (latest : ℕ)
     (known : AllByRecursion (λ m. m ≤ latest) moments) (counted : length moments ≡ accepted_lines lines) where
   behind : (run more : List TakenPiece) → AreShown text run lines moments
@@ -72,7 +72,7 @@ module _ (text : TranscriptLine → List ℕ) (lines : List TranscriptLine) (mom
               tail [] = []
               tail (c ∷ cs) = cs
 
--- what was shown of the lines, and then of what stands after them
+-- what was shown of the lines, and then of what stands behind them
 pub shown_whole : (text : TranscriptLine → List ℕ) (before mid now : List TakenPiece) (lines : List TranscriptLine) (moments : List ℕ)
     (latest : ℕ) (written : Result (Unit {0}) Unwritten) → HasShown text before mid lines moments latest written
     → AddsBy mid now latest → (run : List TakenPiece) × (now ≡ run ++ before) × AreShown text run lines moments
@@ -120,7 +120,7 @@ since_at g disk held (c ∷ commands) (m ∷ moments) (suc k) moment safe there 
     subst (λ (n : ℕ). HoldsAtLeast (held ++ take n (c ∷ commands)) image) long
     (subst (λ (cs : List Command). HoldsAtLeast cs image) (append_assoc held (c ∷ []) (take (k + 1) commands)) rest)
 
--- a list with a prefix that is known to be as long as the whole is that prefix
+-- a list of which a front is known to be as long as the whole is that front
 front_is_all : {A : Type 0} (front rest whole : List A) → front ++ rest ≡ whole → length front ≡ length whole → front ≡ whole
 front_is_all front [] whole same long = sym (append-nil front) ∙ same
 front_is_all front (x ∷ rest) whole same long =
@@ -150,7 +150,7 @@ zip_split {A} {B} R (z ∷ xs) (y ∷ ys) (b ∷ before) after x all split =
     tail [] = []
     tail (c ∷ cs) = cs
 
--- the text of the lines of a prefix
+-- the text of the lines of a front
 front_text : (text : TranscriptLine → List ℕ) (front back : List TranscriptLine)
     → concat (take (length front) (map text (front ++ back))) ≡ line_texts text front
 front_text text [] back = refl
@@ -166,7 +166,7 @@ abbrev IsAcceptedReply : Reply → Type 0
 IsAcceptedReply (Accepted position) = Unit {0}
 IsAcceptedReply _ = ⊥
 
--- what is reported of an accepted posting says so
+-- what is told of an accepted posting says so
 told_accepted : (line : Line) (reply : Reply) (outcome : Outcome) (commands : List Command) (basis : List Dated)
     → IsOutcome commands basis line reply outcome → IsAcceptedReply reply → tells_accepted outcome ≡ true
 told_accepted (Post command) reply (Posted (AcceptedAt position)) commands basis said is = refl
@@ -188,8 +188,8 @@ told_accepted Trim reply (ValueNoMemory lack) commands basis said is = absurd sa
 told_accepted (Value on at workers) reply (Posted answer) commands basis said is = absurd said
 told_accepted (Value on at workers) reply (Trimmed floor) commands basis said is = absurd said
 
--- A disk whose time goes one way, the moments since which the accepted commands of a history are safe, and the lines;
--- each accepted line has one of these moments.
+-- A disk on which time goes one way, the moments since which the accepted commands of a history are safe, and the lines of which
+-- each that is accepted has one of them.
 module _ {D : Type 0} (g : Ghosts D) (new : D) (opening : Opening) (history : List Entry) (basis : List Dated)
     (text : TranscriptLine → List ℕ) (answered : List AnsweredLine) (lines : List TranscriptLine) (moments : List ℕ)
     (sooner : (early late : ℕ) (image : List ℕ) → early ≤ late → g.left_since new late image → g.left_since new early image)
@@ -222,8 +222,7 @@ module _ {D : Type 0} (g : Ghosts D) (new : D) (opening : Opening) (history : Li
       let opens = subst (λ (cs : List Command). HoldsAtLeast (opening.commands ++ cs) image) commands holds in
       opens
 
--- all moments that were sent were received: one is received for each accepted line, and one is sent for each accepted
--- command
+-- all moments that were told were heard, where one is heard for each accepted line and told for each accepted command
 pub all_heard : {D A P : Type 0} (g : Ghosts D) (disk : D) (held commands : List Command) (outlet : Option (Producer ℕ A P))
     (heard rest : List ℕ) → heard ++ rest ≡ told outlet → length heard ≡ length commands
     → IfSome outlet (λ (ring : Producer ℕ A P). AreSafeSince g disk held commands (sent ring))

@@ -2,9 +2,9 @@
 use Rattle.std.specs.Prelude.{◌≡◌, ℕ, ◌+◌, ◌<◌, List, ◌∷◌, ◌++◌, length, take}
 use Rattle.script_run.specs.Names.{concat, TakenPiece, taken_bytes, Ghosts, Command, Entry, Accepted, accepted_of, AnsweredLine}
 
--- A line is printed once it is safe. Among the pieces that the output took, newest first, each that reaches past the
--- place where the text of an accepted line begins was handed on at a moment of the disk since which whatever a crash
--- leaves opens to the commands from before, those that were accepted up to that line's turn, and perhaps more.
+-- Told once safe. Of the pieces that the output took, newest first, each that reaches past where the text of an accepted line
+-- begins was handed on at a moment of the disk since which whatever a crash leaves opens to the commands from before, those
+-- that were accepted up to that line's turn, and perhaps more.
 abbrev pub AreSafeWhenShown : {D : Type 0} → Ghosts D → (List ℕ → List Command → Type 0) → D → List Command → List Entry
     → List AnsweredLine → List (List ℕ) → List TakenPiece → Type 0
 AreSafeWhenShown g Opens new commands history lines texts pieces =

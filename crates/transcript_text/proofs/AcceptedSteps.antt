@@ -1,4 +1,4 @@
--- The accepted lines that are reported of a run are the accepted commands of its history, in order
+-- The accepted lines that are told of a run are the accepted commands of its history, in order
 use Rattle.transcript_text.proofs.Names.{◌≡◌, ℕ, zero, suc, ◌+◌, Bool, true, false, cond, List, [], ◌∷◌, ◌++◌, length, map, take, Some, refl, ap, sym, ◌∙◌, subst, inl, inr, arith, slice_get, cons_option, count_by, enumerate_from, cond-false, cond-true, false≢true, Dated, AreRising, Command, Call, PostCall, Pin, PinAt, Read, Unpin, TrimCall, Entry, Reply, Line, accepted_by, accepted_of, AnAccepted, ARefused, DiskFault, NoMemory, accepted_lines, tells_accepted, IsOutcome, TranscriptLine, Outcome, Posted, Trimmed, Valued, ValueRefused, ValueNoMemory, Has, front_back}
 use Rattle.std.proofs.lemmas.List.{take_at}
 use Rattle.std.proofs.lemmas.List.Elements.{filter_map-append}
@@ -39,7 +39,7 @@ accepted_counted (entry ∷ history) =
     let whole = sum_by-cons (λ (e : Entry). cond (accepts e) 1 0) entry history in
     omega (arith, first, rest, whole)
 
--- what is reported of a posting states its reply
+-- what is told of a posting tells its reply
 pub accepted_told : (command : Command) (reply : Reply) (outcome : Outcome) (commands : List Command) (basis : List Dated)
     → IsOutcome commands basis (Post command) reply outcome → is_acceptance (PostCall command) reply ≡ tells_accepted outcome
 accepted_told command reply (Posted (AnAccepted position)) commands basis told = ap (is_acceptance (PostCall command)) told
@@ -51,7 +51,7 @@ accepted_told command reply (Valued valuation) commands basis told = absurd told
 accepted_told command reply (ValueRefused refusal) commands basis told = absurd told
 accepted_told command reply (ValueNoMemory lack) commands basis told = absurd told
 
--- no other line is said to be accepted
+-- no other line is told to be accepted
 pub posting_told : (line : Line) (reply : Reply) (outcome : Outcome) (commands : List Command) (basis : List Dated)
     → IsOutcome commands basis line reply outcome → tells_accepted outcome ≡ true → (command : Command) × (line ≡ Post command)
 posting_told (Post command) reply outcome commands basis told accepted = (command, refl)
@@ -79,7 +79,7 @@ enumerated {A} n (y ∷ ys) (suc k) x there =
     let place : (n + 1) + k ≡ n + suc k = omega arith in
     inr (subst (λ (m : ℕ). Has (enumerate_from (n + 1) ys) (m, x)) place (enumerated (n + 1) ys k x there))
 
--- the turns of the lines that are said to be accepted
+-- the turns of the lines that are told to be accepted
 abbrev pub accepted_turns : List TranscriptLine → List ℕ
 accepted_turns [] = []
 accepted_turns (line ∷ lines) = cond (tells_accepted line.outcome) (line.turn ∷ accepted_turns lines) (accepted_turns lines)
@@ -92,7 +92,7 @@ without : (line : TranscriptLine) (lines : List TranscriptLine) → tells_accept
     → accepted_turns (line ∷ lines) ≡ accepted_turns lines
 without line lines is = cond-false (tells_accepted line.outcome) (line.turn ∷ accepted_turns lines) (accepted_turns lines) is
 
--- whether a line is said to be accepted, and then what follows of the lines with it
+-- whether a line is told to be accepted, and then what follows of the lines with it
 by_telling : {P : Type 0} (line : TranscriptLine) → (tells_accepted line.outcome ≡ true → P) → (tells_accepted line.outcome ≡ false → P) → P
 by_telling {P} line told untold = by (tells_accepted line.outcome) refl
   where
@@ -171,7 +171,7 @@ turns_rise (line ∷ lines) rising =
     (rises line.turn (accepted_turns lines) rest (λ m has. above line.turn behind rising m (among lines m has))))
     (λ untold. subst AreRising (sym (without line lines untold)) rest)
 
--- a prefix of the turns has a prefix of the accepted commands
+-- a front of the turns has a front of the accepted commands
 front_of : (history : List Entry) (m : ℕ) → accepted_of (take m history) ≡ take (length (accepted_of (take m history))) (accepted_of history)
 front_of history m =
     let parts = front_back m history in
@@ -180,8 +180,7 @@ front_of history m =
     ap accepted_of parts.1 ∙ filter_map-append (λ (entry : Entry). accepted_by entry.call entry.reply) (take m history) parts.0 in
     sym (ap (take (length front)) split ∙ take_at front (accepted_of parts.0) (length front) refl)
 
--- The lines have rising turns, and those that report an accepted posting are exactly the turns that were accepted
--- postings.
+-- Where the lines are told by rising turns, and tell of just the turns that were accepted postings.
 module _ (history : List Entry) (lines : List TranscriptLine) (rising : AreRising (map (λ (line : TranscriptLine). line.turn) lines))
     (told_place : (line : TranscriptLine) → Has lines line → tells_accepted line.outcome ≡ true → Has (places accepts 0 history) line.turn)
     (place_told : (n : ℕ) → Has (places accepts 0 history) n → Has (accepted_turns lines) n) where
@@ -192,7 +191,7 @@ module _ (history : List Entry) (lines : List TranscriptLine) (rising : AreRisin
       subst (λ (k : ℕ). Has (places accepts 0 history) k) found.2 (told_place found.0 found.1 found.3))
       place_told
 
-  -- up to the turn of an accepted line one more command was accepted than in the lines before
+  -- up to the turn of an accepted line one command more was accepted than in the lines before
   pub accepted_to : (before after : List TranscriptLine) (line : TranscriptLine) → lines ≡ before ++ line ∷ after → tells_accepted line.outcome ≡ true
       → accepted_of (take (line.turn + 1) history) ≡ take (accepted_lines before + 1) (accepted_of history)
   accepted_to before after line split is =

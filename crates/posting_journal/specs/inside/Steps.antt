@@ -36,7 +36,7 @@ pub record OpenedTo {D : Type 0} (g : Ghosts D) (old new : D) (count : ℕ) : Ty
   pub counted : count ≡ length bodies
   pub safe : IsSafe g new
 
--- What an opening returns: the journal's count, which is 0 after a creation, or what the file shows.
+-- What an opening answers: the journal's count, which is 0 after a creation, or what the file shows.
 pub record AnswersOpening {D : Type 0} (g : Ghosts D) (old new : D) (result : Result ℕ Unopened) : Type 0 where
   pub cause : HasUnopenedCause g old new result
   pub few : IfOk result (λ n. n ≤ most_records)
@@ -44,7 +44,7 @@ pub record AnswersOpening {D : Type 0} (g : Ghosts D) (old new : D) (result : Re
   pub made : g.honest new → IsUnfinished (g.reads old) → IfOk result (λ n. g.reads new ≡ empty_journal)
   pub refused : g.honest new → IfErr result (λ cause. ShowsWhy (g.reads old) cause)
 
--- A clean journal with these bodies, whose next body was written after its last gate, and made safe or failed.
+-- A clean journal with these bodies, whose next body was written behind its last gate, and made safe or failed.
 pub record StagesOn {D T E : Type 0} {g : Ghosts D} (old new : Journal D g) (bodies : List (List ℕ)) (body : List ℕ)
     (result : Result T E) : Type 0 where
   pub stands : StandsFor new bodies body

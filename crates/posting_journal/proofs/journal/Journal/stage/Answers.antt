@@ -1,4 +1,4 @@
--- The journal stays, and the body is staged after it.
+-- The journal stays, and the body is staged behind it.
 use Rattle.posting_journal.proofs.Names.{◌≡◌, ◌<◌, [], ◌∷◌, ◌++◌, length, ◌∙◌, ap, arith, body_place}
 use Rattle.posting_journal.proofs.Staging.{staging, puts_at, kept_clean, clean_kept}
 use Rattle.posting_journal.proofs.journal.Journal.stage.Goals as goal
