@@ -9,14 +9,11 @@ use policy_types::Plan;
 use rate_table::{RateTable, Shape};
 use select_rates::AnyTable;
 
-/// The shape of a plan's benefits and premiums for an age at issue, by a table of either kind: by its rates for that
-/// age at issue.
+/// The shape of a plan's benefits and premiums for an age at issue by a table of either kind, which is by its rates for
+/// that age at issue.
 ///
-/// # Errors
-///
-/// The first reason why the policy has no value. `BelowTable` is also returned if the table has no rates for the age
-/// at issue, and `PastTable` also if the rates for the next age at issue, which limit the net premium, don't hold
-/// that next age.
+/// `BelowTable` comes also where the table has none for it, and `PastTable` also where those for the next age at issue,
+/// which limit the net premium, don't hold that next age.
 #[tactic(auto, using(crate::proofs::AgeAtIssue::has_rates, crate::proofs::AgeAtIssue::next_above))]
 pub fn shape_along(plan: Plan, age: u8, years: u8, table: &AnyTable) -> Result<Shape, NotValued>
     requires { age < 255 }

@@ -41,7 +41,7 @@ impl LineEnd {
         self.at = 255;
     }
 
-    /// Writes bytes before those that are there.
+    /// Bytes before those that stand.
     pub fn put(&mut self, bytes: &[u8])
         requires { length bytes.now + length self.old ≤ 256 }
         ensures { self.new ≡ bytes.now ++ self.old }
@@ -52,7 +52,7 @@ impl LineEnd {
         self.at = start;
     }
 
-    /// Writes a comma and a field.
+    /// A field behind its comma.
     pub fn field(&mut self, field: &[u8])
         requires { 1 + length field.now + length self.old ≤ 256 }
         ensures { self.new ≡ 44 ∷ (field.now ++ self.old) }
@@ -61,7 +61,7 @@ impl LineEnd {
         self.put(b",");
     }
 
-    /// Writes a field that is a whole number.
+    /// A field, a whole number.
     pub fn number(&mut self, number: u64)
         requires { 21 + length self.old ≤ 256 }
         ensures written { self.new ≡ 44 ∷ (decimal number ++ self.old) }
@@ -71,7 +71,7 @@ impl LineEnd {
         self.put(b",");
     }
 
-    /// Writes a field that is an amount in cents, such as `127.22`.
+    /// A field, an amount in cents, as `127.22`.
     pub fn cents(&mut self, cents: u64)
         requires { 24 + length self.old ≤ 256 }
         ensures written { self.new ≡ 44 ∷ (cents_text cents ++ self.old) }
@@ -82,7 +82,7 @@ impl LineEnd {
         self.number(cents / 100);
     }
 
-    /// Writes a field that is the word of a status.
+    /// A field, the word of a status.
     pub fn status(&mut self, status: Status)
         requires { 8 + length self.old ≤ 256 }
         ensures written { self.new ≡ 44 ∷ (status_word status ++ self.old) }
