@@ -28,7 +28,7 @@ import argparse
 import datetime
 import glob
 import os
-from typing import Callable
+from typing import Callable, Iterator
 
 from life_tools.common.formats import Wrong, day_in, demand, number_of, remark
 from life_tools.common.packages import stay
@@ -36,7 +36,7 @@ from life_tools.common.program import program_asked
 from life_tools.desk.claiming import login
 from life_tools.desk.day import Asked, Day
 from life_tools.desk.entries import LOCK, Log
-from life_tools.desk.records import sync_folder
+from life_tools.desk.records import shown, sync_folder
 from life_tools.desk.releases import Judgement
 from life_tools.desk.restoring import restored
 from life_tools.desk.running import Program
@@ -78,6 +78,19 @@ def files_in(options: argparse.Namespace) -> list[str]:
         return []
     inbox = os.path.normpath(os.path.join(options.folder, "inbox"))
     return sorted(glob.glob(os.path.join(glob.escape(inbox), "*.csv")))
+
+
+def untaken_in(options: argparse.Namespace) -> Iterator[str]:
+    """What is to be said of an inbox from which files are taken: that it isn't there, or what lies there under other names."""
+    if options.files or options.release or options.discard or options.restored:
+        return
+    inbox = os.path.normpath(os.path.join(options.folder, "inbox"))
+    if not os.path.isdir(inbox):
+        yield f"there is no folder {inbox}, so no file was taken: make it, or mount its disk"
+        return
+    for name in sorted(os.listdir(inbox)):
+        if not name.startswith(".") and not name.endswith(".csv"):
+            yield f"{shown(os.path.join(inbox, name))} is left where it is: its name doesn't end in .csv"
 
 
 def demand_right(options: argparse.Namespace) -> None:
@@ -128,6 +141,8 @@ def worked(options: argparse.Namespace, stop: Stopping) -> int:
         day = Day(asked, Program(program_asked(options.life), options.folder, options.basis, lock), patience, stop)
         if options.restored:
             restored(log, os.path.join(options.folder, JOURNAL))
+        for untaken in untaken_in(options):
+            day.say(untaken)
         return day.work(judge)
     finally:
         os.close(lock)

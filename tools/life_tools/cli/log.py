@@ -59,14 +59,15 @@ def run(options: argparse.Namespace) -> int:
     demand(os.path.isdir(log.path), f"there is no {log.path}: `life-tools day` makes it")
     journal = os.path.join(options.folder, JOURNAL)
     count = demand_undamaged(journal).count if os.path.exists(journal) else 0
-    found = found_in(log, wanted)
+    faults: list[str] = []
+    found = found_in(log, wanted, faults)
     write_rows(sys.stdout, [HEAD, *(posting.row() for posting in found)])
     sys.stdout.flush()
-    said = list(differences(journal, count, found))
+    said = [*faults, *differences(journal, count, found)]
     others = unnamed(journal, count, wanted, {posting.position for posting in found})
     for position in others[:MOST_LISTED]:
-        said.append(f"position {position}, {','.join(words_of(command_at(journal, position)))}, is in no entry of the "
-                    "log: it was not posted by `life-tools day`")
+        why = "that can be read" if faults else "of the log: it was not posted by `life-tools day`"
+        said.append(f"position {position}, {','.join(words_of(command_at(journal, position)))}, is in no entry {why}")
     if len(others) > MOST_LISTED:
         said.append(f"{len(others) - MOST_LISTED} more positions are in no entry of the log")
     if not found and not others:

@@ -3,12 +3,14 @@
 Where the folder of the entry lies on another file system, the file is first renamed where it lies, to a hidden name that no
 other `day` takes; then it is copied, made safe, compared, and removed. `entry.json` names the file before it is renamed, so a
 claim that was interrupted is finished by the next `day`, or undone where the file still lies in the inbox.
+
+A process that has the claimed file open may still write to it. The system reports such a process only of the caller's own
+files; so what is written later is noticed by the file's length, and becomes an entry of its own.
 """
 from __future__ import annotations
 
 import errno
 import fcntl
-import getpass
 import hashlib
 import os
 import pwd
@@ -17,12 +19,12 @@ import socket
 import stat
 import sys
 import time
-from typing import Iterable
+from typing import Iterable, Iterator
 
 from life_tools.common.files import LOOKED_AT, kind_of
 from life_tools.common.formats import MOST_SCRIPT_BYTES, Wrong, bytes_of
-from life_tools.desk.entries import CLAIMING, DONE, ENTRY, HANDED_IN, NAMED, OPEN, Entry, Log
-from life_tools.desk.records import Record, at_moment, now, sync_folder, write_safely
+from life_tools.desk.entries import CLAIMING, DONE, ENTRY, HANDED_IN, LOG, OPEN, Entry, Log
+from life_tools.desk.records import Record, at_moment, now, shown, sync_file, sync_folder, write_safely
 from life_tools.scripts.lines import read_script, Fault
 
 # a file that was changed so lately may still be written
@@ -49,7 +51,7 @@ def login() -> str:
     try:
         return os.getlogin()
     except OSError:
-        return getpass.getuser()
+        return user_name(os.geteuid())
 
 
 def terminal() -> str | None:
@@ -128,7 +130,8 @@ def new_record(path: str, found: os.stat_result) -> Record:
 
 
 def claimed(path: str, folder: str, log: Log) -> Entry:
-    """The entry of a file, which is no more in the inbox; `Left` where it stays there."""
+    """The entry of a file, which is no more in the inbox; `Left` where it stays there, or where its claim is to be finished by
+    the next run."""
     try:
         found = demand_ready(path, folder)
         entry = Entry(log.new_folder(now()[:10], os.path.splitext(os.path.basename(path))[0]), new_record(path, found))
@@ -138,8 +141,11 @@ def claimed(path: str, folder: str, log: Log) -> Entry:
     try:
         take(entry)
     except OSError as error:
-        finish_claims([entry])
-        raise stays(f"{error.strerror}: {error.filename or path}") from error
+        why = f"{error.strerror}: {error.filename or entry.shown}"
+        if is_moved(entry):
+            raise Left(f"is taken as {entry.shown}, which could not be read ({why}): the next run goes on with it") from error
+        undo(entry)
+        raise stays(why) from error
     return entry
 
 
@@ -148,14 +154,36 @@ def hidden_path(entry: Entry) -> str:
     return os.path.join(folder, f".{name}.claimed-{entry.name}")
 
 
+def has_file(entry: Entry) -> bool:
+    """Whether the file lies in the folder of its entry. A disk that can't say so is an error, and not a file that is gone."""
+    return HANDED_IN in os.listdir(entry.folder)
+
+
+def is_moved(entry: Entry) -> bool:
+    return has_file(entry) or os.path.lexists(hidden_path(entry))
+
+
+def undo(entry: Entry) -> None:
+    """Takes away an entry whose file was not moved; what holds a file is no empty folder, and stays."""
+    for name in os.listdir(entry.folder):
+        if name == ENTRY or name.endswith(".part"):
+            os.remove(entry.path(name))
+    os.rmdir(entry.folder)
+    sync_folder(os.path.dirname(entry.folder))
+
+
 def take(entry: Entry) -> None:
     """Renames the file into the folder of the entry, or copies it there from another file system; and opens the entry."""
     source, to = entry.record["file"]["path"], entry.path(HANDED_IN)
     try:
         os.rename(source, to)
+        note_file(entry, to)
     except OSError as error:
         if error.errno != errno.EXDEV:
             raise
+        # noted first: where the disk of the inbox is away, the next run knows that the file lies there
+        entry.record["file"]["hidden"] = hidden_path(entry)
+        entry.save()
         os.rename(source, hidden_path(entry))
         move_from_hidden(entry)
     sync_folder(entry.folder)
@@ -163,18 +191,29 @@ def take(entry: Entry) -> None:
     open_entry(entry)
 
 
+def note_file(entry: Entry, path: str) -> None:
+    """Whose the claimed file is, and when it was modified: another one may have taken its name until it was claimed."""
+    found = os.lstat(path)
+    entry.record["file"].update(owner=user_name(found.st_uid), modified=at_moment(found.st_mtime))
+
+
 def move_from_hidden(entry: Entry) -> None:
     """Copies the file under its hidden name, makes the copy safe, compares both, and removes the hidden one."""
-    source, to = hidden_path(entry), entry.path(HANDED_IN)
+    source = hidden_path(entry)
+    note_file(entry, source)
+    copy_safely(source, entry)
+    os.remove(source)
+
+
+def copy_safely(source: str, entry: Entry) -> None:
+    """The entry's file becomes a copy, which is there whole or not at all, also after a power cut."""
     part = entry.path(f".{HANDED_IN}.part")
     shutil.copyfile(source, part)
-    with open(part, "rb") as file:
-        os.fsync(file.fileno())
+    sync_file(part)
     if sum_of(part) != sum_of(source):
-        raise Wrong(f"{source} was changed while it was copied: {entry.shown} is taken up by the next run")
-    os.rename(part, to)
+        raise Left(f"was changed while it was copied: {entry.shown} is finished by the next run")
+    os.rename(part, entry.path(HANDED_IN))
     sync_folder(entry.folder)
-    os.remove(source)
 
 
 def sum_of(path: str) -> str:
@@ -191,6 +230,11 @@ def open_entry(entry: Entry) -> None:
     path = entry.path(HANDED_IN)
     if is_being_written(path):
         raise Left(f"lies in {entry.shown}, where a process still writes it: the next run reads it")
+    if os.stat(path).st_nlink > 1:
+        # whoever writes to it under another name doesn't change what was posted
+        copy_safely(path, entry)
+    # what is posted can be shown after a power cut, too
+    sync_file(path)
     data = b"" if os.path.getsize(path) > MOST_SCRIPT_BYTES else bytes_of(path)
     record = entry.record
     record["file"].update(bytes=os.path.getsize(path), sha256=hashlib.sha256(data).hexdigest() if data else sum_of(path))
@@ -206,58 +250,71 @@ def open_entry(entry: Entry) -> None:
 
 # --- claims that were interrupted ---
 
-def clear_unbegun(log: Log) -> None:
-    """Takes away folders without an `entry.json`, for which nothing was claimed yet."""
+def clear_unbegun(log: Log) -> Iterator[str]:
+    """Takes away folders without an `entry.json`, for which nothing was claimed yet; yields those that have a file."""
     for name in log.names():
         folder = os.path.join(log.path, name)
-        if not NAMED.fullmatch(name) or os.path.exists(os.path.join(folder, DONE)) or os.path.exists(os.path.join(folder, ENTRY)):
+        if os.path.lexists(os.path.join(folder, ENTRY)):
             continue
-        if not os.path.exists(os.path.join(folder, HANDED_IN)):
+        if HANDED_IN in os.listdir(folder):
+            yield os.path.join(LOG, name)
+        elif not os.path.exists(os.path.join(folder, DONE)):
             shutil.rmtree(folder)
             sync_folder(log.path)
 
 
-def finish_claims(entries: Iterable[Entry]) -> list[Entry]:
-    """Finishes claims that were interrupted; of a file that still lies in the inbox, or was taken away from there by
-    somebody else, the entry goes away again."""
-    kept = []
-    for entry in entries:
-        if entry.record["state"] != CLAIMING:
-            kept.append(entry)
-            continue
-        if not os.path.exists(entry.path(HANDED_IN)) and os.path.exists(hidden_path(entry)):
+def finish_claim(entry: Entry) -> bool:
+    """Finishes a claim that was interrupted. Where the file still lies in the inbox, or was taken away from there by somebody
+    else, the entry goes away again, and False is returned."""
+    if entry.record["state"] != CLAIMING:
+        return True
+    if not has_file(entry):
+        hidden = entry.record["file"].get("hidden")
+        if hidden and os.path.lexists(hidden):
             move_from_hidden(entry)
-        if os.path.exists(entry.path(HANDED_IN)):
-            open_entry(entry)
-            kept.append(entry)
+        elif hidden and not os.path.lexists(entry.record["file"]["path"]):
+            raise Left(f"was being copied to {entry.shown} from {shown(hidden)}, which isn't there: mount its disk, and call "
+                       f"this again; if the file was taken away, remove {entry.shown}")
         else:
-            shutil.rmtree(entry.folder)
-            sync_folder(os.path.dirname(entry.folder))
-    return kept
+            undo(entry)
+            return False
+    open_entry(entry)
+    return True
 
 
-def is_added_to(entry: Entry) -> bool:
-    """Whether the claimed file was written to after it was read, where the system could not say that it was still open."""
-    return os.path.getsize(entry.path(HANDED_IN)) != seen_bytes(entry)
+# --- what is written to a file after it was claimed and read ---
+
+def written_later(log: Log) -> Iterator[str]:
+    """The names of entries whose file has a later time than their record."""
+    for name in log.names():
+        try:
+            times = [os.stat(os.path.join(log.path, name, each)).st_mtime_ns for each in (HANDED_IN, ENTRY)]
+        except FileNotFoundError:
+            continue
+        if times[0] >= times[1]:
+            yield name
 
 
-def seen_bytes(entry: Entry) -> int:
-    """How many bytes of the claimed file were taken up, here or in other entries."""
-    file = entry.record["file"]
-    return int(file.get("taken_up", file["bytes"]))
-
-
-def requeued(entry: Entry, log: Log) -> Entry:
-    """A new entry of what was added to a claimed file after it was read."""
-    path = entry.path(HANDED_IN)
-    data, size = bytes_of(path), seen_bytes(entry)
-    if len(data) <= size or not data.startswith(entry.handed_in()):
-        raise Wrong(f"{path} was changed after it was claimed and read: compare it with the SHA-256 in {entry.shown}/entry.json")
-    record = {**new_record(entry.record["file"]["name"], os.stat(path)), "added_to": entry.name}
-    made = Entry(log.new_folder(now()[:10], f"added-to-{entry.number}"), record)
-    made.record["file"]["path"] = made.path("added")
-    made.save()
-    write_safely(made.path(HANDED_IN), data[size:])
-    entry.record["file"]["taken_up"] = len(data)
-    open_entry(made)
+def requeued(entry: Entry, log: Log, others: Iterable[Entry]) -> Entry:
+    """A new entry of what was added to a claimed file after it was read; or the one that was made when this was interrupted."""
+    path, size = entry.path(HANDED_IN), entry.seen_bytes
+    if os.path.getsize(path) < size:
+        raise Wrong(f"{entry.shown}/{HANDED_IN} was changed after it was claimed and read: compare it with the SHA-256 in "
+                    f"{entry.shown}/{ENTRY}")
+    made = next((each for each in others if each.record.get("added_to") == [entry.name, size]), None)
+    if made is None:
+        record = {**new_record(entry.record["file"]["name"], os.stat(path)), "added_to": [entry.name, size]}
+        made = Entry(log.new_folder(now()[:10], f"added-to-{entry.number}"), record)
+        made.record["file"]["path"] = made.path("added")
+        made.save()
+        write_safely(made.path(HANDED_IN), read_from(path, size))
+        open_entry(made)
+    entry.record["file"]["taken_up"] = size + made.record["file"]["bytes"]
+    entry.save()
     return made
+
+
+def read_from(path: str, start: int) -> bytes:
+    with open(path, "rb") as file:
+        file.seek(start)
+        return file.read()

@@ -8,7 +8,7 @@ from dataclasses import dataclass
 from typing import Callable, Iterable, Sequence
 
 from life_tools.common.formats import MOST_COMMANDS, Wrong, demand, remark
-from life_tools.desk.claiming import Left, claimed, clear_unbegun, finish_claims, is_added_to, requeued
+from life_tools.desk.claiming import Left, claimed, clear_unbegun, finish_claim, requeued, written_later
 from life_tools.desk.entries import BEGUN, ENDED, FULL_ROWS, OPEN, REMARKS, TRANSCRIPT, Entry, Log, Run
 from life_tools.desk.holding import Holder, waiting_in
 from life_tools.desk.plausibility import NetPremiums
@@ -52,6 +52,8 @@ class Day:
         self.entries: dict[str, Entry] = {}
         # what was held before, and what this `day` worked on, by the entries' names
         self.worked: set[str] = set()
+        # entries of which a fault was reported
+        self.faulty: set[str] = set()
         self.is_explained = False
         self.status = 0
 
@@ -135,17 +137,22 @@ class Day:
 
     def finish_entries(self) -> None:
         """Takes up the entries that are not done: claims, releases and rows that were interrupted."""
-        clear_unbegun(self.log)
+        for folder in clear_unbegun(self.log):
+            self.say(f"{folder} has a file and no entry.json, so nothing of it is posted: put its entry.json back from a copy; "
+                     "or hand in a copy of its file, of which rows that were posted are held, and remove the folder")
         for entry in self.log.undone():
+            entry = self.entries.get(entry.name, entry)
             try:
-                kept = finish_claims([self.entries.get(entry.name, entry)])
+                is_kept = finish_claim(entry)
             except Left as left:
                 self.say(f"{entry.file} {left}")
                 continue
-            for each in kept:
-                self.entries[each.name] = each
-                mark_released(each, self.entry)
-                each.write_marks()
+            if is_kept:
+                self.entries[entry.name] = entry
+                mark_released(entry, self.entry)
+                entry.write_marks()
+        for name in written_later(self.log):
+            self.entry(name)
 
     def entry(self, name: str) -> Entry:
         if name not in self.entries:
@@ -164,16 +171,43 @@ class Day:
 
     # --- posting ---
 
-    def pending(self) -> list[Entry]:
-        entries = sorted(self.entries.values(), key=lambda entry: entry.number)
-        return [entry for entry in entries if entry.record["state"] == OPEN]
+    def in_order(self) -> list[Entry]:
+        return sorted(self.entries.values(), key=lambda entry: entry.number)
 
-    def post(self) -> None:
-        """Posts what is to be posted, run after run, until nothing is left or a run ends badly."""
-        for entry in self.pending():
+    def pending(self) -> list[Entry]:
+        """The entries that have rows to be posted. An entry of which nothing is left is closed; what was written to a file after
+        it was read is an entry of its own."""
+        for entry in self.in_order():
+            if entry.is_added_to:
+                self.take_added(entry)
+        entries = [entry for entry in self.in_order() if entry.record["state"] == OPEN and self.is_readable(entry)]
+        for entry in entries:
             if not entry.left:
                 self.worked.add(entry.name)
                 entry.close(now())
+        return [entry for entry in entries if entry.left]
+
+    def take_added(self, entry: Entry) -> None:
+        try:
+            made = requeued(entry, self.log, self.in_order())
+        except Wrong as wrong:
+            self.tell_fault(entry, str(wrong))
+            return
+        self.entries[made.name] = made
+        self.say(f"{entry.file} was written to after it was claimed: what was added is {made.shown}")
+
+    def is_readable(self, entry: Entry) -> bool:
+        if entry.fault:
+            self.tell_fault(entry, entry.fault)
+        return not entry.fault
+
+    def tell_fault(self, entry: Entry, fault: str) -> None:
+        if entry.name not in self.faulty:
+            self.faulty.add(entry.name)
+            self.say(fault)
+
+    def post(self) -> None:
+        """Posts what is to be posted, run after run, until nothing is left or a run ends badly."""
         while pending := self.pending():
             batch = chosen(pending)
             self.worked.update(entry.name for entry in batch)
@@ -187,7 +221,7 @@ class Day:
 
     def hold(self, batch: Iterable[Entry]) -> None:
         """Holds rows for a person, and closes the entries of which nothing is left to post."""
-        waiting = waiting_in(sorted(self.entries.values(), key=lambda entry: entry.number))
+        waiting = waiting_in(self.in_order())
         holder = Holder(self.asked.today, self.asked.settings, self.nets, waiting)
         holder.read(self.journal, count_of(self.journal), batch)
         for entry in batch:
@@ -260,7 +294,8 @@ class Day:
                 record["refused"].append([own, found.refused[row]])
             elif row in found.answered:
                 record["answered"].append([own, found.answered[row]])
-        this = {"run": run.number, "lane": lane, **{name: run.record[name] for name in ("begun", "before", "sha256")}, **end}
+        noted = {name: run.record[name] for name in ("begun", "before", "sha256", "caller")}
+        this = {"run": run.number, "lane": lane, **noted, **end}
         runs: list[Record] = [*record["runs"], this]
         text = "".join(lane_text(self.log.run(each["run"]).transcript(), each["lane"]) for each in runs)
         write_safely(entry.path(TRANSCRIPT), text.encode("ascii", "replace"))
@@ -269,10 +304,6 @@ class Day:
             texts = "".join(f"{line.row.text}\n" for line in entry.lines if line.row.number in full)
             write_safely(entry.path(FULL_ROWS), texts.encode("utf-8", "surrogateescape"))
         record["runs"] = runs
-        if is_added_to(entry):
-            added = requeued(entry, self.log)
-            self.entries[added.name] = added
-            self.say(f"{entry.file} was written to after it was claimed: what was added is {added.shown}")
         entry.close(str(end["ended"]))
 
     def tell_end(self, run: Run, status: int, found: Reckoned) -> None:
@@ -286,7 +317,7 @@ class Day:
     # --- what is reported ---
 
     def report(self) -> None:
-        entries = sorted(self.entries.values(), key=lambda entry: entry.number)
+        entries = self.in_order()
         worked = [entry for entry in entries if entry.name in self.worked]
         print_entries(worked)
         for entry in worked:

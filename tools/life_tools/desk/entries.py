@@ -84,6 +84,27 @@ class Entry:
         return data
 
     @property
+    def fault(self) -> str | None:
+        """Why its rows can't be read, where that is so."""
+        try:
+            _ = self.lines
+        except Wrong as wrong:
+            return str(wrong)
+        return None
+
+    @property
+    def seen_bytes(self) -> int:
+        """How many bytes of the claimed file were taken up, here or in other entries."""
+        file = self.record["file"]
+        return int(file.get("taken_up", file["bytes"]))
+
+    @property
+    def is_added_to(self) -> bool:
+        """Whether the claimed file has another length than it had when it was read."""
+        path = self.path(HANDED_IN)
+        return self.record["state"] != CLAIMING and os.path.exists(path) and os.path.getsize(path) != self.seen_bytes
+
+    @property
     def held(self) -> list[Record]:
         """The rows that wait for a person."""
         return [each for each in self.record["held"] if each["state"] == HELD]
@@ -102,7 +123,7 @@ class Entry:
 
     def close(self, at: str) -> None:
         """Writes what is to be seen of it, and the mark `done` where nothing is left to do."""
-        is_done = not self.left and self.record["state"] == OPEN
+        is_done = not self.left and not self.is_added_to and self.record["state"] == OPEN
         if is_done:
             self.record["state"] = CLOSED
             self.record["times"]["ended"] = at
@@ -169,16 +190,17 @@ class Log:
         folder = os.path.join(self.path, name)
         return Entry(folder, read_record(os.path.join(folder, ENTRY)))
 
+    def recorded(self) -> list[str]:
+        """The names of the entries that have a record."""
+        return [name for name in self.names() if os.path.exists(os.path.join(self.path, name, ENTRY))]
+
     def entries(self) -> Iterator[Entry]:
         """All entries, with those that were refused or are done."""
-        for name in self.names():
-            if os.path.exists(os.path.join(self.path, name, ENTRY)):
-                yield self.entry(name)
+        return map(self.entry, self.recorded())
 
     def undone(self) -> list[Entry]:
         """The entries of which something is left to do, by a person or by the next run."""
-        names = [name for name in self.names() if not os.path.exists(os.path.join(self.path, name, DONE))]
-        return [self.entry(name) for name in names if os.path.exists(os.path.join(self.path, name, ENTRY))]
+        return [self.entry(name) for name in self.recorded() if not os.path.exists(os.path.join(self.path, name, DONE))]
 
     def named(self, words: str) -> Entry:
         """The entry that a person names: by its folder's name or path, or by its number."""

@@ -5,6 +5,7 @@ import os
 from dataclasses import dataclass
 from typing import Iterable, Iterator
 
+from life_tools.common.formats import Wrong
 from life_tools.desk.entries import Entry, Log
 from life_tools.desk.records import Record, shown
 from life_tools.journal.blocks import prefix_at
@@ -38,7 +39,8 @@ class Posting:
     @property
     def people(self) -> set[str]:
         record, origin = self.entry.record, self.entry.record["from"] or {}
-        names = {record["file"]["owner"], record["caller"]["login"], origin.get("by"), origin.get("login")}
+        names = {record["file"]["owner"], record["caller"]["login"], self.run["caller"]["login"], origin.get("by"),
+                 origin.get("login")}
         return {name for name in names if name}
 
     def row(self) -> list[object]:
@@ -46,7 +48,7 @@ class Posting:
         command = self.command
         released = [shown(origin.get(name) or "") for name in ("by", "because")]
         return [self.position, command.kind, command.number or "", command.day or "", self.entry.file,
-                self.line_handed_in, record["file"]["owner"], record["caller"]["login"], record["caller"]["host"],
+                self.line_handed_in, record["file"]["owner"], self.run["caller"]["login"], self.run["caller"]["host"],
                 self.run["begun"], *released, self.entry.shown]
 
 
@@ -80,10 +82,18 @@ def postings_of(entry: Entry) -> Iterator[Posting]:
         yield Posting(position, entry, lines[row], run)
 
 
-def found_in(log: Log, wanted: Wanted) -> list[Posting]:
-    """The postings that are asked for, in the order of their positions."""
-    found = [posting for entry in log.entries() if wanted.may_have(entry)
-             for posting in postings_of(entry) if wanted.is_met(posting)]
+def found_in(log: Log, wanted: Wanted, faults: list[str] | None = None) -> list[Posting]:
+    """The postings that are asked for, in the order of their positions. An entry that can't be read is an error, or where
+    faults are collected one of these."""
+    found: list[Posting] = []
+    for name in log.recorded():
+        try:
+            entry = log.entry(name)
+            found += [each for each in postings_of(entry) if wanted.is_met(each)] if wanted.may_have(entry) else []
+        except Wrong as wrong:
+            if faults is None:
+                raise
+            faults.append(str(wrong))
     return sorted(found, key=lambda posting: posting.position)
 
 

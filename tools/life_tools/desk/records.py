@@ -22,6 +22,11 @@ def sync_folder(path: str) -> None:
         os.close(handle)
 
 
+def sync_file(path: str) -> None:
+    with open(path, "rb") as file:
+        os.fsync(file.fileno())
+
+
 def write_safely(path: str, data: bytes) -> None:
     """Writes a file under another name, makes it safe, and puts it in place: a reader sees the old bytes or the new ones."""
     folder, name = os.path.split(path)

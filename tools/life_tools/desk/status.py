@@ -5,6 +5,7 @@ import os
 
 from life_tools.common.formats import demand, remark
 from life_tools.common.locks import holder_of
+from life_tools.desk.claiming import written_later
 from life_tools.desk.entries import BEGUN, CLAIMING, LOCK, OPEN, Entry, Log
 from life_tools.desk.reporting import held_text, print_entries
 
@@ -14,6 +15,8 @@ def lines_of(entry: Entry) -> list[str]:
     state = entry.record["state"]
     if state == CLAIMING:
         return [f"{entry.shown}: the claim of {entry.file} was interrupted; the next `day` finishes it"]
+    if entry.fault:
+        return [entry.fault]
     said = [held_text(entry, each) for each in entry.held]
     if said:
         said.append(f"`life-tools day --release {entry.number}` posts the held rows of {entry.file}, --discard puts them away")
@@ -36,7 +39,9 @@ def report(log: Log, journal: str) -> int:
                     "or was interrupted; the next `day` finds out what was posted, and goes on")
     entries = log.undone()
     said += [line for entry in entries for line in lines_of(entry)]
-    print_entries(entry for entry in entries if entry.record["state"] != CLAIMING)
+    said += [f"{entry.file} was written to after it was claimed: the next `day` takes what was added to {entry.shown}"
+             for entry in map(log.entry, written_later(log)) if entry.is_added_to]
+    print_entries(entry for entry in entries if entry.record["state"] != CLAIMING and not entry.fault)
     for line in said:
         remark(f"day: {line}")
     return 1 if said or entries else 0
