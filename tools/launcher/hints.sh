@@ -32,15 +32,15 @@ why_fault() {
 # why a file can't be had, where that shows
 why_not() {
     if [ -d "$1" ]; then
-        echo "$1 is a folder"
+        printf '%s\n' "$1 is a folder"
     elif [ -e "$1" ]; then
         holder=$(holder_of "$1")
         if [ -n "$holder" ]; then
             printf '%s\n' "$1 is in use by $holder: wait until it has ended, or use $waits SECONDS"
         elif [ ! -w "$1" ]; then
-            echo "$1 can't be written by $(id -un)"
+            printf '%s\n' "$1 can't be written by $(id -un)"
         fi
     else
-        echo "$1 isn't there: it can't be made in this folder, or was taken away while the run had it"
+        printf '%s\n' "$1 isn't there: it can't be made in this folder, or was taken away while the run had it"
     fi
 }

@@ -17,10 +17,10 @@ make_sandbox() {
     is_newest "$preview" || build_preview
     mkdir -p -- "$1/bin" && made=$(cd -- "$1" && pwd -P) && cp -- "$root"/examples/*.csv "$root"/examples/*.xml "$made" &&
         put_command "$made/bin/life" "" && put_command "$made/bin/life-tools" "tools " &&
-        put_command "$made/bin/life-wait" "--wait " && echo "PATH=$made/bin:\$PATH" >"$made/activate" &&
+        put_command "$made/bin/life-wait" "--wait " && printf '%s\n' "PATH=$made/bin:\$PATH" >"$made/activate" &&
         echo "In this folder life runs the unproved preview. A real book does not belong here." >"$made/life.sandbox" ||
         give_up "no sandbox was made: $1 can't be written"
-    echo "sandbox: $1"
+    printf 'sandbox: %s\n' "$1"
     say "to work in it: cd $1 && . ./activate"
     exit 0
 }

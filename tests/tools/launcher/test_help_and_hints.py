@@ -83,6 +83,28 @@ def test_a_message_isnt_cut_or_obeyed(installed: Path, tmp_path: Path) -> None:
     assert done.err.endswith(r"acme\co?[2J, so nothing was run" + "\n"), done.err
 
 
+@pytest.mark.root
+@pytest.mark.needs("setpriv")
+def test_a_users_name_with_a_backslash(proved_clone: Path, folder: Folder, tmp_path: Path) -> None:
+    r"""Of ACME\carl a hint ended at `\c`."""
+    folder.write("journal.life", "x").chmod(0o444)
+    for place in (folder.path, *folder.path.parents[:3], tmp_path):
+        place.chmod(0o755)
+    hints = (proved_clone / "tools/launcher/hints.sh").read_text()
+    script = f"called=life waits=life-wait tools=life-tools\n{hints}\nid() {{ printf 'ACME%scarl' '\\'; }}; holder_of() {{ :; }}\n" \
+        "why_not journal.life"
+    done = ran(["setpriv", "--reuid", "daemon", "--clear-groups", "sh", "-c", script], folder.path)
+    assert done.out == "journal.life can't be written by ACME\\carl\n", done
+
+
+def test_without_its_program_the_installed_life_says_so(installed: Path, tmp_path: Path) -> None:
+    shutil.copytree(installed, tmp_path / "bin", symlinks=True)
+    os.remove(tmp_path / "bin" / "life-program")
+    for words in ("", "help", "state", "--wait 5 run"):
+        done = ran([tmp_path / "bin" / "life", *words.split()], tmp_path)
+        assert done.status == 69 and "so nothing was run: install life anew" in done.err, (words, done)
+
+
 def test_without_a_proved_program(proved_clone: Path, tmp_path: Path) -> None:
     clone = tmp_path / "clone"
     shutil.copytree(proved_clone, clone, symlinks=True)
