@@ -17,7 +17,7 @@ WRITERS = ("report 2022-12-31 --csv {}", "report 2022-12-31 --html {}", "movemen
 
 
 @pytest.mark.parametrize("words", WRITERS)
-@pytest.mark.parametrize("name", ["journal.life", "checkpoint.life", "basis.csv", "q.xml", "g.xml", "renamed.life",
+@pytest.mark.parametrize("name", ["journal.life", "checkpoint.life", "basis.csv", "desk.toml", "q.xml", "g.xml", "renamed.life",
                                   "other-basis.txt", "monday.txt", "table.txt", "odd.txt"])
 def test_a_books_own_file_isnt_replaced(small_office: Folder, words: str, name: str) -> None:
     assert small_office.life("checkpoint").status == 0

@@ -12,6 +12,7 @@ from pathlib import Path
 import pytest
 
 from life_tools.desk.claiming import claimed
+from life_tools.desk.day import Day
 from life_tools.desk.entries import Log
 from tests.support.desks import TODAY, Desk, started
 from tests.support.folders import Folder
@@ -503,3 +504,25 @@ def test_what_a_backup_lacks_is_posted_anew(begun: Desk) -> None:
     assert "was restored to 3 postings; 1 rows that were posted since are posted anew" in ended.err
     assert begun.count() == 4 and [row["position"] for row in begun.log()] == ["1", "2", "3", "4"]
     assert begun.entry(2)["lost"][0][:2] == [1, 4]
+
+
+def test_a_backup_that_was_made_while_a_run_was_noted(begun: Desk, monkeypatch: pytest.MonkeyPatch) -> None:
+    """The record of the run in it has ended, and the entry does not know of the run yet. Its rows were posted, and are not
+    posted again: they were held, or refused, and no entry had their positions."""
+    begun.hand_in("a.csv", ISSUE.replace("7001", "7002") + "\n1,premium,7002,2024-05-01,400.00\n"
+                  "1,settle,7001,2024-06-01,9000.00\n")
+    with monkeypatch.context() as patched:
+        patched.setattr(Day, "note", lambda *_: os._exit(9))
+        begun.folder.tools("day", "--today", TODAY)
+    early = (begun.entry_folder(2) / "entry.json").read_text()
+    begun.day(status=1)
+    for restored, count in ((False, 5), (True, 4)):
+        (begun.entry_folder(2) / "entry.json").write_text(early)
+        (begun.entry_folder(2) / "done").unlink()
+        if restored:
+            begun.folder.journal.write_bytes(begun.folder.journal.read_bytes()[:18 + 65 * count - 1] + bytes(1))
+        ended = begun.day(*(["--restored"] if restored else []), status=1)
+        assert "run 2 of inbox/a.csv, begun " in ended.err
+        assert f"{count - 3} of its 3 rows were posted as positions 4 to {count}, " in ended.err
+        assert begun.entry(2)["accepted"] == [[1, 4], [2, 5]] and begun.count() == 5 and len(begun.log()) == 5
+        assert begun.entry(2)["refused"] == [[3, "oversettled,700.00"]] and begun.entry(2)["held"] == []

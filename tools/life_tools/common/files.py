@@ -13,7 +13,7 @@ from typing import Callable
 from life_tools.common.formats import KINDS, Wrong, bytes_of, demand, rows_in
 
 # names that are a book's own, whatever lies there
-OWN_NAMES = ("journal.life", "checkpoint.life", "basis.csv")
+OWN_NAMES = ("journal.life", "checkpoint.life", "basis.csv", "desk.toml")
 # so much of a file is looked at to tell what it is
 LOOKED_AT = 1 << 12
 SCRIPT_ROW = re.compile(f'"?[1-8]"?,"?({"|".join((*KINDS.values(), "value", "trim"))})"?(,|\r|\n|$)')

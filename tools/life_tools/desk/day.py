@@ -124,9 +124,20 @@ class Day:
         return run if run and run.record["state"] == BEGUN else None
 
     def finish_runs(self) -> None:
-        run = self.open_run()
-        if run is None:
-            return
+        for run in self.unnoted_runs():
+            self.finish_run(run)
+
+    def unnoted_runs(self) -> list[Run]:
+        """The run that was interrupted, and each one that an entry with rows left doesn't know of, as in a backup that was made
+        while they were noted; the oldest first."""
+        undone = [entry for entry in self.log.undone() if entry.record["state"] == OPEN and not entry.fault]
+        left = {entry.name: {*(run["run"] for run in entry.record["runs"]), *entry.record.get("void", [])}
+                for entry in undone if entry.left}
+        runs = map(self.log.run, self.log.run_numbers()) if left else filter(None, [self.open_run()])
+        return [run for run in runs if run.record["state"] == BEGUN
+                or any(run.number not in left.get(lane["entry"], {run.number}) for lane in run.record["lanes"])]
+
+    def finish_run(self, run: Run) -> None:
         files = ", ".join(self.entry(lane["entry"]).file for lane in run.record["lanes"])
         found = self.settle(run, None)
         rows = sum(len(lane["rows"]) for lane in run.record["lanes"])
@@ -268,18 +279,21 @@ class Day:
         of a run that was killed may not be on the disk yet, and one whose sync failed may show in memory alone."""
         if os.path.exists(self.journal):
             made_safe(self.journal)
-        before, count = run.record["before"], count_of(self.journal)
+        is_open = run.record["state"] == BEGUN
+        before, count = run.record["before"], count_of(self.journal) if is_open else run.record["after"]
         records = commands_between(self.journal, before, count)
         found = reckoned(script_of(run), run.transcript(), records, before)
-        rows, at = rows_of(run), now()
+        rows, at = rows_of(run), now() if is_open else run.record["ended"]
+        status = status if is_open else run.record["status"]
         for lane in run.record["lanes"]:
             entry = self.entry(lane["entry"])
             self.worked.add(entry.name)
             if all(each["run"] != run.number for each in entry.record["runs"]):
                 mine = {row: own for row, (name, own) in rows.items() if name == entry.name}
                 self.note(entry, lane["lane"], run, found, mine, {"after": count, "status": status, "ended": at})
-        run.record.update(state=ENDED, after=count, status=status, ended=at, foreign=found.foreign, stopped=self.stop.caught)
-        run.save()
+        if is_open:
+            run.record.update(state=ENDED, after=count, status=status, ended=at, foreign=found.foreign, stopped=self.stop.caught)
+            run.save()
         if found.foreign:
             self.say(f"{found.foreign} postings after position {before} are not of run {run.number}: another run posted them")
         return found

@@ -21,6 +21,7 @@ def reopened(entry: Entry, count: int) -> int:
     if lost:
         record["accepted"] = [each for each in record["accepted"] if each[1] <= count]
         record["lost"] += [[row, position, now()] for row, position in lost]
+        record["void"] = [*record.get("void", []), *(run["run"] for run in record["runs"] if run["before"] >= count)]
         record["runs"] = [{**run, "after": min(run["after"], count)} for run in record["runs"] if run["before"] < count]
         record["state"] = OPEN
         # the mark goes first, so that an interruption leaves an entry that is looked at
@@ -30,7 +31,7 @@ def reopened(entry: Entry, count: int) -> int:
 
 
 def cut(run: Run, count: int) -> None:
-    """Of a run that was interrupted the answers behind a count are void: its transcript ends before the first of them."""
+    """Of a run the answers behind a count are void: its transcript ends before the first of them."""
     kept = []
     for line in run.transcript().splitlines(keepends=True):
         found = ACCEPTED.search(line)
@@ -48,10 +49,11 @@ def restored(log: Log, journal: str) -> None:
     wrong = next(differences(journal, count, (each for each in found_in(log, Wanted()) if each.position <= count)), None)
     demand(not wrong, f"{journal} is not an earlier state of this book: {wrong}; nothing was done")
     rows = sum(reopened(entry, count) for entry in log.entries())
-    run = log.newest_run()
-    if run and run.record["state"] == BEGUN:
+    for run in map(log.run, reversed(log.run_numbers())):
+        if run.record["state"] != BEGUN and run.record["after"] <= count:
+            break
         cut(run, count)
-    elif run and run.record["after"] > count:
-        run.record["after"] = count
-        run.save()
+        if run.record["state"] != BEGUN:
+            run.record["after"] = count
+            run.save()
     remark(f"day: the journal was restored to {count} postings; {rows} rows that were posted since are posted anew")
