@@ -22,6 +22,7 @@ from life_tools.journal.copied_folder import JOURNAL, basis_files, copy_basis
 from life_tools.journal.file import EMPTY, count_of, gate_of
 from life_tools.journal.policy_columns import Policies
 from life_tools.journal.record_columns import copy_prefix, prefix_count
+from life_tools.journal.records import Records
 from life_tools.reports.provenance import AT_ONCE, prefix_sum, shown
 from life_tools.journal.wholeness import demand_undamaged
 from life_tools.window import tables
@@ -32,6 +33,7 @@ from life_tools.window.kept_columns import keep, kept
 # so many results are kept of a book
 MOST_KEPT = 24
 POLICIES = tuple(column.name for column in fields(Policies))
+RECORDS = tuple(column.name for column in fields(Records))
 Stamp = tuple[object, ...]
 
 
@@ -143,6 +145,7 @@ class BookCopy:
         """From now on the position can be looked at."""
         keep(self.policies_at(book.count), POLICIES, book.policies)
         keep(self.history_at(book.count), NAMES, history_of(book))
+        keep(self.records_at(book.count), RECORDS, book.records)
         self.sum_at(book.count)
         self.positions.append(book.count)
 
@@ -151,6 +154,9 @@ class BookCopy:
 
     def history_at(self, position: int) -> str:
         return os.path.join(self.folder, f"history-{position}")
+
+    def records_at(self, position: int) -> str:
+        return os.path.join(self.folder, f"records-{position}")
 
     def policies(self, position: int) -> Policies:
         """The policies of a position, as columns; raises Working while those of an earlier position are made."""
@@ -170,6 +176,10 @@ class BookCopy:
     def history(self, position: int) -> History:
         """What the book was at each position up to this one."""
         return History(*(column[:position] for column in kept(self.history_at(self.newest), NAMES)))
+
+    def records(self, position: int) -> Records:
+        """The postings up to a position."""
+        return Records(*kept(self.records_at(self.newest), RECORDS)).front(position)
 
     # --- the journal and the basis as they are now ---
 
@@ -259,14 +269,6 @@ class BookCopy:
         return self.newest
 
     # --- what is asked of it ---
-
-    @contextmanager
-    def tables(self) -> Iterator[sqlite3.Connection]:
-        database = tables.opened(self.database)
-        try:
-            yield database
-        finally:
-            database.close()
 
     @contextmanager
     def lists(self, position: int) -> Iterator[sqlite3.Connection]:

@@ -114,8 +114,7 @@ def month_ends(last: int) -> tuple[int, int, int]:
 
 def year_ends_of(history: History, last: int) -> list[YearEnd]:
     """The last year-ends that the postings reach."""
-    dated = history.day[history.day != NO_DAY]
-    first = day_of_number(int(dated.min())).year
+    first = day_of_number(int(history.days().min())).year
     newest = day_of_number(last)
     newest_year = newest.year if (newest.month, newest.day) == (12, 31) else newest.year - 1
     found = []

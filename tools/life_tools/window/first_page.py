@@ -3,6 +3,7 @@ from __future__ import annotations
 
 from typing import NamedTuple, Sequence
 
+from life_tools.common.arrays import np
 from life_tools.common.formats import MOST_COMMANDS
 from life_tools.reports.report_pages import money
 from life_tools.reports import charts
@@ -136,10 +137,9 @@ def by_status(book: View, kinds: Sequence[Kind]) -> Table:
 
 
 def posted(book: View) -> Table:
-    with book.tables() as database:
-        rows = database.execute("select position, day, kind, policy, amount_cents from command where position <= ? "
-                                "order by position desc limit ?", (book.at, NEWEST)).fetchall()
+    places = np.arange(book.at)[:-NEWEST - 1:-1]
     names = [Head("position", RIGHT), Head("day"), Head("posting"), Head("policy", RIGHT), Head("amount", RIGHT)]
     return Table("The newest postings", names, [
-        [*cells((row["position"],)), Cell(row["day"] or ""), Cell(row["kind"]), policy_cell(book, row["policy"]),
-         Cell(money(row["amount_cents"]) if row["amount_cents"] else "")] for row in rows], kind="list")
+        [*cells((place + 1,)), Cell(str(it.day or "")), Cell(it.kind), policy_cell(book, it.number),
+         Cell(money(it.amount) if it.amount else "")] for place, it in zip(places.tolist(), book.records().commands(places))],
+                 kind="list")

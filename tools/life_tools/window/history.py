@@ -41,6 +41,11 @@ class History:
     def __len__(self) -> int:
         return len(self.kind)
 
+    def days(self) -> Array:
+        """The days of the postings that have one."""
+        found: Array = self.day[self.day != NO_DAY]
+        return found
+
     def position_on(self, day: int) -> int:
         """The last position up to which every posting is of the day or of one before."""
         return int(np.searchsorted(self.latest, day, "right"))

@@ -124,10 +124,3 @@ def kinds_of(policies: Policies) -> list[Kind]:
     names = ((number * (len(STATUSES) + 1) + state, plan, status)
              for number, plan in PLANS.items() for state, status in enumerate(STATUSES, 1))
     return [Kind(plan, status, counts[place], cents[place]) for place, plan, status in names if counts[place]]
-
-
-def newest_day(database: sqlite3.Connection, position: int) -> str | None:
-    """The day of the last posting that has one, at a position."""
-    row = database.execute("select day from command where position <= ? and day is not null order by position desc limit 1",
-                           (position,)).fetchone()
-    return row[0] if row else None

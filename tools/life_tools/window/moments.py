@@ -4,7 +4,7 @@ from __future__ import annotations
 import datetime
 from typing import NamedTuple
 
-from life_tools.journal.day_columns import number_at
+from life_tools.journal.day_columns import day_at, number_at
 from life_tools.window.asked import Asked, BadRequest, shown
 from life_tools.window.parts import Answer, Elsewhere
 from life_tools.window.views import View
@@ -91,9 +91,8 @@ def day_in(text: str) -> datetime.date | None:
 
 def first_day(book: View) -> datetime.date | None:
     """The day of the first posting that has one."""
-    with book.tables() as database:
-        row = database.execute("select day from command where day is not null order by position limit 1").fetchone()
-    return day_in(row[0]) if row else None
+    days = book.history().days()
+    return day_at(int(days[0])) if len(days) else None
 
 
 def month_end(year: int, month: int) -> datetime.date:

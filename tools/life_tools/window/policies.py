@@ -15,7 +15,7 @@ from life_tools.window.due_lists import Item
 from life_tools.window.jobs import Job
 from life_tools.window.views import View
 from life_tools.window.runs import lines_of, printed_by
-from life_tools.window.tables import postings_of, steps_of
+from life_tools.window.tables import steps_of
 
 PLANS = {"term": "Term insurance", "whole": "Whole life insurance", "endowment": "An endowment",
          "limited": "Whole life insurance on limited premiums"}
@@ -40,10 +40,10 @@ class Known(NamedTuple):
 
 def policy_at(book: View, number: int) -> Known | None:
     """The policy as the rules make it of its postings."""
-    with book.tables() as database:
-        postings = postings_of(database, number, book.at)
+    records = book.records()
+    places = records.places_of(number)
     steps, policy = [], None
-    for place, command, policy in steps_of(postings):
+    for place, command, policy in steps_of(zip((places + 1).tolist(), records.commands(places))):
         steps.append(Step(place, command, booking_of(command, policy)))
     return Known(policy, steps) if policy else None
 

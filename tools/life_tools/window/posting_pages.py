@@ -3,7 +3,7 @@ from __future__ import annotations
 
 import datetime
 import re
-from typing import Any, Sequence
+from typing import Sequence
 
 from life_tools.common.arrays import Array, np
 from life_tools.common.formats import FIRST_DAY, LAST_DAY
@@ -77,24 +77,20 @@ def due_between(book: View, first: int, last: int) -> Installments:
 
 def due_rows(book: View, found: Installments, order: Array) -> list[list[Cell]]:
     policies = book.policies()
-    commands = commands_at(book, found.position[order])
-    rows = []
-    for at, row in zip(order.tolist(), commands):
-        number = row["policy"] if row else int(policies.number[found.place[at]])
-        paid = f"on {row['day']}, at position {row['position']:,}" if row else "not paid"
+    records, rows = book.records(), []
+    for at in order.tolist():
+        position = int(found.position[at])
+        posted = records.command(position - 1) if position else None
+        number = posted.number if posted else int(policies.number[found.place[at]])
+        paid = f"on {posted.day}, at position {position:,}" if posted else "not paid"
         rows.append([Cell(str(day_at(found.due[at]))), policy_cell(book, number), Cell(money(int(found.cents[at]))), Cell(paid)])
     return rows
 
 
-def commands_at(book: View, positions: Array) -> list[Any]:
-    """The rows of the postings at positions, and none for 0."""
-    wanted = [each for each in positions.tolist() if each]
-    with book.tables() as database:
-        marks = ",".join("?" * len(wanted))
-        columns = "position, day, kind, policy, amount_cents"
-        rows = database.execute(f"select {columns} from command where position in ({marks})", wanted)
-        found = {row["position"]: row for row in rows.fetchall()}
-    return [found.get(each) for each in positions.tolist()]
+def posted_cells(book: View, places: Array) -> list[tuple[Cell, Cell, Cell, Cell]]:
+    """Of the postings at some places the position, the day, the kind and the policy."""
+    return [(cells((place + 1,))[0], Cell(str(it.day or "")), Cell(it.kind), policy_cell(book, it.number))
+            for place, it in zip(places.tolist(), book.records().commands(places))]
 
 
 # --- postings of a kind ---
@@ -114,10 +110,9 @@ def posting_page(book: View, asked: Asked, positions: Array, title: str, words: 
     name = "postings" if "kind" in words else "premiums"
     pages = max(-(-len(positions) // A_PAGE), 1)
     page = asked.number("page", 1, pages, 1)
-    history, some = book.history(), positions[(page - 1) * A_PAGE:page * A_PAGE]
-    rows = [[*cells((row["position"],)), Cell(row["day"]), Cell(row["kind"]), policy_cell(book, row["policy"]),
-             Cell(money(int(history.booked[row["position"] - 1])))] for row in commands_at(book, some)]
-    whole = int(history.booked[positions - 1].sum())
+    booked, some = book.history().booked, positions[(page - 1) * A_PAGE:page * A_PAGE] - 1
+    rows = [[*posted, Cell(money(cents))] for posted, cents in zip(posted_cells(book, some), booked[some].tolist())]
+    whole = int(booked[positions - 1].sum())
     names = [Head("position", RIGHT), Head("day"), Head("posting"), Head("policy", RIGHT), Head("booked", RIGHT)]
     total = [Cell("all"), Cell(""), Cell(""), *cells((len(positions),)), Cell(money(whole))]
     values = {"table": Table("Postings", names, rows, [total], kind="list"), "page": page, "pages": pages,

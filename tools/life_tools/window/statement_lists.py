@@ -17,7 +17,7 @@ from life_tools.window.find_pages import policy_cell
 from life_tools.window.group_pages import paged
 from life_tools.window.history import History
 from life_tools.window.parts import RIGHT, Answer, Cell, Head, Page, Table, cells
-from life_tools.window.posting_pages import commands_at
+from life_tools.window.posting_pages import posted_cells
 from life_tools.window.statement_pages import TITLES, asked_words, written
 from life_tools.window.views import View, paged_words, turns
 
@@ -80,14 +80,13 @@ def in_force_behind(book: View, group: str) -> Behind:
 
 # --- postings between the positions ---
 
-POSTING_HEADS = (Head("position", RIGHT), Head("policy", RIGHT), Head("day"), Head("posting"), Head("amount", RIGHT))
+POSTING_HEADS = (Head("position", RIGHT), Head("day"), Head("posting"), Head("policy", RIGHT), Head("amount", RIGHT))
 
 
 def postings_behind(book: View, places: Array, cents: Array) -> Behind:
     def rows(some: slice) -> list[list[Cell]]:
-        found = commands_at(book, places[some] + 1)
-        return [[*cells((row["position"],)), policy_cell(book, row["policy"]), Cell(row["day"]), Cell(row["kind"]),
-                 Cell(money(int(cents[row["position"] - 1])))] for row in found]
+        chosen = places[some]
+        return [[*posted, Cell(money(amount))] for posted, amount in zip(posted_cells(book, chosen), cents[chosen].tolist())]
 
     says = f"{len(places):,} posting{'' if len(places) == 1 else 's'} between both positions."
     return Behind(says, POSTING_HEADS, rows, len(places), int(cents[places].sum()))

@@ -1,27 +1,25 @@
-"""The tables of a book in SQLite, as `export sqlite` has them: made once, and brought up to date by the records behind them.
+"""The policies of a book as a table of SQLite, as `export sqlite` has it: made once, and brought up to date by later records.
 
 A policy that changes keeps its row for the positions before: each row tells since which position it is so, and until which
 it was, so that a page of an earlier position stays what it was.
 """
 from __future__ import annotations
 
-import datetime
 import sqlite3
 from contextlib import closing
-from dataclasses import fields, replace
-from typing import Any, Callable, Iterable, Iterator, Sequence
+from dataclasses import replace
+from typing import Callable, Iterable, Iterator
 
 from life_tools.common.arrays import np
 from life_tools.journal.columns import Columns, columns_at
 from life_tools.rules.commands import Command
-from life_tools.reports.export_tables import COMMAND, POLICY, command_rows, policy_rows
+from life_tools.reports.export_tables import POLICY, policy_rows
 from life_tools.common.formats import MOST_COMMANDS, Wrong
-from life_tools.journal.records import Records
 from life_tools.rules.policies import Policy, Refusal, decide
 from life_tools.valuations.rows import TableRow
 
 Tell = Callable[[str, int, "int | None"], None]
-WHOLE = ("position", "policy", "age", "years", "premiums_paid", "amount_cents", "premium_cents", "outstanding_cents")
+WHOLE = ("policy", "age", "years", "premiums_paid", "amount_cents", "premium_cents", "outstanding_cents")
 # the position behind all
 NEVER = MOST_COMMANDS + 1
 # what a list is sorted by where it is long, each with an index
@@ -63,18 +61,14 @@ def told(tell: Tell, doing: str, rows: Iterable[TableRow], whole: int) -> Iterat
 
 
 def make(path: str, journal: str, tell: Tell) -> Columns:
-    """Makes the tables of a journal's file; gives its book."""
+    """Makes the table of a journal's file; gives its book."""
     tell("reading the journal", 0, None)
     book = columns_at(journal)
     with closing(written(path, "off")) as database:
         database.execute("begin")
         make_policies(database, book, tell)
-        database.execute(f"create table command (position integer primary key, {', '.join(map(definition, COMMAND[1:]))})")
-        insert(database, "command", len(COMMAND), told(tell, "postings", command_rows(book), book.count))
         tell("an order of policies", 0, None)
         database.execute("create index policy_number on policy (policy, since)")
-        tell("an order of postings", 0, None)
-        database.execute("create index command_policy on command (policy)")
         database.execute("commit")
         # from now on somebody reads while more is written
         database.execute("pragma journal_mode = wal")
@@ -110,42 +104,24 @@ def make_orders_in(database: sqlite3.Connection) -> None:
 
 # --- further records ---
 
-def behind(records: Records, first: int) -> Records:
-    return Records(*(getattr(records, column.name)[first:] for column in fields(records)))
-
-
 def bring_up_to_date(path: str, journal: str, first: int, tell: Tell) -> Columns:
     """Takes the records behind a position; gives the book as it is now."""
     tell("reading the journal", 0, None)
     book = columns_at(journal)
     changed = np.unique(book.place[first:])
     policies = replace(book, policies=book.policies.at(changed[changed >= 0]))
-    commands = replace(book, records=behind(book.records, first))
     with closing(written(path)) as database:
         tell("taking what was posted", 0, None)
         database.execute("begin")
-        insert(database, "command", len(COMMAND), ((int(str(row[0])) + first, *row[1:]) for row in command_rows(commands)))
-        database.execute("update policy set until = ? where until = ? and policy in "
-                         "(select policy from command where position > ?)", (book.count, NEVER, first))
+        numbers = policies.policies.number.tolist()
+        database.executemany("update policy set until = ? where until = ? and policy = ?",
+                             ((book.count, NEVER, number) for number in numbers))
         insert(database, "policy", len(POLICY) + 2, ((*row, book.count, NEVER) for row in policy_rows(policies)))
         database.execute("commit")
     return book
 
 
 # --- one policy ---
-
-def command_of(row: Sequence[Any]) -> Command:
-    """The command of a row of the table."""
-    _, kind, number, day, plan, age, years, amount, premium = row
-    return Command(kind, number, datetime.date.fromisoformat(day), plan or "", age or 0, years or 0, amount or 0, premium or 0)
-
-
-def postings_of(database: sqlite3.Connection, number: int, position: int) -> list[tuple[int, Command]]:
-    """The postings of a policy up to a position, with their positions."""
-    rows = database.execute(f"select {', '.join(COMMAND)} from command where policy = ? and position <= ? order by position",
-                            (number, position))
-    return [(row[0], command_of(row)) for row in rows]
-
 
 def steps_of(postings: Iterable[tuple[int, Command]]) -> Iterator[tuple[int, Command, Policy]]:
     """Each posting with the policy that it left, by the rules."""

@@ -13,13 +13,14 @@ from urllib.parse import urlencode
 
 from life_tools.books.lists import ListedBook
 from life_tools.common.formats import MOST_BASIS_BYTES, MOST_COMMANDS, Wrong, number_of
+from life_tools.journal.day_columns import day_at
 from life_tools.journal.policy_columns import Policies
+from life_tools.journal.records import Records
 from life_tools.tables.basis import NAME
 from life_tools.window.asked import Asked, BadRequest, shown
 from life_tools.window.book_copy import BookCopy, TakenBasis
 from life_tools.window.history import History
 from life_tools.window.jobs import Job
-from life_tools.window.lists import newest_day
 
 # a position, perhaps with what ties it to a journal's prefix and a basis
 AT = re.compile("([0-9]{1,7})(?:-([0-9a-f]{12}))?")
@@ -74,8 +75,8 @@ class View:
     @cached_property
     def day(self) -> str | None:
         """The day of the last posting up to this position."""
-        with self.tables() as database:
-            return newest_day(database, self.at)
+        days = self.history().days()
+        return str(day_at(int(days[-1]))) if len(days) else None
 
     @property
     def today(self) -> datetime.date:
@@ -125,11 +126,9 @@ class View:
         """What the book was at each position up to this one."""
         return self.copy.history(self.at)
 
-    @contextmanager
-    def tables(self) -> Iterator[sqlite3.Connection]:
-        """The postings of all positions, and the policies of those that the window took."""
-        with self.copy.tables() as database:
-            yield database
+    def records(self) -> Records:
+        """The postings up to this position."""
+        return self.copy.records(self.at)
 
     @contextmanager
     def lists(self) -> Iterator[sqlite3.Connection]:
