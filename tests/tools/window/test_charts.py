@@ -207,11 +207,22 @@ def moments(lived: Folder) -> str:
 def test_the_waterfall_is_the_movement(window: Window, lived: Folder) -> None:
     answer = window.page(f"/1/movement?{moments(lived)}")
     rows = [*answer.rows("What moved"), answer.rows("What moved", "tfoot")[0]]
-    assert told(answer.marks("The reserve from")) == {row[0]: row[3] for row in rows}
+    assert told(answer.marks("The reserve from")) == {row[0].removesuffix(" reserve"): row[3] for row in rows}
     words = re.findall(r"[0-9-]+", moments(lived).replace("on1=", "").replace("p1=", "").replace("on2=", "").replace("p2=", ""))
     printed = lived.printed("movement", *words)
     for name, policies, lower, upper in rows:
         assert re.search(rf"^{name} +{cents(policies)} +{lower.replace(',', '')} +{upper.replace(',', '')}$", printed, re.M), name
+
+
+def test_a_movement_of_mean_reserves(window: Window, lived: Folder) -> None:
+    """The page says by which reserves it is; its ends are what the tool prints by the same."""
+    answer = window.page(f"/1/movement?{moments(lived)}&measure=mean")
+    words = re.findall(r"[0-9-]+", re.sub("(on|p)[12]=", "", moments(lived)))
+    closing = re.search("^closing reserve +[0-9]+ +([0-9.]+)", lived.printed("movement", *words, "--mean"), re.M)
+    assert closing and answer.rows("What moved", "tfoot")[0][2].replace(",", "") == closing[1]
+    assert "mean reserves." in answer.text and "terminal reserves." in window.page(f"/1/movement?{moments(lived)}").text
+    line = next(each for each in answer.links() if "/moved?" in each)
+    assert "measure=mean" in line and window.page(line).status == 200
 
 
 def test_a_line_of_a_movement_leads_to_its_policies(window: Window, lived: Folder) -> None:
@@ -274,3 +285,6 @@ def test_two_bases_side_by_side(window: Window, lived: Folder) -> None:
     for name, _, first, second, difference, *_ in rows:
         assert cents(difference) == cents(second) - cents(first)
         assert marks[f"{name}, basis.csv"] == first and marks[f"{name}, other.csv"] == second
+    groups = [each for each in answer.links() if "/group?" in each and "by=plan" in each and "group=endowment" in each]
+    sums = {window.page(each).rows("Policies of the group", "tfoot")[0][-1] for each in groups}
+    assert sums == next({row[2], row[3]} for row in rows if row[0] == "endowment")

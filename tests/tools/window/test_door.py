@@ -3,7 +3,9 @@ limits of connections and time, hostile requests, and what a dead window left.""
 from __future__ import annotations
 
 import hashlib
+import html
 import os
+import re
 import signal
 import socket
 import stat
@@ -49,6 +51,25 @@ def test_the_address_works_once(tools: Path, lived: Folder, tmp_path: Path) -> N
         again = window.ask(f"{window.root}/?{token}")
         assert again.status == 403 and "works once" in again.text and "Set-Cookie" not in again.headers
         assert window.ask("/?" + token).status == window.ask(f"/{'0' * 16}/?{token}").status == 403
+
+
+def test_an_address_for_a_colleague(tools: Path, lived: Folder, tmp_path: Path) -> None:
+    """A page has an address that lets somebody else in once, to the page as it is; a page can be asked for by no word of it."""
+    with Window(tools, lived.path, temporary=tmp_path) as window:
+        page = window.page("/1/find?plan=term&at=700")
+        link = next(each for each in page.links() if "/share?" in each)
+        told = re.search("http://[^<]*", window.page(link).page)
+        assert told
+        cookie, window.cookie = window.cookie, ""
+        address = html.unescape(told[0]).partition(f"127.0.0.1:{window.port}")[2].strip()
+        answer = window.ask(address)
+        assert answer.status == 303 and answer.headers["Set-Cookie"].startswith(cookie)
+        window.cookie = answer.headers["Set-Cookie"].split(";")[0]
+        assert window.page(answer.headers["Location"]).rows("Policies") == page.rows("Policies")
+        window.cookie = ""
+        assert window.ask(address).status == 403 and window.ask(link).status == 403
+        window.cookie = cookie
+        assert window.ask(link.replace("of=find", "of=elsewhere")).status == 400
 
 
 def test_the_key_is_not_written_to_a_pipe(tools: Path, lived: Folder, tmp_path: Path) -> None:

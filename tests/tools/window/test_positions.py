@@ -105,6 +105,23 @@ def test_a_changed_basis_is_told_and_changes_no_old_page(tools: Path, copied: Fo
         assert footer and footer[1] == sums[1]
 
 
+def test_a_table_that_changes_and_a_basis_that_is_no_text_are_told(tools: Path, copied: Folder) -> None:
+    """Both are told on each page, and a page that is there stays."""
+    with Window(tools, copied.path) as window:
+        before = window.page("/1/find").rows("Policies")
+        table = copied.read("g.xml")
+        copied.write("g.xml", table.replace("0.00", "0.01", 1))
+        assert "or a table of it changed" in window.page("/1/find").text
+        copied.write("g.xml", table)
+        assert "changed" not in window.page("/1/find").text
+        for content in (b"\xff\xfe,,\0\n", b"\"" * 100, b""):
+            copied.write("basis.csv", content)
+            answer = window.page("/1/find")
+            assert "or a table of it changed" in answer.text and answer.rows("Policies") == before
+        (copied.path / "basis.csv").unlink()
+        assert "or a table of it changed" in window.page("/1/find").text
+
+
 def test_a_journal_that_grew_is_the_same_one(tools: Path, copied: Folder) -> None:
     with Window(tools, copied.path) as window:
         before = window.page("/1/find").rows("Policies")

@@ -104,7 +104,15 @@ def test_a_sheet_names_another_program(office: Folder, other: Path, name: str) -
     assert "not the proved program" in printed.err
     assert office.tools(*words, "--html", "page.html").status == 0
     assert WARNING in office.read("page.html") and "@top-right" in office.read("page.html")
+    if name == "report":
+        assert office.tools(*words, "--bundle", "bundle.html").status == 0 and WARNING in office.read("bundle.html")
     assert "not the proved program" not in office.printed(*WORDS[name])
+
+
+def test_a_row_worked_out_names_another_program(office: Folder, other: Path) -> None:
+    printed = office.tools("why", "7001", "2021-01-01", "--life", str(other)).out
+    assert printed.splitlines()[0].endswith(", not the proved program")
+    assert "not the proved program" not in office.printed("why", "7001", "2021-01-01")
 
 
 @pytest.mark.needs("python:openpyxl")

@@ -15,6 +15,7 @@ from life_tools.valuations.class_bases import measure_words
 from life_tools.common.formats import MOST_COMMANDS, MOST_NUMBER, Wrong, day_in, demand, number_of
 from life_tools.journal.at_position import WORKERS, book_at
 from life_tools.common.packages import stay
+from life_tools.reports.provenance import with_program
 
 
 def arguments(parser: argparse.ArgumentParser) -> None:
@@ -59,5 +60,5 @@ def run(options: argparse.Namespace) -> int:
 
             valued = copy.parts(ran, *words)
             status, lines = explained(copy, valued, number, on, options.basis, options.measure, options.exact)
-    print("\n".join(lines))
+    print("\n".join([with_program(lines[0], options.life), *lines[1:]]))
     return status

@@ -232,13 +232,14 @@ def waterfall(says: str, axes: Axes, opening: int, moves: Sequence[int], closing
     return legend(names) + svg(says, [*tilted(axes, scale), *marks], HEIGHT + TILT)
 
 
-TILT = 78
+TILT = 100
 
 
 def tilted(axes: Axes, scale: Scale) -> list[str]:
     """The frame of a waterfall, whose labels are words and stand at a slant."""
     bare = Axes("", [], axes.up, axes.is_money)
     parts = frame(bare, scale)
+    parts.append(text((LEFT + WIDTH - RIGHT) / 2, HEIGHT + TILT - 10, axes.across, "middle axis"))
     count = len(axes.labels)
     for at, label in enumerate(axes.labels):
         x, y = middle_of(at, count) + 4, HEIGHT - BOTTOM + 16

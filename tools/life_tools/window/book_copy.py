@@ -229,25 +229,25 @@ class BookCopy:
     def journal_change(self) -> str:
         """Why the journal isn't the one any more that was copied, or nothing where that is its prefix."""
         count, was = self.newest, self.sum_at(self.newest)
-        now = self.looked_at(f"journal {count}", [self.book.journal], lambda: prefix_sum(self.book.folder, count))
+        now = self.looked_at(f"journal {count}", lambda: [self.book.journal], lambda: prefix_sum(self.book.folder, count))
         if now == was:
             return ""
         return (f"The journal isn't the one any more of which this window was opened. Its first {count:,} postings had the "
                 f"SHA-256 {was}; now {it_is(now)}. What is shown is of the copy.")
 
     def basis_change(self) -> str:
-        taken = self.basis
-        files = [os.path.join(self.book.folder, each) for each in basis_files(self.book.folder, taken.name)]
-        now = self.looked_at("basis", files, lambda: basis_sum(self.book.folder, taken.name))
+        taken, folder = self.basis, self.book.folder
+        now = self.looked_at("basis", lambda: [os.path.join(folder, each) for each in basis_files(folder, taken.name)],
+                             lambda: basis_sum(folder, taken.name))
         if now == taken.sum:
             return ""
         return (f"The basis {taken.name} or a table of it changed: with its tables it had the SHA-256 {taken.sum}; now "
                 f"{it_is(now)}. What is shown is by the basis as it was.")
 
-    def looked_at(self, what: str, paths: list[str], look: Callable[[], str]) -> str:
+    def looked_at(self, what: str, paths: Callable[[], list[str]], look: Callable[[], str]) -> str:
         """What is seen of files, looked at anew where they were written since; or why nothing is seen."""
         try:
-            stamp = stamp_of(*paths)
+            stamp = stamp_of(*paths())
             seen = self.seen.get(what)
             if seen is None or seen[0] != stamp:
                 seen = stamp, look()

@@ -2,6 +2,7 @@
 from __future__ import annotations
 
 import os
+from typing import Sequence
 
 from life_tools.common.formats import MOST_NUMBER, demand
 from life_tools.reports.report_pages import money
@@ -16,8 +17,6 @@ from life_tools.window.policies import STATUSES as STATUS_WORDS
 from life_tools.window.policy_pages import MEASURE_WORDS
 from life_tools.window.valuations import Valuation, kept_valuation, row_of
 from life_tools.window.views import View
-
-MOST_SHOWN = 12
 
 
 def other_in(book: View, asked: Asked) -> TakenBasis:
@@ -35,11 +34,13 @@ def bases(book: View, asked: Asked) -> Answer:
     other = other_in(book, asked)
     one = asked_valuation(book, asked, "other", "number")
     two = kept_valuation(book.by_basis(other), one.on, one.measure)
-    pairs = [(KEY_WORDS[key], group_pairs(one, two, key)) for key in KEYS if key != "basis-row"]
-    names = [book.basis.name, other.name]
+    keys = [key for key in KEYS if key != "basis-row"]
+    pairs = {key: group_pairs(one, two, key) for key in keys}
+    names, views = [book.basis.name, other.name], (book, book.by_basis(other))
     values = {"it": one, "names": names, "sums": [book.basis.sum, other.sum], "facts": totals(one, two),
-              "tables": [pair_table(f"By {says}", says, names, found) for says, found in pairs],
-              "picture": pair_picture(names, pairs[0][1], pairs[0][0]), "policy": policy_pair(book, asked, one, two, names),
+              "tables": [pair_table(KEY_WORDS[key], names, found, links_of(views, one, key)) for key, found in pairs.items()],
+              "picture": pair_picture(names, pairs[keys[0]], KEY_WORDS[keys[0]], links_of(views, one, keys[0])),
+              "policy": policy_pair(book, asked, one, two, names),
               "other": other.name, "measure_words": MEASURE_WORDS[one.measure], "number": asked.text("number"),
               "links": [book.link("report", on=one.on, measure=one.measure)]}
     return Page("bases.html", f"{names[0]} and {names[1]} on {one.on}", values)
@@ -65,25 +66,36 @@ def group_pairs(one: Valuation, two: Valuation, key: str) -> list[Pair]:
     return [(", ".join(STATUS_WORDS.get(each, each) for each in name), first[name], second[name]) for name in first]
 
 
-def pair_table(caption: str, says: str, names: list[str], pairs: list[Pair]) -> Table:
-    columns = [says, "policies", names[0], names[1], "difference", "words", "words by the other"]
-
-    def row(name: str, policies: int, first: int, second: int, words: tuple[int, int]) -> list[Cell]:
-        return [Cell(name), *cells((f"{policies:,}",)), Cell(money(first)), Cell(money(second)), Cell(signed(second - first)),
-                *cells(words)]
-
-    rows = [row(name, one.policies, one.bounds[-1], two.bounds[-1], (one.words, two.words)) for name, one, two in pairs]
-    parts = ((one.policies, one.bounds[-1], two.bounds[-1], one.words, two.words) for _, one, two in pairs)
-    sums = [sum(values) for values in zip(*parts)]
-    total = row("all", sums[0], sums[1], sums[2], (sums[3], sums[4]))
-    return Table(caption, heads(columns), rows, [total])
+Links = tuple[list[str], list[str]]
 
 
-def pair_picture(names: list[str], pairs: list[Pair], says: str) -> str:
-    some = pairs[:MOST_SHOWN]
-    series = [charts.Series(names[0], "c1", [one.bounds[-1] for _, one, _ in some]),
-              charts.Series(names[1], "c2", [two.bounds[-1] for _, _, two in some])]
-    axes = charts.Axes(says, [name for name, _, _ in some], "reserve, upper bound")
+def links_of(views: tuple[View, View], it: Valuation, key: str) -> Links:
+    """Of each group its policies, by the one basis and by the other."""
+    first, second = ([view.link("group", on=it.on, measure=it.measure, by=key, group=",".join(name)) for name in it.groups[key]]
+                     for view in views)
+    return first, second
+
+
+def pair_table(says: str, names: list[str], pairs: list[Pair], links: Links) -> Table:
+    columns = [says, "policies", names[0], names[1], "difference", "without a value", "by the other"]
+
+    def row(name: str, sums: Sequence[int], first: str = "", second: str = "") -> list[Cell]:
+        policies, one, two, *words = sums
+        return [Cell(name, first), *cells((policies,)), Cell(money(one), first), Cell(money(two), second),
+                Cell(signed(two - one)), *cells(words)]
+
+    parts = [(one.policies, one.bounds[-1], two.bounds[-1], one.words, two.words) for _, one, two in pairs]
+    rows = [row(pair[0], each, first, second) for pair, each, first, second in zip(pairs, parts, *links)]
+    return Table(f"By {says}", heads(columns), rows, [row("all", [sum(each[at] for each in parts) for at in range(5)])])
+
+
+def pair_picture(names: list[str], pairs: list[Pair], says: str, links: Links) -> str:
+    """The reserves of the groups; a book without policies has none."""
+    if not pairs:
+        return ""
+    series = [charts.Series(names[0], "c1", [one.bounds[-1] for _, one, _ in pairs], links[0]),
+              charts.Series(names[1], "c2", [two.bounds[-1] for _, _, two in pairs], links[1])]
+    axes = charts.Axes(says, [name for name, _, _ in pairs], "reserve")
     return charts.columns(f"The reserve by {says}, by {names[0]} and by {names[1]}", axes, series)
 
 

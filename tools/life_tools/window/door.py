@@ -13,7 +13,7 @@ from dataclasses import dataclass, field
 from html import escape
 from http.cookies import CookieError, SimpleCookie
 from typing import Any, Callable, Iterable
-from urllib.parse import parse_qsl
+from urllib.parse import parse_qsl, quote, urlencode
 
 Environment = dict[str, Any]
 StartResponse = Callable[..., Any]
@@ -23,6 +23,8 @@ Refused = tuple[int, str, list[tuple[str, str]]]
 TOKEN_BYTES = 16
 # a path with its words that is longer is no page's
 MOST_LETTERS = 1024
+# so many tokens are open at a time; a further one ends the oldest
+MOST_OPEN = 16
 POLICY = ("default-src 'none'; style-src 'self'; img-src 'self'; form-action 'self'; base-uri 'none'; "
           "frame-ancestors 'none'")
 HEADERS = (("Content-Security-Policy", POLICY), ("Referrer-Policy", "no-referrer"), ("Cache-Control", "no-store"),
@@ -41,23 +43,26 @@ def same(one: str, other: str) -> bool:
 
 @dataclass
 class Door:
-    """An application behind a door: the port tells by which names it is called, the token, which works once, who may come in."""
+    """An application behind a door: the port tells by which names it is called, a token, which works once, who may come in."""
 
     inside: Application
     port: int
-    token: str = field(default_factory=new_secret)
     cookie: str = field(default_factory=new_secret)
     prefix: str = field(default_factory=lambda: f"/{secrets.token_hex(8)}")
-    is_used: bool = False
+    open_tokens: list[str] = field(default_factory=list)
+    used_tokens: list[str] = field(default_factory=list)
     turn: threading.Lock = field(default_factory=threading.Lock)
 
     @property
     def cookie_name(self) -> str:
         return f"life-window-{self.port}"
 
-    @property
-    def address(self) -> str:
-        return f"http://127.0.0.1:{self.port}{self.prefix}/?token={self.token}"
+    def invitation(self, page: str) -> str:
+        """The address of a page, beginning with the prefix, with a new token for whoever opens it first."""
+        token = new_secret()
+        with self.turn:
+            self.open_tokens = [*self.open_tokens[1 - MOST_OPEN:], token]
+        return f"http://127.0.0.1:{self.port}{page}{'&' if '?' in page else '?'}token={token}"
 
     def __call__(self, environ: Environment, start: StartResponse) -> Iterable[bytes]:
         def guarded(status: str, headers: list[tuple[str, str]], *failure: Any) -> Any:
@@ -93,22 +98,27 @@ class Door:
     def exchange(self, environ: Environment) -> Refused | None:
         """Whoever first brings the token gets the cookie for it, and an address without the token; others need the cookie."""
         words = parse_qsl(environ.get("QUERY_STRING", ""), keep_blank_values=True)
-        if [name for name, _ in words] == ["token"] and environ.get("PATH_INFO") == f"{self.prefix}/":
-            return self.let_in(words[0][1])
+        tokens = [text for name, text in words if name == "token"]
+        if len(tokens) == 1:
+            more = urlencode([each for each in words if each[0] != "token"])
+            return self.let_in(tokens[0], quote(environ["PATH_INFO"]) + (f"?{more}" if more else ""))
         if not same(self.brought(environ), self.cookie):
             return 403, "Open the window by the address that life-tools browse gave.", []
         return None
 
-    def let_in(self, token: str) -> Refused:
-        if not same(token, self.token):
-            return 403, "That isn't this window's token.", []
+    def let_in(self, token: str, page: str) -> Refused:
         with self.turn:
-            was_used, self.is_used = self.is_used, True
+            found = [each for each in self.open_tokens if same(token, each)]
+            was_used = any([same(token, each) for each in self.used_tokens])
+            self.open_tokens = [each for each in self.open_tokens if each not in found]
+            self.used_tokens += found
         if was_used:
             return 403, ("This address was used already, and works once. If it wasn't you who used it, close the window; "
                          "life-tools browse opens another one."), []
+        if not found:
+            return 403, "That isn't this window's token.", []
         kept = f"{self.cookie_name}={self.cookie}; HttpOnly; SameSite=Strict; Path={self.prefix}/"
-        return 303, "Come in.", [("Location", f"{self.prefix}/"), ("Set-Cookie", kept)]
+        return 303, "Come in.", [("Location", page), ("Set-Cookie", kept)]
 
     def brought(self, environ: Environment) -> str:
         try:

@@ -130,20 +130,23 @@ def day_of_number(number: int) -> datetime.date:
     return datetime.date(1970, 1, 1) + datetime.timedelta(number)
 
 
-def figures_of(book: View) -> Figures:
-    """The figures of a position; raises Working while they are made."""
+def figures_of(book: View, on: datetime.date | None) -> Figures:
+    """The figures of a position, as it stood on a day or else on that of its last posting; raises Working while they are made."""
     # what an earlier position needs is made first, and not within this piece of work
     book.policies()
-    found = book.copy.kept(("figures", book.at), "the figures of the first page", lambda job: made(book))
+    day = None if book.at == book.copy.newest else on
+    found = book.copy.kept(("figures", book.at, day), "the figures of the first page", lambda job: made(book, day))
     assert isinstance(found, Figures)
     return found
 
 
-def made(book: View) -> Figures:
+def made(book: View, on: datetime.date | None) -> Figures:
+    """Those up to the last posting's day; or up to a later one, by which nothing more was posted."""
     history = book.history()
     last = int(history.latest[-1]) if len(history) else int(NO_DAY)
     if last == NO_DAY:
         return Figures([], [], [], [], [], [], [])
+    last = max(last, number_at(on)) if on else last
     first, count, until = month_ends(last)
     premiums = installments(book, history, until)
     is_received, months = np.isin(history.kind, RECEIVED), month_of(history.day)

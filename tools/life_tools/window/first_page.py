@@ -8,7 +8,7 @@ from life_tools.common.formats import MOST_COMMANDS
 from life_tools.reports.report_pages import money
 from life_tools.reports import charts
 from life_tools.window.asked import Asked
-from life_tools.window.due_lists import due_on
+from life_tools.window.due_lists import DueOn, due_on
 from life_tools.window.figures import MEASURE, Figures, Totals, figures_of, told, totals_of
 from life_tools.window.find_pages import policy_cell
 from life_tools.window.lists import Kind, kinds_of
@@ -35,16 +35,19 @@ class Picture(NamedTuple):
 
 def first_page(book: View, asked: Asked) -> Answer:
     """What is in the book, in pictures; the reserves of year-ends are asked of the program one by one."""
-    asked.only(("at",))
-    figures, kinds = figures_of(book), kinds_of(book.policies())
+    asked.only(("at", "on"))
+    on = asked.day_or_none("on")
+    figures, kinds = figures_of(book, on), kinds_of(book.policies())
     totals = totals_of(book, figures.year_ends)
-    waits = waiting_table(book)
+    past = due_on(book, on or book.today, 0)
     pictures = [picture for picture in (year_end_picture(book, figures, totals), status_picture(book, kinds),
                                         premium_picture(book, figures), claim_picture(book, figures)) if picture]
     policies, insured = sum(it.policies for it in kinds), [it for it in kinds if it.status in ("inforce", "paidup")]
     facts = [("postings", f"{book.at:,}"), ("policies ever issued", f"{policies:,}"),
-             ("insured", f"{sum(it.policies for it in insured):,}"), ("amount insured", money(sum(it.cents for it in insured)))]
-    values = {"facts": facts, "totals": totals, "pictures": pictures, "gauge": headroom_gauge(book), "waits": waits,
+             ("in force or paid up", f"{sum(it.policies for it in insured):,}"),
+             ("amount insured", money(sum(it.cents for it in insured)))]
+    values = {"facts": facts, "totals": totals, "pictures": pictures, "gauge": headroom_gauge(book), "on": on,
+              "waits": waiting_table(book, past), "past": past.sums.get("lapse", (0, 0))[0], "past_on": past.day,
               "by_status": by_status(book, kinds), "posted": posted(book), "left": f"{MOST_COMMANDS - book.at:,}"}
     return Page("overview.html", "The book", values, REFRESH if totals.missing and not totals.failure else 0)
 
@@ -58,7 +61,7 @@ def year_end_picture(book: View, figures: Figures, totals: Totals) -> Picture | 
               charts.Series("amount insured", "c2", [each.insured for each in ends], links)]
     axes = charts.Axes("end of year", [str(each.day.year) for each in ends], "amount")
     says = f"Reserve and amount insured at the ends of {ends[0].day.year} to {ends[-1].day.year}"
-    names = ["year-end", "position", "insured", "amount insured", "lower bound", "upper bound", "words"]
+    names = ["year-end", "position", "insured", "amount insured", "lower bound", "upper bound", "without a value"]
     rows = [[Cell(str(each.day), link), *cells((each.position, each.lives, money(each.insured), *told(total)))]
             for each, total, link in zip(ends, totals.found, links)]
     return Picture("Reserve and amount insured by year-end",
@@ -113,17 +116,16 @@ def headroom_gauge(book: View) -> str:
     return charts.gauge(says, book.at, MOST_COMMANDS, book.link("stands"), lambda count: f"{count:,}")
 
 
-def waiting_table(book: View) -> Table:
+def waiting_table(book: View, due: DueOn) -> Table:
     """What waits for a person: rows held back, refusals of the last runs, and what is past its grace."""
     held, refused = waiting_in(book.listed.folder)
-    due = due_on(book, book.today, 0)
     lapses, cents = due.sums.get("lapse", (0, 0))
     rows = [[Cell("rows held back", book.link("held") if held else ""), Cell("Rows of scripts that a person has to look at."),
              *cells((held, ""))],
             [Cell("refusals", book.link("refusals") if refused else ""), Cell("Rows of the last five files that were refused."),
              *cells((refused, ""))],
-            [Cell("past grace", book.link("day/list", what="lapse", day=book.today) if lapses else ""),
-             Cell(f"In arrears on {book.today}, and no longer to be paid."), *cells((lapses, money(cents)))]]
+            [Cell("past grace", book.link("day/list", what="lapse", day=due.day) if lapses else ""),
+             Cell(f"In arrears on {due.day}, and no longer to be paid."), *cells((lapses, money(cents)))]]
     names = [Head("what"), Head("which", "says"), Head("count", RIGHT), Head("premiums", RIGHT)]
     return Table("What waits for a person", names, rows)
 

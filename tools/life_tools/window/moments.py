@@ -10,12 +10,12 @@ from life_tools.window.parts import Answer, Elsewhere
 from life_tools.window.views import View
 
 # the word by which a page takes the day that is looked at
-DAY_WORDS = {"policy": "day", "day": "day", "day/list": "day", "report": "on", "month": "on", "audit": "on", "sample": "on",
-             "group": "on", "bases": "on", "movement": "on2", "statement": "on2"}
+DAY_WORDS = {"": "on", "policy": "day", "day": "day", "day/list": "day", "report": "on", "month": "on", "audit": "on",
+             "sample": "on", "group": "on", "bases": "on", "movement": "on2", "statement": "on2"}
 # what a page is of beside the moment, and keeps when that changes
 KEPT = {"policy": ("number", "measure"), "day": ("within",), "day/list": ("within", "what"), "report": ("measure",),
         "month": ("before",), "audit": ("before",), "sample": ("count", "seed", "by", "measure"), "bases": ("other", "measure"),
-        "movement": ("on1", "p1"), "statement": ("on1", "p1", "measure"),
+        "movement": ("on1", "p1", "measure"), "statement": ("on1", "p1", "measure"),
         "find": ("number", "from", "to", "plan", "status", "sort", "order"), "group": ("measure", "by", "group")}
 MOST_YEARS = 16
 

@@ -18,6 +18,7 @@ from life_tools.reports import charts
 from life_tools.window import pictures
 from life_tools.window.asked import Asked, BadRequest
 from life_tools.window.downloads import csv_parts, workbook
+from life_tools.valuations.class_bases import measure_words
 from life_tools.window.audit_pages import MEASURES as RESERVES, measure_on
 from life_tools.window.views import View
 from life_tools.window.parts import Answer, Cell, File, Head, Page, Table, cells, heads
@@ -28,7 +29,7 @@ from life_tools.window.valuations import Valuation, kept_valuation, words_of
 from life_tools.reserves.worked_rows import WORDS as WHY_NO_VALUE
 
 REPORT_WORDS = ("at", "on", "p", "measure")
-MOVEMENT_WORDS = ("at", "on1", "p1", "on2", "p2")
+MOVEMENT_WORDS = ("at", "on1", "p1", "on2", "p2", "measure")
 XLSX = "application/vnd.openxmlformats-officedocument.spreadsheetml.sheet"
 NAMED = 20
 KEY_WORDS = {"plan": "plan", "status": "status", "issue-year": "year of issue", "age-band": "age at issue",
@@ -81,7 +82,8 @@ def group_table(book: View, it: Valuation, key: str) -> Table:
         says = ", ".join(STATUS_WORDS.get(each, each) for each in name)
         rows.append([Cell(says, link), *(Cell(apart(text), link) for text in sums.cells()),
                      Cell("", picture=pictures.bar(sums.bounds[-1], most))])
-    return Table(f"By {KEY_WORDS[key]}", [*heads((KEY_WORDS[key], *column_names(it))), Head("", "bar")], rows,
+    names = (KEY_WORDS[key], *column_names(it)[:-1], "without a value")
+    return Table(f"By {KEY_WORDS[key]}", [*heads(names), Head("", "bar")], rows,
                  [[Cell("added up"), *cells(it.whole.cells()), Cell("")], printed_row(it)])
 
 
@@ -155,7 +157,7 @@ def origin_of(book: View) -> list[list[str]]:
 # --- a movement ---
 
 def asked_movement(book: View, asked: Asked, *more: str) -> tuple[ToolRun, list[str]]:
-    """A run of `movement`, which ends with 1 where it doesn't add up, and then prints nothing."""
+    """A run of `movement`, which ends with 1 where it doesn't add up, and then prints nothing; and the words that ask for it."""
     asked.only((*MOVEMENT_WORDS, *more))
     days = [asked.day_or_none(name) for name in ("on1", "on2")]
     if None in days:
@@ -163,10 +165,10 @@ def asked_movement(book: View, asked: Asked, *more: str) -> tuple[ToolRun, list[
     first, last = asked.position("p1", book.copy.newest, book.at), book.at
     if first > last:
         raise BadRequest(f"p1: the opening position {first} is after the closing one, {last}")
-    words = [str(days[0]), str(first), str(days[1]), str(last)]
+    words, measure = [str(days[0]), str(first), str(days[1]), str(last)], asked.one_of("measure", RESERVES, "terminal")
     title = f"the movement from {words[0]} at {first:,} to {words[2]} at {last:,}"
-    run = tool_run(book, ["movement", *words, "--basis", book.basis.name, "--policies", "OUT/policies.csv"], title, False)
-    return run, words
+    told = ["movement", *words, *measure_words(measure), "--basis", book.basis.name, "--policies", "OUT/policies.csv"]
+    return tool_run(book, told, f"{title}, {RESERVES[measure]}", False), [*words, measure]
 
 
 AMOUNT = re.compile(r"[0-9]+\.[0-9]{2}")
@@ -189,23 +191,25 @@ def movement(book: View, asked: Asked) -> Answer:
     run, words = asked_movement(book, asked)
     closing_day = asked.day_or_none("on2")
     assert closing_day is not None
-    valuation = kept_valuation(book, closing_day, "terminal")
+    on1, p1, on2, p2, measure = words
+    valuation = kept_valuation(book, closing_day, measure)
     rows, said = moved_rows(run)
     opening, *between, closing = rows
-    on1, p1, on2, p2 = words
-    told: dict[str, object] = {"on1": on1, "p1": p1, "on2": on2, "p2": p2}
+    told: dict[str, object] = {"on1": on1, "p1": p1, "on2": on2, "p2": p2, "measure": measure}
     before, after = book.at_position(int(p1)), book
-    links = [before.link("report", on=on1), *(book.link("moved", **told, line=row[0]) for row in between),
-             after.link("report", on=on2)]
+    links = [before.link("report", on=on1, measure=measure), *(book.link("moved", **told, line=row[0]) for row in between),
+             after.link("report", on=on2, measure=measure)]
     moved = [[Cell(row[0], link), *(Cell(apart(text), link) for text in row[1:])] for row, link in zip(rows, links)]
     table = Table("What moved", heads(("line", "policies", *(column.name for column in BY_BOUNDS))), moved[:-1],
                   [moved[-1], [Cell("printed by life"), *cells((valuation.policies, *map(money, valuation.total)))]])
     added = [sum(cents_of(row[place]) for row in rows[:-1]) for place in (2, 3)]
-    axes = charts.Axes("", [row[0] for row in rows], "reserve, by upper bounds")
+    # beside an axis of the reserve its ends need no second word
+    axes = charts.Axes("line of the movement", [row[0].removesuffix(" reserve") for row in rows], "reserve")
     says = f"The reserve from {opening[3]} on {on1} to {closing[3]} on {on2}, line by line"
     moves = [cents_of(row[3]) for row in between]
     picture = charts.waterfall(says, axes, cents_of(opening[3]), moves, cents_of(closing[3]), links)
     values = {"table": table, "said": said, "on1": on1, "p1": int(p1), "on2": on2, "p2": int(p2), "picture": picture,
+              "of": RESERVES[measure],
               "adds_up": added == [cents_of(closing[2]), cents_of(closing[3])] == list(valuation.total),
               "added": [*map(money, added)], "closing": [apart(closing[2]), apart(closing[3])],
               "opening_report": links[0], "closing_report": links[-1],
@@ -230,7 +234,7 @@ def movement_csv(book: View, asked: Asked) -> Answer:
 def movement_xlsx(book: View, asked: Asked) -> Answer:
     run, words = asked_movement(book, asked)
     of_what = [["what", "is"], ["book", book.name], ["from", f"{words[0]} at position {words[1]}"],
-               ["to", f"{words[2]} at position {words[3]}"], *origin_of(book)]
+               ["to", f"{words[2]} at position {words[3]}"], ["measure", words[4]], *origin_of(book)]
     return File(f"movement-{words[0]}-{words[2]}.xlsx", XLSX, workbook([("about", of_what), ("movement", movement_table(run))]))
 
 

@@ -125,10 +125,10 @@ def serve(listed: list[ListedBook], port: int, private: str, program: Program) -
     books = [BookCopy(number, book, private, list(program.words), door.prefix) for number, book in enumerate(listed, 1)]
     server = served(door, port)
     door.port = server.server_port
-    door.inside = Site(books, door.port, door.prefix, program).application
+    door.inside = Site(books, door, program).application
     # a window stays open for days, and each request leaves cycles
     gc.enable()
-    hand_over(door.address, private)
+    hand_over(door.invitation(f"{door.prefix}/"), private)
     remark("The window is open. Its address contains a key that works once, in a browser on this machine. Ctrl-C closes the "
            "window.")
     threading.Thread(target=tell_progress, args=(books[0],), daemon=True).start()

@@ -16,12 +16,12 @@ from life_tools.window import (audit_pages, compare_pages, day_pages, find_pages
                                policy_pages, posting_pages, stand_pages, statement_lists, statement_pages)
 from life_tools.window.asked import Asked, BadRequest, shown
 from life_tools.window.book_copy import BookCopy
-from life_tools.window.door import Application
+from life_tools.window.door import Application, Door
 from life_tools.window.downloads import warned
 from life_tools.window.jobs import Failed, Job, TooMuch, Working
 from life_tools.window.moments import moment_of, timeline
 from life_tools.window.parts import Answer, Elsewhere, File, Page
-from life_tools.window.views import Gone, View, address, view_of
+from life_tools.window.views import POSITIONS, Gone, View, address, view_of
 
 PACKAGE = "life_tools.window"
 Show = Callable[[View, Asked], Answer]
@@ -60,10 +60,11 @@ def file_of_package(name: str) -> bytes:
 class Site:
     """The books of a window, and Flask's application over them."""
 
-    def __init__(self, books: list[BookCopy], port: int, root: str, program: Program) -> None:
+    def __init__(self, books: list[BookCopy], door: Door, program: Program) -> None:
         self.flask: Any = importlib.import_module("flask")
         jinja: Any = importlib.import_module("jinja2")
-        self.books, self.port, self.root, self.program = books, port, root, program
+        self.books, self.door, self.root, self.program = books, door, door.prefix, program
+        self.pages: dict[str, Show] = {**PAGES, "share": self.share}
         self.origin = f"program {program.told()} · tools {revision()[:12]}"
         nowhere = os.path.join(os.path.dirname(books[0].folder), "nothing")
         self.app: Any = self.flask.Flask(PACKAGE, static_folder=None, template_folder=None, root_path=nowhere,
@@ -99,11 +100,15 @@ class Site:
         lives, insured = (int(column[-1]) if len(column) else 0 for column in (kept.lives, kept.insured))
         return {**found, "count": book.newest, "lives": lives, "insured": insured}
 
+    @property
+    def port(self) -> int:
+        return self.door.port
+
     def file(self, name: str, kind: str) -> Any:
         return self.flask.Response(file_of_package(name), mimetype=kind)
 
     def shown(self, number: int, name: str) -> Any:
-        show = PAGES.get(name)
+        show = self.pages.get(name)
         if show is None or not 1 <= number <= len(self.books):
             return self.told(404, "There is no such page", "Go on from the book's first page.")
         book = self.books[number - 1]
@@ -138,6 +143,19 @@ class Site:
             return response
         return self.page(answer.of or view, name, answer, asked)
 
+    @staticmethod
+    def words_of(asked: Asked) -> dict[str, object]:
+        """The words of a page beside its position."""
+        return {word: text for word, text in asked.words.items() if word not in ("at", "of", *POSITIONS)}
+
+    def share(self, view: View, asked: Asked) -> Page:
+        """An address of a page for somebody else on this machine, with a key of its own."""
+        of = asked.text("of")
+        if of not in PAGES:
+            raise BadRequest(f"of: {shown(of)} is no page")
+        page = view.link(of, **self.words_of(asked))
+        return Page("share.html", "For a colleague", {"page": page, "address": self.door.invitation(page)})
+
     def page(self, view: View, name: str, answer: Page, asked: Asked) -> Any:
         copy, under = view.copy, UNDER.get(name, name)
         menu = [(says, view.link(page), page == under) for page, says in MENU.items()]
@@ -148,7 +166,8 @@ class Site:
                  "now": f"{datetime.datetime.now():%Y-%m-%d %H:%M}",
                  "newer": "" if is_newest else view.newest_link(name if name in MENU else ""),
                  "older_basis": "" if view.basis in (copy.basis, *self.others(copy)) else view.newest_link(under),
-                 "times": timeline(view, name, asked)}
+                 "times": timeline(view, name, asked),
+                 "share": view.link("share", of=name, **self.words_of(asked)) if name in PAGES else ""}
         response = self.rendered(answer.template, answer.title, {**frame, **answer.values})
         return self.again(response, answer.refresh) if answer.refresh else response
 

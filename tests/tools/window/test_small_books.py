@@ -1,0 +1,52 @@
+"""Books with little in them: no policy, one, or nothing posted for months. Each page of such a book is there and is right."""
+from __future__ import annotations
+
+from pathlib import Path
+
+import pytest
+
+from life_tools.journal.file import file_of
+from tests.support.folders import Folder
+from tests.support.windows import Window
+
+pytestmark = pytest.mark.needs("python:flask", "python:openpyxl")
+
+ENDS = "on1=2019-12-31&p1=0&on2=2020-12-31"
+PAGES = ("/1/", "/1/find", "/1/day", "/1/day/list?what=lapse", "/1/month", "/1/audit", "/1/stands", "/1/flags", "/1/held",
+         "/1/report?on=2020-12-31&measure=deficiency", f"/1/movement?{ENDS}", f"/1/statement?{ENDS}&measure=mean",
+         "/1/bases?on=2020-12-31&other=other.csv", "/1/premiums?month=2020-12", "/1/postings?year=2020&kind=claim",
+         "/1/moment?asof=2020-12-31")
+
+
+def below(folder: Folder, name: str) -> Folder:
+    book = folder.below(name)
+    for each, of in (("q.xml", "q.xml"), ("basis.csv", "basis.csv"), ("other.csv", "basis.csv")):
+        book.write(each, folder.read(of))
+    return book
+
+
+def test_each_page_of_an_empty_book(tools: Path, table_q: Folder) -> None:
+    book = below(table_q, "empty")
+    book.write("journal.life", file_of([]))
+    with Window(tools, book.path) as window:
+        for path in PAGES:
+            assert window.page(path).status == 200
+        sample = window.get("/1/sample?on=2020-12-31")
+        assert sample.status == 409 and "none can be drawn" in sample.text
+
+
+def test_a_day_months_after_the_last_posting(tools: Path, table_q: Folder) -> None:
+    """As it stood on a day its year-end is shown, though nothing was posted since July, and arrears are those of the day. Of the
+    newest position no year-end is shown that its postings don't reach."""
+    book = below(table_q, "office")
+    book.post("1,issue,7001,2020-01-01,endowment,0,3,1000.00,400.00\n1,issue,7002,2020-07-01,endowment,0,3,1000.00,400.00\n")
+    book.post("1,premium,7001,2021-01-01,400.00\n")
+    with Window(tools, book.path) as window:
+        page = window.page("/1/moment?asof=2020-12-31")
+        rows = page.rows("Reserve and amount insured at the ends of 2020 to 2020")
+        assert [row[:4] for row in rows] == [["2020-12-31", "2", "2", "2,000.00"]]
+        waits = page.rows("What waits for a person")[2]
+        assert waits[1:] == ["In arrears on 2020-12-31, and no longer to be paid.", "2", "800.00"]
+        assert "2 policies of these are past the days of grace on 2020-12-31" in page.text
+        assert "ends of" not in window.page("/1/moment?asof=2020-11-30").text
+        assert "ends of 2020 to 2020" in window.page("/1/moment?asof=2030-12-31").text
