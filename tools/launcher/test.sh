@@ -1,5 +1,5 @@
-# All tests without any proof: each crate of tests as the kit tries it, and checks and the suite of this repository over a
-# preview. With a test's path or an option, that part of the suite alone, as pytest takes them.
+# All tests without any proof: each crate of tests as the kit tries it, and the suite over a preview. With a test's path or an
+# option, that part of the suite alone, as pytest takes them.
 # What it takes of the launcher:
 : "${root:?}" "${launcher:?}" "${program:?}" "${preview:?}"
 
@@ -10,34 +10,20 @@ test_crates() {
     done | sort -rn | cut -d ' ' -f 2
 }
 
-# the checks that run a program over the examples, and need minutes on none
-example_checks() {
-    for check in program_value project program_load program_run program_state program_lanes upgraded cases; do
-        [ ! -f "$root/.ci/checks/$check.sh" ] || echo "$root/.ci/checks/$check.sh"
-    done
-}
-
-other_checks() {
-    example_checks >"$results/examples"
-    for check in "$root"/.ci/checks/*.sh; do
-        [ ! -f "$check" ] || grep -qxF "$check" "$results/examples" || echo "$check"
-    done
-}
-
-# Jobs of a list, so many at once; each says a line as it ends, and leaves its counts in the folder of results.
+# The jobs of a list, so many at once; each prints a line as it ends, and adds its counts to the folder of results.
 do_jobs() {
-    setsid xargs -r -d '\n' -a "$1" -n 1 -P "$2" sh "$launcher/test_job.sh" "$root" "$results" "$3" </dev/null &
+    setsid xargs -r -d '\n' -a "$1" -n 1 -P "$2" sh "$launcher/test_job.sh" "$root" "$results" </dev/null &
     wait "$!"
 }
 
-# pytest over a program, in a session of its own; its status is in `tested`
-run_pytest() {
+# Debian's Python with these arguments, over a program and in a session of its own; its status is in `tested`.
+run_python() {
     judged=$1
     shift
     python=/usr/bin/python3
     [ -x "$python" ] || python=python3
     "$python" -c "import pytest" 2>/dev/null || give_up "the suite needs pytest: sh .ci/setup.sh"
-    LIFE_PROGRAM=$judged setsid "$python" -m pytest -c "$root/pyproject.toml" --rootdir "$root" "$@" </dev/null &
+    LIFE_PROGRAM=$judged setsid "$python" "$@" </dev/null &
     wait "$!"
     tested=$?
 }
@@ -51,16 +37,15 @@ run_part() {
         judged=$preview
     fi
     ends_by_signal : "the tests weren't run to their end"
-    run_pytest "$judged" "$@"
+    run_python "$judged" -m pytest -c "$root/pyproject.toml" --rootdir "$root" "$@"
     exit "$tested"
 }
 
-# the whole suite: what it counts goes to the folder of results
+# The whole suite; one that ends without its counts is a failure.
 run_suite() {
-    # 5: it found no test
-    run_pytest "$judged" -q -n "$at_once" "$@" --junitxml="$results/suite.xml" "$root/tests"
-    [ "$tested" = 5 ] || sed -n 's/.*<testsuite [^>]*errors="\([0-9]*\)" failures="\([0-9]*\)" skipped="\([0-9]*\)" tests="\([0-9]*\)".*/\1 \2 \3 \4/p' \
-        "$results/suite.xml" 2>/dev/null | awk '{ print $4 - $1 - $2 - $3, $1 + $2; n++ } END { if (!n) print 0, 1 }' >>"$results/counts"
+    echo 0 1 0 >"$results/suite"
+    run_python "$judged" "$root/.ci/suite.py" "$at_once" "$results/suite" "$@"
+    cat "$results/suite" >>"$results/counts"
 }
 
 run_tests() {
@@ -80,25 +65,19 @@ run_tests() {
     # a crate of tests takes up to a gigabyte and a half
     at_once=$(jobs_at_once 1500)
     { echo preview; test_crates; } >"$results/jobs"
-    example_checks >"$results/checks"
-    say "$(test_crates | wc -l) crates of tests, $(wc -l <"$results/checks") checks, $at_once side by side"
-    do_jobs "$results/jobs" "$at_once" preview
-    do_jobs "$results/checks" "$at_once" preview
+    say "$(test_crates | wc -l) crates of tests, $at_once side by side, then the suite"
+    do_jobs "$results/jobs" "$at_once"
     judged=$preview
-    [ "${1-}" = --all ] || run_suite
     if [ "${1-}" = --all ]; then
-        other_checks >"$results/others"
-        # they measure, and kill at moments: each alone
-        which=preview
-        ! is_current "$program" || which=proved judged=$program
-        say "$(wc -l <"$results/others") checks more, of the $which program"
-        do_jobs "$results/others" 1 "$which"
+        ! is_current "$program" || judged=$program
         run_suite --slow
+    else
+        run_suite
     fi
     trap - INT TERM HUP
     say "the tests took $(time_since "$started")"
-    awk '{ passed += $1; failed += $2 }
-        END { printf "%d passed, %d failed, nothing proved\n", passed, failed; exit failed > 0 || passed == 0 }' \
+    awk '{ passed += $1; failed += $2; skipped += $3 }
+        END { printf "%d passed, %d failed, %d skipped, nothing proved\n", passed, failed, skipped; exit failed > 0 || passed == 0 }' \
         "$results/counts"
     status=$?
     rm -rf "$results"

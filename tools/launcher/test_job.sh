@@ -1,25 +1,22 @@
-# One job of `sh life test`: test_job.sh ROOT RESULTS JUDGED JOB, where JOB is `preview`, which builds that, a crate of
-# tests, or a check's file. A check judges the preview, or the proved program where JUDGED is `proved`. It says a line,
-# and more where something failed, and adds its counts of what passed and failed to RESULTS/counts.
-root=$1 results=$2 judged=$3 job=$4
+# One job of `sh life test`: test_job.sh ROOT RESULTS JOB, where JOB is `preview`, which builds that, or a crate of tests. It
+# prints a line, and more where something failed, and adds its counts of what passed and failed to RESULTS/counts.
+root=$1 results=$2 job=$3
 launcher=$root/tools/launcher
 previews=$root/out/preview
 preview=$previews/life_preview
 . "$launcher/shared.sh"
 . "$launcher/preview.sh"
-name=$(basename "$job" .sh)
-said=$results/$name.said
+said=$results/$job.said
 started=$(date +%s)
 
 # passed, failed, and what is shown of a failure
 report() {
     echo "$1 $2" >>"$results/counts"
     if [ "$2" = 0 ]; then
-        grep ': skipped: ' "$said"
-        [ "$1" = 0 ] || echo "$name: $1 passed, after $(time_since "$started")"
+        echo "$job: $1 passed, after $(time_since "$started")"
     else
         {
-            echo "$name: $1 passed, $2 FAILED, after $(time_since "$started"):"
+            echo "$job: $1 passed, $2 FAILED, after $(time_since "$started"):"
             tail -n 40 "$3" | sed 's/^/    /'
         } >"$said.report"
         cat "$said.report"
@@ -47,24 +44,8 @@ try_crate() {
     esac
 }
 
-run_check() {
-    case $judged in
-        proved) set -- -u LIFE_PROGRAM -u LIFE_PREVIEW ;;
-        *) set -- LIFE_PROGRAM="$preview" LIFE_PREVIEW=yes ;;
-    esac
-    do_bounded "$root" env "$@" sh "$job"
-    if [ "$ended" != 0 ]; then
-        report 0 1 "$said"
-    elif tail -n 1 "$said" | grep -q ': skipped: '; then
-        report 0 0
-    else
-        report 1 0
-    fi
-}
-
 case $job in
     preview) is_newest "$preview" || build_preview ;;
-    */*) run_check ;;
     *) try_crate ;;
 esac
 # a job that failed has said so, and the others go on

@@ -2,7 +2,6 @@
 from __future__ import annotations
 
 import os
-import pty
 import shutil
 import subprocess
 from dataclasses import dataclass
@@ -24,28 +23,6 @@ def ran(words: Sequence[str | Path], folder: Path, given: str = "", env: dict[st
     return Ended(done.returncode, done.stdout.decode("utf-8", "replace"), done.stderr.decode("utf-8", "replace"))
 
 
-def on_terminal(words: Sequence[str | Path], folder: Path, given: str = os.devnull, typed: bytes = b"") -> tuple[int, str]:
-    """The status of a command whose standard output and error are a terminal, and what stands on it. What is typed is
-    standard input, in place of a file."""
-    child, terminal = pty.fork()
-    if child == 0:
-        os.chdir(folder)
-        if not typed:
-            os.dup2(os.open(given, os.O_RDONLY), 0)
-        os.execvp(str(words[0]), [str(word) for word in words])
-    said = b""
-    os.write(terminal, typed)
-    while True:
-        try:
-            more = os.read(terminal, 1000)
-        except OSError:
-            break
-        said += more
-        if not more:
-            break
-    return os.waitstatus_to_exitcode(os.waitpid(child, 0)[1]), said.decode("utf-8", "replace")
-
-
 def note_proof(clone: Path) -> None:
     """Notes that the clone's program is proved, of its sources as they are."""
     subprocess.run(["sh", "-c", NOTE, clone], check=True)
@@ -55,13 +32,27 @@ def note_proof(clone: Path) -> None:
 def proved_clone(program: Program, tmp_path_factory: pytest.TempPathFactory) -> Path:
     """A copy of the repository whose program counts as proved."""
     clone = tmp_path_factory.mktemp("clone")
-    named = subprocess.run(["git", "ls-files", "-z", "life", "tools", "crates", "crates.txt", "CHANGELOG.md"], cwd=ROOT,
+    named = subprocess.run(["git", "ls-files", "-z", "life", ".ci", "tools", "crates", "crates.txt", "CHANGELOG.md"], cwd=ROOT,
                            stdout=subprocess.PIPE, check=True).stdout
     subprocess.run(["xargs", "-0", "cp", "--parents", "-p", "-t", clone], cwd=ROOT, input=named, check=True)
     out = clone / "crates" / "life_cli" / "out"
     out.mkdir()
     shutil.copy(program.path, out / "life_cli")
     note_proof(clone)
+    return clone
+
+
+@pytest.fixture
+def clone(proved_clone: Path, tmp_path: Path) -> Path:
+    """A clone of the test's own, whose program counts as proved."""
+    return Path(shutil.copytree(proved_clone, tmp_path / "clone", symlinks=True))
+
+
+@pytest.fixture(scope="session")
+def unproved_clone(proved_clone: Path, tmp_path_factory: pytest.TempPathFactory) -> Path:
+    """A clone in which nothing is proved; tests leave it as it is."""
+    clone = tmp_path_factory.mktemp("unproved") / "clone"
+    shutil.copytree(proved_clone, clone, symlinks=True, ignore=shutil.ignore_patterns("out"))
     return clone
 
 

@@ -10,7 +10,8 @@ from pathlib import Path
 import pytest
 
 from tests.support.folders import Folder
-from tests.tools.launcher.conftest import Called, on_terminal, ran
+from tests.support.launchers import on_terminal
+from tests.tools.launcher.conftest import Called, ran
 
 COMMANDS = ("run", "state", "checkpoint", "value", "project", "generate", "load", "--wait")
 OWN = ("try", "prove", "test", "install", "pack", "doc", "tools", "sandbox")
@@ -70,7 +71,7 @@ def test_what_usage_means(small_office: Folder, life: Called, words: list[str], 
 
 
 def test_a_script_that_is_typed(small_office: Folder, life: Called) -> None:
-    status, said = on_terminal([*life.words, "run"], small_office.path, typed=b"1,trim\n\x04")
+    status, said = on_terminal([*life.words, "run"], small_office.path, given=None, typed=b"1,trim\n\x04")
     assert status == 0 and f"until Ctrl-D; a file is {life.named} run < SCRIPT" in said and "1,trim,27" in said, said
 
 

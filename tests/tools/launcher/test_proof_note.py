@@ -12,12 +12,6 @@ import pytest
 from tests.tools.launcher.conftest import note_proof, ran
 
 
-@pytest.fixture
-def clone(proved_clone: Path, tmp_path: Path) -> Path:
-    """A clone of the test's own."""
-    return Path(shutil.copytree(proved_clone, tmp_path / "clone", symlinks=True))
-
-
 def is_run(clone: Path) -> bool:
     done = ran(["sh", clone / "life", "generate", "1", "1", "1"], clone)
     assert done.status in (0, 69) and (done.out == "") == (done.status == 69), done

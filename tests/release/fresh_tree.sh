@@ -1,5 +1,5 @@
 #!/bin/sh
-# A fresh Debian without the kit, as a tar file, for the check of a release: fresh_tree.sh prints where it lies, and why
+# A fresh Debian without the kit, as a tar file, for the tests of a release: fresh_tree.sh prints where it lies, and why
 # there is none where it can't be made (status 1). It is made once, by debootstrap, and kept outside the repository; it
 # has what the window needs, and nothing else that the package recommends.
 suite=$(sed -n 's/^VERSION_CODENAME=//p' /etc/os-release)

@@ -1,0 +1,96 @@
+"""Runs the suite and counts: the tests side by side; then, one after the other, those that go by the clock; and where it is
+asked for, some of the planted changes that the suite has to notice.
+
+usage: /usr/bin/python3 .ci/suite.py JOBS COUNTS [--mutants] [PYTEST'S ARGUMENTS..]
+
+JOBS tests run at once. COUNTS is a file that takes a line with the numbers of tests that passed, failed and were skipped. The
+status is 1 where a test failed.
+
+A test that goes by the clock, or that waits for a browser, can fail because other work delays it. So one of these that fails
+is run once more, by itself. The second run counts, and a line reports it.
+"""
+from __future__ import annotations
+
+import subprocess
+import sys
+import tempfile
+import xml.etree.ElementTree
+from dataclasses import dataclass, field
+from pathlib import Path
+from typing import Sequence
+
+ROOT = Path(__file__).resolve().parents[1]
+BY_THE_CLOCK = "alone or browser"
+# pytest's status where no test is of the part
+NO_TEST = 5
+
+
+@dataclass
+class Counts:
+    """The tests that ended so, by their names."""
+
+    passed: list[str] = field(default_factory=list)
+    failed: list[str] = field(default_factory=list)
+    skipped: list[str] = field(default_factory=list)
+
+    def add(self, other: Counts) -> None:
+        self.passed += other.passed
+        self.failed += other.failed
+        self.skipped += other.skipped
+
+
+def counted(report: Path) -> Counts:
+    """What pytest's report in the form of JUnit says; a test may fail, and fail at its end again."""
+    counts = Counts()
+    for case in xml.etree.ElementTree.parse(report).iter("testcase"):
+        name = f"{case.get('classname')}::{case.get('name')}"
+        kinds = {each.tag for each in case}
+        part = counts.failed if kinds & {"failure", "error"} else counts.skipped if "skipped" in kinds else counts.passed
+        if name not in part:
+            part.append(name)
+    counts.passed = [name for name in counts.passed if name not in counts.failed]
+    return counts
+
+
+def tried(part: str, jobs: int, folder: Path, words: Sequence[str]) -> Counts:
+    """The tests of a part, as a marker's expression has it. A run that ends without a report is a failure."""
+    report = folder / "report.xml"
+    report.unlink(missing_ok=True)
+    command = [sys.executable, "-m", "pytest", "-c", "pyproject.toml", "-q", "-n", str(jobs), "-m", part, f"--junitxml={report}",
+               "-o", f"cache_dir={folder}/cache", *words]
+    status = subprocess.run(command, cwd=ROOT, stdin=subprocess.DEVNULL, check=False).returncode
+    if status == NO_TEST:
+        return Counts()
+    counts = counted(report) if report.exists() else Counts()
+    if status and not counts.failed:
+        counts.failed.append(f"pytest -m '{part}' ended with status {status}")
+    return counts
+
+
+def tried_twice(part: str, jobs: int, folder: Path, words: Sequence[str]) -> Counts:
+    """As `tried`, and what goes by the clock is run once more where it failed."""
+    counts = tried(part, jobs, folder, words)
+    if counts.failed:
+        again = tried(f"({part}) and ({BY_THE_CLOCK})", 0, folder, ["--last-failed", "--last-failed-no-failures", "none", *words])
+        for name in (*again.passed, *again.failed):
+            print(f"run again by itself, since it failed: {name} {'passed' if name in again.passed else 'failed'}")
+        counts.failed = [name for name in counts.failed if name not in again.passed]
+        counts.passed += again.passed
+    return counts
+
+
+def main(jobs: str, counts_file: str, *words: str) -> int:
+    others = [word for word in words if word != "--mutants"]
+    counts = Counts()
+    with tempfile.TemporaryDirectory() as made:
+        for part, at_once in (("not alone", int(jobs)), ("alone", 0), ("mutants_ci", int(jobs)))[:3 if "--mutants" in words else 2]:
+            counts.add(tried_twice(part, at_once, Path(made), [*others, "tests"]))
+            sys.stdout.flush()
+    for name in counts.failed:
+        print(f"failed: {name}")
+    Path(counts_file).write_text(f"{len(counts.passed)} {len(counts.failed)} {len(counts.skipped)}\n", encoding="utf-8")
+    return 1 if counts.failed else 0
+
+
+if __name__ == "__main__":
+    sys.exit(main(*sys.argv[1:]))
