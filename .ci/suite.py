@@ -83,7 +83,8 @@ def main(jobs: str, counts_file: str, *words: str) -> int:
     others = [word for word in words if word != "--mutants"]
     counts = Counts()
     with tempfile.TemporaryDirectory() as made:
-        for part, at_once in (("not alone", int(jobs)), ("alone", 0), ("mutants_ci", int(jobs)))[:3 if "--mutants" in words else 2]:
+        parts = [("not alone", int(jobs)), ("alone", 0)] + ([("mutants_ci", int(jobs))] if "--mutants" in words else [])
+        for part, at_once in parts:
             counts.add(tried_twice(part, at_once, Path(made), [*others, "tests"]))
             sys.stdout.flush()
     for name in counts.failed:

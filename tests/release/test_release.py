@@ -1,6 +1,6 @@
-"""A release, packed by `sh life pack` from a copy of the repository: two packs of one revision are the same bytes, lintian finds no
-error, and what is said of sums is so. Then as a new user: a fresh Debian without the kit installs the package, posts, values and
-looks, takes the next version over it, and removes it."""
+"""A release, packed by `sh life pack` from a copy of the repository: two packs of one revision are the same bytes, lintian finds
+no error, and what is said of sums is so. Then as a new user: a fresh Debian without the kit installs the package, posts, values
+and looks, takes the next version over it, and removes it."""
 from __future__ import annotations
 
 import hashlib
@@ -137,8 +137,8 @@ def release(revision: Path) -> Release:
 
 
 def test_two_packs_are_the_same_bytes(release: Release, revision: Path, clone: Path) -> None:
-    """In another folder, of another time zone, by somebody whose files nobody else may read. CI's counts over other sources aren't
-    told."""
+    """In another folder, of another time zone, by somebody whose files nobody else may read. CI's counts over other sources
+    aren't told."""
     (clone / "out" / "gate").write_text(f"sources: {hashlib.sha256(b'other').hexdigest()}\n12 passed, 0 failed\n")
     environment = {"TZ": "Asia/Tokyo", "LANG": "C.UTF-8", "HOME": str(clone.parent)}
     done = ran(["sh", "-c", 'umask 077; exec sh "$0/life" pack', clone], clone, env=environment)
@@ -159,8 +159,8 @@ def test_what_is_said_of_the_proof(release: Release, revision: Path, program: Pr
     kit, _, logic = ran(["rt", "version"], revision).out.strip().partition(" logic ")
     program_sum = hashlib.sha256(program.path.read_bytes()).hexdigest()
     sums = [f"{hashlib.sha256((release.folder / name).read_bytes()).hexdigest()}  {name}" for name in release.names[:2]]
-    for line in (f"revision: {git(revision, 'rev-parse', 'HEAD').strip()}", f"kit: {kit}", f"logic: {logic}", f"program: {program_sum}",
-                 f"sources: {sources_of(revision)}", *sums):
+    for line in (f"revision: {git(revision, 'rev-parse', 'HEAD').strip()}", f"kit: {kit}", f"logic: {logic}",
+                 f"program: {program_sum}", f"sources: {sources_of(revision)}", *sums):
         assert line in said, line
     assert any(line.startswith("not known here") for line in said)
 
@@ -178,7 +178,7 @@ def test_the_tar_file_elsewhere(release: Release, program: Program, tmp_path: Pa
     (tmp_path / "bin" / "life-tools").symlink_to(top / "bin" / "life-tools")
     done = ran([top / "bin" / "life", "run"], tmp_path, (EXAMPLES / "first-issues.csv").read_text(encoding="utf-8"))
     assert (done.status, done.out) == (0, (EXAMPLES / "first-issues.transcript").read_text(encoding="utf-8")), done
-    tools = ["env", "-u", "LIFE_PROGRAM", tmp_path / "bin" / "life-tools", "version"]
+    tools: list[str | Path] = ["env", "-u", "LIFE_PROGRAM", tmp_path / "bin" / "life-tools", "version"]
     done = ran(tools, tmp_path)
     assert done.status == 0 and f"version: {release.version}\n" in done.out and "life-program has this sum\n" in done.out, done
     with open(top / "libexec" / "life" / "life-program", "ab") as file:
@@ -306,7 +306,8 @@ def test_the_next_version_and_away_again(fresh: Debian, clone: Path, release: Re
     shutil.copy(clone / "out" / "release" / f"life_{NEXT}_amd64.deb", fresh.top / "root" / "life.deb")
     fresh.shows("dpkg -i ../life.deb", re.escape(f"Unpacking life ({NEXT}) over ({release.version})"))
     fresh.shows("dpkg --verify life && life-tools version", f"^version: {NEXT}$")
-    assert fresh.run("life state") == state and state.status == 0
+    after = fresh.run("life state")
+    assert (after.status, after.out) == (0, state.out) and "count,3" in state.out, after
     fresh.shows("rm -r /root/life.deb /root/book; apt-get remove -y life", re.escape(f"Removing life ({NEXT})"))
     left = fresh.files() - set((tmp_path / "before").read_text().splitlines())
     assert not {name for name in left if not name.startswith("./tmp/")}, sorted(left)[:5]

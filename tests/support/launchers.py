@@ -100,7 +100,7 @@ def is_stopped(done: Ended, says: str, clone: Path) -> bool:
 
 
 def on_terminal(words: Sequence[str | Path], folder: Path, given: str | Path | None = os.devnull, taken: Path | None = None,
-                typed: bytes = b"", stop_when: Callable[[], bool] | None = None) -> tuple[int, str]:
+                typed: bytes = b"", stop_when: Callable[[], object] | None = None) -> tuple[int, str]:
     """The status of a command whose standard error is a terminal, and what stands on it. Standard output is the terminal, or
     the file that is named; standard input is a file, or None for the terminal. What is typed there is typed at once; at a
     moment somebody presses Ctrl-C."""

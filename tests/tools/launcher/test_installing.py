@@ -99,6 +99,6 @@ def test_an_installation_is_stopped(clone: Path, tmp_path: Path) -> None:
     slow.mkdir()
     (slow / "sync").write_text(f'#!/bin/sh\n: >"{tmp_path}/begun"\nsleep 2\n')
     (slow / "sync").chmod(0o755)
-    done = stopped(["sh", clone / "life", "install", tmp_path / "home" / "bin"], tmp_path, lambda _: (tmp_path / "begun").exists(),
-                   {"PATH": f"{slow}:{os.environ['PATH']}"})
+    done = stopped(["sh", clone / "life", "install", tmp_path / "home" / "bin"], tmp_path,
+                   lambda _: (tmp_path / "begun").exists(), {"PATH": f"{slow}:{os.environ['PATH']}"})
     assert is_stopped(done, "nothing was installed", clone) and not (tmp_path / "home").exists(), done

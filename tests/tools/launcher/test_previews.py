@@ -8,6 +8,7 @@ import shutil
 import subprocess
 import time
 from pathlib import Path
+from typing import Callable
 
 import pytest
 
@@ -20,8 +21,9 @@ from tests.tools.launcher.conftest import Called, ran
 # they go by the clock: one is stopped while it runs
 pytestmark = [pytest.mark.needs("rt"), pytest.mark.slow, pytest.mark.alone, pytest.mark.timeout(1500)]
 
-FIRST, SECOND = ((EXAMPLES / name).read_text(encoding="utf-8") for name in ("first-issues.csv", "second-day.csv"))
-FIRST_TEXT, SECOND_TEXT = ((EXAMPLES / name).read_text(encoding="utf-8") for name in ("first-issues.transcript", "second-day.transcript"))
+FIRST, FIRST_TEXT, SECOND, SECOND_TEXT = (
+    (EXAMPLES / name).read_text(encoding="utf-8")
+    for name in ("first-issues.csv", "first-issues.transcript", "second-day.csv", "second-day.transcript"))
 BUILDS, WAITS = "building a preview, which", "another launcher is building a preview; this one waits"
 
 
@@ -93,7 +95,7 @@ def test_a_link_on_the_path_and_a_basis(previews: Previews, tmp_path: Path) -> N
 
 
 def test_two_previews_of_a_folder(previews: Previews) -> None:
-    """One waits for the other; but one that waits for the other's output, more than a pipe holds, doesn't wait for its journal."""
+    """One waits for the other; but one that reads the other's output, more than a pipe holds, doesn't wait for its journal."""
     begun = [Begun(previews.words("run"), previews.folder.path, f"run{n}", given=subprocess.PIPE) for n in (8, 9)]
     for n, each in zip((8, 9), begun):
         each.type("".join(issue(100 * n + place) for place in range(4)))
@@ -144,8 +146,10 @@ def has_grown(rooms: Path) -> bool:
 
 def test_previews_are_stopped_on_a_terminal(previews: Previews) -> None:
     script = previews.folder.write("long.csv", previews.run("generate", "6", "2000", "8").out)
-    for given, moment, says in ((None, lambda: list(previews.rooms.rglob("input.*")), "the script wasn't read to its end"),
-                                (script, lambda: has_grown(previews.rooms), "that was a preview")):
+    cases: list[tuple[Path | None, Callable[[], object], str]] = [
+        (None, lambda: list(previews.rooms.rglob("input.*")), "the script wasn't read to its end"),
+        (script, lambda: has_grown(previews.rooms), "that was a preview")]
+    for given, moment, says in cases:
         status, said = on_terminal(previews.words("run"), previews.folder.path, given, stop_when=moment)
         assert status == 130 and f"life: stopped; {says}" in said, said
         assert processes_in(previews.launcher.parent) == []

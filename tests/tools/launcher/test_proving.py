@@ -1,5 +1,5 @@
-"""`sh life prove` and `sh life test` over a stand-in for the kit: what is current after them, what their counts say, and what a
-signal leaves."""
+"""`sh life prove`, `sh life test` and CI over a stand-in for the kit: what is current after them, what their counts say, and what
+a signal leaves."""
 from __future__ import annotations
 
 import os
@@ -22,6 +22,8 @@ case $STAND_IN-$1 in
         */lane_tests) echo "it doesn't compile"; exit 1 ;;
         *) echo "test result: ok. 2 passed; 0 failed; 0 ignored;" ;;
         esac ;;
+    tests-ci) echo "== policy_types"; echo "3 passed, 0 failed" ;;
+    refused-ci) echo "policy_types: a goal has no answer"; echo "2 passed, 1 failed"; exit 1 ;;
     *-all) echo "== policy_types"; echo "== life_cli"; echo "== summary"; echo "policy_types: ok"; sleep 2 ;;
     unbuilt-run) echo "rt: the library policy_types did not build"; exit 1 ;;
     edited-run) echo "// " >>src/main.rt; cp ../../program out/life_cli; echo "rt: running out/life_cli;" ;;
@@ -111,7 +113,7 @@ def suite(work: Path) -> Path:
     (work / "tests").mkdir()
     (work / "tests" / "conftest.py").write_text(OPTIONS)
     (work / "tests" / "test_weather.py").write_text(SUITE)
-    (work / "pyproject.toml").write_text('[tool.pytest.ini_options]\naddopts = "-ra"\nmarkers = ["slow", "alone", "browser"]\n')
+    (work / "pyproject.toml").write_text('[tool.pytest.ini_options]\naddopts = "-ra"\nmarkers = ["slow", "alone", "browser", "mutants_ci"]\n')
     os.utime(work / "out" / "preview" / "life_preview")
     return work
 
@@ -155,3 +157,64 @@ def test_tests_are_stopped(suite: Path) -> None:
         'def test_the_wind():\n    import os, time\n    open(os.environ["NOTED"], "w").close()\n    time.sleep(60)\n')
     done = stopped(["sh", suite / "life", "test"], suite, lambda _: (suite / "noted").exists(), env(suite, "tests"))
     assert is_stopped(done, "the tests weren't run to their end", suite), done
+
+
+# tests that fail at their first run, and pass at the next
+FLAKY = """import os
+import pytest
+
+def fails_at_first(name):
+    path = os.environ["NOTED"] + name
+    is_first = not os.path.exists(path)
+    open(path, "a").close()
+    assert not is_first
+
+@pytest.mark.alone
+def test_by_the_clock():
+    fails_at_first("clock")
+
+def test_beside_others():
+    fails_at_first("others")
+"""
+
+
+def ci(clone: Path, stand_in: str) -> Ended:
+    """CI in a clone where nothing has to be installed, as another program runs it: without a terminal or standard input."""
+    (clone / ".ci" / "setup.sh").write_text("")
+    (clone / "HANDLES").write_text("")
+    judged = {"CI": "true", "RT_JOBS": "2", "LIFE_PROGRAM": f"{clone}/crates/life_cli/out/life_cli"}
+    return ran(["bash", clone / ".ci" / "run"], clone, env={**env(clone, stand_in, "life_cli"), **judged})
+
+
+@pytest.mark.needs("python:xdist")
+def test_ci_sums_the_gate_and_the_suite(suite: Path) -> None:
+    done = ci(suite, "tests")
+    assert done.status == 1 and done.out.splitlines()[-2:] == ["1 skipped", "5 passed, 1 failed"], done
+    assert "failed: tests.test_weather::test_the_rain" in done.out and not (suite / "out" / "gate").exists()
+    (suite / "tests" / "test_weather.py").write_text(SUITE.replace('assert False, "it rains"', "pass"))
+    done = ci(suite, "tests")
+    assert done.status == 0 and done.out.splitlines()[-2:] == ["1 skipped", "6 passed, 0 failed"], done
+    assert (suite / "out" / "gate").read_text().endswith("\n1 skipped\n6 passed, 0 failed\n") and is_current(suite)
+
+
+def test_ci_shows_what_the_gate_refuses_and_runs_no_test(suite: Path) -> None:
+    done = ci(suite, "refused")
+    assert done.status == 1 and "policy_types: a goal has no answer\n2 passed, 1 failed\n" in done.out
+    assert done.out.splitlines()[-2:] == ["0 skipped", "2 passed, 1 failed"]
+    assert not is_current(suite)
+
+
+@pytest.mark.needs("python:xdist")
+def test_only_what_goes_by_the_clock_is_run_again(suite: Path) -> None:
+    (suite / "tests" / "test_weather.py").write_text(FLAKY)
+    done = ci(suite, "tests")
+    assert done.status == 1 and done.out.splitlines()[-1] == "4 passed, 1 failed", done
+    assert "run again by itself, since it failed: tests.test_weather::test_by_the_clock passed\n" in done.out
+    assert "failed: tests.test_weather::test_beside_others\n" in done.out
+
+
+@pytest.mark.needs("python:xdist")
+def test_a_suite_that_cant_begin_is_a_failure(suite: Path) -> None:
+    (suite / "tests" / "conftest.py").write_text("no Python\n")
+    done = ci(suite, "tests")
+    assert done.status == 1 and int(done.out.splitlines()[-1].split()[2]) > 0, done

@@ -88,7 +88,8 @@ def test_one_that_waits_is_stopped(book: Folder, clone: Path) -> None:
     assert done.status == 130 and book.count() == 4
 
 
-@pytest.mark.parametrize("words", ["state", "state 7001", "checkpoint", "value 2021-01-01", "project 2021-01-01 2", "--wait 5 state"])
+@pytest.mark.parametrize("words", ["state", "state 7001", "checkpoint", "value 2021-01-01", "project 2021-01-01 2",
+                                   "--wait 5 state"])
 def test_a_folder_without_a_book_is_reported(tmp_path: Path, launcher: list[str], words: str) -> None:
     done = ran([*launcher, *words.split()], tmp_path)
     assert (done.status, done.out, done.err) == (66, "", f"life: there is no journal.life in {tmp_path}, so nothing was run\n")

@@ -12,8 +12,9 @@ from tests.support.folders import EXAMPLES, Folder
 from tests.support.launchers import Begun, await_that
 from tests.tools.launcher.conftest import ran
 
-WRONG = ("", "stat", "prove it", "try", "try stat", "try try run", "test /nowhere", "install a b", "install --hel", "help me", "--wait",
-         "pack all", "doc all", "--wait 5", "--wait x run", "--wait 5 stat", "--wait 5 try run", "--wait -1 run", "--wait 1234567 run")
+WRONG = ("", "stat", "prove it", "try", "try stat", "try try run", "test /nowhere", "install a b", "install --hel", "help me",
+         "pack all", "doc all", "--wait", "--wait 5", "--wait x run", "--wait 5 stat", "--wait 5 try run", "--wait -1 run",
+         "--wait 1234567 run")
 WORDS = ("run", "state", "state 7001", "checkpoint", "value 2021-01-01", "project 2021-01-01 2", "generate 1 1 1", "load 1 1 1 1",
          "--wait 5 run")
 # what the launcher needs of Debian, without the kit
@@ -29,8 +30,8 @@ def test_wrong_words_build_nothing(unproved_clone: Path, words: str) -> None:
 
 
 @pytest.mark.parametrize("words, says", [
-    *((words, f"sh life try {words.removeprefix('--wait 5 ').split()[0]} runs it unproved, sh life prove proves it") for words in WORDS),
-    ("install ../nowhere", "sh life prove"), ("pack", "sh life prove")])
+    *((words, f"sh life try {words.removeprefix('--wait 5 ').split()[0]} runs it unproved, sh life prove proves it")
+      for words in WORDS), ("install ../nowhere", "sh life prove"), ("pack", "sh life prove")])
 def test_without_a_proof_nothing_is_run(unproved_clone: Path, words: str, says: str) -> None:
     before = sorted(os.listdir(unproved_clone))
     done = ran(["sh", unproved_clone / "life", *words.split()], unproved_clone)
