@@ -113,7 +113,8 @@ def suite(work: Path) -> Path:
     (work / "tests").mkdir()
     (work / "tests" / "conftest.py").write_text(OPTIONS)
     (work / "tests" / "test_weather.py").write_text(SUITE)
-    (work / "pyproject.toml").write_text('[tool.pytest.ini_options]\naddopts = "-ra"\nmarkers = ["slow", "alone", "browser", "mutants_ci"]\n')
+    markers = 'markers = ["slow", "alone", "browser", "mutants_ci"]'
+    (work / "pyproject.toml").write_text(f'[tool.pytest.ini_options]\naddopts = "-ra"\n{markers}\n')
     os.utime(work / "out" / "preview" / "life_preview")
     return work
 
