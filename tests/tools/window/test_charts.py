@@ -3,6 +3,7 @@ from __future__ import annotations
 
 import datetime
 import re
+import time
 from collections import Counter
 from typing import Iterable
 from urllib.parse import parse_qsl, urlsplit
@@ -13,7 +14,7 @@ from life_tools.rules.commands import Command
 from life_tools.rules.policies import GRACE, Policy, anniversary, decide, due_of, missed_by
 from tests.support.folders import Folder
 from tests.support.lived_books import lived as commands_lived
-from tests.support.windows import Answer, Window
+from tests.support.windows import PATIENCE, Answer, Window
 from tests.tools.window.conftest import POLICIES
 
 pytestmark = pytest.mark.needs("python:flask")
@@ -29,11 +30,12 @@ def money(amount: int) -> str:
 
 def first_page(window: Window) -> Answer:
     """The first page once every year-end is valued."""
-    answer = window.page("/1/")
-    for _ in range(600):
+    ends = time.monotonic() + PATIENCE
+    while time.monotonic() < ends:
+        answer = window.page("/1/")
         if "still to be valued" not in answer.text:
             return answer
-        answer = window.page("/1/")
+        time.sleep(0.2)
     raise AssertionError("the year-ends aren't valued")
 
 

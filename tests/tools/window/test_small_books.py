@@ -40,7 +40,7 @@ def test_a_day_months_after_the_last_posting(tools: Path, table_q: Folder) -> No
     newest position no year-end is shown that its postings don't reach."""
     book = below(table_q, "office")
     book.post("1,issue,7001,2020-01-01,endowment,0,3,1000.00,400.00\n1,issue,7002,2020-07-01,endowment,0,3,1000.00,400.00\n")
-    book.post("1,premium,7001,2021-01-01,400.00\n")
+    book.post("1,issue,7003,2021-01-01,endowment,0,3,1000.00,400.00\n")
     with Window(tools, book.path) as window:
         page = window.page("/1/moment?asof=2020-12-31")
         rows = page.rows("Reserve and amount insured at the ends of 2020 to 2020")
