@@ -1,0 +1,103 @@
+"""What pages quote stands so in the code: the theorem's clauses, the limits, and the names of what takes a figure again."""
+from __future__ import annotations
+
+import re
+from pathlib import Path
+
+import pytest
+
+from tests.language.source import CRATES, ROOT
+
+THEOREM = ROOT / "docs" / "proof" / "theorem.md"
+LIMITS = ROOT / "docs" / "reference" / "limits.md"
+FIGURES = ROOT / "docs" / "development" / "figures.md"
+# a figure of the limits' page, and the constants of the code that it is
+CONSTANTS = [
+    ("commands in a journal", ["4,000,000"], ["policy_types/src/command.rt MOST_COMMANDS"]),
+    ("length of a script", ["16,777,216"], ["script_run/src/intake.rt MOST_SCRIPT_BYTES"]),
+    ("`value` lines in a script", ["16"], ["command_csv/src/fields.rt MOST_VALUATIONS"]),
+    ("lanes of a script", ["8"], ["command_csv/src/fields.rt LAST_LANE"]),
+    ("valuations under way in one run", ["16"], ["office_state/src/held.rt MOST_PINS"]),
+    ("age at issue; age at the end of cover", ["129", "131"],
+     ["policy_types/src/command.rt LAST_ISSUE_AGE", "policy_types/src/command.rt END_AGE"]),
+    ("a basis or a table file", ["4,194,304"], ["basis_book/src/file.rt LONGEST_FILE"]),
+    ("rows of a basis; interest", ["1,000"], ["basis_book/src/row.rt MOST_ROWS"]),
+    ("worker threads of `value` and `project`", ["64"], ["command_csv/src/fields.rt MOST_WORKERS"]),
+]
+MIB = re.compile(r"([0-9,]+) bytes \(([0-9]+) MiB\)")
+
+
+def in_one_line(text: str) -> str:
+    return re.sub(r"\s+", " ", text).strip()
+
+
+@pytest.fixture(scope="module")
+def proved() -> str:
+    """The definitions and the code of all crates in one line, a clause of a function written as a field of a record is."""
+    files = [file for part in ("specs", "src") for file in sorted(CRATES.glob(f"*/{part}/**/*"))
+             if file.suffix in (".antt", ".rt")]
+    text = in_one_line(" ".join(file.read_text(encoding="utf-8") for file in files))
+    return re.sub(r"\bensures (\w+) \{ ", r"\1 : ", re.sub(r"\bpub ", "", text))
+
+
+def quoted(page: str) -> list[str]:
+    """The lines of its blocks, each with its blanks as one."""
+    blocks = re.findall(r"^```text\n(.*?)^```", page, re.S | re.M)
+    return [in_one_line(line) for block in blocks for line in block.splitlines() if line.strip()]
+
+
+def test_each_line_of_the_theorem_stands_in_the_code(proved: str) -> None:
+    lines = quoted(THEOREM.read_text(encoding="utf-8"))
+    assert len(lines) > 30 and [line for line in lines if line not in proved] == []
+
+
+def test_a_changed_line_of_the_theorem_is_told(proved: str) -> None:
+    page = THEOREM.read_text(encoding="utf-8").replace("exits : status ≡ status_of ending", "exits : ending ≡ ending", 1)
+    assert [line for line in quoted(page) if line not in proved] == ["exits : ending ≡ ending"]
+
+
+def value_of(constant: str) -> int:
+    file, name = constant.split()
+    found = re.search(rf"\bconst {name}: \w+ = ([0-9_]+);", (CRATES / file).read_text(encoding="utf-8"))
+    assert found, constant
+    return int(found[1])
+
+
+@pytest.mark.parametrize("what, figures, constants", CONSTANTS, ids=[what for what, _, _ in CONSTANTS])
+def test_a_limit_is_that_of_the_code(what: str, figures: list[str], constants: list[str]) -> None:
+    row = re.search(rf"^\| {re.escape(what)} \| ([^|]*) \|", LIMITS.read_text(encoding="utf-8"), re.M)
+    assert row and re.findall(r"(?<![0-9,])[0-9][0-9,]*", row[1])[:len(figures)] == figures, what
+    assert [value_of(constant) for constant in constants] == [int(figure.replace(",", "")) for figure in figures]
+
+
+@pytest.mark.parametrize("page", sorted((ROOT / "docs").rglob("*.md")), ids=lambda page: str(page.relative_to(ROOT)))
+def test_bytes_and_mib_are_the_same(page: Path) -> None:
+    pairs = MIB.findall(page.read_text(encoding="utf-8"))
+    assert [each for each in pairs if int(each[0].replace(",", "")) != int(each[1]) << 20] == []
+
+
+@pytest.mark.parametrize("page", ["docs/howto/clerk.md", "docs/reference/script.md", "docs/reference/limits.md"])
+def test_no_page_has_another_limit_of_a_script_or_a_file(page: str) -> None:
+    sizes = set(re.findall(r"\b([0-9]+) MiB\b", (ROOT / page).read_text(encoding="utf-8")))
+    assert sizes <= {str(value_of("script_run/src/intake.rt MOST_SCRIPT_BYTES") >> 20),
+                     str(value_of("basis_book/src/file.rt LONGEST_FILE") >> 20)}
+
+
+def test_what_takes_a_figure_again_is_there() -> None:
+    text = FIGURES.read_text(encoding="utf-8")
+    taken = set(re.findall(r"`figures\.sh ([a-z]+)`", text))
+    known = {name for file in (ROOT / "bench").glob("figures_*.py")
+             for line in re.findall(r"^FIGURES = \{(.*)\}$", file.read_text(encoding="utf-8"), re.M)
+             for name in re.findall(r'"(\w+)":', line)}
+    scripts = set(re.findall(r"`((?:measure|worst|plain|figures)_?\w*\.\w+)", text))
+    assert taken and taken <= known, taken - known
+    assert scripts and [name for name in scripts if not (ROOT / "bench" / name).exists()] == []
+
+
+def test_each_script_of_bench_takes_a_figure_of_the_page() -> None:
+    """Or is a part of one that does."""
+    text = FIGURES.read_text(encoding="utf-8")
+    shared = {"common.sh", "timing.py", "workload.py", "loopback.sh", "workers.py"}
+    alone = [file for file in (ROOT / "bench").iterdir() if file.is_file() and not file.name.startswith(("figures", "plain_"))
+             and file.name not in shared and f"{file.stem}." not in text]
+    assert alone == []
