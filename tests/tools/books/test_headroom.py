@@ -69,6 +69,13 @@ def test_a_small_book_by_hand(book: Folder) -> None:
     gives(book, f"9,3999991,3,{NEVER}", "--today", "2024-06-01", "--least", "3999992", status=1, told=1)
 
 
+@pytest.mark.parametrize(("today", "used"), [("2024-05-30", 2), ("2024-05-31", 3), ("2024-07-30", 3), ("2024-07-31", 2)])
+def test_the_last_year_has_365_days_and_ends_with_today(book: Folder, today: str, used: int) -> None:
+    """The lapse of 2023-08-01 and the issue of 2024-05-31 are at its ends."""
+    printed = book.tools("headroom", "--today", today).out.splitlines()[1]
+    assert printed.split(",")[2] == str(used)
+
+
 def test_two_hundred_years_later_nothing_was_used(book: Folder) -> None:
     """Policy 6 is 30 then, and each policy is overdue."""
     gives(book, "9,3999991,0,never,10,6,never", "--today", "2199-06-01")
