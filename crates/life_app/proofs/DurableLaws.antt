@@ -279,14 +279,17 @@ module _ {D : Type 0} (g : Ghosts D) (new : D) (pieces : List TakenPiece) (IsRow
       let before = due.0.front in
       let position = due_position (opened_on commands faults) before one.first.1 is.command is.position posts is.accepts due.0.due in
       let shorter : length (concat (take (length found.before) texts)) < length (taken_bytes (piece ∷ earlier)) = omega (arith, found.begins, there.within) in
-      let opens = shown later earlier piece split found.before found.after one found.split is.position is.accepts shorter image left in
       let upto : take (one.first.0 + 1) history ≡ before ++ one.first.1 ∷ [] =
       ap (take (one.first.0 + 1)) (due.0.split ∙ sym (append_assoc before (one.first.1 ∷ []) due.0.back))
       ∙ take_at (before ++ one.first.1 ∷ []) due.0.back (one.first.0 + 1)
       (let long = length-append before (one.first.1 ∷ []) in omega (arith, long, due.1)) in
+      let these : accepted_of (take (one.first.0 + 1) history) ≡ accepted_of before ++ is.command ∷ [] =
+      ap (λ (h : List Entry). accepted_of h) upto ∙ accepted_more before one.first.1 is.command is.position posts is.accepts in
+      let opens = shown later earlier piece split found.before found.after one found.split
+      (λ none. let long = ap length (sym these ∙ none) in let parts = length-append (accepted_of before) (is.command ∷ []) in omega (arith, long, parts))
+      shorter image left in
       let held : commands ++ accepted_of (take (one.first.0 + 1) history) ++ opens.0 ≡ (commands ++ accepted_of before) ++ is.command ∷ opens.0 =
-      ap (λ (h : List Entry). commands ++ accepted_of h ++ opens.0) upto
-      ∙ ap (λ (cs : List Command). commands ++ cs ++ opens.0) (accepted_more before one.first.1 is.command is.position posts is.accepts)
+      ap (λ (cs : List Command). commands ++ cs ++ opens.0) these
       ∙ ap (λ (cs : List Command). cs ++ opens.0) (sym (append_assoc commands (accepted_of before) (is.command ∷ [])))
       ∙ append_assoc (commands ++ accepted_of before) (is.command ∷ []) opens.0 in
       let journal = journal_of image (commands ++ accepted_of before) opens.0 is.command (subst (λ (cs : List Command). Opens image cs) held opens.1) in

@@ -3,8 +3,7 @@ use Rattle.std.proofs.Common.{◌≡◌, ◌⊎◌, inl, inr, ℕ, List, [], ◌
 use Rattle.std.proofs.lemmas.List.{take-append-drop}
 use Rattle.std.specs.Prelude.{ℤ}
 use Rattle.std.specs.Io.KnownBytes.{Appends}
-use Rattle.std.specs.List.{AllZip}
-use Rattle.life_app.specs.Names.{Ghosts, Command, Entry, Lane, Reply, Dated, Auditor, AnsweredLine, Stream, Ending, Done, DiskFault, WriteFault, NoMemory, Usage, BadScript, BadBasis, BadJournal, ReadFault, Ahead, IsToldLine, PostLine, WroteAsEnded, accepted_of, reports_of, run_wording, status_of, Policy, Row}
+use Rattle.life_app.specs.Names.{Ghosts, Command, Entry, Lane, Reply, Dated, Auditor, Stream, Ending, Done, DiskFault, WriteFault, NoMemory, Usage, BadScript, BadBasis, BadJournal, ReadFault, Ahead, IsToldLine, PostLine, WroteAsEnded, accepted_of, reports_of, run_wording, status_of, Policy, Row}
 use Rattle.life_app.specs.Given.{Reserves}
 use Rattle.life_app.specs.Headline.{IsEnclosingRow, IsPromised}
 use Rattle.life_app.specs.Legality.{GivesReply, IsLegallyAnswered}

@@ -1,5 +1,5 @@
 -- What a run printed as accepted stays, however the run ended
-use Rattle.life_app.proofs.Names.{◌≡◌, ℕ, ◌+◌, ◌≤◌, Bool, true, List, [], ◌∷◌, ◌++◌, codes, get_or, refl, ap, sym, ◌∙◌, subst, inl, inr, arith, append-nil, nat_le, ◌&&◌, and_parts, leb-true, decimal, TakenPiece, Dated, Ghosts, Lane, Auditor, reports_of, accepted_of, Opens, EndsNoOffice, EndsNoBasis, EndsScript, EndsRun, EndsLanes, EndsUnread, IsPromised, IsEnclosingRow, Input, Shelving, Stream, WroteLine, Ending, Usage, BadScript, BadBasis, BadJournal, ReadFault, DiskFault, NoMemory, status_of, NotAJournal, BadRecord, run_wording, table_reserves, SaysUnasked}
+use Rattle.life_app.proofs.Names.{◌≡◌, ℕ, ◌≤◌, Bool, true, List, [], ◌∷◌, ◌++◌, codes, get_or, refl, ap, sym, ◌∙◌, subst, inl, inr, arith, append-nil, nat_le, ◌&&◌, and_parts, leb-true, decimal, TakenPiece, Dated, Ghosts, Lane, Auditor, reports_of, accepted_of, Opens, EndsNoOffice, EndsNoBasis, EndsScript, EndsRun, EndsLanes, EndsUnread, IsPromised, IsEnclosingRow, Input, Shelving, Stream, WroteLine, Ending, Usage, BadScript, BadBasis, BadJournal, ReadFault, DiskFault, NoMemory, status_of, NotAJournal, BadRecord, run_wording, table_reserves, SaysUnasked}
 use Rattle.office_state.specs.declared.faults.StartCause.{StartCause}
 use Rattle.program_endings.specs.Refusals.{SaysWhy}
 use Rattle.script_run.specs.Shown.{AreSafeWhenShown}

@@ -1,24 +1,19 @@
 -- What is shown of the lines of a run is safe by then
-use Rattle.script_run.proofs.Names.{concat, ◌≡◌, ◌⊎◌, ℕ, zero, suc, ◌+◌, ◌<◌, ◌≤◌, true, List, [], ◌∷◌, ◌++◌, length, map, take, Option, Some, refl, ap, sym, ◌∙◌, subst, append-nil, append_assoc, length-append, arith, None, Result, slice_get, IfSome, AllByRecursion, AllZip, flat_map, Dated, TakenPiece, taken_bytes, Ghosts, SameConsumer, sent, Entry, Opens, line_texts, TranscriptLine, Unwritten, AddsBy}
+use Rattle.script_run.proofs.Names.{concat, ◌≡◌, ℕ, zero, suc, ◌+◌, ◌<◌, ◌≤◌, Bool, true, false, List, [], ◌∷◌, ◌++◌, length, map, take, Option, Some, refl, ap, sym, ◌∙◌, subst, append-nil, append_assoc, length-append, arith, None, Result, slice_get, IfSome, AllByRecursion, AllZip, flat_map, Dated, TakenPiece, taken_bytes, Ghosts, SameConsumer, sent, Entry, Opens, line_texts, TranscriptLine, Unwritten, AddsBy}
+use Rattle.std.proofs.lemmas.List.Sums.{sum_by-cons}
 use Rattle.std.proofs.lemmas.Option.{same_Some}
+use Rattle.std.specs.Prelude.{cond}
 use Rattle.rtrb.specs.declared.consumer.Consumer.{Consumer}
 use Rattle.rtrb.specs.declared.producer.Producer.{Producer}
 use Rattle.moment_ring.specs.Ends.{ArePaired, SameOutlet, told}
 use Rattle.policy_types.specs.declared.command.Command.{Command}
-use Rattle.policy_types.specs.declared.entry.Reply.{Reply}
-use Rattle.policy_types.specs.declared.entry.Reply.TheVariants.{Accepted}
-use Rattle.policy_types.specs.declared.script.Line.{Line}
-use Rattle.policy_types.specs.declared.script.Line.TheVariants.{Post, Value, Trim}
-use Rattle.policy_machine.specs.History.{Opening, accepted_of, commands_after}
+use Rattle.policy_machine.specs.History.{Opening, accepted_of}
 use Rattle.office_state.proofs.Holdings.{HoldsAtLeast}
 use Rattle.office_state.specs.Images.{AreSafeSince}
-use Rattle.office_state.specs.declared.answer.Answer.TheVariants.{Accepted as AcceptedAt, Refused, DiskFault, NoMemory}
 use Rattle.lane_runner.specs.AnsweredLines.{AnsweredLine}
 use Rattle.lane_runner.specs.Shown.{AreShown, HasShown}
 use Rattle.lane_runner.specs.Tallies.{accepted_lines, tells_accepted}
-use Rattle.lane_runner.specs.Transcripts.{IsOutcome, IsTold}
-use Rattle.lane_runner.specs.declared.transcript.Outcome.{Outcome}
-use Rattle.lane_runner.specs.declared.transcript.Outcome.TheVariants.{Posted, Trimmed, Valued, ValueRefused, ValueNoMemory}
+use Rattle.lane_runner.specs.Transcripts.{IsTold}
 use Rattle.transcript_text.proofs.AcceptedSteps.{accepted_turns, many_turns, split_turns}
 use Rattle.script_run.specs.Shown.{AreSafeWhenShown}
 
@@ -162,65 +157,129 @@ pub all_texts : (text : TranscriptLine → List ℕ) (lines : List TranscriptLin
 all_texts text [] = refl
 all_texts text (line ∷ lines) = ap (λ (rest : List ℕ). text line ++ rest) (all_texts text lines)
 
-abbrev IsAcceptedReply : Reply → Type 0
-IsAcceptedReply (Accepted position) = Unit {0}
-IsAcceptedReply _ = ⊥
+-- The last line told to be accepted among the lines up to one: as many are accepted as up to it, and its text begins no later
+-- than that one's.
+record LastAccepted (text : TranscriptLine → List ℕ) (front : List TranscriptLine) (line : TranscriptLine) : Type 0 where
+  pub before : List TranscriptLine
+  pub last : TranscriptLine
+  pub after : List TranscriptLine
+  pub split : front ++ line ∷ [] ≡ before ++ last ∷ after
+  pub accepted : tells_accepted last.outcome ≡ true
+  pub counted : accepted_lines before + 1 ≡ accepted_lines (front ++ line ∷ [])
+  pub begins : length (line_texts text before) ≤ length (line_texts text front)
 
--- what is told of an accepted posting says so
-told_accepted : (line : Line) (reply : Reply) (outcome : Outcome) (commands : List Command) (basis : List Dated)
-    → IsOutcome commands basis line reply outcome → IsAcceptedReply reply → tells_accepted outcome ≡ true
-told_accepted (Post command) reply (Posted (AcceptedAt position)) commands basis said is = refl
-told_accepted (Post command) reply (Posted (Refused refusal)) commands basis said is = absurd (subst IsAcceptedReply said is)
-told_accepted (Post command) reply (Posted (DiskFault count)) commands basis said is = absurd (subst IsAcceptedReply said is)
-told_accepted (Post command) reply (Posted (NoMemory lack)) commands basis said is = absurd (subst IsAcceptedReply said is)
-told_accepted Trim reply (Trimmed floor) commands basis said is = absurd (subst IsAcceptedReply said is)
-told_accepted (Value on at workers) reply (ValueRefused refusal) commands basis said is = absurd (subst IsAcceptedReply said is)
-told_accepted (Value on at workers) reply (Valued valuation) commands basis said is = absurd (subst IsAcceptedReply said.1.1 is)
-told_accepted (Value on at workers) reply (ValueNoMemory lack) commands basis said is = absurd (subst IsAcceptedReply said.1.1 is)
-told_accepted (Post command) reply (Trimmed floor) commands basis said is = absurd said
-told_accepted (Post command) reply (Valued valuation) commands basis said is = absurd said
-told_accepted (Post command) reply (ValueRefused refusal) commands basis said is = absurd said
-told_accepted (Post command) reply (ValueNoMemory lack) commands basis said is = absurd said
-told_accepted Trim reply (Posted answer) commands basis said is = absurd said
-told_accepted Trim reply (Valued valuation) commands basis said is = absurd said
-told_accepted Trim reply (ValueRefused refusal) commands basis said is = absurd said
-told_accepted Trim reply (ValueNoMemory lack) commands basis said is = absurd said
-told_accepted (Value on at workers) reply (Posted answer) commands basis said is = absurd said
-told_accepted (Value on at workers) reply (Trimmed floor) commands basis said is = absurd said
+-- whether a line is told to be accepted, by what it adds to the count
+one_more : (line : TranscriptLine) (lines : List TranscriptLine)
+    → accepted_lines (line ∷ lines) ≡ cond (tells_accepted line.outcome) 1 0 + accepted_lines lines
+one_more line lines = sum_by-cons (λ (one : TranscriptLine). cond (tells_accepted one.outcome) 1 0) line lines
+
+counts_one : (b : Bool) (n : ℕ) → 0 < cond b 1 0 + n → n ≡ 0 → b ≡ true
+counts_one true n some none = refl
+counts_one false n some none = absurd (omega (arith, some, none))
+
+last_accepted : (text : TranscriptLine → List ℕ) (front : List TranscriptLine) (line : TranscriptLine)
+    → 0 < accepted_lines (front ++ line ∷ []) → LastAccepted text front line
+last_accepted text [] line some =
+    let sum = one_more line [] in
+    record {
+      before = [];
+      last = line;
+      after = [];
+      split = refl;
+      accepted = counts_one (tells_accepted line.outcome) 0 (omega (arith, some, sum)) refl;
+      counted = single (tells_accepted line.outcome) (omega (arith, some, sum)) sum;
+      begins = omega arith;
+    }
+  where
+    single : (b : Bool) → 0 < cond b 1 0 + 0 → accepted_lines (line ∷ []) ≡ cond b 1 0 + 0 → 0 + 1 ≡ accepted_lines (line ∷ [])
+    single true some sum = sym sum
+    single false some sum = absurd (omega (arith, some))
+last_accepted text (first ∷ front) line some = by (accepted_lines (front ++ line ∷ [])) refl (λ more. last_accepted text front line more)
+  where
+    rest : List TranscriptLine
+    rest = front ++ line ∷ []
+
+    behind : LastAccepted text front line → LastAccepted text (first ∷ front) line
+    behind found =
+        let ours = one_more first found.before in
+        let theirs = one_more first rest in
+        let own = length-append (text first) (line_texts text found.before) in
+        let other = length-append (text first) (line_texts text front) in
+        record {
+          before = first ∷ found.before;
+          last = found.last;
+          after = found.after;
+          split = ap (λ (ls : List TranscriptLine). first ∷ ls) found.split;
+          accepted = found.accepted;
+          counted = omega (arith, ours, theirs, found.counted);
+          begins = omega (arith, own, other, found.begins);
+        }
+
+    here : accepted_lines rest ≡ 0 → LastAccepted text (first ∷ front) line
+    here none =
+        let sum = one_more first rest in
+        record {
+          before = [];
+          last = first;
+          after = rest;
+          split = refl;
+          accepted = counts_one (tells_accepted first.outcome) (accepted_lines rest) (omega (arith, some, sum)) none;
+          counted = single (tells_accepted first.outcome) (omega (arith, some, sum)) sum none;
+          begins = omega arith;
+        }
+      where
+        single : (b : Bool) → 0 < cond b 1 0 + accepted_lines rest → accepted_lines (first ∷ rest) ≡ cond b 1 0 + accepted_lines rest
+            → accepted_lines rest ≡ 0 → 0 + 1 ≡ accepted_lines (first ∷ rest)
+        single true some sum none = omega (arith, sum, none)
+        single false some sum none = absurd (omega (arith, some, none))
+
+    by : (n : ℕ) → accepted_lines rest ≡ n → (0 < accepted_lines rest → LastAccepted text front line) → LastAccepted text (first ∷ front) line
+    by zero none later = here none
+    by (suc n) more later = behind (later (omega (arith, more)))
+
+-- where some of a front are there, there are as many as asked for at least one
+some_taken : {A : Type 0} (n : ℕ) (xs : List A) → (take n xs ≡ [] → ⊥) → 0 < n
+some_taken zero xs some = absurd (some refl)
+some_taken (suc n) xs some = omega arith
 
 -- A disk on which time goes one way, the moments since which the accepted commands of a history are safe, and the lines of which
--- each that is accepted has one of them.
+-- each that is accepted has one of them. So each line is safe by the moment of the last accepted one up to it.
 module _ {D : Type 0} (g : Ghosts D) (new : D) (opening : Opening) (history : List Entry) (basis : List Dated)
     (text : TranscriptLine → List ℕ) (answered : List AnsweredLine) (lines : List TranscriptLine) (moments : List ℕ)
     (sooner : (early late : ℕ) (image : List ℕ) → early ≤ late → g.left_since new late image → g.left_since new early image)
     (are_told : AllZip (IsTold opening history basis) answered lines)
-    (in_order : (before after : List TranscriptLine) (line : TranscriptLine) → lines ≡ before ++ line ∷ after → tells_accepted line.outcome ≡ true
-    → accepted_of (take (line.turn + 1) history) ≡ take (accepted_lines before + 1) (accepted_of history))
+    (in_order : (before after : List TranscriptLine) (line : TranscriptLine) → lines ≡ before ++ line ∷ after
+    → accepted_of (take (line.turn + 1) history) ≡ take (accepted_lines (before ++ line ∷ [])) (accepted_of history))
     (safe : AreSafeSince g new opening.commands (accepted_of history) moments) where
   pub safe_when_shown : (run : List TakenPiece) → AreShown text run lines moments
       → AreSafeWhenShown g Opens new opening.commands history answered (map text lines) run
-  safe_when_shown run shown later earlier piece split before after line where_is position accepted reached image left =
+  safe_when_shown run shown later earlier piece split before after line where_is some reached image left =
       let pair = zip_split (IsTold opening history basis) answered lines before after line are_told where_is in
       let front = pair.0 in
       let back = pair.1 in
       let told_line = pair.2.0 in
       let there = pair.2.1 in
       let is_told = pair.2.3 in
-      let is : tells_accepted told_line.outcome ≡ true =
-      told_accepted line.line line.first.1.reply told_line.outcome (commands_after opening (take line.first.0 history)) basis is_told.outcome (subst IsAcceptedReply (sym accepted) tt) in
+      let upto : accepted_of (take (line.first.0 + 1) history) ≡ take (accepted_lines (front ++ told_line ∷ [])) (accepted_of history) =
+      ap (λ (n : ℕ). accepted_of (take (n + 1) history)) (sym is_told.turn) ∙ in_order front back told_line there in
+      let found = last_accepted text front told_line
+      (some_taken (accepted_lines (front ++ told_line ∷ [])) (accepted_of history) (λ none. some (upto ∙ none))) in
+      let last_there : lines ≡ found.before ++ found.last ∷ (found.after ++ back) =
+      there ∙ sym (append_assoc front (told_line ∷ []) back) ∙ ap (λ (ls : List TranscriptLine). ls ++ back) found.split
+      ∙ append_assoc found.before (found.last ∷ found.after) back in
       let front_is : concat (take (length before) (map text lines)) ≡ line_texts text front =
       ap (λ (ls : List TranscriptLine). concat (take (length before) (map text ls))) there
       ∙ ap (λ (n : ℕ). concat (take n (map text (front ++ told_line ∷ back)))) (sym pair.2.2)
       ∙ front_text text front (told_line ∷ back) in
       let past : length (line_texts text front) < length (taken_bytes (piece ∷ earlier)) =
       subst (λ (bytes : List ℕ). length bytes < length (taken_bytes (piece ∷ earlier))) front_is reached in
-      let moment = shown later earlier piece split front back told_line there is past in
+      let moment = shown later earlier piece split found.before (found.after ++ back) found.last last_there found.accepted
+      (omega (arith, past, found.begins)) in
       let since = sooner moment.0 piece.since image moment.2 left in
-      let holds = since_at g new opening.commands (accepted_of history) moments (accepted_lines front) moment.0 safe moment.1 image since in
-      let commands : take (accepted_lines front + 1) (accepted_of history) ≡ accepted_of (take (line.first.0 + 1) history) =
-      sym (in_order front back told_line there is) ∙ ap (λ (n : ℕ). accepted_of (take (n + 1) history)) is_told.turn in
-      let opens = subst (λ (cs : List Command). HoldsAtLeast (opening.commands ++ cs) image) commands holds in
-      opens
+      let holds = since_at g new opening.commands (accepted_of history) moments (accepted_lines found.before) moment.0 safe moment.1 image since in
+      let commands : take (accepted_lines found.before + 1) (accepted_of history) ≡ accepted_of (take (line.first.0 + 1) history) =
+      ap (λ (n : ℕ). take n (accepted_of history)) found.counted ∙ sym upto in
+      subst (λ (cs : List Command). HoldsAtLeast (opening.commands ++ cs) image) commands holds
 
 -- all moments that were told were heard, where one is heard for each accepted line and told for each accepted command
 pub all_heard : {D A P : Type 0} (g : Ghosts D) (disk : D) (held commands : List Command) (outlet : Option (Producer ℕ A P))

@@ -1,11 +1,11 @@
 -- The accepted lines that are told of a run are the accepted commands of its history, in order
-use Rattle.transcript_text.proofs.Names.{◌≡◌, ℕ, zero, suc, ◌+◌, Bool, true, false, cond, List, [], ◌∷◌, ◌++◌, length, map, take, Some, refl, ap, sym, ◌∙◌, subst, inl, inr, arith, slice_get, cons_option, count_by, enumerate_from, cond-false, cond-true, false≢true, Dated, AreRising, Command, Call, PostCall, Pin, PinAt, Read, Unpin, TrimCall, Entry, Reply, Line, accepted_by, accepted_of, AnAccepted, ARefused, DiskFault, NoMemory, accepted_lines, tells_accepted, IsOutcome, TranscriptLine, Outcome, Posted, Trimmed, Valued, ValueRefused, ValueNoMemory, Has, front_back}
-use Rattle.std.proofs.lemmas.List.{take_at}
+use Rattle.transcript_text.proofs.Names.{◌≡◌, ℕ, zero, suc, ◌+◌, ◌<◌, ◌≤◌, Bool, true, false, cond, List, [], ◌∷◌, ◌++◌, length, map, take, Some, refl, ap, sym, ◌∙◌, subst, inl, inr, arith, slice_get, cons_option, count_by, enumerate_from, cond-false, cond-true, false≢true, Dated, AreRising, Command, Call, PostCall, Pin, PinAt, Read, Unpin, TrimCall, Entry, Reply, Line, accepted_by, accepted_of, AnAccepted, ARefused, DiskFault, NoMemory, accepted_lines, tells_accepted, IsOutcome, TranscriptLine, Outcome, Posted, Trimmed, Valued, ValueRefused, ValueNoMemory, Has, front_back}
+use Rattle.std.proofs.lemmas.List.{append_assoc, take_at}
 use Rattle.std.proofs.lemmas.List.Elements.{filter_map-append}
 use Rattle.std.proofs.lemmas.List.Sums.{sum_by-cons}
 use Rattle.policy_types.specs.declared.entry.Reply.TheVariants.{Accepted, Refused, Faulted, Pinned, PinRefused, Slice, Unpinned, Floor, Blank}
 use Rattle.policy_types.specs.declared.script.Line.TheVariants.{Post, Value, Trim}
-use Rattle.transcript_text.proofs.PlaceSteps.{above, counted, counted_to, places, places_rise, rest_rises, rises, rising_alike}
+use Rattle.transcript_text.proofs.PlaceSteps.{above, counted, counted_below, places, places_rise, rest_rises, rises, rising_alike}
 
 -- whether a turn was an accepted posting
 abbrev pub is_acceptance : Call → Reply → Bool
@@ -100,16 +100,19 @@ by_telling {P} line told untold = by (tells_accepted line.outcome) refl
     by true is = told is
     by false is = untold is
 
+turns_append : (front back : List TranscriptLine) → accepted_turns (front ++ back) ≡ accepted_turns front ++ accepted_turns back
+turns_append [] back = refl
+turns_append (line ∷ front) back =
+    let rest = turns_append front back in
+    by_telling line
+    (λ has_told. with_one line (front ++ back) has_told ∙ ap (λ (ns : List ℕ). line.turn ∷ ns) rest
+    ∙ ap (λ (ns : List ℕ). ns ++ accepted_turns back) (sym (with_one line front has_told)))
+    (λ untold. without line (front ++ back) untold ∙ rest ∙ ap (λ (ns : List ℕ). ns ++ accepted_turns back) (sym (without line front untold)))
+
 pub split_turns : (before after : List TranscriptLine) (line : TranscriptLine) → tells_accepted line.outcome ≡ true
     → accepted_turns (before ++ line ∷ after) ≡ accepted_turns before ++ line.turn ∷ accepted_turns after
-split_turns [] after line is = with_one line after is
-split_turns (one ∷ before) after line is =
-    let rest = split_turns before after line is in
-    by_telling one
-    (λ has_told. with_one one (before ++ line ∷ after) has_told ∙ ap (λ (ns : List ℕ). one.turn ∷ ns) rest
-    ∙ ap (λ (ns : List ℕ). ns ++ line.turn ∷ accepted_turns after) (sym (with_one one before has_told)))
-    (λ untold. without one (before ++ line ∷ after) untold ∙ rest
-    ∙ ap (λ (ns : List ℕ). ns ++ line.turn ∷ accepted_turns after) (sym (without one before untold)))
+split_turns before after line is =
+    turns_append before (line ∷ after) ∙ ap (λ (ns : List ℕ). accepted_turns before ++ ns) (with_one line after is)
 
 pub many_turns : (lines : List TranscriptLine) → length (accepted_turns lines) ≡ accepted_lines lines
 many_turns [] = refl
@@ -171,6 +174,41 @@ turns_rise (line ∷ lines) rising =
     (rises line.turn (accepted_turns lines) rest (λ m has. above line.turn behind rising m (among lines m has))))
     (λ untold. subst AreRising (sym (without line lines untold)) rest)
 
+-- of lines that are told by rising turns, those up to one have no later turn than it, and those after it later ones
+module _ (after : List TranscriptLine) (line : TranscriptLine) where
+  turn_in : (before : List TranscriptLine) → Has (map (λ (one : TranscriptLine). one.turn) (before ++ line ∷ after)) line.turn
+  turn_in [] = inl refl
+  turn_in (one ∷ before) = inr (turn_in before)
+
+  turns_upto : (before : List TranscriptLine) → AreRising (map (λ (one : TranscriptLine). one.turn) (before ++ line ∷ after))
+      → (m : ℕ) → Has (accepted_turns (before ++ line ∷ [])) m → m ≤ line.turn
+  turns_upto [] rising m has =
+      by_telling line (λ has_told. only (subst (λ (ns : List ℕ). Has ns m) (with_one line [] has_told) has))
+      (λ untold. absurd (subst (λ (ns : List ℕ). Has ns m) (without line [] untold) has))
+    where
+      only : Has (line.turn ∷ []) m → m ≤ line.turn
+      only (inl same) = omega (arith, same)
+      only (inr none) = absurd none
+  turns_upto (one ∷ before) rising m has =
+      let behind : List ℕ = map (λ (l : TranscriptLine). l.turn) (before ++ line ∷ after) in
+      let low = above one.turn behind rising line.turn (turn_in before) in
+      by_telling one
+      (λ has_told. first low (subst (λ (ns : List ℕ). Has ns m) (with_one one (before ++ line ∷ []) has_told) has)
+      (λ there. turns_upto before (rest_rises one.turn behind rising) m there))
+      (λ untold. turns_upto before (rest_rises one.turn behind rising) m
+      (subst (λ (ns : List ℕ). Has ns m) (without one (before ++ line ∷ []) untold) has))
+    where
+      first : one.turn < line.turn → Has (one.turn ∷ accepted_turns (before ++ line ∷ [])) m
+          → (Has (accepted_turns (before ++ line ∷ [])) m → m ≤ line.turn) → m ≤ line.turn
+      first low (inl same) rest = omega (arith, same, low)
+      first low (inr there) rest = rest there
+
+  later_turns : (before : List TranscriptLine) → AreRising (map (λ (one : TranscriptLine). one.turn) (before ++ line ∷ after))
+      → (m : ℕ) → Has (accepted_turns after) m → line.turn < m
+  later_turns [] rising m has = above line.turn (map (λ (l : TranscriptLine). l.turn) after) rising m (among after m has)
+  later_turns (one ∷ before) rising m has =
+      later_turns before (rest_rises one.turn (map (λ (l : TranscriptLine). l.turn) (before ++ line ∷ after)) rising) m has
+
 -- a front of the turns has a front of the accepted commands
 front_of : (history : List Entry) (m : ℕ) → accepted_of (take m history) ≡ take (length (accepted_of (take m history))) (accepted_of history)
 front_of history m =
@@ -191,19 +229,20 @@ module _ (history : List Entry) (lines : List TranscriptLine) (rising : AreRisin
       subst (λ (k : ℕ). Has (places accepts 0 history) k) found.2 (told_place found.0 found.1 found.3))
       place_told
 
-  -- up to the turn of an accepted line one command more was accepted than in the lines before
-  pub accepted_to : (before after : List TranscriptLine) (line : TranscriptLine) → lines ≡ before ++ line ∷ after → tells_accepted line.outcome ≡ true
-      → accepted_of (take (line.turn + 1) history) ≡ take (accepted_lines before + 1) (accepted_of history)
-  accepted_to before after line split is =
-      let front = accepted_turns before in
-      let there : places accepts 0 history ≡ front ++ line.turn ∷ accepted_turns after =
-      sym same_places ∙ ap accepted_turns split ∙ split_turns before after line is in
-      let place : line.turn ≡ 0 + line.turn = omega arith in
-      let there_from_0 = subst (λ (n : ℕ). places accepts 0 history ≡ front ++ n ∷ accepted_turns after) place there in
-      let many = counted_to accepts 0 history front (accepted_turns after) line.turn there_from_0 in
+  -- up to the turn of a line as many commands were accepted as the lines up to it tell
+  pub accepted_upto : (before after : List TranscriptLine) (line : TranscriptLine) → lines ≡ before ++ line ∷ after
+      → accepted_of (take (line.turn + 1) history) ≡ take (accepted_lines (before ++ line ∷ [])) (accepted_of history)
+  accepted_upto before after line split =
+      let upto = before ++ line ∷ [] in
+      let there : places accepts 0 history ≡ accepted_turns upto ++ accepted_turns after =
+      sym same_places ∙ ap accepted_turns (split ∙ sym (append_assoc before (line ∷ []) after)) ∙ turns_append upto after in
+      let up = subst (λ (ls : List TranscriptLine). AreRising (map (λ (one : TranscriptLine). one.turn) ls)) split rising in
+      let many = counted_below accepts 0 history (accepted_turns upto) (accepted_turns after) (line.turn + 1) there
+      (λ m has. let low = turns_upto after line before up m has in omega (arith, low))
+      (λ m has. let high = later_turns after line before up m has in omega (arith, high)) in
       let commands = accepted_counted (take (line.turn + 1) history) in
-      let lines_before = many_turns before in
-      let long : length (accepted_of (take (line.turn + 1) history)) ≡ accepted_lines before + 1 = omega (arith, many, commands, lines_before) in
+      let told = many_turns upto in
+      let long : length (accepted_of (take (line.turn + 1) history)) ≡ accepted_lines upto = omega (arith, many, commands, told) in
       front_of history (line.turn + 1) ∙ ap (λ (k : ℕ). take k (accepted_of history)) long
 
   pub accepted_in_all : accepted_lines lines ≡ length (accepted_of history)

@@ -1,4 +1,4 @@
--- The places of what passes a test in a list, and how many stand before one of them
+-- The places of what passes a test in a list, and how many stand before a number
 use Rattle.transcript_text.proofs.Names.{◌≡◌, ℕ, zero, suc, ◌+◌, ◌<◌, ◌≤◌, Bool, true, false, cond, List, [], ◌∷◌, ◌++◌, length, take, refl, ap, sym, ◌∙◌, subst, inl, inr, Some, arith, slice_get, count_by, cond-false, cond-true, AreRising, Has}
 use Rattle.std.proofs.lemmas.List.Sums.{sum_by-cons}
 use Rattle.std.proofs.lemmas.Option.{same_Some}
@@ -109,17 +109,6 @@ module _ {X : Type 0} (p : X → Bool) where
   one_more : (x : X) (xs : List X) (j : ℕ) → count_by p (take (suc j) (x ∷ xs)) ≡ cond (p x) 1 0 + count_by p (take j xs)
   one_more x xs j = sum_by-cons (λ (y : X). cond (p y) 1 0) x (take j xs)
 
-  in_middle : (hs back : List ℕ) (m : ℕ) → Has (hs ++ m ∷ back) m
-  in_middle [] back m = inl refl
-  in_middle (h ∷ hs) back m = inr (in_middle hs back m)
-
-  heads : (n m : ℕ) (ns ms : List ℕ) → n ∷ ns ≡ m ∷ ms → n ≡ m
-  heads n m ns ms same = ap head_of same
-    where
-      head_of : List ℕ → ℕ
-      head_of [] = 0
-      head_of (m ∷ ms) = m
-
   tails : (n m : ℕ) (ns ms : List ℕ) → n ∷ ns ≡ m ∷ ms → ns ≡ ms
   tails n m ns ms same = ap tail_of same
     where
@@ -127,45 +116,41 @@ module _ {X : Type 0} (p : X → Bool) where
       tail_of [] = []
       tail_of (m ∷ ms) = ms
 
-  -- up to a place as many pass as places stand up to it
-  abbrev CountsTo : ℕ → List X → List ℕ → Type 0
-  CountsTo n xs back = (front : List ℕ) (k : ℕ) → places n xs ≡ front ++ (n + k) ∷ back → count_by p (take (k + 1) xs) ≡ length front + 1
-
-  pub counted_to : (n : ℕ) (xs : List X) (front back : List ℕ) (k : ℕ) → places n xs ≡ front ++ (n + k) ∷ back
-      → count_by p (take (k + 1) xs) ≡ length front + 1
-  counted_to n [] [] back k split = cc
-  counted_to n [] (f ∷ front) back k split = cc
-  counted_to n (x ∷ xs) front back k split =
-      by (p x) refl front split k refl (λ fs j split. counted_to (n + 1) xs fs back j split)
+  -- up to a number as many pass as places stand below it
+  pub counted_below : (n : ℕ) (xs : List X) (front back : List ℕ) (k : ℕ) → places n xs ≡ front ++ back
+      → ((m : ℕ) → Has front m → m < n + k) → ((m : ℕ) → Has back m → n + k ≤ m) → count_by p (take k xs) ≡ length front
+  counted_below n [] [] back zero split low high = refl
+  counted_below n [] [] back (suc k) split low high = refl
+  counted_below n [] (f ∷ front) back k split low high = cc
+  counted_below n (x ∷ xs) [] back zero split low high = refl
+  counted_below n (x ∷ xs) (f ∷ front) back zero split low high =
+      let there = of_places n (x ∷ xs) f (subst (λ (ns : List ℕ). Has ns f) (sym split) (inl refl)) in
+      absurd (let below = low f (inl refl) in omega (arith, below, there.1))
+  counted_below n (x ∷ xs) front back (suc k) split low high =
+      by (p x) refl front split low (λ fs parts under over. counted_below (n + 1) xs fs back k parts under over)
     where
-      -- the place stands further on
-      past : (gs : List ℕ) (worth : ℕ) → places (n + 1) xs ≡ gs ++ (n + k) ∷ back → (j : ℕ) → j ≡ k → cond (p x) 1 0 ≡ worth → CountsTo (n + 1) xs back
-          → count_by p (take (j + 1) (x ∷ xs)) ≡ worth + (length gs + 1)
-      past gs worth there zero same is rest =
-          let inside = of_places (n + 1) xs (n + k) (subst (λ (ns : List ℕ). Has ns (n + k)) (sym there) (in_middle gs back (n + k))) in
-          absurd (omega (arith, inside.1, same))
-      past gs worth there (suc j) same is rest =
-          let place : n + k ≡ (n + 1) + j = omega (arith, same) in
-          let behind = rest gs j (subst (λ (m : ℕ). places (n + 1) xs ≡ gs ++ m ∷ back) place there) in
-          let long : suc (j + 1) ≡ suc j + 1 = omega arith in
-          let whole : count_by p (take (suc j + 1) (x ∷ xs)) ≡ cond (p x) 1 0 + count_by p (take (j + 1) xs) =
-          subst (λ (i : ℕ). count_by p (take i (x ∷ xs)) ≡ cond (p x) 1 0 + count_by p (take (j + 1) xs)) long (one_more x xs (j + 1)) in
-          omega (arith, whole, behind, is)
+      Rest : Type 0
+      Rest = (fs : List ℕ) → places (n + 1) xs ≡ fs ++ back → ((m : ℕ) → Has fs m → m < (n + 1) + k)
+          → ((m : ℕ) → Has back m → (n + 1) + k ≤ m) → count_by p (take k xs) ≡ length fs
 
-      by : (b : Bool) → p x ≡ b → (fs : List ℕ) → places n (x ∷ xs) ≡ fs ++ (n + k) ∷ back → (j : ℕ) → j ≡ k → CountsTo (n + 1) xs back
-          → count_by p (take (j + 1) (x ∷ xs)) ≡ length fs + 1
-      by true is [] split j same rest =
-          let first : n ≡ n + k = heads n (n + k) (places (n + 1) xs) back (sym (passed n x xs is) ∙ split) in
-          let none : j ≡ 0 = omega (arith, first, same) in
-          subst (λ (i : ℕ). count_by p (take (i + 1) (x ∷ xs)) ≡ 1) (sym none)
-          (one_more x xs 0 ∙ ap {B = ℕ} (λ (b : Bool). cond b 1 0 + 0) is)
-      by true is (f ∷ fs) split j same rest =
-          let behind = past fs 1 (tails n f (places (n + 1) xs) (fs ++ (n + k) ∷ back) (sym (passed n x xs is) ∙ split)) j same
-          (ap {B = ℕ} (λ (b : Bool). cond b 1 0) is) rest in
-          omega (arith, behind)
-      by false is fs split j same rest =
-          let behind = past fs 0 (sym (failed n x xs is) ∙ split) j same (ap {B = ℕ} (λ (b : Bool). cond b 1 0) is) rest in
-          omega (arith, behind)
+      over : (m : ℕ) → Has back m → (n + 1) + k ≤ m
+      over m has = let above_it = high m has in omega (arith, above_it)
+
+      by : (b : Bool) → p x ≡ b → (fs : List ℕ) → places n (x ∷ xs) ≡ fs ++ back → ((m : ℕ) → Has fs m → m < n + suc k)
+          → Rest → count_by p (take (suc k) (x ∷ xs)) ≡ length fs
+      by true is [] parts under rest =
+          let here = high n (subst (λ (ns : List ℕ). Has ns n) (sym (passed n x xs is) ∙ parts) (inl refl)) in absurd (omega (arith, here))
+      by true is (f ∷ fs) parts under rest =
+          let behind = rest fs (tails n f (places (n + 1) xs) (fs ++ back) (sym (passed n x xs is) ∙ parts))
+          (λ m has. let below = under m (inr has) in omega (arith, below)) over in
+          let worth = ap {B = ℕ} (λ (b : Bool). cond b 1 0) is in
+          let whole = one_more x xs k in
+          omega (arith, whole, worth, behind)
+      by false is fs parts under rest =
+          let behind = rest fs (sym (failed n x xs is) ∙ parts) (λ m has. let below = under m has in omega (arith, below)) over in
+          let worth = ap {B = ℕ} (λ (b : Bool). cond b 1 0) is in
+          let whole = one_more x xs k in
+          omega (arith, whole, worth, behind)
 
   -- and in all as many as there are places
   pub counted : (n : ℕ) (xs : List X) → count_by p xs ≡ length (places n xs)

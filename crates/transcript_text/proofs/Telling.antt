@@ -11,7 +11,7 @@ use Rattle.program_endings.specs.Replies.{ArePins, HaveAFault}
 use Rattle.program_endings.proofs.ReplyNames.{HasBlank, IsAnswered, IsPinned, IsUnfaulted}
 use Rattle.program_endings.proofs.TurnSteps.{due_at, posted_first, posts, quiet_reply, unfaulted_if_answered}
 use Rattle.transcript_text.specs.Lanes.{AreScriptLanes}
-use Rattle.transcript_text.proofs.AcceptedSteps.{accepted_in_all, accepted_to, accepted_told, accepted_turns, accepts, enumerated, has_turns, is_acceptance, posting_told, posts_accepted}
+use Rattle.transcript_text.proofs.AcceptedSteps.{accepted_in_all, accepted_told, accepted_upto, accepted_turns, accepts, enumerated, has_turns, is_acceptance, posting_told, posts_accepted}
 use Rattle.transcript_text.proofs.PlaceSteps.{has_places, of_places, places}
 use Rattle.transcript_text.proofs.TextSteps.{texts_of}
 use Rattle.transcript_text.proofs.ToldSteps.{line_turn, turn_line, page_numbers, lacked_pin, told_fault, told_unfaulted, told_answered, lacked_which, not_lacked, told_blank, post_call}
@@ -28,8 +28,7 @@ pub record Telling {D W : Type 0} (basis : List Dated) (lanes : List Lane) (clos
   pub none_dry : any_lacked transcript.lines ≡ false → dry_of transcript.lines ≡ []
   pub some_lacked : any_lacked transcript.lines ≡ true → HasBlank closing.seen ⊎ ((pin : ℕ) × Contains (dry_of transcript.lines) pin)
   pub in_order : (before after : List TranscriptLine) (line : TranscriptLine) → transcript.lines ≡ before ++ line ∷ after
-      → tells_accepted line.outcome ≡ true
-      → accepted_of (take (line.turn + 1) closing.seen) ≡ take (accepted_lines before + 1) (accepted_of closing.seen)
+      → accepted_of (take (line.turn + 1) closing.seen) ≡ take (accepted_lines (before ++ line ∷ [])) (accepted_of closing.seen)
   pub all_accepted : accepted_lines transcript.lines ≡ length (accepted_of closing.seen)
   pub fault : any_faulted transcript.lines ≡ true → HaveAFault closing.seen
   pub unfaulted : any_faulted transcript.lines ≡ false → AllByRecursion (λ (entry : Entry). IsUnfaulted entry.reply) closing.seen
@@ -277,7 +276,7 @@ module _ {D W : Type 0} (basis : List Dated) (lanes : List Lane) (first closing 
 
   pub telling : Telling basis lanes closing transcript opened ran.answered
   telling = record {
-    in_order = accepted_to closing.seen transcript.lines rising told_place place_told;
+    in_order = accepted_upto closing.seen transcript.lines rising told_place place_told;
     all_accepted = accepted_in_all closing.seen transcript.lines rising told_place place_told;
     opening = closing_opened;
     history = is_history;

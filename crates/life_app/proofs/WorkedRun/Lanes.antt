@@ -1,5 +1,5 @@
 -- The two lanes are as their cases say.
-use Rattle.life_app.proofs.Names.{◌≡◌, ◌++◌, ℕ, List, [], ◌∷◌, refl, sym, subst, inl, inr, lit≤, lit<, arith, ints, flat_map, pos, digits, IsDistinct, anniversary_of, day_number, date_of, month_of, days_before_year, days_of_months, day_text, Accepted, Faulted, Refused, hand_premium, valid_premium, BelowTable, Now, Entry, InForce, Opens, Row, Terminal, Word, block_text, heading_text, row_text, total_text, posting_text, reports_text, reports_of, Done, DiskFault, IsRunOf, TakenPiece, called, two_auditors, ap, ◌∙◌}
+use Rattle.life_app.proofs.Names.{accepted_of, take, ◌+◌, ◌≡◌, ◌++◌, ℕ, List, [], ◌∷◌, refl, sym, subst, inl, inr, lit≤, lit<, arith, ints, flat_map, pos, digits, IsDistinct, anniversary_of, day_number, date_of, month_of, days_before_year, days_of_months, day_text, Accepted, Faulted, Refused, hand_premium, valid_premium, BelowTable, Now, Entry, InForce, Opens, Row, Terminal, Word, block_text, heading_text, row_text, total_text, posting_text, reports_text, reports_of, Done, DiskFault, IsRunOf, TakenPiece, called, two_auditors, ap}
 use Rattle.csv.proofs.OnLiterals.{csv_on_literals}
 use Rattle.command_csv.proofs.WorkedScripts.{reads, row_of}
 use Rattle.command_csv.specs.declared.row.ClerkLine.{ClerkLine}
@@ -87,7 +87,7 @@ abbrev lanes_piece : TakenPiece
 lanes_piece = record { bytes = lanes_text; since = called.clock fault_disk }
 
 shown : AreSafeWhenShown called Opens fault_disk both_issues lanes_turns lanes_answers texts (lanes_piece ∷ [])
-shown later earlier piece split before after line there position accepted reached image left =
+shown later earlier piece split before after line there some reached image left =
     front_held _ image (only_now fault_disk image honest_fault
     (subst (λ (p : TakenPiece). called.left_since fault_disk p.since image) (sym (one_alone lanes_piece piece later earlier split)) left))
 
@@ -162,9 +162,9 @@ late_ran = record {
   shown = λ honest. (
     (record { bytes = late_text; since = called.clock looked_again }) ∷ [],
     refl,
-    λ later earlier piece split before after line there position accepted reached image left.
-        let same : late_turn.reply ≡ Accepted position = ap (λ (l : AnsweredLine). l.first.1.reply) (one_alone late_answer line before after there) ∙ accepted in
-        cc,
+    λ later earlier piece split before after line there some reached image left.
+        absurd (some (ap (λ (l : AnsweredLine). accepted_of (take (l.first.0 + 1) (late_turn ∷ [])))
+        (sym (one_alone late_answer line before after there)))),
   );
   wrote = (sym late_written, (((refl, λ no. cc), tt), refl));
   disk = late_left;

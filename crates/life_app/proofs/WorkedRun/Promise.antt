@@ -85,7 +85,7 @@ only_piece = record { bytes = premium_text; since = called.clock last_disk }
 -- since the disk's last moment a crash leaves both commands
 shown : AreSafeWhenShown called Opens last_disk (hand_issue ∷ []) second_turns (premium_line ∷ []) (told ∷ []) (only_piece ∷ [])
 unfolding only_piece
-shown later earlier piece split before after line there position accepted reached image left =
+shown later earlier piece split before after line there some reached image left =
     let this : only_piece ≡ piece = one_alone only_piece piece later earlier split in
     let one : premium_line ≡ line = one_alone premium_line line before after there in
     let now : called.may_leave last_disk image =
@@ -118,11 +118,15 @@ not_both more opens =
     let long = ap length same in
     omega (arith, long)
 
+-- the premium was accepted by its turn
+one_accepted : accepted_of (take 1 second_turns) ≡ [] → ⊥
+one_accepted none = let long : length (hand_premium ∷ []) ≡ 0 = ap length none in omega (arith, long)
+
 too_soon : (moment : ℕ) → moment < called.clock last_disk
     → AreSafeWhenShown called Opens last_disk (hand_issue ∷ []) second_turns (premium_line ∷ []) (told ∷ [])
     ((record { bytes = premium_text; since = moment }) ∷ []) → ⊥
 too_soon moment before safe =
-    let opens = safe [] [] (record { bytes = premium_text; since = moment }) refl [] [] premium_line refl 2 refl (lit< tt) staged_file
+    let opens = safe [] [] (record { bytes = premium_text; since = moment }) refl [] [] premium_line refl one_accepted (lit< tt) staged_file
     (still_staged moment before) in
     not_both opens.0 opens.1
 

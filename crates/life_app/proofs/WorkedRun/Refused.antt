@@ -344,12 +344,15 @@ unposted admits =
     let long = ap length same in
     omega (arith, long)
 
+accepted_one : hand_premium ∷ [] ≡ [] → ⊥
+accepted_one none = let long : length (hand_premium ∷ []) ≡ 0 = ap length none in omega (arith, long)
+
 too_soon : (moment : ℕ) → moment < called.clock last_disk → Admits last_disk (output_at moment) 0 → ⊥
 too_soon moment before admits =
     let handed = handed_on last_disk (output_at moment) (promised last_disk (output_at moment) admits) honest_last in
     let by = caller last_disk (output_at moment) (promised last_disk (output_at moment) admits) honest_last in
-    let opens = handed.2 [] [] (record { bytes = premium_text; since = moment }) (sym (append-nil handed.0) ∙ sym handed.1) [] [] (answered_by by) refl 2
-    refl (lit< tt) staged_file (still_staged moment before) in
+    let opens = handed.2 [] [] (record { bytes = premium_text; since = moment }) (sym (append-nil handed.0) ∙ sym handed.1) [] [] (answered_by by) refl
+    accepted_one (lit< tt) staged_file (still_staged moment before) in
     not_both opens.0 opens.1
 
 -- ---- nor a file that was unmade on the way

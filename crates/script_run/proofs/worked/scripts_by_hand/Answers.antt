@@ -1,4 +1,4 @@
-use Rattle.script_run.proofs.Names.{◌≡◌, ◌≤◌, ℕ, zero, suc, List, [], ◌∷◌, length, take, Some, ap, refl, inl, inr, codes, lit≤, arith, Appends, concat}
+use Rattle.script_run.proofs.Names.{◌≡◌, ◌≤◌, ℕ, zero, suc, List, [], length, take, Some, ap, refl, inl, inr, codes, lit≤, arith, Appends, concat}
 use Rattle.std.specs.Fmt.{digits}
 use Rattle.script_run.specs.Worked.{two_texts}
 use Rattle.script_run.proofs.worked.scripts_by_hand.Goals as goal
