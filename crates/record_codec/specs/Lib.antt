@@ -1,4 +1,5 @@
 pub mod Names
+pub mod Numbers
 pub mod Spelling
 pub mod Worked
 pub mod inside

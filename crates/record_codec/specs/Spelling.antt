@@ -1,5 +1,5 @@
 -- The body of a journal's record: 64 bytes that spell one command
-use Rattle.std.specs.Prelude.{◌≡◌, ◌++◌, List, [], ◌∷◌, ℕ, ℤ, pos, replicate}
+use Rattle.std.specs.Prelude.{◌≡◌, ◌==◌, ◌++◌, if◌then◌else◌, List, [], ◌∷◌, ℕ, ℤ, pos, replicate, Option, Some, None}
 use Rattle.record_codec.specs.Names.{w32, w64, to_be_bytes, cast_unsigned, Command, Issue, Premium, Alter, Lapse, Reinstate, Claim, Settle, Mature, PaidUp, Upgrade, Plan, Term, Whole, Endowment, Limited, IsValid}
 
 -- the byte of a plan
@@ -8,6 +8,12 @@ plan_byte Term = 1
 plan_byte Whole = 2
 plan_byte Endowment = 3
 plan_byte Limited = 4
+
+-- the plan of a byte, where it has one
+abbrev pub plan_of_byte : ℕ → Option Plan
+plan_of_byte byte =
+    if byte == 1 then Some Term else if byte == 2 then Some Whole
+    else if byte == 3 then Some Endowment else if byte == 4 then Some Limited else None
 
 -- kind, plan, age and years, a byte each; then the id and the day in four bytes, the day in two's complement; then the amount
 -- and the premium in eight; each with its high byte first; and 36 zeros

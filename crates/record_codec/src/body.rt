@@ -1,78 +1,71 @@
-// The bytes of the fields at their places.
-ghost use Rattle.std.specs.Prelude.{◌≡◌, ◌+◌, ◌≤◌, [], ◌∷◌, take, slice_index};
-ghost use Rattle.std.specs.Int.{w32, w64, from_be_bytes};
+// The body of a record: where each field stands. A number has its high byte first, and the day is in two's complement.
+//
+// | at | bytes | field                              |
+// |----|-------|------------------------------------|
+// |  0 |     1 | kind of the command, 1 to 10       |
+// |  1 |     1 | plan, 1 to 4                       |
+// |  2 |     1 | age at issue                       |
+// |  3 |     1 | years of the plan                  |
+// |  4 |     4 | number of the policy               |
+// |  8 |     4 | day, counted from 1970-01-01       |
+// | 12 |     8 | amount or payment, in cents        |
+// | 20 |     8 | premium, in cents                  |
+// | 28 |    36 | zeros                              |
+//
+// A field that the kind doesn't have is 0.
+ghost use Rattle.std.specs.Prelude.{◌≡◌};
 ghost use Rattle.record_codec.specs.declared.fields.RecordFields.{RecordFields};
 ghost use Rattle.record_codec.specs.inside.Reading.{AreInRange, bytes_of};
 
 use crate::fields::RecordFields;
+use crate::numbers::{eight_at, four_at};
+
+const KIND: usize = 0;
+
+const PLAN: usize = 1;
+
+const AGE: usize = 2;
+
+const YEARS: usize = 3;
+
+const ID: usize = 4;
+
+const DAY: usize = 8;
+
+const AMOUNT: usize = 12;
+
+const PREMIUM: usize = 20;
+
+const ZEROS: usize = 28;
 
 pub fn body_with(fields: RecordFields) -> [u8; 64]
     ensures { result ≡ bytes_of fields }
 {
     let mut body = [0; 64];
-    body[..28].copy_from_slice(&bytes_with(fields));
+    body[KIND] = fields.kind;
+    body[PLAN] = fields.plan;
+    body[AGE] = fields.age;
+    body[YEARS] = fields.years;
+    body[ID..DAY].copy_from_slice(&fields.id.to_be_bytes());
+    body[DAY..AMOUNT].copy_from_slice(&fields.day.to_be_bytes());
+    body[AMOUNT..PREMIUM].copy_from_slice(&fields.amount.to_be_bytes());
+    body[PREMIUM..ZEROS].copy_from_slice(&fields.premium.to_be_bytes());
     body
 }
 
-// The fields that stand in a body. What else it holds isn't tested.
+// The fields that stand in a body. Its zeros aren't tested.
 pub fn fields_at(body: &[u8; 64]) -> RecordFields
     ensures { (fields : RecordFields) → AreInRange fields → body.now ≡ bytes_of fields
         → result ≡ fields }
 {
     RecordFields {
-        kind: body[0],
-        plan: body[1],
-        age: body[2],
-        years: body[3],
-        id: u32::from_be_bytes(four_at(body, 4)),
-        day: i32::from_be_bytes(four_at(body, 8)),
-        amount: u64_at(body, 12),
-        premium: u64_at(body, 20),
+        kind: body[KIND],
+        plan: body[PLAN],
+        age: body[AGE],
+        years: body[YEARS],
+        id: u32::from_be_bytes(four_at(body, ID)),
+        day: i32::from_be_bytes(four_at(body, DAY)),
+        amount: u64::from_be_bytes(eight_at(body, AMOUNT)),
+        premium: u64::from_be_bytes(eight_at(body, PREMIUM)),
     }
-}
-
-fn bytes_with(fields: RecordFields) -> [u8; 28]
-    ensures { result ≡ take 28 (bytes_of fields) }
-{
-    let RecordFields {
-        kind,
-        plan,
-        age,
-        years,
-        id,
-        day,
-        amount,
-        premium,
-    } = fields;
-    let [a, b, c, d] = id.to_be_bytes();
-    let [e, f, g, h] = day.to_be_bytes();
-    let [i, j, k, l, m, n, o, p] = amount.to_be_bytes();
-    let [q, r, s, t, u, v, w, x] = premium.to_be_bytes();
-    [
-        kind, plan, age, years, a, b, c, d, e, f, g, h, i, j, k, l, m, n, o, p, q, r, s, t, u, v,
-        w, x,
-    ]
-}
-
-// The four bytes at a place.
-fn four_at(body: &[u8; 64], at: usize) -> [u8; 4]
-    requires { at ≤ 60 }
-    ensures { result ≡ slice_index body.now at ∷ slice_index body.now (at + 1)
-        ∷ slice_index body.now (at + 2) ∷ slice_index body.now (at + 3) ∷ [] }
-{
-    [body[at], body[at + 1], body[at + 2], body[at + 3]]
-}
-
-// The number in the eight bytes at a place.
-fn u64_at(body: &[u8; 64], at: usize) -> u64
-    requires { at ≤ 56 }
-    ensures { result ≡ from_be_bytes w64 (slice_index body.now at
-        ∷ slice_index body.now (at + 1) ∷ slice_index body.now (at + 2)
-        ∷ slice_index body.now (at + 3) ∷ slice_index body.now (at + 4)
-        ∷ slice_index body.now (at + 5) ∷ slice_index body.now (at + 6)
-        ∷ slice_index body.now (at + 7) ∷ []) }
-{
-    let [a, b, c, d] = four_at(body, at);
-    let [e, f, g, h] = four_at(body, at + 4);
-    u64::from_be_bytes([a, b, c, d, e, f, g, h])
 }

@@ -1,5 +1,5 @@
-// Records of commands.
-ghost use Rattle.std.specs.Prelude.{◌≡◌, Some, IfSome};
+// A command as the body of a record, and the command that a body spells.
+ghost use Rattle.std.specs.Prelude.{◌≡◌, ℕ, List, Some, IfSome};
 ghost use Rattle.record_codec.specs.Names.{IsValid, Command};
 ghost use Rattle.record_codec.specs.Spelling.{spelling_of, IsSpelling};
 
@@ -34,3 +34,9 @@ fn command_in(body: &[u8; 64]) -> Option<Command>
 {
     command_with(fields_at(body))
 }
+
+/// No body spells two commands.
+pub fn spells_one_command()
+    ensures { (body : List ℕ) (c d : Command) → IsSpelling body c → IsSpelling body d
+        → c ≡ d }
+{}

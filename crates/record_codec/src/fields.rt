@@ -1,7 +1,7 @@
 // The fields of a record, and the command that has them.
 ghost use Rattle.std.specs.Prelude.{◌≡◌};
-ghost use Rattle.record_codec.specs.Spelling.{plan_byte};
-ghost use Rattle.record_codec.specs.inside.Reading.{fields_of, short_fields, plan_at, command_at};
+ghost use Rattle.record_codec.specs.Spelling.{plan_byte, plan_of_byte};
+ghost use Rattle.record_codec.specs.inside.Reading.{fields_of, short_fields, command_at};
 
 use policy_types::{Command, Plan};
 
@@ -32,7 +32,7 @@ pub fn fields_with(command: &Command) -> RecordFields
             premium,
         } => RecordFields {
             kind: 1,
-            plan: byte_of(plan),
+            plan: byte_of_plan(plan),
             age,
             years,
             id,
@@ -74,7 +74,7 @@ pub fn command_with(fields: RecordFields) -> Option<Command>
         1 => Some(Command::Issue {
             id,
             day,
-            plan: plan_of(plan)?,
+            plan: plan_in_byte(plan)?,
             age,
             years,
             amount,
@@ -113,7 +113,8 @@ fn short(kind: u8, id: u32, day: i32, amount: u64, premium: u64) -> RecordFields
     }
 }
 
-fn byte_of(plan: Plan) -> u8
+/// The byte of a plan in a record and in a checkpoint.
+pub fn byte_of_plan(plan: Plan) -> u8
     ensures { result ≡ plan_byte plan }
 {
     match plan {
@@ -124,8 +125,9 @@ fn byte_of(plan: Plan) -> u8
     }
 }
 
-fn plan_of(byte: u8) -> Option<Plan>
-    ensures { result ≡ plan_at byte }
+/// The plan of a byte, and `None` where the byte is that of no plan.
+pub fn plan_in_byte(byte: u8) -> Option<Plan>
+    ensures { result ≡ plan_of_byte byte }
 {
     match byte {
         1 => Some(Plan::Term),

@@ -4,8 +4,9 @@
 mod body;
 mod codec;
 mod fields;
-mod laws;
+mod numbers;
 pub mod worked;
 
-pub use codec::{decode, encode};
-pub use laws::spells_one_command;
+pub use codec::{decode, encode, spells_one_command};
+pub use fields::{byte_of_plan, plan_in_byte};
+pub use numbers::{eight_at, four_at};

@@ -1,7 +1,7 @@
 -- The fields of a record, and the command that has them
 use Rattle.std.specs.Prelude.{ℕ, ℤ, pos, ◌==◌, ◌<◌, ◌^◌, if◌then◌else◌, FitsSigned, List, Option, Some, None, option_map}
-use Rattle.record_codec.specs.Names.{w32, Command, Issue, Premium, Alter, Lapse, Reinstate, Claim, Settle, Mature, PaidUp, Upgrade, Plan, Term, Whole, Endowment, Limited}
-use Rattle.record_codec.specs.Spelling.{plan_byte, body_of}
+use Rattle.record_codec.specs.Names.{w32, Command, Issue, Premium, Alter, Lapse, Reinstate, Claim, Settle, Mature, PaidUp, Upgrade}
+use Rattle.record_codec.specs.Spelling.{plan_byte, plan_of_byte, body_of}
 use Rattle.record_codec.specs.declared.fields.RecordFields.{RecordFields}
 
 -- the fields of every kind but the first
@@ -50,16 +50,10 @@ pub record AreInRange (f : RecordFields) : Type 0 where
   pub amount_in : f.amount < 2 ^ 64
   pub premium_in : f.premium < 2 ^ 64
 
--- the plan of a byte
-abbrev pub plan_at : ℕ → Option Plan
-plan_at byte =
-    if byte == 1 then Some Term else if byte == 2 then Some Whole
-    else if byte == 3 then Some Endowment else if byte == 4 then Some Limited else None
-
 -- the command of which these may be the fields
 abbrev pub command_at : RecordFields → Option Command
 command_at f =
-    if f.kind == 1 then option_map (λ plan. Issue f.id f.day plan f.age f.years f.amount f.premium) (plan_at f.plan)
+    if f.kind == 1 then option_map (λ plan. Issue f.id f.day plan f.age f.years f.amount f.premium) (plan_of_byte f.plan)
     else if f.kind == 2 then Some (Premium f.id f.day f.amount)
     else if f.kind == 3 then Some (Alter f.id f.day f.amount f.premium)
     else if f.kind == 4 then Some (Lapse f.id f.day)
