@@ -1,6 +1,7 @@
 // What the plan and the days of a policy decide.
 ghost use Rattle.std.specs.Prelude.{◌≡◌, ◌≤◌, ◌+◌, ◌≤ℤ◌};
 ghost use Rattle.life_dates.specs.Calendar.{IsTermDay};
+ghost use Rattle.policy_types.specs.Valid.{IsIssueAge};
 ghost use Rattle.policy_machine.specs.Rules.{IsSound, years_of, payments_of, end_of, has_due as is_due, due_of, premiums_missed, reinstatement_end_of};
 
 use life_dates::{anniversary, completed};
@@ -20,9 +21,9 @@ fn years(policy: Policy) -> u8
 
 // The number of annual premiums.
 pub fn payments(policy: Policy) -> u8
-    requires { IsSound policy }
+    requires { IsIssueAge policy.age }
     ensures value { result ≡ payments_of policy }
-    ensures bound { result ≤ 131 }
+    ensures bound { IsSound policy → result ≤ 131 }
 {
     match policy.plan {
         Plan::Term | Plan::Endowment | Plan::Limited => policy.years,
