@@ -1,8 +1,9 @@
 // A line that is written from its end to its start, so that the digits of a number are written where they stay.
 ghost use Rattle.std.specs.Prelude.{◌≡◌, ◌+◌, ◌≤◌, ◌++◌, [], ◌∷◌, length, decimal};
 ghost use Rattle.money_core.specs.CentsText.{cents_text};
-ghost use Rattle.policy_types.specs.Words.{status_word};
+ghost use Rattle.policy_types.specs.Words.{status_word as status_text};
 
+use crate::words::status_word;
 use itoa::write_digits;
 use policy_types::Status;
 use std::marker::Model;
@@ -83,20 +84,13 @@ impl LineEnd {
     }
 
     /// A field, the word of a status.
+    #[tactic(auto, using(crate::proofs::WordLengths::short_status))]
     pub fn status(&mut self, status: Status)
         requires { 8 + length self.old ≤ 256 }
-        ensures written { self.new ≡ 44 ∷ (status_word status ++ self.old) }
+        ensures written { self.new ≡ 44 ∷ (status_text status ++ self.old) }
         ensures short { length self.new ≤ length self.old + 8 }
     {
-        match status {
-            Status::InForce => self.field(b"inforce"),
-            Status::Lapsed => self.field(b"lapsed"),
-            Status::Claimed => self.field(b"claimed"),
-            Status::Matured => self.field(b"matured"),
-            Status::Expired => self.field(b"expired"),
-            Status::Settled => self.field(b"settled"),
-            Status::PaidUp => self.field(b"paidup"),
-        }
+        self.field(status_word(status).as_bytes());
     }
 
     /// The line.
