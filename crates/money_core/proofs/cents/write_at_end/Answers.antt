@@ -1,7 +1,7 @@
 use Rattle.money_core.proofs.Names.{◌≡◌, ◌+◌, ◌-◌, ◌/◌, arith, rules, to_z-of_z, length-decimal-le}
 use Rattle.std.proofs.lemmas.List.{drop-set}
 use Rattle.money_core.proofs.CentsTextLemmas.{minus_first}
-use Rattle.money_core.proofs.print.write_at_end.Goals as goal
+use Rattle.money_core.proofs.cents.write_at_end.Goals as goal
 
 pub write_digits-start-requires : goal.write_digits-start-requires
 write_digits-start-requires c =

@@ -1,6 +1,6 @@
 use Rattle.std.proofs.Common.{refl, sym, ◌∙◌, arith}
 use Rattle.money_core.proofs.CentsTextLemmas.{text_from_parts, cents_text_injective}
-use Rattle.money_core.proofs.parse.parse_cents.Goals as goal
+use Rattle.money_core.proofs.cents.parse_cents.Goals as goal
 use Rattle.std.proofs.lemmas.Bool.{false≢true}
 
 pub returns-in_err-cents-clause-none : goal.returns-in_err-cents-clause-none
