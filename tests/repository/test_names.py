@@ -34,8 +34,6 @@ ALLOWED_CONSTANTS = {
 SAME_NUMBER = {
     "policies that are read, and rows that are gone through, at once": {"POLICIES_TOGETHER", "POLICIES_IN_ROOM"},
     "a rate in units of its finest digit, and a share of lives": {"ONE", "CERTAIN"},
-    "what the rules take, and what the format has: a journal of one more could not be numbered": {
-        "MOST_COMMANDS", "MAX_RECORDS"},
     "places of a table, and policies of a portion": {"FIRST_PLACES", "POLICIES_IN_PORTION"},
     "what a shelf gives, what a number may be spelled with, and what a basis file may have": {
         "SHELF_LIMIT", "LONGEST_TEXT", "LONGEST_FILE"},
@@ -127,4 +125,4 @@ def test_each_exception_of_a_number_is_needed() -> None:
 def test_a_number_under_a_second_name_is_told() -> None:
     text = "/// As many records.\nconst MOST_POSTINGS: u32 = 4 * 1_000_000;\n"
     planted = parsed("money_core", Path(CRATES / "money_core" / "src" / "planted.rt"), text)
-    assert doubled([*program(), planted]) == ["4,000,000 is MAX_RECORDS, MOST_COMMANDS, MOST_POSTINGS"]
+    assert doubled([*program(), planted]) == ["4,000,000 is MOST_COMMANDS, MOST_POSTINGS"]

@@ -1,5 +1,5 @@
 -- What the two steps of adding a record do on an honest disk.
-use Rattle.posting_journal.proofs.Names.{◌≡◌, ℕ, ◌<◌, ◌≤◌, List, [], ◌∷◌, ◌++◌, length, sym, subst, arith, length-append, Bool, true, false, IsTrue, Result, Ok, Err, OnOk, OnErr, MatchResult, Torn, Ghosts, gate_place, body_place, IsJournal, IsStaged, IsSafe, Leaves, PutsOn, TornOf}
+use Rattle.posting_journal.proofs.Names.{◌≡◌, ℕ, ◌<◌, ◌≤◌, List, [], ◌∷◌, ◌++◌, length, sym, ap, ◌∙◌, refl, subst, arith, length-append, Bool, true, false, IsTrue, Result, Ok, Err, OnOk, MatchResult, Torn, Ghosts, gate_place, body_place, IsJournal, IsStaged, IsSafe, Leaves, PutsOn, TornOf}
 use Rattle.posting_journal.specs.States.{IsKept}
 use Rattle.posting_journal.proofs.Bytes.{written_torn}
 use Rattle.posting_journal.proofs.Moments.{leaves, wider}
@@ -83,15 +83,23 @@ pub unclean_kept : (clean : Bool) (bodies : List (List ℕ)) (faulted bytes : Li
 unclean_kept true bodies faulted bytes is staged = absurd (cc)
 unclean_kept false bodies faulted bytes is staged = staged
 
+-- A record was written behind the gate that ends the records of a clean journal.
+pub record_staged : {D T E : Type 0} (g : Ghosts D) (old new : D) (clean : Bool) (count at : ℕ) (bodies : List (List ℕ)) (faulted body record_bytes : List ℕ) (result : Result T E) → IsTrue clean → count < 4000000 → length body ≡ 64
+    → count ≡ length bodies → IsKept clean bodies faulted (g.reads old) → ((image : List ℕ) → g.may_leave old image → IsKept clean bodies faulted image)
+    → ((image : List ℕ) → g.left_since old (g.clock old) image → g.may_leave old image) → at ≡ body_place count → record_bytes ≡ body ++ 0 ∷ [] → PutsOn g old new at record_bytes result → Staging g old new bodies body result
+record_staged g old new clean count at bodies faulted body record_bytes result is fewer size counted reads images only_now here same puts =
+    staging g old new bodies body result (omega (arith, fewer, counted)) size (kept_clean clean bodies faulted (g.reads old) is reads)
+    (λ image left. kept_clean clean bodies faulted image is (images image left)) only_now
+    (puts_at g old new at (body_place (length bodies)) record_bytes (body ++ 0 ∷ []) result puts (here ∙ ap body_place counted) same)
+
+-- The gate before a staged body, which was made safe, was written.
+pub gate_written : {D T E : Type 0} (g : Ghosts D) (old new : D) (count at byte : ℕ) (bodies : List (List ℕ)) (body : List ℕ) (result : Result T E) → count ≡ length bodies → IsStaged (g.reads old) bodies body × IsSafe g old
+    → ((image : List ℕ) → g.left_since old (g.clock old) image → g.may_leave old image) → at ≡ gate_place count → PutsOn g old new at (byte ∷ []) result → Gating g old new bodies body
+gate_written g old new count at byte bodies body result counted staged only_now here puts =
+    gating g old new bodies body byte result staged.0 (each_safe g old (λ image. IsStaged image bodies body) staged.1 staged.0) only_now
+    (puts_at g old new at (gate_place (length bodies)) (byte ∷ []) (byte ∷ []) result puts (here ∙ ap gate_place counted) refl)
+
 -- What was done was told.
 pub told_ok : {T E F : Type 0} (done : Result T E) (result : Result T F) (value : T) (fault : F) (P : Type 0) → result ≡ Ok value → MatchResult done (λ u. result ≡ Ok u) (λ f. result ≡ Err fault) → OnOk done P → P
 told_ok (Ok u) result value fault P is told holds = holds
 told_ok (Err e) result value fault P is told holds = absurd (cc)
-
-pub told_done : {T E F : Type 0} (done : Result T E) (result : Result T F) (fault : F) (P : Type 0) → MatchResult done (λ u. result ≡ Ok u) (λ f. result ≡ Err fault) → OnOk done P → OnOk result P
-told_done (Ok u) result fault P told holds = subst (λ r. OnOk r P) (sym told) holds
-told_done (Err e) result fault P told holds = subst (λ r. OnOk r P) (sym told) tt
-
-pub told_err : {T E F : Type 0} (done : Result T E) (result : Result T F) (fault : F) (P : Type 0) → MatchResult done (λ u. result ≡ Ok u) (λ f. result ≡ Err fault) → OnErr done P → OnErr result P
-told_err (Ok u) result fault P told holds = subst (λ r. OnErr r P) (sym told) tt
-told_err (Err e) result fault P told holds = subst (λ r. OnErr r P) (sym told) holds

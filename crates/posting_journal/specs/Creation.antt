@@ -1,6 +1,7 @@
 -- What a file can be when it is opened: a creation that didn't end, a journal, or neither.
 use Rattle.std.specs.Prelude.{◌≡◌, ◌≢◌, ◌⊎◌, ℕ, ◌+◌, ◌<◌, ◌≤◌, List, [], ◌∷◌, ◌++◌, length, take, drop, slice_index}
-use Rattle.posting_journal.specs.Layout.{empty_journal, header, gate_place, most_records}
+use Rattle.policy_types.specs.Limits.{most_commands}
+use Rattle.posting_journal.specs.Layout.{empty_journal, header, gate_place}
 use Rattle.posting_journal.specs.Files.{IsMade, IsJournal}
 
 -- An unfinished creation. Either no more than byte 0 is there; or byte 0 says that the creation goes on, and nothing
@@ -27,8 +28,8 @@ pub record IsBadAt (bytes : List ℕ) (n : ℕ) : Type 0 where
   pub made : IsMade bytes
   pub gates : (k : ℕ) → k ≤ n → slice_index bytes (gate_place k) ≡ 1
   pub long : gate_place n < length bytes
-  pub few : n ≤ most_records
-  pub here : (length bytes ≤ gate_place (n + 1)) ⊎ (n ≡ most_records)
+  pub few : n ≤ most_commands
+  pub here : (length bytes ≤ gate_place (n + 1)) ⊎ (n ≡ most_commands)
 
 -- Byte 0 says that the creation goes on, and nothing comes after the first gate.
 pub record IsBegun (bytes : List ℕ) : Type 0 where

@@ -1,6 +1,7 @@
 -- The journal of a list of bodies, as a whole file. Bytes after the first closed gate have no meaning.
 use Rattle.std.specs.Prelude.{◌≡◌, ◌≢◌, ◌⊎◌, ℕ, ◌+◌, ◌<◌, ◌≤◌, List, [], ◌∷◌, ◌++◌, length, take, drop, slice_index, slice_index_or}
-use Rattle.posting_journal.specs.Layout.{header, gate_place, body_place, most_records}
+use Rattle.policy_types.specs.Limits.{most_commands}
+use Rattle.posting_journal.specs.Layout.{header, gate_place, body_place}
 
 -- its creation has ended, and it has the header
 pub record IsMade (bytes : List ℕ) : Type 0 where
@@ -14,7 +15,7 @@ pub record IsJournal (bytes : List ℕ) (bodies : List (List ℕ)) : Type 0 wher
   pub records : (n : ℕ) → n < length bodies → (slice_index bytes (gate_place n) ≡ 1)
       × (take 64 (drop (gate_place n + 1) bytes) ≡ slice_index_or bodies n [])
   pub end : (gate_place (length bodies) < length bytes) × (slice_index bytes (gate_place (length bodies)) ≢ 1)
-  pub few : length bodies ≤ most_records
+  pub few : length bodies ≤ most_commands
 
 -- each record has its body, in order
 abbrev pub HasRecords : List ℕ → List (List ℕ) → Type 0
@@ -32,7 +33,7 @@ pub record IsStaged (bytes : List ℕ) (bodies : List (List ℕ)) (body : List �
   pub records : HasRecords bytes bodies
   pub whole : take 64 (drop (body_place (length bodies)) bytes) ≡ body
   pub end : IsClosed bytes (length bodies + 1)
-  pub fewer : length bodies < most_records
+  pub fewer : length bodies < most_commands
 
 -- without the new body or with it
 abbrev pub IsBeforeOrAfter : List (List ℕ) → List ℕ → List ℕ → Type 0

@@ -12,10 +12,6 @@ use Rattle.std.specs.Prelude.{ℕ, ◌+◌, ◌*◌, List, [], ◌∷◌, ◌++�
 abbrev pub header : List ℕ
 header = 76 ∷ 73 ∷ 70 ∷ 69 ∷ 74 ∷ 82 ∷ 78 ∷ 76 ∷ 0 ∷ 1 ∷ 0 ∷ 64 ∷ 0 ∷ 0 ∷ 0 ∷ 0 ∷ []
 
--- the records that a journal takes at most
-abbrev pub most_records : ℕ
-most_records = 4000000
-
 -- the records that are read at once, at most
 abbrev pub most_in_piece : ℕ
 most_in_piece = 1008

@@ -5,7 +5,7 @@ ghost use Rattle.posting_journal.specs.Runs.{IsSafe, IsSafeWith};
 ghost use Rattle.posting_journal.specs.inside.Steps.{CreatesOn};
 
 use crate::layout::{CLOSED, HEADER_AND_GATE, OPEN};
-use crate::putting::put;
+use crate::writing::write_and_sync;
 use outside_io::{Disk, Failed};
 
 // Makes an empty journal of an unfinished creation. `begun` tells whether byte 0 already says that the creation goes
@@ -28,7 +28,7 @@ fn begin<D: Disk>(disk: &mut D) -> Result<(), Failed>
     requires { D.honest disk.old → IsSafeWith D.Disk IsToBegin disk.old }
     ensures { CreatesOn D.Disk disk.old disk.new IsBegun result }
 {
-    put(disk, 0, &[CLOSED])
+    write_and_sync(disk, 0, &[CLOSED])
 }
 
 // The header and the closed gate of record 0 are safe before byte 0 says that they are.
@@ -36,7 +36,7 @@ fn write_header<D: Disk>(disk: &mut D) -> Result<(), Failed>
     requires { D.honest disk.old → IsSafeWith D.Disk IsBegun disk.old }
     ensures { CreatesOn D.Disk disk.old disk.new IsReadyAndBegun result }
 {
-    put(disk, 1, &HEADER_AND_GATE)
+    write_and_sync(disk, 1, &HEADER_AND_GATE)
 }
 
 // Byte 0 says that the creation has ended.
@@ -44,5 +44,5 @@ fn finish<D: Disk>(disk: &mut D) -> Result<(), Failed>
     requires { D.honest disk.old → IsSafeWith D.Disk IsReadyAndBegun disk.old }
     ensures { CreatesOn D.Disk disk.old disk.new IsEmptyJournal result }
 {
-    put(disk, 0, &[OPEN])
+    write_and_sync(disk, 0, &[OPEN])
 }

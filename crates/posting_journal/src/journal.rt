@@ -1,6 +1,7 @@
 // The journal.
 ghost use Rattle.std.specs.Prelude.{◌<◌, ◌≤◌, length};
-ghost use Rattle.posting_journal.specs.Layout.{gate_place, most_records};
+ghost use Rattle.policy_types.specs.Limits.{most_commands};
+ghost use Rattle.posting_journal.specs.Layout.{gate_place};
 
 use outside_io::Disk;
 
@@ -10,6 +11,6 @@ pub struct Journal<D: Disk> {
     pub(crate) disk: D,
     pub(crate) count: u32,
     pub(crate) clean: bool,
-    ghost few: { count ≤ most_records },
+    ghost few: { count ≤ most_commands },
     ghost within: { D.honest disk → gate_place count < length (D.reads disk) },
 }

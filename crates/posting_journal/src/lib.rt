@@ -10,11 +10,11 @@ mod laws;
 mod layout;
 mod opening;
 mod pieces;
-mod putting;
 mod reading;
 mod scanning;
 mod starting;
 mod worked;
+mod writing;
 
 pub use faults::{DiskFault, JournalCause, JournalFault};
 pub use journal::Journal;

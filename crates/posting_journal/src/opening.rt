@@ -10,7 +10,6 @@ ghost use Rattle.posting_journal.specs.Runs.{IsSafe, LooksOn, Passes};
 use crate::creation::create;
 use crate::faults::Unopened;
 use crate::judging::{FileKind, judge};
-use crate::putting::make_safe;
 use crate::scanning::count_records;
 use outside_io::{Disk, Failed};
 
@@ -21,7 +20,7 @@ pub(crate) fn open<D: Disk>(disk: &mut D) -> Result<u32, Unopened>
     ensures opens { D.honest disk.new → OpensOn D.Disk disk.old disk.new }
     ensures synced { D.honest disk.new → IfOk result (λ n. HasSynced D.Disk disk.old disk.new) }
 {
-    make_safe(disk)?;
+    disk.sync()?;
     open_safe(disk)
 }
 

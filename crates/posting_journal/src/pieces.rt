@@ -5,7 +5,7 @@ ghost use Rattle.posting_journal.specs.Layout.{gate_place, body_place, most_in_p
 ghost use Rattle.posting_journal.specs.Pieces.{HasBody, HasGate, IsEmptyPiece, IsFilled, IsPartOf};
 ghost use Rattle.posting_journal.specs.Runs.{LooksOn};
 
-use crate::appending::gate_place;
+use crate::layout::gate_place;
 use outside_io::{Disk, Failed};
 
 // Of so many records a piece holds the gates and the bodies.

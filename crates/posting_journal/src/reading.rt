@@ -5,7 +5,7 @@ ghost use Rattle.posting_journal.specs.Layout.{most_in_piece};
 ghost use Rattle.posting_journal.specs.Pieces.{IsEmptyPiece, IsFilled, IsPartOf};
 ghost use Rattle.posting_journal.specs.States.{ReadsBody, StaysAs, count_of, disk_of};
 
-use crate::appending::body_place;
+use crate::layout::body_place;
 use crate::pieces::RECORDS;
 use crate::{DiskFault, Journal, Stretch};
 use outside_io::Disk;

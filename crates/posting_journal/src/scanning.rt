@@ -1,23 +1,24 @@
 // The records of a file that was made, gate by gate. The gates are read by pieces.
 ghost use Rattle.std.specs.Prelude.{◌≡◌, ◌↔◌, ◌+◌, ◌<◌, ◌≤◌, length, IsTrue, IfOk, IfErr, OnOk, slice_index};
+ghost use Rattle.policy_types.specs.Limits.{most_commands};
 ghost use Rattle.posting_journal.specs.Faults.{TellsFailure};
-ghost use Rattle.posting_journal.specs.Layout.{gate_place, most_records};
+ghost use Rattle.posting_journal.specs.Layout.{gate_place};
 ghost use Rattle.posting_journal.specs.Pieces.{HasGate, IsPartOf};
 ghost use Rattle.posting_journal.specs.Runs.{LooksOn};
 ghost use Rattle.posting_journal.specs.inside.Unopened.{HasUnopenedCause, CantStand, IsBadFrom, EndsAt};
 
-use crate::appending::gate_place;
 use crate::faults::Unopened;
-use crate::layout::{MAX_RECORDS, OPEN};
+use crate::layout::{OPEN, gate_place};
 use crate::pieces::{RECORDS, Stretch};
 use outside_io::{Disk, Failed};
+use policy_types::MOST_COMMANDS;
 
 // How many records stand before the first closed gate.
 pub(crate) fn count_records<D: Disk>(disk: &mut D, size: u64) -> Result<u32, Unopened>
     requires long { 18 ≤ size }
     requires told { D.honest disk.old → size ≡ length (D.reads disk.old) }
     ensures cause { HasUnopenedCause D.Disk disk.old disk.new result }
-    ensures few { IfOk result (λ n. n ≤ most_records) }
+    ensures few { IfOk result (λ n. n ≤ most_commands) }
     ensures ends { D.honest disk.new → IfOk result (λ n. EndsAt (D.reads disk.old) n) }
     ensures bad { D.honest disk.new → IfErr result (λ cause. IsBadFrom (D.reads disk.old) cause) }
     ensures unwritten { D.honest disk.new → LooksOn D.Disk disk.old disk.new }
@@ -37,12 +38,12 @@ fn has_record<D: Disk>(
     n: u32,
     piece: &mut Stretch,
 ) -> Result<bool, Unopened>
-    requires few { n ≤ most_records }
+    requires few { n ≤ most_commands }
     requires within { gate_place n < size }
     requires told { D.honest disk.old → size ≡ length (D.reads disk.old) }
     requires part { D.honest disk.old → IsPartOf piece.old (D.reads disk.old) }
     ensures cause { HasUnopenedCause D.Disk disk.old disk.new result }
-    ensures stands { IfOk result (λ stands. IsTrue stands → (n < most_records) × (gate_place (n + 1) < size)) }
+    ensures stands { IfOk result (λ stands. IsTrue stands → (n < most_commands) × (gate_place (n + 1) < size)) }
     ensures gate { D.honest disk.new
         → IfOk result (λ stands. IsTrue stands ↔ (slice_index (D.reads disk.old) (gate_place n) ≡ 1)) }
     ensures bad { D.honest disk.new → IfErr result (λ cause. CantStand (D.reads disk.old) n cause) }
@@ -53,7 +54,7 @@ fn has_record<D: Disk>(
     if piece.gate(n) != OPEN {
         return Ok(false);
     }
-    if n >= MAX_RECORDS || size <= gate_place(n) + 65 {
+    if n >= MOST_COMMANDS || size <= gate_place(n) + 65 {
         return Err(Unopened::BadRecord(n));
     }
     Ok(true)

@@ -3,12 +3,11 @@ use Rattle.std.specs.Prelude.{◌≡◌, ℕ, ◌≤◌, List, length, Result, I
 use Rattle.posting_journal.specs.Names.{Only, Torn, Writes, Ghosts}
 use Rattle.posting_journal.specs.Creation.{IsEmpty, IsUnfinished, OpensToBodies}
 use Rattle.posting_journal.specs.Faults.{TellsFailure}
-use Rattle.posting_journal.specs.Files.{IsJournal, IsStaged}
-use Rattle.posting_journal.specs.Layout.{empty_journal, most_records}
-use Rattle.posting_journal.specs.Runs.{IsSafe, IsSafeWith, Leaves, Passes}
-use Rattle.posting_journal.specs.States.{StandsFor}
+use Rattle.posting_journal.specs.Files.{IsJournal}
+use Rattle.policy_types.specs.Limits.{most_commands}
+use Rattle.posting_journal.specs.Layout.{empty_journal}
+use Rattle.posting_journal.specs.Runs.{IsSafe, IsSafeWith, Passes}
 use Rattle.posting_journal.specs.declared.faults.Unopened.{Unopened}
-use Rattle.posting_journal.specs.declared.journal.Journal.{Journal}
 use Rattle.posting_journal.specs.inside.Unopened.{HasUnopenedCause, ShowsWhy}
 
 -- the images that a write of so many bytes from a place on may make of those before
@@ -39,14 +38,7 @@ pub record OpenedTo {D : Type 0} (g : Ghosts D) (old new : D) (count : ℕ) : Ty
 -- What an opening answers: the journal's count, which is 0 after a creation, or what the file shows.
 pub record AnswersOpening {D : Type 0} (g : Ghosts D) (old new : D) (result : Result ℕ Unopened) : Type 0 where
   pub cause : HasUnopenedCause g old new result
-  pub few : IfOk result (λ n. n ≤ most_records)
+  pub few : IfOk result (λ n. n ≤ most_commands)
   pub opened : g.honest new → IfOk result (λ n. OpenedTo g old new n)
   pub made : g.honest new → IsUnfinished (g.reads old) → IfOk result (λ n. g.reads new ≡ empty_journal)
   pub refused : g.honest new → IfErr result (λ cause. ShowsWhy (g.reads old) cause)
-
--- A clean journal with these bodies, whose next body was written behind its last gate, and made safe or failed.
-pub record StagesOn {D T E : Type 0} {g : Ghosts D} (old new : Journal D g) (bodies : List (List ℕ)) (body : List ℕ)
-    (result : Result T E) : Type 0 where
-  pub stands : StandsFor new bodies body
-  pub staged : OnOk result (IsStaged (g.reads new.disk) bodies body × IsSafe g new.disk)
-  pub moments : Leaves g old.disk new.disk (λ image. IsJournal image bodies)

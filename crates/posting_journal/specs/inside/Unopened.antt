@@ -1,7 +1,8 @@
 -- What is known while the records of a file are counted, and if it isn't opened.
 use Rattle.std.specs.Prelude.{◌≡◌, ◌⊎◌, ℕ, ◌+◌, ◌<◌, ◌≤◌, List, length, slice_index, Result, IfErr, OnOk}
 use Rattle.posting_journal.specs.Names.{Rose, Ghosts}
-use Rattle.posting_journal.specs.Layout.{gate_place, most_records}
+use Rattle.policy_types.specs.Limits.{most_commands}
+use Rattle.posting_journal.specs.Layout.{gate_place}
 use Rattle.posting_journal.specs.Files.{IsClosed}
 use Rattle.posting_journal.specs.Creation.{IsForeign, IsBadAt}
 use Rattle.posting_journal.specs.declared.faults.Unopened.{Unopened}
@@ -21,13 +22,13 @@ pub record HasUnopenedCause {D T : Type 0} (g : Ghosts D) (old new : D) (result 
 
 -- an open record that is damaged: its body or the gate after it is past the end, or it is one too many
 abbrev pub CannotStand : List ℕ → ℕ → Type 0
-CannotStand bytes n = (length bytes ≤ gate_place (n + 1)) ⊎ (n ≡ most_records)
+CannotStand bytes n = (length bytes ≤ gate_place (n + 1)) ⊎ (n ≡ most_commands)
 
 -- the gates before that of record n are open, and their records stand
 pub record AreOpen (bytes : List ℕ) (n : ℕ) : Type 0 where
   pub gates : (k : ℕ) → k < n → slice_index bytes (gate_place k) ≡ 1
   pub long : gate_place n < length bytes
-  pub few : n ≤ most_records
+  pub few : n ≤ most_commands
 
 -- exactly n records come before a closed gate
 pub record EndsAt (bytes : List ℕ) (n : ℕ) : Type 0 where

@@ -9,15 +9,15 @@ use Rattle.posting_journal.proofs.journal.Journal.repair.Goals as goal
 pub returns-clause-repairs : goal.returns-clause-repairs
 returns-clause-repairs g c = λ bodies faulted honest stands.
     let old = c.args.self.now in
-    let new = c.put-closed.new.disk in
+    let new = c.write_and_sync-closed.new.disk in
     let bytes = g.D.Disk.reads old.disk in
-    let puts = puts_at g.D.Disk old.disk new c.gate_place.result (gate_place (length bodies)) (0 ∷ []) (0 ∷ []) _ (c.put-closed.ensures.facts honest) (c.gate_place.ensures ∙ ap gate_place stands.count) refl in
+    let puts = puts_at g.D.Disk old.disk new c.gate_place.result (gate_place (length bodies)) (0 ∷ []) (0 ∷ []) _ (c.write_and_sync-closed.ensures.facts honest) (c.gate_place.ensures ∙ ap gate_place stands.count) refl in
     let staged = kept_unclean old.clean bodies faulted bytes c.requires stands.reads in
     let s = gating g.D.Disk old.disk new bodies faulted 0 _ staged
     (λ image left. kept_unclean old.clean bodies faulted image c.requires (stands.images image left))
-    (λ image left. g.met.D.Disk.only_now old.disk image (c.put-closed.ensures.cause.honesty honest) left) puts in
-    let written = told_ok c.put-closed.result (Ok c.in_ok-told.field-0) c.in_ok-told.field-0 _ (Holds bytes (gate_place (length bodies)) (0 ∷ []) (g.D.Disk.reads new)) refl c.in_ok-told.ensures puts.facts.written in
-    let safe = told_ok c.put-closed.result (Ok c.in_ok-told.field-0) c.in_ok-told.field-0 _ (IsSafe g.D.Disk new) refl c.in_ok-told.ensures puts.durable in
+    (λ image left. g.met.D.Disk.only_now old.disk image (c.write_and_sync-closed.ensures.cause.honesty honest) left) puts in
+    let written = told_ok c.write_and_sync-closed.result (Ok c.in_ok-told.field-0) c.in_ok-told.field-0 _ (Holds bytes (gate_place (length bodies)) (0 ∷ []) (g.D.Disk.reads new)) refl c.in_ok-told.ensures puts.facts.written in
+    let safe = told_ok c.write_and_sync-closed.result (Ok c.in_ok-told.field-0) c.in_ok-told.field-0 _ (IsSafe g.D.Disk new) refl c.in_ok-told.ensures puts.durable in
     let reads : IsJournal (g.D.Disk.reads new) bodies = written_closed bodies faulted bytes (g.D.Disk.reads new) staged written in
     record {
       done = (record { count = stands.count; reads = reads; images = each_safe g.D.Disk new (λ image. IsJournal image bodies) safe reads }, safe);
@@ -29,11 +29,11 @@ returns-clause-repairs g c = λ bodies faulted honest stands.
 pub returns-in_err-told-clause-repairs : goal.returns-in_err-told-clause-repairs
 returns-in_err-told-clause-repairs g c = λ bodies faulted honest stands.
     let old = c.args.self.now in
-    let new = c.put-closed.new.disk in
-    let puts = puts_at g.D.Disk old.disk new c.gate_place.result (gate_place (length bodies)) (0 ∷ []) (0 ∷ []) _ (c.put-closed.ensures.facts honest) (c.gate_place.ensures ∙ ap gate_place stands.count) refl in
+    let new = c.write_and_sync-closed.new.disk in
+    let puts = puts_at g.D.Disk old.disk new c.gate_place.result (gate_place (length bodies)) (0 ∷ []) (0 ∷ []) _ (c.write_and_sync-closed.ensures.facts honest) (c.gate_place.ensures ∙ ap gate_place stands.count) refl in
     let s = gating g.D.Disk old.disk new bodies faulted 0 _ (kept_unclean old.clean bodies faulted (g.D.Disk.reads old.disk) c.requires stands.reads)
     (λ image left. kept_unclean old.clean bodies faulted image c.requires (stands.images image left))
-    (λ image left. g.met.D.Disk.only_now old.disk image (c.put-closed.ensures.cause.honesty honest) left) puts in
+    (λ image left. g.met.D.Disk.only_now old.disk image (c.write_and_sync-closed.ensures.cause.honesty honest) left) puts in
     let p = err_from_is_err_and c.from_residual.result c.from_residual.ensures.1 in
     rw p.1 (record {
       done = tt;
