@@ -211,7 +211,7 @@ bare_refusal Full = (bare_by (codes "full") refl, (bare_by (codes "4000000") ref
 bare_refusal NotUpgraded = (bare_by (codes "notupgraded") refl, tt)
 bare_refusal (Upgraded position) = (bare_by (codes "upgraded") refl, (bare_any position, tt))
 
-bare_reply : (reply : Reply) → AreBare (reply_fields reply)
+pub bare_reply : (reply : Reply) → AreBare (reply_fields reply)
 bare_reply (Accepted position) = (bare_by (codes "accepted") refl, (bare_any position, tt))
 bare_reply (Refused refusal) = (bare_by (codes "refused") refl, bare_refusal refusal)
 bare_reply (Faulted count) = (bare_by (codes "fault") refl, tt)
@@ -393,7 +393,7 @@ reports_lines reports lane named k = report_lines reports 1 lane named k
 
 -- ---- where the line is
 
-among_all : (P : List ℕ → Type 0) (front back : List (List ℕ)) (line : List ℕ) (lines : List (List ℕ)) → lines ≡ front ++ line ∷ back
+pub among_all : (P : List ℕ → Type 0) (front back : List (List ℕ)) (line : List ℕ) (lines : List (List ℕ)) → lines ≡ front ++ line ∷ back
     → AllByRecursion P lines → P line
 among_all P front back line lines split all = at front (subst (λ (ls : List (List ℕ)). AllByRecursion P ls) split all)
   where

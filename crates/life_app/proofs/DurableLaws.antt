@@ -143,7 +143,7 @@ posts_it : (dry : List ℕ) (command : Command) (turn : Placed) (rest : List Pla
 posts_it dry command turn [] answers = answers
 posts_it dry command turn (more ∷ rest) answers = absurd answers
 
-all_at : {A : Type 0} (P : A → Type 0) (front back : List A) (x : A) → AllByRecursion P (front ++ x ∷ back) → P x
+pub all_at : {A : Type 0} (P : A → Type 0) (front back : List A) (x : A) → AllByRecursion P (front ++ x ∷ back) → P x
 all_at P [] back x all = all.0
 all_at P (first ∷ front) back x all = all_at P front back x all.1
 
@@ -199,7 +199,7 @@ lane_of_clerk R (lane ∷ lanes) (caller ∷ callers) clerk zero all within same
 lane_of_clerk R (lane ∷ lanes) (caller ∷ callers) clerk (suc k) all within same =
     lane_of_clerk R lanes callers clerk k all.1 (omega (arith, within)) same
 
-turn_there : (lines : List AnsweredLine) (history : List Entry) (lanes : List Lane) (callers dry : List ℕ) → AreLinesOf lines history lanes callers dry
+pub turn_there : (lines : List AnsweredLine) (history : List Entry) (lanes : List Lane) (callers dry : List ℕ) → AreLinesOf lines history lanes callers dry
     → (before after : List AnsweredLine) (one : AnsweredLine) → lines ≡ before ++ one ∷ after → slice_get history one.first.0 ≡ Some one.first.1
 turn_there lines history lanes callers dry are before after one split =
     let R : Lane → ℕ → Type 0 = λ lane caller. (map (λ (line : AnsweredLine). line.line) (lines_by lane.number lines) ≡ lane.lines)

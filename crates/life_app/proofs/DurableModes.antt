@@ -15,7 +15,8 @@ use Rattle.life_app.specs.Durable.{IsDurable, SpellsCommands}
 use Rattle.life_app.proofs.AcceptedLines.{HasLines, accepted_content, block_lines, free_both, no_lines}
 use Rattle.life_app.proofs.DurableLaws.{IsFresh, front_all, front_part, none_durable}
 use Rattle.life_app.proofs.OtherTexts.{account_lines, books_lines, checkpoint_lines, generated_lines, load_lines, projection_lines}
-use Rattle.life_app.proofs.ToldStays.{by_run, free_by, free_number, line_durable, no_office, refused, unasked, without_basis}
+use Rattle.life_app.proofs.LetterLines.{free_by, free_number}
+use Rattle.life_app.proofs.ToldStays.{by_run, line_durable, no_office, refused, unasked, without_basis}
 
 -- no line of the text is that of an accepted posting
 abbrev HasNoneAtAll : List ℕ → Type 0

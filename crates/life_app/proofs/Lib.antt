@@ -6,11 +6,16 @@ pub mod TextLaws
 pub mod LineLaws
 pub mod AcceptedLines
 pub mod DurableLaws
+pub mod DecimalLaws
+pub mod LetterLines
 pub mod ToldStays
 pub mod OtherTexts
 pub mod DurableModes
 pub mod HeadlineLaws
 pub mod LegalityLaws
+pub mod ValueLines
+pub mod ValuesLaws
+pub mod ToldValues
 pub mod RunLaws
 pub mod LeftLaws
 pub mod ProgramSteps

@@ -154,7 +154,7 @@ status_again Expired = refl
 status_again Settled = refl
 status_again PaidUp = refl
 
-same_status : (status other : Status) → status_word status ≡ status_word other → status ≡ other
+pub same_status : (status other : Status) → status_word status ≡ status_word other → status ≡ other
 same_status status other same =
     sym (status_again status) ∙ ap (λ (word : List ℕ). status_by (get_or word 0 0)) same ∙ status_again other
 
@@ -172,7 +172,7 @@ bare_worth (Both lo hi min_lo min_hi test) plain = absurd plain
 abbrev reason_word : NotValued → List ℕ
 reason_word why = get_or (worth_fields (Word why)) 0 []
 
-one_field : (why : NotValued) → length (worth_fields (Word why)) ≡ 1
+pub one_field : (why : NotValued) → length (worth_fields (Word why)) ≡ 1
 one_field NoBasis = refl
 one_field BelowTable = refl
 one_field PastTable = refl
@@ -189,7 +189,7 @@ reason_again BelowTable = refl
 reason_again PastTable = refl
 reason_again RateHigh = refl
 
-same_worth : (worth other : Worth) → IsPlainWorth worth → IsPlainWorth other → worth_fields worth ≡ worth_fields other → worth ≡ other
+pub same_worth : (worth other : Worth) → IsPlainWorth worth → IsPlainWorth other → worth_fields worth ≡ worth_fields other → worth ≡ other
 same_worth (Bounds lo hi) (Bounds low high) plain bare same =
     let lower = cents_text_injective lo low (small lo plain.0) (small low bare.0) (ap (λ (fs : List (List ℕ)). get_or fs 0 []) same) in
     let upper = cents_text_injective hi high (small hi plain.1) (small high bare.1) (ap (λ (fs : List (List ℕ)). get_or fs 1 []) same) in
@@ -208,7 +208,7 @@ same_worth (Word why) (Word other) plain bare same =
 same_worth (Both lo hi min_lo min_hi test) other plain bare same = absurd plain
 same_worth worth (Both lo hi min_lo min_hi test) plain bare same = absurd bare
 
-abbrev row_fields : Row → List (List ℕ)
+abbrev pub row_fields : Row → List (List ℕ)
 row_fields row = decimal row.id ∷ status_word row.status ∷ decimal row.t ∷ worth_fields row.worth
 
 bare_row : (row : Row) → IsPlainRow row → AreBare (row_fields row)
@@ -242,7 +242,7 @@ same_rows (row ∷ rows) (other ∷ others) x y long plain bare same =
     let rest = same_rows rows others x y (omega (arith, long)) plain.1 bare.1 first.2 in
     ap₂ (λ (r : Row) (rs : List Row). r ∷ rs) (same_row row other plain.0 bare.0 first.1) rest
 
-abbrev heading_fields : ℤ → ℕ → ℕ → List (List ℕ)
+abbrev pub heading_fields : ℤ → ℕ → ℕ → List (List ℕ)
 heading_fields on position policies = codes "value" ∷ day_text on ∷ decimal position ∷ decimal policies ∷ []
 
 bare_heading : (on : ℤ) (position policies : ℕ) → position < 2 ^ 64 → policies < 2 ^ 64 → AreBare (heading_fields on position policies)

@@ -1,28 +1,16 @@
 -- What a run printed as accepted stays, however the run ended
-use Rattle.life_app.proofs.Names.{◌≡◌, ℕ, ◌≤◌, Bool, true, List, [], ◌∷◌, ◌++◌, codes, get_or, refl, ap, sym, ◌∙◌, subst, inl, inr, arith, append-nil, nat_le, ◌&&◌, and_parts, leb-true, decimal, TakenPiece, Dated, Ghosts, Lane, Auditor, reports_of, accepted_of, Opens, EndsNoOffice, EndsNoBasis, EndsScript, EndsRun, EndsLanes, EndsUnread, IsPromised, IsEnclosingRow, Input, Shelving, Stream, WroteLine, Ending, Usage, BadScript, BadBasis, BadJournal, ReadFault, DiskFault, NoMemory, status_of, NotAJournal, BadRecord, run_wording, table_reserves, SaysUnasked}
+use Rattle.life_app.proofs.Names.{◌≡◌, ℕ, ◌≤◌, List, [], ◌∷◌, ◌++◌, get_or, ap, sym, ◌∙◌, subst, inl, inr, append-nil, TakenPiece, Dated, Ghosts, Lane, Auditor, reports_of, accepted_of, Opens, EndsNoOffice, EndsNoBasis, EndsScript, EndsRun, EndsLanes, EndsUnread, IsPromised, IsEnclosingRow, Input, Shelving, Stream, WroteLine, Ending, status_of, run_wording, table_reserves, SaysUnasked}
 use Rattle.office_state.specs.declared.faults.StartCause.{StartCause}
 use Rattle.program_endings.specs.Refusals.{SaysWhy}
 use Rattle.script_run.specs.Shown.{AreSafeWhenShown}
 use Rattle.life_app.specs.Durable.{IsDurable, SpellsCommands}
 use Rattle.life_app.specs.Given.{Reserves}
-use Rattle.life_app.proofs.AcceptedLines.{bare_any, feedless, free_both, letter_line}
+use Rattle.life_app.proofs.AcceptedLines.{letter_line}
 use Rattle.life_app.proofs.DurableLaws.{IsFresh, front_ended, front_or, none_durable, run_durable}
 use Rattle.life_app.proofs.HeadlineLaws.{promised}
+use Rattle.life_app.proofs.LetterLines.{WroteLetters}
+use Rattle.life_app.proofs.LetterLines as letters
 use Rattle.life_app.proofs.LineLaws.{IsFree}
-
--- whether each byte is above a line feed, 10
-abbrev pub are_above : List ℕ → Bool
-are_above [] = true
-are_above (b ∷ bytes) = nat_le 11 b && are_above bytes
-
-pub free_by : (bytes : List ℕ) → are_above bytes ≡ true → IsFree bytes
-free_by [] all = tt
-free_by (b ∷ bytes) all =
-    let parts = and_parts (nat_le 11 b) (are_above bytes) all in
-    let high = leb-true 11 b parts.0 in ((λ feed. omega (arith, feed, high)), free_by bytes parts.1)
-
-pub free_number : (n : ℕ) → IsFree (decimal n)
-free_number n = feedless (decimal n) (bare_any n)
 
 module _ {D : Type 0} (g : Ghosts D) (old new : D) (output : Stream) (fresh : IsFresh output) where
   abbrev pub Durable : Type 0
@@ -46,42 +34,23 @@ module _ {D : Type 0} (g : Ghosts D) (old new : D) (output : Stream) (fresh : Is
       none_durable g new output.pieces_after (line ++ 10 ∷ []) (front_or output fresh (line ++ 10 ∷ []) wrote)
       (λ lane k named. letter_line line lane named k free high)
 
+  letters_durable : WroteLetters output → Durable
+  letters_durable is = line_durable is.0 is.1 is.2 is.3
+
   unread : (input : Input) (ending : Ending) → EndsUnread input output ending → Durable
-  unread input BadScript says = elim says [
-    | inl long ↦ line_durable (codes "badscript,toolong") (free_by (codes "badscript,toolong") refl) (omega arith) long.2
-    | inr bad ↦ line_durable (codes "badscript," ++ decimal bad.3.0 ++ 44 ∷ decimal bad.3.1.0)
-        (free_both (codes "badscript," ++ decimal bad.3.0) (44 ∷ decimal bad.3.1.0)
-        (free_both (codes "badscript,") (decimal bad.3.0) (free_by (codes "badscript,") refl) (free_number bad.3.0))
-        ((λ feed. omega (arith, feed)), free_number bad.3.1.0)) (omega arith) bad.3.1.2
-  ]
-  unread input ReadFault says = line_durable (codes "readfault") (free_by (codes "readfault") refl) (omega arith) says.1
-  unread input (NoMemory lack) says = line_durable (codes "nomemory") (free_by (codes "nomemory") refl) (omega arith) says
-  unread input _ says = absurd says
+  unread input ending says = letters_durable (letters.unread output input ending says)
 
   pub without_basis : (name : List ℕ) (shelf : Shelving) (ending : Ending) → (status_of ending ≡ 4 → ⊥) → EndsNoBasis name shelf output ending → Durable
-  without_basis name shelf BadBasis other says = absurd (other refl)
-  without_basis name shelf ReadFault other says = line_durable (codes "readfault") (free_by (codes "readfault") refl) (omega arith) says.1
-  without_basis name shelf (NoMemory lack) other says = line_durable (codes "nomemory") (free_by (codes "nomemory") refl) (omega arith) says
-  without_basis name shelf _ other says = absurd says
+  without_basis name shelf ending other says = letters_durable (letters.without_basis output name shelf ending other says)
 
   pub refused : (cause : StartCause) → SaysWhy cause output → Durable
-  refused NotAJournal says =
-      line_durable (codes "badjournal,notajournal") (free_by (codes "badjournal,notajournal") refl) (omega arith) says
-  refused (BadRecord n) says =
-      line_durable (codes "badjournal,badrecord," ++ decimal n)
-      (free_both (codes "badjournal,badrecord,") (decimal n) (free_by (codes "badjournal,badrecord,") refl) (free_number n)) (omega arith) says
-  refused _ says = absurd says
+  refused cause says = letters_durable (letters.refused output cause says)
 
   pub no_office : (ending : Ending) → EndsNoOffice g old new output ending → Durable
-  no_office BadJournal says = refused says.0 says.1
-  no_office DiskFault says = line_durable (codes "diskfault") (free_by (codes "diskfault") refl) (omega arith) says.0
-  no_office (NoMemory lack) says = line_durable (codes "nomemory") (free_by (codes "nomemory") refl) (omega arith) says.0
-  no_office _ says = absurd says
+  no_office ending says = letters_durable (letters.no_office output g old new ending says)
 
   pub unasked : (words : List (List ℕ)) (ending : Ending) → SaysUnasked words output ending → Durable
-  unasked words Usage says = line_durable (codes "usage") (free_by (codes "usage") refl) (omega arith) says.1
-  unasked words (NoMemory lack) says = line_durable (codes "nomemory") (free_by (codes "nomemory") refl) (omega arith) says
-  unasked words _ says = absurd says
+  unasked words ending says = letters_durable (letters.unasked output words ending says)
 
   module _ (auditors : List Auditor) (input : Input) (shelf : Shelving) (name : List ℕ) (ShelfStays : Type 0) (ending : Ending)
       (other : status_of ending ≡ 4 → ⊥) (honest : g.honest new) where

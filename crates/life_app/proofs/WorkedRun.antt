@@ -8,6 +8,7 @@ pub mod Told
 pub mod LanesDisk
 pub mod Lanes
 pub mod LanesGiven
+pub mod Enclosed
 pub mod OneLine
 pub mod Refused
 pub mod Valued

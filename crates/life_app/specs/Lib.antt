@@ -10,6 +10,7 @@ pub mod TableReserves
 pub mod Headline
 pub mod Legality
 pub mod Durable
+pub mod Values
 pub mod Runs
 pub mod KeptRuns
 pub mod Worked

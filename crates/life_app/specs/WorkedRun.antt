@@ -7,4 +7,5 @@ pub mod Both
 pub mod Told
 pub mod Lanes
 pub mod LanesGiven
+pub mod Enclosed
 pub mod Refused

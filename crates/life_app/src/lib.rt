@@ -8,6 +8,7 @@ mod legality;
 mod modes;
 mod program;
 mod promise;
+mod values;
 pub mod worked;
 pub mod worked_run;
 
@@ -20,3 +21,4 @@ pub use laws::{
 pub use legality::answered_legally;
 pub use program::{Ended, life};
 pub use promise::headline;
+pub use values::values_enclose;

@@ -13,7 +13,8 @@ use Rattle.life_app.proofs.DurableLaws.{there_in}
 use Rattle.life_app.proofs.HeadlineLaws.{by_script, headline}
 use Rattle.life_app.proofs.LegalityLaws.{legally_answered}
 use Rattle.life_app.specs.Legality.{reply_line}
-use Rattle.life_app.proofs.ToldStays.{free_by, promised_durable}
+use Rattle.life_app.proofs.LetterLines.{free_by}
+use Rattle.life_app.proofs.ToldStays.{promised_durable}
 use Rattle.life_app.specs.WorkedRun.Promise.{DurableByHand, LegalByHand, LineByHand}
 use Rattle.life_app.proofs.WorkedRun.Calls.{is_still, looks_safe}
 use Rattle.life_app.proofs.WorkedRun.First.{cut, honest_last, journal_of_issue, premium_size}

@@ -89,10 +89,10 @@ text = inr (
 row : IsEnclosingRow table_reserves two_bases (pos 18628) first_endowment first_value
 row = enclosing two_bases (pos 18628) first_endowment first_value first_row
 
-insured : IsInsured first_endowment (pos 18628)
+pub insured : IsInsured first_endowment (pos 18628)
 insured = (inl refl, omega (arith, ints))
 
-picked : IsPicked two_bases (pos 18262) 0 from_2000
+pub picked : IsPicked two_bases (pos 18262) 0 from_2000
 picked = record {
   before = [];
   after = from_2020 ∷ [];
