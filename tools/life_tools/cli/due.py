@@ -15,6 +15,8 @@ The column `day` is the day on which the premium was due, the cover ends, the
 policy lapsed, or the last command on it was posted; `until` is the last day of
 grace, or of the right to reinstate. A policy that has a command after the days
 asked for is left out, since it takes no line of an earlier day.
+
+The status is 0, or 2 if it could not be done.
 """
 from __future__ import annotations
 

@@ -18,6 +18,8 @@ and days as text, and has the tables
 
 and the view `valued`, which joins each row of a valuation with its policy as
 it is now. For pandas the same five are files NAME.pkl in a new folder.
+
+The status is 0, or 2 if it could not be done; then no file is made.
 """
 from __future__ import annotations
 

@@ -3,6 +3,8 @@ policies numbered from another number on. So the drawn books of several folders
 do not share numbers.
 
     life-tools generate 1 1000 8 --from 500001 > drawn.csv
+
+The status is 0, or 2 if it could not be done.
 """
 from __future__ import annotations
 

@@ -7,6 +7,8 @@ Of bounds the upper ones are drawn, which are never below the exact values. How
 many policies have a word in place of bounds is reported on standard error:
 they are in no sum. Amounts are shown in thousands from 10,000 on, and in
 millions from 10 millions on.
+
+The status is 0, or 2 if it could not be done.
 """
 from __future__ import annotations
 
@@ -25,7 +27,7 @@ are the upper bounds, which are never below the exact reserves: of deficiency th
 """
 BOOK = """Draws the book that `life state` printed: the amounts insured, by plan and status.
 
-Behind the names stand the numbers of policies. The amounts of policies that are no longer in force are those that were
+After each name comes the number of its policies. The amounts of policies that are no longer in force are those that were
 insured last.
 """
 PROJECTION = """Draws a projection that `life project` printed: premiums, deaths and maturities by year.

@@ -15,6 +15,9 @@ Example: life-tools table convert fetched.xml cso.xml
 What is written was taken by the program before. Each change is reported on
 standard error. No rate is invented: ages in steps of five are refused, with
 the reason.
+
+The status is 0 if a table is taken as it is, or made; 1 if `check` reports
+something; 2 if it could not be done.
 """
 from __future__ import annotations
 
