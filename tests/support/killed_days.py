@@ -29,8 +29,8 @@ CALLS = ("open", "os.rename", "os.mkdir", "os.remove", "os.rmdir", "subprocess.P
          "trial.fsync")
 # a `day` over one file has some so many of these, and takes some so many seconds
 MOST_CALLS, MOST_SECONDS = 160, 0.8
-# no `day` takes longer
-PATIENCE = 60
+# no `day` takes longer, not on a machine that gives it a fiftieth of a processor either
+PATIENCE = 240
 WAYS = ("time", "time", "call", "call", "call", "tool", "program", "term", "none")
 
 
