@@ -52,6 +52,8 @@ def behind(answer: Answer, label: str) -> list[list[str]]:
 
 # --- the first page ---
 
+# it runs the program and the tools three times for each of twelve year-ends
+@pytest.mark.timeout(1200)
 def test_year_ends_are_what_the_program_prints(window: Window, lived: Folder) -> None:
     answer = first_page(window)
     marks, rows = told(answer.marks("Reserve and amount insured")), behind(answer, "Reserve and amount insured")
