@@ -14,12 +14,14 @@ from .source import ROOT
 
 LIST = ROOT / "tests" / "repository" / "promise.csv"
 HEAD = "| what | definitions | files | lines | words |\n|---|---|---|---|---|\n"
-GIVEN = ["transcript_text.specs.Transcript.run_wording", "life_app.specs.TableReserves.table_reserves"]
+RESERVES = "life_app.specs.TableReserves.table_reserves"
+GIVEN = ["transcript_text.specs.Transcript.run_wording", RESERVES]
 PREMISES = ["life_args.specs.Words.IsRun", "program_endings.specs.Writing.IsWholeInput", "command_csv.specs.Reads.Reads",
             "life_app.specs.Headline.IsGivenBasis", "basis_shelf.specs.Bases.IsBasis", "office_state.specs.Journals.Opens"]
 DISK_MODEL = [f"outside_io.specs.FileCalls.{name}" for name in ("AreAllowed", "FileImage", "FileLeft", "file_reads")]
 HEADLINE = ["life_app.specs.Headline.IsPromised"]
 DURABLE = ["life_app.specs.Durable.IsDurable", "life_app.specs.Durable.SpellsCommands"]
+VALUES = ["life_app.specs.Values.IsEnclosed", "life_app.specs.Values.HoldsCommands", RESERVES]
 LEGAL = ["life_app.specs.Legality.IsLegallyAnswered"]
 WHOLE = [*HEADLINE, "life_app.specs.Headline.IsUnrun", *GIVEN, *PREMISES, *DISK_MODEL]
 # why no transcript stands there, what was written of it by status, and what is safe when it is shown
@@ -29,6 +31,8 @@ TOLD = ["script_run.specs.Script.EndsUnread", "program_endings.specs.WithoutBasi
 COUNTED: tuple[tuple[str, list[str], list[str]], ...] = (
     ("durability", DURABLE, []),
     ("durability and the disk model", [*DURABLE, *DISK_MODEL], []),
+    ("values", VALUES, []),
+    ("values and the disk model", [*VALUES, *DISK_MODEL], []),
     ("legality", LEGAL, []),
     ("the headline, whatever its texts and reserves are", HEADLINE, []),
     ("with the program's texts and reserves", [*HEADLINE, *GIVEN], []),

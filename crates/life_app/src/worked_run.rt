@@ -7,7 +7,7 @@ ghost use Rattle.life_app.specs.WorkedRun.Due.{BasisByHand, DueByHand, DueOfTheR
 ghost use Rattle.life_app.specs.WorkedRun.Both.{DueOfBothByHand, DueOfTheSaving, LeftOfTwoByHand, OtherwiseByHand, PartsOfTwoByHand, RowOfTwoByHand, SavedByHand, StatedByHand, TrustedByHand};
 ghost use Rattle.life_app.specs.WorkedRun.Lanes.{LeftLanes, LegalLanes, PromisedLanes, ReopenedLanes};
 ghost use Rattle.life_app.specs.WorkedRun.LanesGiven.{AnsweredLanes, DueLanes, GivenLanes, ObeyedLanes};
-ghost use Rattle.life_app.specs.WorkedRun.Enclosed.{EnclosedLanes, Misprints, PrintedRows};
+ghost use Rattle.life_app.specs.WorkedRun.Enclosed.{EnclosedLanes, EnclosedValue, Misprints, PrintedRows};
 ghost use Rattle.life_app.specs.WorkedRun.Refused.{CausesByHand, ForgedByHand, TruthByHand, ValuedByHand};
 ghost use Rattle.life_app.specs.WorkedRun.Told.{EnclosedByHand, EndedByHand, ModesByHand, ReasonsByHand};
 
@@ -99,11 +99,12 @@ pub fn lanes_by_hand()
 {}
 
 /// The rows of the two lanes' valuation are printed and right; with a cent more or less, of another policy, of another status, with a
-/// word, or of a position before the issue, one isn't.
+/// word, or of a position before the issue, one isn't. And the row that `value` prints is right.
 pub fn values_by_hand()
     ensures printed { PrintedRows }
     ensures enclosed { EnclosedLanes }
     ensures misprints { Misprints }
+    ensures value { EnclosedValue }
 {}
 
 /// What wrong programs would leave of the script of the third posting is refused by the promise: a made-up cause of another

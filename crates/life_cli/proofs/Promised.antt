@@ -1,7 +1,9 @@
 -- A script's run is as is promised, over both disks; and so the shipped program is
 use Rattle.life_cli.proofs.Names.{◌≡◌, ◌⊎◌, ◌∷◌, ◌++◌, ℕ, List, [], Option, Some, ap, codes, inr, map, refl, NoMemory, With, filing_between, shipped_auditors}
-use Rattle.life_args.specs.Words.{AreWords, IsRun}
-use Rattle.life_args.specs.declared.mode.Mode.TheVariants.{Run}
+use Rattle.life_args.specs.Words.{AreWords, IsRun, IsValue}
+use Rattle.life_args.specs.declared.mode.Mode.TheVariants.{Run, Value}
+use Rattle.life_app.specs.Names.{At, Measure}
+use Rattle.std.specs.Prelude.{ℤ}
 use Rattle.watcher_set.specs.Evidence.{a_lack}
 use Rattle.watcher_set.specs.Noted.{Auditor}
 use Rattle.outside_io.specs.declared.disks.Disk.{Ghosts}
@@ -21,8 +23,13 @@ pub seen_of_two : {X Y : Type 0} → (see : X → Y) (none ready one two : List 
 seen_of_two see none ready one two first second a b e₁ e₂ e₃ e₄ is_a is_b = rw (e₁, e₂, e₃, e₄, is_a, is_b) refl
 
 -- Words that are `run` and its options ask for a run.
-asked_for : (name : List ℕ) (words options : List (List ℕ)) → words ≡ codes "run" ∷ options → IsRun options name → AreWords words (Run name)
+pub asked_for : (name : List ℕ) (words options : List (List ℕ)) → words ≡ codes "run" ∷ options → IsRun options name → AreWords words (Run name)
 asked_for name words options same run = rw same (refl, run)
+
+-- And words that are `value` and its options ask for a valuation.
+pub asked_to_value : (words options : List (List ℕ)) (on : ℤ) (at : At) (workers : ℕ) (name : List ℕ) (measure : Measure)
+    → words ≡ codes "value" ∷ options → IsValue options on at workers name measure → AreWords words (Value on at workers name measure)
+asked_to_value words options on at workers name measure same value = rw same (refl, value)
 
 -- The auditors that were handed over are these.
 module _ {D E : Type 0} (g : Ghosts D) (e : Ghosts E) (old new : D) (second kept : Option E) (words : List (List ℕ)) (input : Input) (output : Stream)

@@ -1,13 +1,16 @@
 // All of the program but what the system hands it, on the devices that it is shipped with. Of the system it has threads and
 // waiting, and these devices: no way leads to another.
-ghost use Rattle.std.specs.Prelude.{◌≡◌, ◌≢◌, ◌⊎◌, ℕ, Some, None, List, [], ◌∷◌, codes, map, string_bytes, IsSome};
+ghost use Rattle.std.specs.Prelude.{◌≡◌, ◌≢◌, ◌⊎◌, ℕ, ℤ, Some, None, List, [], ◌∷◌, codes, map, string_bytes, IsSome};
 ghost use Rattle.std.specs.Process.{exit_status};
 ghost use Rattle.basis_book.specs.Dated.{Dated};
 ghost use Rattle.basis_shelf.specs.Bases.{IsBasis};
 ghost use Rattle.command_csv.specs.Reads.{Reads};
 ghost use Rattle.life_app.specs.Durable.{IsDurable, SpellsCommands};
 ghost use Rattle.life_app.specs.Legality.{IsLegallyAnswered};
-ghost use Rattle.life_args.specs.Words.{IsRun};
+ghost use Rattle.life_app.specs.TableReserves.{table_reserves};
+ghost use Rattle.life_app.specs.Values.{HoldsCommands, IsEnclosed};
+ghost use Rattle.life_app.specs.Names.{At, Files, Measure};
+ghost use Rattle.life_args.specs.Words.{IsRun, IsValue};
 ghost use Rattle.life_cli.specs.Names.{between, input_between, shelf_between, IsGivenBasis, IsUnrun, IsWholeInput, Opens};
 ghost use Rattle.policy_types.specs.declared.script.Lane.{Lane};
 ghost use Rattle.program_endings.specs.Writing.{WroteLine};
@@ -75,6 +78,27 @@ pub fn run_shipped<R: Threads + Wait + Sync, F: FoundFile, C: FoundFile>(
     // output is a line that names a file.
     ensures durable { result.status ≢ 4 → ⟦<JournalDisk<F> as Disk>⟧.honest result.disk
         → IsDurable ⟦<JournalDisk<F> as Disk>⟧ SpellsCommands result.disk (⟦<OutputOf<F> as Sink>⟧.pieces result.output) }
+    // Each row of a valuation that a run printed is right. Where the output has the lines `LANE,value,DAY,P,N` and, behind it and
+    // perhaps other rows, `row,ID,STATUS,T,LO,HI`, whatever a crash leaves is the journal of at least P commands, and the bounds enclose
+    // to two cents the exact reserve on that day of policy ID after the first P of them. A row with a word says why there is none.
+    ensures enclosed { (name script : List ℕ) (options : List (List ℕ)) (lanes : List Lane) (basis : List Dated)
+        → map string_bytes words.now ≡ codes "run" ∷ options → IsRun options name
+        → IsWholeInput (input_between (⟦<Input as Source>⟧.faults) (⟦<Input as Source>⟧.left) (⟦<Input as Source>⟧.given)
+        (⟦<Input as Source>⟧.ended) devices.input result.input) script
+        → Reads script lanes
+        → IsGivenBasis IsBasis lanes name
+        (shelf_between (⟦<Folder as Shelf>⟧.faults) (⟦<Folder as Shelf>⟧.agrees) devices.shelf result.shelf) basis
+        → ⟦<JournalDisk<F> as Disk>⟧.honest result.disk
+        → IsEnclosed ⟦<JournalDisk<F> as Disk>⟧ HoldsCommands table_reserves basis result.disk
+        (⟦<OutputOf<F> as Sink>⟧.pieces result.output) }
+    // And so is each row that `value` printed, of terminal reserves.
+    ensures valued { (on : ℤ) (at : At) (workers : ℕ) (name : List ℕ) (measure : Measure) (options : List (List ℕ)) (files : Files)
+        (basis : List Dated)
+        → map string_bytes words.now ≡ codes "value" ∷ options → IsValue options on at workers name measure
+        → ⟦<Folder as Shelf>⟧.agrees result.shelf files → IsBasis files name basis
+        → ⟦<JournalDisk<F> as Disk>⟧.honest result.disk
+        → IsEnclosed ⟦<JournalDisk<F> as Disk>⟧ HoldsCommands table_reserves basis result.disk
+        (⟦<OutputOf<F> as Sink>⟧.pieces result.output) }
     // The lines of a run's transcript are answers of one legal history, each lane's lines once and in order; or nothing was run.
     ensures legal { (name script : List ℕ) (options : List (List ℕ)) (lanes : List Lane) (basis : List Dated)
         → map string_bytes words.now ≡ codes "run" ∷ options → IsRun options name

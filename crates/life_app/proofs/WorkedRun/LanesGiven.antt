@@ -143,7 +143,7 @@ two_rows = (
 
 -- ---- whatever files agree
 
-lanes_bases : (files : Files) → Agrees lanes_found files → IsBasis files (codes "basis.csv") two_bases
+pub lanes_bases : (files : Files) → Agrees lanes_found files → IsBasis files (codes "basis.csv") two_bases
 unfolding rows
 lanes_bases files agree = record {
   rows = rows;
@@ -155,12 +155,12 @@ lanes_bases files agree = record {
 }
 
 -- the files as the shelf reported of them
-lanes_files : Files
+pub lanes_files : Files
 lanes_files name =
     if bytes_eq name (codes "basis.csv") then Some lanes_rows
     else (if bytes_eq name (codes "five.xml") then Some five_ages_text else (if bytes_eq name (codes "q.xml") then Some certain_death else None))
 
-agreed : Agrees lanes_found lanes_files
+pub agreed : Agrees lanes_found lanes_files
 unfolding lanes_files
 agreed = (((tt, refl), refl), refl)
 

@@ -5,8 +5,10 @@ use Rattle.outside_io.specs.FileCalls.{FileCall, file_reads}
 use Rattle.outside_io.specs.Streams.{StreamPiece, passed_bytes, pieces_by}
 use Rattle.life_app.proofs.LegalityLaws.{legally_answered}
 use Rattle.life_app.proofs.DurableModes.{always_stays}
+use Rattle.life_app.proofs.ToldValues.{told_enclosed, value_enclosed}
 use Rattle.life_app.specs.TableReserves.{table_reserves}
 use Rattle.life_cli.specs.Names.{Opens}
+use Rattle.life_cli.proofs.Promised.{asked_for, asked_to_value}
 use Rattle.life_cli.proofs.shipped.run_shipped.Goals as goal
 
 pub returns-clause-shipped : goal.returns-clause-shipped
@@ -25,6 +27,30 @@ returns-clause-durable g c = λ other honest.
     })
     _ (Some c.args.devices.second) (Some c.obey-status.result.second) (map string_bytes c.args.words.now) shipped_auditors _ _ _ _
     c.obey-status.result.status other honest c.obey-status.ensures.shipped.obeys
+
+pub returns-clause-enclosed : goal.returns-clause-enclosed
+returns-clause-enclosed g c = λ name script options lanes basis same run whole reads given honest.
+    told_enclosed _ c.args.devices.disk c.obey-status.result.disk _
+    (record {
+      empty = ap (λ (pieces : List StreamPiece). Some (passed_bytes pieces)) c.requires.output.1;
+      none = ap (λ (pieces : List StreamPiece). pieces_by pieces c.args.devices.output.by) c.requires.output.1;
+      tied = c.obey-status.new.output.tied;
+    })
+    _ (Some c.args.devices.second) (Some c.obey-status.result.second) (map string_bytes c.args.words.now) shipped_auditors _ _ _ _
+    c.obey-status.result.status name script lanes basis honest c.obey-status.ensures.shipped.obeys
+    (asked_for name (map string_bytes c.args.words.now) options same run) whole reads given
+
+pub returns-clause-valued : goal.returns-clause-valued
+returns-clause-valued g c = λ on at workers name measure options files basis same value agree makes honest.
+    value_enclosed _ c.args.devices.disk c.obey-status.result.disk _
+    (record {
+      empty = ap (λ (pieces : List StreamPiece). Some (passed_bytes pieces)) c.requires.output.1;
+      none = ap (λ (pieces : List StreamPiece). pieces_by pieces c.args.devices.output.by) c.requires.output.1;
+      tied = c.obey-status.new.output.tied;
+    })
+    _ (Some c.args.devices.second) (Some c.obey-status.result.second) (map string_bytes c.args.words.now) shipped_auditors _ _ _ _
+    c.obey-status.result.status on at workers name measure basis files honest c.obey-status.ensures.shipped.obeys
+    (asked_to_value (map string_bytes c.args.words.now) options on at workers name measure same value) agree makes
 
 pub returns-clause-legal : goal.returns-clause-legal
 returns-clause-legal g c = λ name script options lanes basis same run whole reads given.
