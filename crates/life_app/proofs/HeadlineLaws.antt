@@ -125,6 +125,16 @@ module _ {D : Type 0} (g : Ghosts D) (old new : D) (output : Stream) where
         (synced.0, synced.1.later, synced.1.passed, λ image left. synced.1.safe image left ∙ synced.1.reads, synced.2);
   }
 
+  -- by the history, the lines and the texts by which it ended
+  pub of_one_history : (lanes : List Lane) (basis : List Dated) (auditors : List Auditor) (ending : Ending)
+      (ran : IsRunOf g old new lanes basis auditors output ending)
+      → (is : IsPromised g Opens run_wording table_reserves old new lanes basis auditors output (status_of ending))
+      × (is.commands ≡ ran.commands) × (is.history ≡ ran.history) × (is.callers ≡ ran.callers) × (is.dry ≡ ran.dry)
+      × (is.lines ≡ ran.lines) × (is.texts ≡ ran.texts) × (is.ending ≡ ending)
+  unfolding promised
+  of_one_history lanes basis auditors ending ran =
+      (promised lanes basis auditors ending ran, refl, refl, refl, refl, refl, refl, refl)
+
   module _ (name : List ℕ) (input : Input) (shelf : Shelving) where
     -- what is said in place of a transcript
     abbrev Says : Ending → Type 0

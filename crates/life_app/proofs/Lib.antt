@@ -16,6 +16,7 @@ pub mod LegalityLaws
 pub mod ValueLines
 pub mod ValuesLaws
 pub mod ToldValues
+pub mod ShortLaws
 pub mod RunLaws
 pub mod LeftLaws
 pub mod ProgramSteps

@@ -20,5 +20,5 @@ pub use laws::{
 };
 pub use legality::answered_legally;
 pub use program::{Ended, life};
-pub use promise::headline;
+pub use promise::{a_short_transcript_has_one_end, headline, promised_of_one_history};
 pub use values::values_enclose;
