@@ -86,16 +86,13 @@ def test_a_message_isnt_cut_or_obeyed(installed: Path, tmp_path: Path) -> None:
 
 @pytest.mark.root
 @pytest.mark.needs("setpriv")
-def test_a_users_name_with_a_backslash(proved_clone: Path, folder: Folder, tmp_path: Path) -> None:
+def test_a_users_name_with_a_backslash(proved_clone: Path) -> None:
     r"""Of ACME\carl a hint ended at `\c`."""
-    folder.write("journal.life", "x").chmod(0o444)
-    for place in (folder.path, *folder.path.parents[:3], tmp_path):
-        place.chmod(0o755)
     hints = (proved_clone / "tools/launcher/hints.sh").read_text()
-    script = f"called=life waits=life-wait tools=life-tools\n{hints}\nid() {{ printf 'ACME%scarl' '\\'; }}; holder_of() {{ :; }}\n" \
-        "why_not journal.life"
-    done = ran(["setpriv", "--reuid", "daemon", "--clear-groups", "sh", "-c", script], folder.path)
-    assert done.out == "journal.life can't be written by ACME\\carl\n", done
+    stand_ins = r"id() { printf %s 'ACME\carl'; }; holder_of() { :; }"
+    script = f"called=life waits=life-wait tools=life-tools\n{hints}\n{stand_ins}\nwhy_not /etc/passwd"
+    done = ran(["setpriv", "--reuid", "daemon", "--clear-groups", "sh", "-c", script], Path("/"))
+    assert done.out == "/etc/passwd can't be written by ACME\\carl\n", done
 
 
 def test_without_its_program_the_installed_life_says_so(installed: Path, tmp_path: Path) -> None:
