@@ -1,11 +1,13 @@
 """Books with little in them: no policy, one, or nothing posted for months. Each page of such a book is there and is right."""
 from __future__ import annotations
 
+import os
 from pathlib import Path
 
 import pytest
 
 from life_tools.journal.file import file_of
+from life_tools.window.stand_pages import user_name
 from tests.support.folders import Folder
 from tests.support.windows import Window
 
@@ -50,3 +52,11 @@ def test_a_day_months_after_the_last_posting(tools: Path, table_q: Folder) -> No
         assert "2 policies of these are past the days of grace on 2020-12-31" in page.text
         assert "ends of" not in window.page("/1/moment?asof=2020-11-30").text
         assert "ends of 2020 to 2020" in window.page("/1/moment?asof=2030-12-31").text
+
+
+def test_a_user_without_a_name_on_this_machine(monkeypatch: pytest.MonkeyPatch) -> None:
+    def nameless() -> str:
+        raise KeyError("getpwuid(): uid not found")
+
+    monkeypatch.setattr("getpass.getuser", nameless)
+    assert user_name() == str(os.getuid())

@@ -33,6 +33,14 @@ def headroom_table(run: ToolRun) -> Table:
     return Table("Capacity of the journal", heads(names, 0), [cells(row) for row in rows[1:]])
 
 
+def user_name() -> str:
+    """Who runs the window; the number of a user who has no name on this machine."""
+    try:
+        return getpass.getuser()
+    except (KeyError, OSError):
+        return str(os.getuid())
+
+
 def stands(book: View, asked: Asked) -> Answer:
     asked.only(("at",))
     room, version = headroom(book), tool_run(book, ["version"], "which program this is")
@@ -48,7 +56,7 @@ def stands(book: View, asked: Asked) -> Answer:
     values = {"room": headroom_table(room), "room_remarks": room.remarks, "count": book.at, "most": MOST_COMMANDS,
               "logged": logged,
               "open_ones": open_ones, "backups": found, "version": version.printed.strip(), "version_status": version.status,
-              "user": getpass.getuser(), "host": socket.gethostname(), "life": shown(" ".join(book.life)),
+              "user": user_name(), "host": socket.gethostname(), "life": shown(" ".join(book.life)),
               "journal": shown(book.listed.journal), "journal_sum": book.prefix_sum, "basis_sum": book.basis.sum,
               "positions": [(each, book.at_position(each).link("")) for each in book.copy.positions]}
     return Page("stands.html", "How it stands", values)
