@@ -21,9 +21,12 @@ LISTED = "book"
 
 def headroom(book: View) -> ToolRun:
     """A run of `books headroom` over a list of the private copy alone."""
-    path = os.path.join(book.copy.folder, "list.csv")
-    with open(path, "w", encoding="utf-8") as file:
-        file.write(f"{LISTED},{os.path.basename(book.desk)},{book.basis.name}\n")
+    desk, new = os.path.basename(book.desk), book.copy.new_file()
+    with open(new, "w", encoding="utf-8") as file:
+        file.write(f"{LISTED},{desk},{book.basis.name}\n")
+    # put in place whole: the page is asked for again while the tool reads the list
+    path = os.path.join(book.copy.folder, f"list-{desk}.csv")
+    os.replace(new, path)
     return tool_run(book, ["books", "headroom", path], "how many commands are left", True, (book.copy.newest,))
 
 
