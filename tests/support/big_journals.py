@@ -9,16 +9,13 @@ one cent.
 from __future__ import annotations
 
 import datetime
-import os
 import sys
 from array import array
 from typing import Any
 
-sys.path.insert(0, os.path.join(os.path.dirname(os.path.abspath(__file__)), "..", "..", "tools"))
-
-from life_tools.rules.commands import LAST_AGE, Command  # noqa: E402
-from life_tools.common.formats import MOST_CENTS  # noqa: E402
-from life_tools.journal.file import EMPTY, FIRST_GATE, RECORD_SIZE, file_of  # noqa: E402
+from life_tools.rules.commands import LAST_AGE, Command
+from life_tools.common.formats import MOST_CENTS
+from life_tools.journal.file import EMPTY, FIRST_GATE, RECORD_SIZE, file_of
 
 DAY = datetime.date(2020, 1, 1)
 BLOCK = 65_536

@@ -9,18 +9,15 @@ import datetime
 import math
 import os
 import random
-import sys
 from typing import Any
 
-sys.path.insert(0, os.path.join(os.path.dirname(os.path.abspath(__file__)), "..", "..", "tools"))
-
-from life_tools.rules.commands import UPGRADE, Command, words_of  # noqa: E402
-from life_tools.common.formats import FIRST_DAY, LAST_DAY, money  # noqa: E402
-from life_tools.reserves.exact import Known, worth  # noqa: E402
-from life_tools.rules.policies import (EARLY, GRACE, REINSTATEMENT_ANNIVERSARIES, Book, Policy,  # noqa: E402
+from life_tools.rules.commands import UPGRADE, Command, words_of
+from life_tools.common.formats import FIRST_DAY, LAST_DAY, money
+from life_tools.reserves.exact import Known, worth
+from life_tools.rules.policies import (EARLY, GRACE, REINSTATEMENT_ANNIVERSARIES, Book, Policy,
                                        Refusal, anniversary, end_of, missed_by)
-from life_tools.scripts.lines import Line, lanes_of, lines_in  # noqa: E402
-from life_tools.tables.basis import BasisRow  # noqa: E402
+from life_tools.scripts.lines import Line, lanes_of, lines_in
+from life_tools.tables.basis import BasisRow
 
 BASIS = "2000-01-01,q.xml,0\n2010-01-01,m.xml,300\n2015-01-01,g.xml,400\n2018-01-01,select.xml,250\n"
 # a table of the ages 20 to 25, where one is likelier to die than not at 22

@@ -7,14 +7,11 @@ from __future__ import annotations
 import datetime
 import random
 import sys
-from pathlib import Path
 from typing import NamedTuple
 
-sys.path.insert(0, str(Path(__file__).resolve().parents[2] / "tools"))
-
-from life_tools.rules.commands import UPGRADE, Command  # noqa: E402
-from life_tools.journal.file import file_of  # noqa: E402
-from life_tools.rules.policies import Policy, decide, due_of, end_of, missed_by, payments_of  # noqa: E402
+from life_tools.rules.commands import UPGRADE, Command
+from life_tools.journal.file import file_of
+from life_tools.rules.policies import Policy, decide, due_of, end_of, missed_by, payments_of
 
 LEAP_YEARS = (2000, 2004, 2008, 2012, 2016, 2020)
 BEFALLS = ("claim", "lapse", "lapse", "paidup", "alter", "stop")

@@ -2,7 +2,7 @@
 """Kills `life checkpoint`, and `life run` beside a checkpoint, with SIGKILL at random moments, and judges each time that
 `state` writes what it writes without the checkpoint, and that the file holds no checkpoint or one of the journal's front.
 
-usage: python3 tests/program/kills/checkpoints.py PROGRAM FOLDER KILLS SEED     (python3 and its standard library)
+usage: PYTHONPATH=tools python3 -m tests.program.kills.checkpoints PROGRAM FOLDER KILLS SEED
 
 FOLDER is made, and is left as it is. The seed fixes what is drawn, not where a kill falls.
 """
@@ -17,12 +17,10 @@ import sys
 import time
 from typing import Any
 
-sys.path.insert(0, os.path.join(os.path.dirname(os.path.abspath(__file__)), "..", "..", "..", "tools"))
-
-from life_tools.journal.checkpoints import checkpoint_in, checkpoint_of  # noqa: E402
-from life_tools.common.formats import Wrong, demand  # noqa: E402
-from life_tools.journal.file import file_of, read_journal  # noqa: E402
-from life_tools.scripts.lines import lines_in  # noqa: E402
+from life_tools.journal.checkpoints import checkpoint_in, checkpoint_of
+from life_tools.common.formats import Wrong, demand
+from life_tools.journal.file import file_of, read_journal
+from life_tools.scripts.lines import lines_in
 
 POLICIES = 1500
 JOURNAL, KEPT = "journal.life", "checkpoint.life"

@@ -1,0 +1,51 @@
+"""The packages of life_tools stand in layers: each imports only those below it."""
+from __future__ import annotations
+
+import ast
+from pathlib import Path
+
+from tests.support.program import ROOT
+
+TOOLS = ROOT / "tools" / "life_tools"
+# from the lowest to the highest
+LAYERS = ("common", "rules", "tables", "reserves", "journal", "valuations", "scripts", "reports", "audit", "books", "desk",
+          "backup", "window", "cli")
+# Modules that import a package above their own. None may come to it, and one that is needed no more goes.
+UPWARD = {
+    ("reports/bundles.py", "audit"),        # a bundle holds the working papers of a sample
+    ("audit/samples.py", "books"),          # the name for all books of a list
+    ("audit/listed_samples.py", "books"),   # likewise
+    ("books/sheets.py", "cli"),             # what the commands due and movement print
+    ("window/month_pages.py", "cli"),       # the columns of the command report
+    ("window/due_lists.py", "cli"),         # the lists of the command due
+    ("window/day_pages.py", "cli"),         # their names
+}
+
+
+def imported(text: str) -> set[str]:
+    """The packages of life_tools that a module imports, at its head or in a function."""
+    modules = [name for node in ast.walk(ast.parse(text))
+               for name in ([node.module or ""] if isinstance(node, ast.ImportFrom)
+                            else [each.name for each in node.names] if isinstance(node, ast.Import) else [])]
+    return {name.split(".")[1] for name in modules if name.startswith("life_tools.")}
+
+
+def upward(file: str, text: str) -> set[tuple[str, str]]:
+    """The packages above its own that a module of this path imports."""
+    own = LAYERS.index(Path(file).parts[0])
+    return {(file, package) for package in imported(text) if LAYERS.index(package) > own}
+
+
+def test_each_package_is_in_a_layer() -> None:
+    assert {file.parent.name for file in TOOLS.glob("*/__init__.py")} == set(LAYERS)
+
+
+def test_no_module_imports_a_package_above_its_own() -> None:
+    files = [file for file in TOOLS.glob("*/*.py")]
+    found = {one for file in files for one in upward(str(file.relative_to(TOOLS)), file.read_text(encoding="utf-8"))}
+    assert found == UPWARD
+
+
+def test_an_import_from_above_is_told() -> None:
+    text = "def due() -> None:\n    from life_tools.cli.due import Items\n    import life_tools.common.formats\n"
+    assert upward("rules/grace.py", text) == {("rules/grace.py", "cli")}
