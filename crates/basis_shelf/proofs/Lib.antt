@@ -10,3 +10,4 @@ pub mod EitherBasis
 pub mod EitherAny
 pub mod NeverSelect
 pub mod ToldTable
+pub mod Asking

@@ -1,5 +1,5 @@
 -- The basis that a basis file and the tables it names make.
-use Rattle.std.specs.Prelude.{◌≡◌, ℕ, ◌≤◌, List, length, Option, Ok}
+use Rattle.std.specs.Prelude.{◌≡◌, ◌⊎◌, ℕ, ◌≤◌, List, length, map, Contains, Option, Ok}
 use Rattle.std.specs.List.{AllZip}
 use Rattle.csv.specs.Reading.{AreRecords, default_config, strip_bom}
 use Rattle.csv.specs.declared.parser.State.TheVariants as st
@@ -21,6 +21,12 @@ AreRowsNamed files name found =
     (bytes : List ℕ) × IsFile files name bytes
     × ((rows : List (List (List ℕ))) × AreRecords default_config st.StartRecord (strip_bom bytes) rows
     × (length rows ≤ 1000) × AreRows rows found)
+
+-- a file that belongs to the basis of this name: the basis file, or the table of one of its rows
+abbrev pub IsOfBasis : (List ℕ → Option (List ℕ)) → List ℕ → List ℕ → Type 0
+IsOfBasis files name other =
+    (other ≡ name)
+    ⊎ ((rows : List BasisRow) × AreRowsNamed files name rows × Contains (map (λ (row : BasisRow). row.table) rows) other)
 
 -- the basis file of this name is right, and each of its rows has its entry: of the row's day, with the table of the name in
 -- the row, and of the row's basis points

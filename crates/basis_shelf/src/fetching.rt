@@ -1,7 +1,7 @@
 ghost use Rattle.std.specs.Prelude.{◌≡◌, ◌<◌, ◌≤◌, List, Result, IfOk, IfErr, IsErrOf};
-ghost use Rattle.basis_shelf.specs.Names.{Rose, Files, Dated};
+ghost use Rattle.basis_shelf.specs.Names.{AsksOnly, Rose, Files, Dated};
 ghost use Rattle.basis_shelf.specs.declared.fault.BadBasis.{BadBasis as ABadBasis};
-ghost use Rattle.basis_shelf.specs.Bases.{IsBasis};
+ghost use Rattle.basis_shelf.specs.Bases.{IsBasis, IsOfBasis};
 ghost use Rattle.basis_shelf.specs.FirstBad.{IsFirstBadFile};
 ghost use Rattle.basis_shelf.specs.Answers.{GivesBasis, IfBad, IsBasisAnswer};
 
@@ -27,6 +27,9 @@ pub fn fetch_basis<H: Shelf>(alloc: Global, name: &Name, shelf: &mut H) -> Resul
     // Where the shelf failed this is told, and nothing else.
     ensures counted { H.faults shelf.old < H.faults shelf.new → IsErrOf result NoBasis.ReadFault }
     ensures later { H.faults shelf.old ≤ H.faults shelf.new }
+    // Nothing is asked for but the files of the basis.
+    ensures asked { (at : Files) → H.agrees shelf.new at
+        → AsksOnly (IsOfBasis at name.now) (H.asked shelf.old) (H.asked shelf.new) }
     ensures stays { H.files shelf.new ≡ H.files shelf.old }
 {
     fetch_parts(alloc, name, shelf)
@@ -41,6 +44,8 @@ fn fetch_parts<H: Shelf>(alloc: Global, name: &Name, shelf: &mut H) -> Result<Ba
     // Where the shelf failed this is told, and nothing else.
     ensures counted { H.faults shelf.old < H.faults shelf.new → IsErrOf result NoBasis.ReadFault }
     ensures later { H.faults shelf.old ≤ H.faults shelf.new }
+    ensures asked { (at : Files) → H.agrees shelf.new at
+        → AsksOnly (IsOfBasis at name.now) (H.asked shelf.old) (H.asked shelf.new) }
     ensures stays { H.files shelf.new ≡ H.files shelf.old }
 {
     let rows = fetch_rows(alloc, name, shelf)?;

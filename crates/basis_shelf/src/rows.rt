@@ -1,5 +1,5 @@
 // The basis file.
-ghost use Rattle.std.specs.Prelude.{◌≡◌, ◌<◌, ◌≤◌, List, IfOk, IfErr, IsErrOf};
+ghost use Rattle.std.specs.Prelude.{◌≡◌, ◌<◌, ◌≤◌, ◌∷◌, List, IfOk, IfErr, IsErrOf};
 ghost use Rattle.basis_shelf.specs.Names.{Rose, Files, AreBounded};
 ghost use Rattle.basis_shelf.specs.Bases.{AreRowsNamed};
 ghost use Rattle.basis_shelf.specs.Answers.{IfBad};
@@ -21,6 +21,7 @@ pub fn fetch_rows<H: Shelf>(alloc: Global, name: &Name, shelf: &mut H) -> Result
     // Where the shelf failed this is told, and nothing else.
     ensures counted { H.faults shelf.old < H.faults shelf.new → IsErrOf result NoBasis.ReadFault }
     ensures later { H.faults shelf.old ≤ H.faults shelf.new }
+    ensures asked { H.asked shelf.new ≡ name.now ∷ H.asked shelf.old }
     ensures stays { H.files shelf.new ≡ H.files shelf.old }
 {
     let bytes = fetch_file(alloc, name, 0, shelf)?;

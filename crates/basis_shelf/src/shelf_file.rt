@@ -1,5 +1,5 @@
 // One file of a shelf.
-ghost use Rattle.std.specs.Prelude.{◌≡◌, ◌<◌, ◌≤◌, vec_len, IfOk, IfErr, IsErrOf};
+ghost use Rattle.std.specs.Prelude.{◌≡◌, ◌<◌, ◌≤◌, ◌∷◌, vec_len, IfOk, IfErr, IsErrOf};
 ghost use Rattle.basis_shelf.specs.Names.{Rose, Files};
 ghost use Rattle.basis_shelf.specs.Files.{IsFile};
 ghost use Rattle.basis_shelf.specs.Answers.{IfBad};
@@ -36,6 +36,7 @@ pub fn fetch_file<H: Shelf>(
     // Where the shelf failed this is told, and nothing else.
     ensures counted { H.faults shelf.old < H.faults shelf.new → IsErrOf result NoBasis.ReadFault }
     ensures later { H.faults shelf.old ≤ H.faults shelf.new }
+    ensures asked { H.asked shelf.new ≡ name.now ∷ H.asked shelf.old }
     ensures stays { H.files shelf.new ≡ H.files shelf.old }
 {
     match shelf.fetch(alloc, name.text()) {

@@ -1,7 +1,7 @@
 // The tables that the rows of a basis file name.
-ghost use Rattle.std.specs.Prelude.{◌≡◌, ◌≤◌, ◌+◌, ◌<◌, ℕ, List, length, All, IsSome, IfOk, OnOk, IfErr, IsErrOf};
+ghost use Rattle.std.specs.Prelude.{◌≡◌, ◌≤◌, ◌+◌, ◌<◌, ◌∷◌, ℕ, List, length, map, All, Contains, IsSome, IfOk, OnOk, IfErr, IsErrOf};
 ghost use Rattle.indexmap.specs.IndexMap.{get_by_text};
-ghost use Rattle.basis_shelf.specs.Names.{Rose, Files, ARow};
+ghost use Rattle.basis_shelf.specs.Names.{AsksOnly, Rose, Files, ARow};
 ghost use Rattle.basis_shelf.specs.Bases.{IsTableNamed};
 ghost use Rattle.basis_shelf.specs.FirstBad.{IsFirstBadRow};
 ghost use Rattle.basis_shelf.specs.Answers.{IfBad};
@@ -32,6 +32,7 @@ pub fn fetch_tables<H: Shelf>(
     // Where the shelf failed this is told, and nothing else.
     ensures counted { H.faults shelf.old < H.faults shelf.new → IsErrOf result NoBasis.ReadFault }
     ensures later { H.faults shelf.old ≤ H.faults shelf.new }
+    ensures asked { AsksOnly (Contains (map (λ (row : ARow). row.table) rows.now)) (H.asked shelf.old) (H.asked shelf.new) }
     ensures stays { H.files shelf.new ≡ H.files shelf.old }
 {
     let mut tables = IndexMap::new(alloc);
@@ -59,6 +60,7 @@ fn add_table<H: Shelf>(
     // Where the shelf failed this is told, and nothing else.
     ensures counted { H.faults shelf.old < H.faults shelf.new → IsErrOf result NoBasis.ReadFault }
     ensures later { H.faults shelf.old ≤ H.faults shelf.new }
+    ensures asked { AsksOnly (λ asked. asked ≡ name.now) (H.asked shelf.old) (H.asked shelf.new) }
     ensures stays { H.files shelf.new ≡ H.files shelf.old }
 {
     if tables.contains_key(name.text()) {
@@ -90,6 +92,7 @@ fn fetch_table<H: Shelf>(
     // Where the shelf failed this is told, and nothing else.
     ensures counted { H.faults shelf.old < H.faults shelf.new → IsErrOf result NoBasis.ReadFault }
     ensures later { H.faults shelf.old ≤ H.faults shelf.new }
+    ensures asked { H.asked shelf.new ≡ name.now ∷ H.asked shelf.old }
     ensures stays { H.files shelf.new ≡ H.files shelf.old }
 {
     let bytes = fetch_file(alloc, name, number, shelf)?;

@@ -1,9 +1,11 @@
 use basis_book::{Basis, Name};
 use basis_shelf::{NoBasis, bad_basis_line, fetch_basis};
-use outside_io::{MapShelf, Shelf};
+use outside_io::{FetchFault, FolderShelf, MapShelf, Shelf};
 use select_rates::AnyTable;
 use std::alloc::Global;
 use std::collections::BTreeMap;
+use std::fs::{File as RealFile, create_dir, remove_dir, remove_file};
+use std::io::Write;
 use std::test::Fail;
 use test_rows::assert_rows;
 
@@ -280,5 +282,53 @@ fn basis(alloc: Global) -> Result<Basis, Fail> {
 fn picks(rt: HostRuntime) -> Result<(), Fail> {
     let basis = basis(rt.alloc())?;
     assert_rows!(rt; (issued, expected) in PICKED => picked(&basis, *issued), *expected; "{issued}");
+    Ok(())
+}
+
+/// The bytes of the file with this name, or why the shelf gave none.
+fn fetched<H: Shelf>(
+    alloc: Global,
+    shelf: &mut H,
+    name: &str,
+) -> Result<Result<Vec<u8>, FetchFault>, Fail> {
+    match Name::of(alloc, name.as_bytes()) {
+        Ok(Some(name)) => Ok(shelf.fetch(alloc, name.text())),
+        _ => Err("a name".into()),
+    }
+}
+
+#[test]
+fn shelves_of_a_folder(rt: HostRuntime) -> Result<(), Fail> {
+    let alloc = rt.alloc();
+    let name = "basis_shelf.test";
+    let folder = "basis_shelf.folder";
+    RealFile::create(&rt, name)?.write_all(b"two\nlines")?;
+    create_dir(&rt, folder)?;
+    let mut shelf = FolderShelf::new(rt.clone()?);
+    let Ok(bytes) = fetched(alloc, &mut shelf, name)? else {
+        return Err("not found".into());
+    };
+    assert!(rt; bytes.as_slice() == b"two\nlines".as_slice());
+    RealFile::create(&rt, name)?.set_len(4_194_305)?;
+    let long = fetched(alloc, &mut shelf, name)?.err();
+    remove_file(&rt, name)?;
+    let absent = fetched(alloc, &mut shelf, name)?.err();
+    let failed = fetched(alloc, &mut shelf, folder)?.err();
+    remove_dir(&rt, folder)?;
+    assert!(rt; (long, absent) == (Some(FetchFault::TooLong), Some(FetchFault::Absent)));
+    assert!(rt; (failed, shelf.faults()) == (Some(FetchFault::Failed), 1));
+    Ok(())
+}
+
+#[test]
+fn shelves_in_memory(rt: HostRuntime) -> Result<(), Fail> {
+    let alloc = rt.alloc();
+    let mut shelf = shelf(alloc, &[("q.xml", b"<Y/>")], 3)?;
+    let found = fetched(alloc, &mut shelf, "q.xml")?.is_ok();
+    let absent = fetched(alloc, &mut shelf, "g.xml")?.err();
+    let failed = fetched(alloc, &mut shelf, "q.xml")?.err();
+    assert!(rt;
+        (found, absent, failed) == (true, Some(FetchFault::Absent), Some(FetchFault::Failed))
+    );
     Ok(())
 }

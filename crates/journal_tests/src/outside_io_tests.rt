@@ -4,7 +4,6 @@ ghost use Rattle.std.specs.Prelude.{◌≤◌};
 
 use memory_disk::MemoryDisk;
 use outside_io::*;
-use std::collections::BTreeMap;
 use std::fs;
 use std::fs::{File, OpenOptions};
 use std::io::pipe;
@@ -174,7 +173,7 @@ fn a_pipe_is_a_stream(rt: HostRuntime) -> Result<(), Fail> {
 }
 
 #[test]
-fn real_streams_and_shelves(rt: HostRuntime) -> Result<(), Fail> {
+fn real_streams(rt: HostRuntime) -> Result<(), Fail> {
     let alloc = rt.alloc();
     let name = "outside_io_stream.test";
     let mut sink = StdSink::<_, MemoryDisk>::new(File::create(&rt, name)?);
@@ -182,26 +181,10 @@ fn real_streams_and_shelves(rt: HostRuntime) -> Result<(), Fail> {
     let mut closed = StdSink::<_, MemoryDisk>::new(File::open(&rt, name)?);
     let refused = write_all(&mut closed, b"x");
     assert!(rt; (written, refused, closed.faults()) == (Ok(()), Err(WriteFault), 1));
-    let mut shelf = FolderShelf::new(rt.clone()?);
-    let Ok(bytes) = shelf.fetch(alloc, name) else {
-        return Err(Fail::new("not found"));
+    let Ok(bytes) = read_all(alloc, &mut StdSource::new(File::open(&rt, name)?), 9) else {
+        return Err(Fail::new("not read"));
     };
     assert!(rt; bytes.as_slice() == b"two\nlines".as_slice());
-    File::create(&rt, name)?.set_len(4_194_305)?;
-    let long = shelf.fetch(alloc, name).err();
     fs::remove_file(&rt, name)?;
-    let absent = shelf.fetch(alloc, name).err();
-    let folder = shelf.fetch(alloc, ".").err();
-    assert!(rt; (long, absent) == (Some(FetchFault::TooLong), Some(FetchFault::Absent)));
-    assert!(rt; (folder, shelf.faults()) == (Some(FetchFault::Failed), 1));
-    let mut files = BTreeMap::new(alloc);
-    let _ = files.insert(String::from_str(alloc, "q.xml")?, b"<Y/>".to_vec(alloc)?)?;
-    let mut shelf = MapShelf::new(files, vec![in alloc; 3]?);
-    let found = shelf.fetch(alloc, "q.xml").is_ok();
-    let absent = shelf.fetch(alloc, "g.xml").err();
-    let failed = shelf.fetch(alloc, "q.xml").err();
-    assert!(rt;
-        (found, absent, failed) == (true, Some(FetchFault::Absent), Some(FetchFault::Failed))
-    );
     Ok(())
 }

@@ -1,6 +1,7 @@
 pub mod Disks
 pub mod DiskLaws
 pub mod FileCalls
+pub mod FileNames
 pub mod FileLaws
 pub mod Faults
 pub mod Memory

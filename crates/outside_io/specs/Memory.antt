@@ -44,3 +44,7 @@ shelf_at shelf = map_at shelf.files
 -- the calls that are to fail, and those that were made
 abbrev pub shelf_plan : MapShelf → FaultPlan
 shelf_plan shelf = shelf.plan
+
+-- the names that the shelf was asked for, the newest first
+abbrev pub shelf_asked : MapShelf → List (List ℕ)
+shelf_asked shelf = shelf.asked

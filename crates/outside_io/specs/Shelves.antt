@@ -1,5 +1,5 @@
 -- What a shelf answered, and which files give those answers.
-use Rattle.std.specs.Prelude.{◌≡◌, ℕ, ◌<◌, List, ◌∷◌, [], length, Option, Some, None, Result, Ok, Err, Vec, IsSomeAnd, ⊤}
+use Rattle.std.specs.Prelude.{◌≡◌, ℕ, ◌<◌, List, ◌∷◌, [], ◌++◌, length, All, Option, Some, None, Result, Ok, Err, Vec, IsSomeAnd, ⊤}
 use Rattle.std.specs.declared.alloc.Global.{Global}
 use Rattle.std.proofs.Common.{ap}
 use Rattle.outside_io.specs.declared.failures.FetchFault.{FetchFault}
@@ -50,3 +50,7 @@ same_files one other same name = let equal : other ≡ one = cc in ap (λ (at : 
 -- a shelf that reports none
 pub no_files : (files : Files) (P : Type 0) → None ≡ Some files → P
 no_files files P same = absurd (cc)
+
+-- whatever was asked for between two moments, at which these names had been asked for, is allowed
+abbrev pub AsksOnly : (List ℕ → Type 0) → List (List ℕ) → List (List ℕ) → Type 0
+AsksOnly Allowed before now = (more : List (List ℕ)) × (now ≡ more ++ before) × All Allowed more

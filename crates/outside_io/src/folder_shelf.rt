@@ -1,11 +1,13 @@
 // The files of the folder in which the program runs, as a shelf. It notes its answers, for contracts alone.
-ghost use Rattle.std.specs.Prelude.{◌≡◌, ◌⊎◌, ℕ, ◌<◌, ◌≤◌, ◌++◌, [], None, Some, Option, List, length, vec_len, IfOk, OnOk, IfErr, IsSomeAnd, IsErrOf};
+ghost use Rattle.std.specs.Prelude.{◌≡◌, ◌⊎◌, ℕ, ◌<◌, ◌≤◌, ◌++◌, ◌∷◌, [], None, Some, Option, List, length, vec_len, IfOk, OnOk, IfErr, IsSomeAnd, IsErrOf};
 ghost use Rattle.memory_requests.specs.Evidence.{a_refusal};
 ghost use Rattle.outside_io.specs.Faults.{Rose};
+ghost use Rattle.outside_io.specs.FileNames.{IsName};
 ghost use Rattle.outside_io.specs.Streams.{GivesMore};
 ghost use Rattle.outside_io.specs.Shelves.{Files, Agrees, KeepsAnswer, no_files};
 
 use crate::answers::Answers;
+use crate::asked_names::AskedNames;
 use crate::shelves::SHELF_LIMIT;
 use crate::{FetchFault, ReadAllFault, Shelf, Source, StdSource, read_all};
 use std::alloc::Global;
@@ -19,18 +21,21 @@ pub struct FolderShelf<R: Files> {
     files: R,
     faults: u64,
     answers: Answers,
+    asked: AskedNames,
 }
 
 impl<R: Files> FolderShelf<R> {
-    /// It had no fault so far, and answered nothing.
+    /// It had no fault so far, and was asked nothing.
     pub fn new(files: R) -> FolderShelf<R>
         ensures faults { result.faults ≡ 0 }
         ensures answers { result.answers ≡ [] }
+        ensures asked { result.asked ≡ [] }
     {
         FolderShelf {
             files,
             faults: 0,
             answers: Answers::new(),
+            asked: AskedNames::new(),
         }
     }
 }
@@ -42,6 +47,8 @@ impl<R: Files> Shelf for FolderShelf<R> {
 
     ghost agrees = { λ s at. Agrees s.answers at };
 
+    ghost asked = { λ s. s.asked };
+
     ghost agrees_with_files = { λ s at same. no_files at (Agrees s.answers at) same };
 
     fn faults(&self) -> u64 {
@@ -49,6 +56,7 @@ impl<R: Files> Shelf for FolderShelf<R> {
     }
 
     fn fetch(&mut self, alloc: Global, name: &str) -> Result<Vec<u8>, FetchFault>
+        requires name { IsName name.now }
         ensures agreed { (at : Files) → Agrees self.new.answers at → Agrees self.old.answers at }
         ensures found { (at : Files) → Agrees self.new.answers at
             → IfOk result (λ bytes. at name.now ≡ Some bytes.items) }
@@ -61,8 +69,10 @@ impl<R: Files> Shelf for FolderShelf<R> {
         ensures failed { IsErrOf result FetchFault.Failed → Rose self.old.faults self.new.faults }
         ensures counted { self.old.faults < self.new.faults → IsErrOf result FetchFault.Failed }
         ensures later { self.old.faults ≤ self.new.faults }
+        ensures asked { self.new.asked ≡ name.now ∷ self.old.asked }
         ensures kept { KeepsAnswer name.now result self.old.answers self.new.answers }
     {
+        self.asked.note(name);
         // Opens the file with this name, once, and reads it to its end.
         let answer = read_file(&self.files, alloc, name);
         // What the system said of the name is noted under that name. A fault and want of memory say nothing of the file.

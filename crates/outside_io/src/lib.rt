@@ -3,6 +3,7 @@
 #![tactic(auto)]
 
 mod answers;
+mod asked_names;
 mod bytes_in;
 mod bytes_out;
 mod counting;

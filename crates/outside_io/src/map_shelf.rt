@@ -1,10 +1,12 @@
 // A shelf in memory.
-ghost use Rattle.std.specs.Prelude.{◌≡◌, ℕ, ◌<◌, ◌≤◌, ◌↔◌, Option, None, Some, List, length, vec_len, IfOk, OnOk, IfSome, IsSomeAnd, IsErrOf};
+ghost use Rattle.std.specs.Prelude.{◌≡◌, ℕ, ◌<◌, ◌≤◌, ◌↔◌, ◌∷◌, [], Option, None, Some, List, length, vec_len, IfOk, OnOk, IfSome, IsSomeAnd, IsErrOf};
 ghost use Rattle.outside_io.specs.Faults.{Rose};
+ghost use Rattle.outside_io.specs.FileNames.{IsName};
 ghost use Rattle.outside_io.specs.Plans.{FailsNext, plan_faults, plan_failing, plan_calls, number_after};
-ghost use Rattle.outside_io.specs.Memory.{shelf_at, shelf_plan, map_at};
+ghost use Rattle.outside_io.specs.Memory.{shelf_asked, shelf_at, shelf_plan, map_at};
 ghost use Rattle.outside_io.specs.Shelves.{Files, AreFiles, same_files};
 
+use crate::asked_names::AskedNames;
 use crate::shelves::SHELF_LIMIT;
 use crate::{FaultPlan, FetchFault, Shelf};
 use memory_requests::copied;
@@ -16,6 +18,7 @@ use std::collections::BTreeMap;
 pub struct MapShelf {
     files: BTreeMap<String, Vec<u8>>,
     plan: FaultPlan,
+    asked: AskedNames,
 }
 
 impl MapShelf {
@@ -24,10 +27,12 @@ impl MapShelf {
         ensures failing { plan_failing (shelf_plan result) ≡ failing.items }
         ensures calls { plan_calls (shelf_plan result) ≡ 0 }
         ensures faults { plan_faults (shelf_plan result) ≡ 0 }
+        ensures asked { shelf_asked result ≡ [] }
     {
         MapShelf {
             files,
             plan: FaultPlan::new(failing),
+            asked: AskedNames::new(),
         }
     }
 }
@@ -39,6 +44,8 @@ impl Shelf for MapShelf {
 
     ghost agrees = { λ s at. AreFiles (shelf_at s) at };
 
+    ghost asked = { λ s. shelf_asked s };
+
     ghost agrees_with_files = { λ s at same. same_files (shelf_at s) at same };
 
     fn faults(&self) -> u64 {
@@ -46,6 +53,7 @@ impl Shelf for MapShelf {
     }
 
     fn fetch(&mut self, alloc: Global, name: &str) -> Result<Vec<u8>, FetchFault>
+        requires name { IsName name.now }
         ensures agreed { (at : Files) → AreFiles (shelf_at self.new) at
             → AreFiles (shelf_at self.old) at }
         ensures found { (at : Files) → AreFiles (shelf_at self.new) at
@@ -61,11 +69,13 @@ impl Shelf for MapShelf {
         ensures counted { plan_faults (shelf_plan self.old) < plan_faults (shelf_plan self.new)
             → IsErrOf result FetchFault.Failed }
         ensures later { plan_faults (shelf_plan self.old) ≤ plan_faults (shelf_plan self.new) }
+        ensures asked { shelf_asked self.new ≡ name.now ∷ shelf_asked self.old }
         ensures stays { shelf_at self.new ≡ shelf_at self.old }
         ensures fails { IsErrOf result FetchFault.Failed ↔ FailsNext (shelf_plan self.old) }
         ensures failing { plan_failing (shelf_plan self.new) ≡ plan_failing (shelf_plan self.old) }
         ensures calls { plan_calls (shelf_plan self.new) ≡ number_after (plan_calls (shelf_plan self.old)) }
     {
+        self.asked.note(name);
         if self.plan.fails_next() {
             self.plan.add_fault();
             return Err(FetchFault::Failed);

@@ -1,6 +1,7 @@
 use Rattle.basis_shelf.proofs.Names.{◌<◌, List, length, All, IsSome, take, ◌∙◌, subst, arith, take_all, All-more, All-weaker, get_by_text, ARow}
 use Rattle.std.proofs.lemmas.Result.{err_from_is_err_and}
 use Rattle.basis_shelf.specs.declared.fault.NoBasis.TheVariants.{ReadFault}
+use Rattle.basis_shelf.proofs.Asking.{asks_row}
 use Rattle.basis_shelf.proofs.Fetched.{row_is_bad, not_risen}
 use Rattle.basis_shelf.proofs.tables.fetch_tables.Goals as goal
 
@@ -32,6 +33,8 @@ loop-index-preserved g c =
       counted = not_risen (g.H.Shelf.faults c.args.shelf.now) (g.H.Shelf.faults c.loop-index.shelf) (g.H.Shelf.faults c.add_table.new.shelf)
           tt ReadFault c.in_ok-add_table.ensures.counted c.loop-index.invariant.counted;
       later = omega (arith, c.loop-index.invariant.later, c.add_table.ensures.later);
+      asked = asks_row rows c.loop-index.index row (g.H.Shelf.asked c.args.shelf.now) (g.H.Shelf.asked c.loop-index.shelf) (g.H.Shelf.asked c.add_table.new.shelf)
+          within c.index-rows-index.is c.loop-index.invariant.asked c.add_table.ensures.asked;
       stays = c.add_table.ensures.stays ∙ c.loop-index.invariant.stays;
     }
 
@@ -40,3 +43,8 @@ returns-clause-known g c =
     let held = get_by_text c.loop-index.tables in
     let known = λ (r : ARow). IsSome (held r.table) in
     subst (λ (xs : List ARow). All known xs) (take_all c.loop-index.index c.args.rows.now c.loop-index-test.false) c.loop-index.invariant.known
+
+pub returns-in_err-add_table-clause-asked : goal.returns-in_err-add_table-clause-asked
+returns-in_err-add_table-clause-asked g c =
+    asks_row c.args.rows.now c.loop-index.index c.index-rows-index.result (g.H.Shelf.asked c.args.shelf.now) (g.H.Shelf.asked c.loop-index.shelf)
+    (g.H.Shelf.asked c.add_table.new.shelf) (omega (arith, c.loop-index-test.true)) c.index-rows-index.is c.loop-index.invariant.asked c.add_table.ensures.asked
