@@ -43,6 +43,7 @@ impl Books {
 
     /// Takes the memory for the policies of so many further commands at once, or none.
     pub(crate) fn expect(&mut self, commands: u32)
+        requires few { commands ≤ most_commands }
         ensures commands { commands_in self.new ≡ commands_in self.old }
         ensures floor { floor_in self.new ≡ floor_in self.old }
     {

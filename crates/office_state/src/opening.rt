@@ -13,6 +13,7 @@ use arrayvec::ArrayVec;
 use journal_replay::replay_all;
 use moment_ring::MomentOutlet;
 use outside_io::Disk;
+use policy_types::MOST_COMMANDS;
 use posting_journal::Journal;
 use std::alloc::Global;
 use std::snapshot::Snapshot;
@@ -59,7 +60,7 @@ fn office_of<D: Disk, W: Watching>(
 {
     let mut journal = journal;
     let mut books = Books::new(alloc);
-    books.expect(journal.count());
+    books.expect(journal.count().min(MOST_COMMANDS));
     match replay_all(&mut journal, &mut books) {
         Ok(()) => {
             let recovered = Snapshot::of(&books);

@@ -10,6 +10,10 @@ use Rattle.versioned_book.specs.declared.chain.Chain.{Chain}
 use Rattle.versioned_book.specs.declared.place.KeyPlace.{KeyPlace}
 use Rattle.versioned_book.specs.declared.book.VersionedBook.{VersionedBook}
 
+-- for how many keys a book takes memory ahead of their settings, at most
+abbrev pub most_expected : ℕ
+most_expected = 4000000
+
 module _ {V : Type 0} where
   -- how many versions a book keeps: the newest of each key, and the older ones
   abbrev pub kept_of : VersionedBook V → ℕ

@@ -1,7 +1,7 @@
 // The book: a chain of versions for each key. The keys are in the order in which they were first set.
 ghost use Rattle.std.specs.Prelude.{◌≡◌, ℕ, ◌+◌, ◌<◌, ◌≤◌, [], ◌∷◌, ◌++◌, List, filter, length, min, nat_eq, nat_le, slice_get, Some, IfOk, OnOk, vec_len};
 ghost use Rattle.indexmap.specs.IndexMap.{keys, index_map_len};
-ghost use Rattle.versioned_book.specs.Books.{CanSet, IsBookOf, IsPlaceIn, IsSomeBook, kept_of};
+ghost use Rattle.versioned_book.specs.Books.{CanSet, IsBookOf, IsPlaceIn, IsSomeBook, kept_of, most_expected};
 ghost use Rattle.versioned_book.specs.Settings.{Setting, settings_after, keys_of, own, until};
 ghost use Rattle.versioned_book.specs.Versions.{AreFewSteps, IsRisingTo, newest_of, versions_from, value_at};
 
@@ -87,6 +87,7 @@ impl<V: Copy> VersionedBook<V> {
 
     /// Takes the memory for `keys` further keys at once; if it is refused, for none. What the book holds stays.
     pub fn expect(&mut self, keys: u32)
+        requires few { keys ≤ most_expected }
         ensures book { (sets : List (Setting V)) → IsBookOf self.old sets → IsBookOf self.new sets }
         ensures floor { (self.new.floor ≡ self.old.floor) × (self.new.last ≡ self.old.last) }
     {
