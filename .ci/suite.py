@@ -6,8 +6,8 @@ usage: /usr/bin/python3 .ci/suite.py JOBS COUNTS [--mutants] [PYTEST'S ARGUMENTS
 JOBS tests run at once. COUNTS is a file that takes a line with the numbers of tests that passed, failed and were skipped. The
 status is 1 where a test failed.
 
-A test that goes by the clock, or that waits for a browser, can fail because other work delays it. So one of these that fails
-is run once more, by itself. The second run counts, and a line reports it.
+A test can fail because other work delays it, such as one that waits for a browser. So each test that fails is run once more, by
+itself. The second run counts, and a line reports it.
 """
 from __future__ import annotations
 
@@ -20,7 +20,6 @@ from pathlib import Path
 from typing import Sequence
 
 ROOT = Path(__file__).resolve().parents[1]
-BY_THE_CLOCK = "alone or browser"
 # pytest's status where no test is of the part
 NO_TEST = 5
 
@@ -68,10 +67,10 @@ def tried(part: str, jobs: int, folder: Path, words: Sequence[str]) -> Counts:
 
 
 def tried_twice(part: str, jobs: int, folder: Path, words: Sequence[str]) -> Counts:
-    """As `tried`, and what goes by the clock is run once more where it failed."""
+    """As `tried`, and what failed is run once more, one after the other."""
     counts = tried(part, jobs, folder, words)
     if counts.failed:
-        again = tried(f"({part}) and ({BY_THE_CLOCK})", 0, folder, ["--last-failed", "--last-failed-no-failures", "none", *words])
+        again = tried(part, 0, folder, ["--last-failed", "--last-failed-no-failures", "none", *words])
         for name in (*again.passed, *again.failed):
             print(f"run again by itself, since it failed: {name} {'passed' if name in again.passed else 'failed'}")
         counts.failed = [name for name in counts.failed if name not in again.passed]
