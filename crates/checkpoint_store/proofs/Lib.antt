@@ -2,7 +2,6 @@ pub mod Names
 pub mod BookEntries
 pub mod Taking
 pub mod Balances
-pub mod Parts
 pub mod Behind
 pub mod GateSteps
 pub mod Stages

@@ -9,7 +9,7 @@ pub use Rattle.std.specs.Map.{lookup, keys_of}
 pub use Rattle.checkpoint_store.specs.Checkpoints.{CheckpointBytes, IsSoundSnapshot, IsNoCheckpoint, IsSnapshotOf}
 pub use Rattle.checkpoint_store.specs.Reopening.{IsSnapshotOfAll, IsSnapshotOfFront, IsStartOf, IsFirstBadBody, IsTrueCheckpoint, AreDecided, IsReopened, IsSnapshotRead, IsFaultOfTwo}
 unfoldable pub use Rattle.checkpoint_store.specs.Spelling.{policy_bytes, balance_bytes, position_bytes}
-pub use Rattle.checkpoint_store.specs.Spelling.{StandBehindGate, snapshot_bytes, checkpoint_header, status_byte, front_bytes}
+pub use Rattle.checkpoint_store.specs.Spelling.{StandBehindGate, snapshot_bytes, status_byte, front_bytes}
 pub use Rattle.checkpoint_store.specs.Stores.{IsShut, AreShut, DifferInGate, IsKeptBy, IsKeptOrSavedBy, Knows, KnowsGate, MightBeLeft, StoreLeaves, store_disk}
 pub use Rattle.checkpoint_store.specs.declared.front.Front.{Front}
 pub use Rattle.checkpoint_store.specs.declared.numbered.NumberedBooks.{NumberedBooks}
@@ -17,7 +17,7 @@ pub use Rattle.checkpoint_store.specs.declared.snapshot.Snapshot.{Snapshot}
 pub use Rattle.checkpoint_store.specs.declared.store.Store.{Store}
 pub use Rattle.checkpoint_store.specs.inside.Books.{AreKeyed, Entries, numbered_policies}
 pub use Rattle.checkpoint_store.specs.inside.Numbered.{AreSoundBooks, AreBooksOf, as_snapshot, HasSetPolicy}
-pub use Rattle.checkpoint_store.specs.inside.Parsing.{front_of, IsFrontInRange, policy_of_bytes, eight_bytes_at, four_bytes_at, front_in, plan_of_byte, status_of_byte}
+pub use Rattle.checkpoint_store.specs.inside.Parsing.{front_of, IsFrontInRange, policy_of_bytes, front_in, status_of_byte}
 pub use Rattle.checkpoint_store.specs.inside.Steps.{StaysShut, GatesOn, HasOtherGate, LooksAtGate, OpensGateOn}
 pub use Rattle.checkpoint_store.specs.inside.Storing.{AreBegun, AreUpTo, AreBytesOf, BegunNext, IsFrontOn, UpToNext, AreBooksBehind, DoFit, HasBooks, HasFront, HasPolicies, IsAddedTo, IsStored, WasAdded}
 pub use Rattle.indexmap.specs.IndexMap.{insert_entry, IndexMap, index_of, set_value_at}
@@ -32,4 +32,6 @@ pub use Rattle.policy_types.specs.Valid.{id_of, IsValid, is_upgrade}
 pub use Rattle.policy_types.specs.declared.command.Command.{Command}
 pub use Rattle.policy_types.specs.declared.policy.Policy.{Policy}
 pub use Rattle.posting_journal.proofs.Moments.{wider, goes_on, leaves, leaves_more, leaves_on, looked, looks_on}
+pub use Rattle.record_codec.specs.Numbers.{eight_bytes_at, four_bytes_at}
+pub use Rattle.record_codec.specs.Spelling.{plan_of_byte}
 pub use Rattle.posting_journal.specs.Runs.{IsSafe, Passes, LooksOn, Leaves}

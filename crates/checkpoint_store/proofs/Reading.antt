@@ -1,5 +1,5 @@
 -- What bytes say is what they were spelled from.
-use Rattle.checkpoint_store.proofs.Names.{◌≡◌, ℕ, List, ◌∷◌, get_or, Some, refl, sym, ap, subst, ◌∙◌, arith, ℤ, FitsSigned, to_z-of_z, ints, IsSound, Policy, Front, balance_bytes, policy_bytes, position_bytes, status_byte, IsFrontInRange, eight_bytes_at, four_bytes_at, front_in, front_of, plan_of_byte, policy_of_bytes, status_of_byte}
+use Rattle.checkpoint_store.proofs.Names.{◌≡◌, ℕ, List, ◌∷◌, take, drop, get_or, Some, refl, sym, ap, subst, ◌∙◌, arith, ℤ, FitsSigned, to_z-of_z, ints, IsSound, Policy, Front, balance_bytes, policy_bytes, position_bytes, status_byte, IsFrontInRange, eight_bytes_at, four_bytes_at, front_in, front_of, plan_of_byte, policy_of_bytes, status_of_byte}
 use Rattle.std.specs.Int.{w32, w64, from_be_bytes, to_be_bytes, cast_signed, cast_unsigned}
 use Rattle.std.proofs.lemmas.Nat.{from_be_bytes-to_be_bytes_4, from_be_bytes-to_be_bytes_8}
 use Rattle.policy_types.specs.declared.command.Plan.{Plan}
@@ -27,6 +27,11 @@ front_back f h =
     let incurred : cast_signed w64 (from_be_bytes w64 (eight_bytes_at bytes 45)) ≡ f.ledger.incurred = balance_back f.ledger.incurred h.incurred_in in
     let payable : cast_signed w64 (from_be_bytes w64 (eight_bytes_at bytes 53)) ≡ f.ledger.payable = balance_back f.ledger.payable h.payable_in in
     λ i. record { position = position i; upgrade = upgrade i; policies = policies i; ledger = record { cash = cash i; premiums = premiums i; incurred = incurred i; payable = payable i } }
+
+-- and behind the gate they stand as they were spelled
+pub front_behind : (bytes : List ℕ) (f : Front) → bytes ≡ 1 ∷ front_of f → take 63 (drop 1 bytes) ≡ front_of f
+unfolding balance_bytes position_bytes
+front_behind bytes f is = ap (λ (b : List ℕ). take 63 (drop 1 b)) is
 
 pub front_read : (bytes : List ℕ) (f : Front) → IsFrontInRange f → bytes ≡ 1 ∷ front_of f → front_in bytes ≡ f
 front_read bytes f h is = ap front_in is ∙ front_back f h

@@ -9,17 +9,18 @@ pub use Rattle.money_ledgers.specs.Balances.{balances}
 pub use Rattle.outside_io.specs.Faults.{Rose}
 pub use Rattle.outside_io.specs.declared.disks.Disk.{Ghosts}
 pub use Rattle.policy_machine.specs.Book.{judge, IsAccepted, judged, book, upgrade_of}
-pub use Rattle.policy_machine.specs.Rules.{IsSound, awaits_settlement, payments_of, issued}
+pub use Rattle.policy_machine.specs.Rules.{IsSound, issued}
 pub use Rattle.policy_types.specs.Accounts.{AreWithin, IsWithin, added, booking_of}
 pub use Rattle.policy_types.specs.Limits.{most_commands}
-pub use Rattle.policy_types.specs.Valid.{IsValid, id_of, is_upgrade, IsCommandDay, IsIssue}
+pub use Rattle.policy_types.specs.Valid.{IsValid, id_of, is_upgrade}
 pub use Rattle.policy_types.specs.declared.command.Command.{Command}
-pub use Rattle.policy_types.specs.declared.command.Plan.TheVariants.{Endowment, Term, Whole, Limited}
+pub use Rattle.policy_types.specs.declared.command.Plan.TheVariants.{Endowment}
 pub use Rattle.policy_types.specs.declared.policy.Policy.{Policy, Policy as APolicy}
 pub use Rattle.policy_types.specs.declared.policy.Status.{Status}
 pub use Rattle.policy_types.specs.declared.policy.Status.TheVariants.{Claimed, InForce, Lapsed, Matured, Expired, Settled, PaidUp}
 pub use Rattle.posting_journal.specs.Faults.{TellsFailure, TellsFaults}
 pub use Rattle.posting_journal.specs.Runs.{IsSafe, LooksOn, Leaves, Passes}
 pub use Rattle.posting_journal.specs.States.{disk_of, StandsFor, count_of}
+pub use Rattle.record_codec.specs.Numbers.{eight_bytes_at, four_bytes_at}
 pub use Rattle.record_codec.specs.Spelling.{plan_byte}
 unfoldable pub use Rattle.record_codec.specs.Spelling.{spelling_of}

@@ -7,7 +7,7 @@ ghost use Rattle.checkpoint_store.specs.inside.Storing.{AreBegun, AreBytesOf, Ar
 
 use crate::ReopenFault;
 use crate::numbered::NumberedBooks;
-use crate::parsing::policy_at;
+use crate::policies::policy_at;
 use memory_requests::insert;
 
 impl NumberedBooks {

@@ -5,7 +5,7 @@ ghost use Rattle.checkpoint_store.specs.Names.{TellsFailure, IsSafe, LooksOn};
 ghost use Rattle.checkpoint_store.specs.Stores.{AreShut, IsShut};
 ghost use Rattle.checkpoint_store.specs.inside.Steps.{GatesOn, LooksAtGate, StaysShut};
 
-use crate::spelling::OPEN;
+use crate::front::OPEN;
 use outside_io::{Disk, Failed};
 
 // Writes the gate, and makes it safe.

@@ -6,10 +6,9 @@ ghost use Rattle.checkpoint_store.specs.Spelling.{policy_bytes, snapshot_bytes, 
 ghost use Rattle.checkpoint_store.specs.Stores.{AreShut, IsKeptBy, IsKeptOrSavedBy, Knows, MightLeave, Saves, StoreLeaves, store_disk};
 ghost use Rattle.checkpoint_store.specs.inside.Steps.{OpensGateOn, StaysShut};
 
-use crate::front::{Front, front_with};
+use crate::front::{CLOSED, Front, OPEN, front_with};
 use crate::gates::{put_gate, write_behind};
-use crate::pieces::{POLICIES, fill};
-use crate::spelling::{CLOSED, OPEN};
+use crate::policies::{IN_PIECE, fill};
 use crate::{Snapshot, Store};
 use outside_io::{Disk, Failed};
 use policy_types::Policy;
@@ -90,7 +89,7 @@ impl<E: Disk> Store<E> {
             policies: snapshot.book.as_slice().len() as u32,
             ledger: snapshot.ledger,
         };
-        write_behind(&mut self.disk, 1, &front_with(front))?;
+        write_behind(&mut self.disk, 1, &front_with(front)[1..])?;
         write_policies(&mut self.disk, snapshot.book.as_slice())?;
         self.disk.sync()
     }
@@ -124,7 +123,7 @@ fn write_policies<E: Disk>(disk: &mut E, policies: &[Policy]) -> Result<(), Fail
     let mut piece = [0; 98_304];
     let mut done = 0;
     while done < policies.len() {
-        let many = (policies.len() - done).min(POLICIES);
+        let many = (policies.len() - done).min(IN_PIECE);
         fill(&mut piece, &policies[done..done + many]);
         write_behind(disk, 64 + 48 * done as u64, &piece[..48 * many])?;
         done += many;

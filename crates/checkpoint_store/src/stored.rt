@@ -1,17 +1,15 @@
 // The books of a checkpoint are read from its disk.
-ghost use Rattle.std.specs.Prelude.{◌≡◌, ◌+◌, ◌*◌, ◌≤◌, ◌↔◌, length, take, drop, IsTrue, IfOk, IfSome, OnOk};
+ghost use Rattle.std.specs.Prelude.{◌≡◌, ◌+◌, ◌*◌, ◌≤◌, length, take, drop, IfOk, IfSome, OnOk};
 ghost use Rattle.checkpoint_store.specs.inside.Numbered.{AreSoundBooks};
 ghost use Rattle.checkpoint_store.specs.inside.Reading.{OnlyReads};
 ghost use Rattle.checkpoint_store.specs.inside.Storing.{AreBegun, AreBooksBehind, AreBytesOf, AreUpTo, BegunNext, DoFit, IsFrontOn, IsStored, UpToNext};
 
 use crate::ReopenFault;
-use crate::front::{Front, front_at};
+use crate::front::{Front, fits, front_at};
 use crate::numbered::NumberedBooks;
-use crate::pieces::POLICIES;
-use crate::soundness::are_within;
+use crate::policies::IN_PIECE;
 use memory_requests::map_with_room;
 use outside_io::{Disk, Failed};
-use policy_types::{MOST_COMMANDS, MOST_REINSTATEMENT_CENTS};
 use std::alloc::Global;
 use versioned_book::KeyHashing;
 
@@ -33,19 +31,6 @@ pub(crate) fn stored<E: Disk>(
         return Ok(None);
     }
     books_behind(alloc, disk, front)
-}
-
-// Whether the figures are those of a snapshot.
-fn fits(front: Front) -> bool
-    ensures { IsTrue result ↔ DoFit front }
-{
-    front.position <= MOST_COMMANDS
-        && front.upgrade <= front.position
-        && front.policies <= front.position
-        && are_within(
-            MOST_REINSTATEMENT_CENTS * u64::from(front.position),
-            front.ledger,
-        )
 }
 
 // The figures behind an open gate, where there is room for their policies.
@@ -95,7 +80,7 @@ fn books_behind<E: Disk>(
     };
     let mut done = 0;
     while done < front.policies {
-        let many = (front.policies - done).min(POLICIES as u32);
+        let many = (front.policies - done).min(IN_PIECE as u32);
         if !add_piece(disk, front, done, many, &mut books)? {
             return Ok(None);
         }

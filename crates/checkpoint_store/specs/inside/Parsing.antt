@@ -1,19 +1,9 @@
 -- What the bytes of a checkpoint say at their places
-use Rattle.std.specs.Prelude.{ℕ, ◌+◌, ◌<◌, ◌^◌, ◌==◌, ◌++◌, if◌then◌else◌, FitsSigned, List, [], ◌∷◌, slice_index, Option, Some, None}
-use Rattle.checkpoint_store.specs.Names.{w32, w64, cast_signed, from_be_bytes, Term, Whole, Endowment, Limited, Policy, InForce, Lapsed, Claimed, Matured, Expired, Settled, PaidUp, Status}
+use Rattle.std.specs.Prelude.{ℕ, ◌<◌, ◌^◌, ◌==◌, ◌++◌, if◌then◌else◌, FitsSigned, List, slice_index, Option, Some, None}
+use Rattle.checkpoint_store.specs.Names.{w32, w64, cast_signed, from_be_bytes, eight_bytes_at, four_bytes_at, Policy, InForce, Lapsed, Claimed, Matured, Expired, Settled, PaidUp, Status}
 use Rattle.policy_types.specs.declared.command.Plan.{Plan}
 use Rattle.checkpoint_store.specs.declared.front.Front.{Front}
 use Rattle.checkpoint_store.specs.Spelling.{balance_bytes, checkpoint_header, position_bytes}
-
-abbrev pub four_bytes_at : List ℕ → ℕ → List ℕ
-four_bytes_at bytes at =
-    slice_index bytes at ∷ slice_index bytes (at + 1) ∷ slice_index bytes (at + 2) ∷ slice_index bytes (at + 3) ∷ []
-
-abbrev pub eight_bytes_at : List ℕ → ℕ → List ℕ
-eight_bytes_at bytes at =
-    slice_index bytes at ∷ slice_index bytes (at + 1) ∷ slice_index bytes (at + 2) ∷ slice_index bytes (at + 3)
-    ∷ slice_index bytes (at + 4) ∷ slice_index bytes (at + 5) ∷ slice_index bytes (at + 6)
-    ∷ slice_index bytes (at + 7) ∷ []
 
 -- the bytes between the gate and the policies
 abbrev pub front_of : Front → List ℕ
@@ -42,12 +32,6 @@ pub record IsFrontInRange (f : Front) : Type 0 where
   pub premiums_in : FitsSigned w64 f.ledger.premiums
   pub incurred_in : FitsSigned w64 f.ledger.incurred
   pub payable_in : FitsSigned w64 f.ledger.payable
-
--- the plan of a byte
-abbrev pub plan_of_byte : ℕ → Option Plan
-plan_of_byte byte =
-    if byte == 1 then Some Term else if byte == 2 then Some Whole
-    else if byte == 3 then Some Endowment else if byte == 4 then Some Limited else None
 
 -- the status of a byte
 abbrev pub status_of_byte : ℕ → Option Status

@@ -1,7 +1,7 @@
 -- Both pairs are within.
 use Rattle.std.proofs.Common.{rules, IsTrue, FitsSigned, w64}
 use Rattle.checkpoint_store.proofs.Balances.{both_within}
-use Rattle.checkpoint_store.proofs.soundness.are_within.Goals as goal
+use Rattle.checkpoint_store.proofs.front.are_within.Goals as goal
 
 pub returns-then-are_both_within : goal.returns-then-are_both_within
 returns-then-are_both_within c =

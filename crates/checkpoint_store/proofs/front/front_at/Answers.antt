@@ -6,5 +6,5 @@ use Rattle.checkpoint_store.proofs.front.front_at.Goals as goal
 pub returns-else-eq-clause-exact : goal.returns-else-eq-clause-exact
 returns-else-eq-clause-exact c = λ front fits is.
     let read : c.figures_in-front.result ≡ front = c.figures_in-front.ensures ∙ front_read c.args.bytes.now front fits is in
-    let whole : c.opened_front.result ≡ c.args.bytes.now = c.opened_front.ensures ∙ ap (λ (f : Front). 1 ∷ front_of f) read ∙ sym is in
+    let whole : c.front_with.result ≡ c.args.bytes.now = c.front_with.ensures ∙ ap (λ (f : Front). 1 ∷ front_of f) read ∙ sym is in
     search (rules, whole)

@@ -1,6 +1,6 @@
 -- The policies so far stand at the start of the piece.
 use Rattle.checkpoint_store.proofs.Names.{◌≡◌, ◌-◌, ◌*◌, ◌≤◌, length, take, flat_map, policy_bytes}
-use Rattle.checkpoint_store.proofs.pieces.fill.Given as goal
+use Rattle.checkpoint_store.proofs.policies.fill.Given as goal
 
 abbrev pub invariant-loop-done : goal.invariant-loop-done
 invariant-loop-done l = record {

@@ -1,7 +1,8 @@
 -- All that is written stands behind the gate, which stays closed.
-use Rattle.checkpoint_store.proofs.Names.{◌≡◌, List, [], ◌++◌, length, refl, sym, ap, subst, ◌∙◌, arith, flat_map, Policy, front_bytes, policy_bytes, snapshot_bytes, StandBehindGate, front_of, IsSafe}
+use Rattle.checkpoint_store.proofs.Names.{◌≡◌, List, [], ◌++◌, length, take, drop, refl, sym, ap, subst, ◌∙◌, arith, flat_map, Policy, front_bytes, policy_bytes, snapshot_bytes, StandBehindGate, front_of, IsSafe}
 use Rattle.checkpoint_store.proofs.Behind.{behind_more}
 use Rattle.checkpoint_store.proofs.GateSteps.{shut_on, shut_sync}
+use Rattle.checkpoint_store.proofs.Reading.{front_behind}
 use Rattle.checkpoint_store.proofs.Stages.{knows_shut, ok_both}
 use Rattle.checkpoint_store.proofs.store.Store.write_rest.Goals as goal
 
@@ -29,7 +30,7 @@ pub returns-clause-written : goal.returns-clause-written
 returns-clause-written g c = λ honest knows.
     let old = c.args.self.now in
     let s = c.args.snapshot.now in
-    let front = c.front_with.result in
+    let front = take 63 (drop 1 c.front_with.result) in
     let honest_2 = c.sync.ensures.honesty honest in
     let honest_1 = c.write_policies.ensures.disk.honesty honest_2 in
     let began : StandBehindGate front (g.E.Disk.reads c.write_behind.new.disk) =
@@ -38,7 +39,7 @@ returns-clause-written g c = λ honest knows.
     subst (λ (l : List Policy). StandBehindGate (front ++ flat_map policy_bytes l) (g.E.Disk.reads c.write_policies.new.disk)) c.as_slice-2.ensures
     (c.in_ok-write_policies.ensures.written front honest_2 (omega arith) began) in
     let spelled : front ≡ front_bytes s =
-    c.front_with.ensures ∙ ap (λ (l : List Policy). front_of (record { position = s.position; upgrade = s.upgrade; policies = length l; ledger = s.ledger })) c.as_slice.ensures in
+    front_behind c.front_with.result _ c.front_with.ensures ∙ ap (λ (l : List Policy). front_of (record { position = s.position; upgrade = s.upgrade; policies = length l; ledger = s.ledger })) c.as_slice.ensures in
     let all : StandBehindGate (snapshot_bytes s) (g.E.Disk.reads c.write_policies.new.disk) =
     subst (λ f. StandBehindGate (f ++ flat_map policy_bytes s.book) (g.E.Disk.reads c.write_policies.new.disk)) spelled stands in
     ok_both c.sync.result (StandBehindGate (snapshot_bytes s) (g.E.Disk.reads c.sync.new.self)) (IsSafe g.E.Disk c.sync.new.self)
