@@ -13,7 +13,6 @@ use arrayvec::ArrayVec;
 use journal_replay::replay_all;
 use moment_ring::MomentOutlet;
 use outside_io::Disk;
-use policy_types::MOST_COMMANDS;
 use posting_journal::Journal;
 use std::alloc::Global;
 use std::snapshot::Snapshot;
@@ -60,7 +59,7 @@ fn office_of<D: Disk, W: Watching>(
 {
     let mut journal = journal;
     let mut books = Books::new(alloc);
-    books.expect(journal.count().min(MOST_COMMANDS));
+    books.expect(journal.count());
     match replay_all(&mut journal, &mut books) {
         Ok(()) => {
             let recovered = Snapshot::of(&books);
