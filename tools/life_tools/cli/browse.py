@@ -7,6 +7,8 @@ posts nothing.
 It prints the address to open. The journal is opened for reading and copied to
 a private folder, which goes away with the window; Ctrl-C ends it. Only this
 machine can reach it; from another one come by `ssh -L`, as its page explains.
+
+The status is 0 once the window was ended, or 2 if it could not be opened.
 """
 from __future__ import annotations
 

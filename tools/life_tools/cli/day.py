@@ -51,6 +51,8 @@ STOPPED = 130
 
 
 def arguments(parser: argparse.ArgumentParser) -> None:
+    # argparse keeps a group of options that exclude each other on one line, however wide
+    parser.usage = "%(prog)s [OPTION ..] [FILE ..]"
     parser.add_argument("files", metavar="FILE", nargs="*", help="the files to post (inbox/*.csv)")
     what = parser.add_mutually_exclusive_group()
     what.add_argument("--new", action="store_true", help="begin a book, where there is none")
