@@ -1,4 +1,4 @@
-"""The program under test, folders of books, and what a test needs of the machine."""
+"""Fixtures for the program under test and for folders of books, and checks that the machine has what a test needs."""
 from __future__ import annotations
 
 import hashlib
@@ -13,7 +13,7 @@ from tests.support.folders import Folder
 from tests.support.missing import in_ci, lacks, need
 from tests.support.program import ROOT, Program, program_under_test
 
-# drawn cases: on CI the same at each run; a slow machine isn't a failure
+# On CI, drawn cases are the same in each run. No test fails because the machine is slow.
 settings.register_profile("suite", deadline=None, database=None, derandomize=in_ci(), print_blob=True)
 settings.load_profile("suite")
 
@@ -34,7 +34,7 @@ def pytest_report_header() -> str:
 
 
 def pytest_collection_modifyitems(config: pytest.Config, items: list[pytest.Item]) -> None:
-    """Planted changes are tried only where they are asked for."""
+    """Runs the tests of planted changes (mutants) only if they are asked for by their mark."""
     if "mutants" in config.option.markexpr:
         return
     asked = [item for item in items if not item.get_closest_marker("mutants")]
@@ -44,7 +44,7 @@ def pytest_collection_modifyitems(config: pytest.Config, items: list[pytest.Item
 
 
 def file_system(path: Path) -> str:
-    """The kind of file system that a path lies on."""
+    """Returns the kind of the file system that a path lies on."""
     with open("/proc/mounts", encoding="utf-8") as file:
         mounts = [line.split()[1:3] for line in file]
     holds = [(len(place), kind) for place, kind in mounts if path == Path(place) or Path(place) in path.parents]
@@ -77,7 +77,7 @@ def pytest_runtest_setup(item: pytest.Item) -> None:
 
 @pytest.fixture(scope="session")
 def root() -> Path:
-    """The clone."""
+    """The folder of the clone."""
     return ROOT
 
 
@@ -88,8 +88,8 @@ def program() -> Program:
 
 @pytest.fixture(scope="session", autouse=True)
 def own_program() -> Iterator[None]:
-    """The tools take the program under test for the one that they belong to, as installed tools take theirs; so a preview
-    is judged as the proved program is. What is said of any other program, tests of that try with another one."""
+    """Makes the tools take the program under test for the program that they belong to, as installed tools do; so a preview is
+    judged as the proved program is. The tests of what is said about any other program use another program."""
     found = program_under_test()
     if found is None:
         yield

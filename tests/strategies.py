@@ -1,6 +1,6 @@
-"""Drawn books, scripts and journals for hypothesis: what is found wrong is made smaller before it is shown.
+"""Strategies of hypothesis for books, scripts and journals: hypothesis reduces a case that fails before it shows it.
 
-The functions of tests/support draw by a `random.Random`; hypothesis hands them one whose choices it can take back.
+The functions of tests/support draw from a `random.Random`; hypothesis passes them one whose choices it can undo.
 """
 from __future__ import annotations
 
@@ -15,27 +15,27 @@ from tests.support.drawn_scripts import make_book, make_script
 from tests.support.lived_books import lived_by
 
 T = TypeVar("T")
-# few enough rows for each choice to be kept
+# few enough rows that hypothesis keeps each choice
 ROWS = range(1, 41)
 
 
 def drawn(make: Callable[[Random], T]) -> st.SearchStrategy[T]:
-    """What a function draws."""
+    """A strategy for what a function draws."""
     return st.randoms(use_true_random=False).map(make)
 
 
 def scripts(policies: int = 0) -> st.SearchStrategy[str]:
-    """Scripts of up to eight lanes for a book of so many policies, most rows near what the rules allow."""
+    """Scripts of up to eight lanes for a book of this number of policies. Most rows are near what the rules allow."""
     return drawn(lambda draw: make_script(draw, make_book(draw, policies), ROWS))
 
 
 def lived_books(most: int = 6) -> st.SearchStrategy[list[Command]]:
-    """The commands of books whose policies have lived, with an upgrade in the midst."""
+    """The commands of books whose policies have had premiums, lapses and claims, with an upgrade among the commands."""
     return drawn(lambda draw: lived_by(draw, draw.randrange(most + 1)))
 
 
 def posted_books() -> st.SearchStrategy[list[Command]]:
-    """The commands that a script has posted, in the order of its rows."""
+    """The commands that the rows of a script post, in the order of the rows."""
     def make(draw: Random) -> list[Command]:
         book: Book = make_book(draw, draw.randrange(1, 6))
         make_script(draw, book, ROWS)

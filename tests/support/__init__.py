@@ -1,1 +1,1 @@
-"""What the tests share: the program under test, folders of books, runs of the tools, and what may be missing on a machine."""
+"""Helpers that the tests share: the program under test, folders of books, runs of the tools, and what a machine may lack."""

@@ -1,10 +1,11 @@
-"""Journals of 4,000,000 records, put together from blocks, since spelling them one after the other takes too long.
+"""Writes journals of up to 4,000,000 records. They are put together from blocks, because encoding one record after another takes
+too long.
 
 usage: python3 tests/support/big_journals.py policies|greatest|alterations|premiums|settlements COUNT FILE
 
-COUNT issues of the ids from 1 on, also of the greatest amount and premium; or one issue and what else COUNT records there
-are of its policy: alterations by one cent each; premiums, which the rules refuse after 131; or a claim, and settlements of
-one cent.
+The kinds policies and greatest are COUNT issues of the ids from 1 on; greatest has the greatest amount and premium. The other
+kinds are COUNT records of one policy, of which the first is its issue: alterations by one cent each; premiums, which the rules
+refuse after 131; or a claim, and settlements of one cent.
 """
 from __future__ import annotations
 
@@ -19,7 +20,7 @@ from life_tools.journal.file import EMPTY, FIRST_GATE, RECORD_SIZE, file_of
 
 DAY = datetime.date(2020, 1, 1)
 BLOCK = 65_536
-# where a number's last byte stands in a record
+# the places of the last byte of the policy's number and of the amount in a record
 ID_END, AMOUNT_END = 1 + 7, 1 + 19
 
 
@@ -33,7 +34,7 @@ def issue(number: int, plan: str = "endowment", age: int = 0, years: int = 3, am
 
 
 def write_numbered(file: Any, record: Any, number_end: Any, size: int, numbers: Any) -> None:
-    """Records like this one, in which a number of so many bytes takes these values."""
+    """Writes one record like this one for each number, with the number in the `size` bytes that end at `number_end`."""
     for made in range(0, len(numbers), BLOCK):
         some = numbers[made:made + BLOCK]
         block = bytearray(record * len(some))

@@ -1,4 +1,4 @@
-"""A real browser on the window: what a person reads, types and presses, at a desk's width and at a phone's."""
+"""A real browser for tests of the window: what a person reads, types and presses, at the width of a desk and of a phone."""
 from __future__ import annotations
 
 import importlib
@@ -20,7 +20,7 @@ PATIENCE = 120
 DESK, TABLET, PHONE = (1280, 900), (768, 1000), (390, 844)
 OPTIONS = ("--headless=new", "--no-sandbox", "--disable-gpu", "--hide-scrollbars", "--disable-dev-shm-usage", "--no-first-run",
            "--disable-background-networking")
-# the text and the ground of each element that has words of its own, as red, green, blue
+# the text, its colour and the background colour of each element that has text of its own, as red, green, blue
 COLOURS = """
 const found = [];
 for (const each of document.querySelectorAll('body *')) {
@@ -34,7 +34,7 @@ for (const each of document.querySelectorAll('body *')) {
 }
 return found;
 """
-# cells that don't say by which head they belong, where a table is narrow
+# cells of a narrow table that don't show the name of their column
 UNNAMED = """
 return [...document.querySelectorAll('tbody td')].filter(cell => cell.textContent.trim() && !cell.classList.contains('bar') &&
   cell.getClientRects().length && getComputedStyle(cell, '::before').content.replaceAll('"', '') !== cell.dataset.head)
@@ -56,7 +56,7 @@ return rows ? rows.map(row => [...row.cells].map(cell => cell.innerText.trim()))
 
 
 def demand(right: Any, what: str) -> None:
-    """An assertion, which a test of a page makes many of."""
+    """An assertion; a test of a page makes many of them."""
     assert right, what
 
 
@@ -87,7 +87,7 @@ class Browser:
         self.driver.execute_cdp_cmd("Emulation.setEmulatedMedia", media)
 
     def enter(self, window: Window) -> None:
-        """Comes into a window by the cookie of whoever opened it; its key works once."""
+        """Enters a window with the cookie of whoever opened it, because the window's key works only once."""
         base = f"http://127.0.0.1:{window.port}{window.root}"
         self.driver.get(f"{base}/1/")
         name, _, value = window.cookie.partition("=")
@@ -108,7 +108,7 @@ class Browser:
         self.settle()
 
     def settle(self) -> None:
-        """Waits until the page has come by itself."""
+        """Waits until the page has loaded."""
         ends = time.monotonic() + PATIENCE
         while self.driver.execute_script(WAITS):
             if time.monotonic() > ends:
@@ -116,7 +116,7 @@ class Browser:
             time.sleep(0.1)
 
     def press(self, words: list[str]) -> Any:
-        """A link or a button by its words; once more where the page came anew meanwhile."""
+        """Presses the link or button with this text. It tries again if the page was loaded anew meanwhile."""
         for last in (False, False, True):
             try:
                 return self.press_once(words)
@@ -142,7 +142,7 @@ class Browser:
     def type(self, label: Any, text: str, is_sent: bool = False) -> None:
         field = self.field(label)
         if field.get_attribute("type") == "date":
-            # the keys that a date takes are those of a country
+            # which keys a date field takes depends on the country
             self.driver.execute_script("arguments[0].value = arguments[1]", field, text)
         else:
             field.clear()
@@ -151,13 +151,13 @@ class Browser:
             self.send(field)
 
     def send(self, field: Any) -> None:
-        """Sends the form of a field by the key for it."""
+        """Sends the form of a field by pressing Enter."""
         self.leave()
         field.send_keys(Keys.ENTER)
         self.settle()
 
     def leave(self, is_left: bool = True) -> None:
-        """The page that is there now is waited away, so that what is read next is the one that comes."""
+        """Marks the current page, so that `settle` waits until another page has replaced it."""
         self.driver.execute_script("window.isLeft = arguments[0]", is_left)
 
     def choose(self, label: Any, words: list[str]) -> None:
@@ -178,12 +178,12 @@ class Browser:
             demand(each in said, f"the page {self.driver.title!r} doesn't say {each!r}: {said[:1500]}")
 
     def facts(self) -> Any:
-        """The figures at a page's head by their names."""
+        """Returns the figures at the head of a page by their names."""
         names = [each.text.strip() for each in self.driver.find_elements(By.TAG_NAME, "dt")]
         return dict(zip(names, [each.text.strip() for each in self.driver.find_elements(By.TAG_NAME, "dd")]))
 
     def rows(self, caption: Any, part: str = "tbody") -> Any:
-        """The cells of a table's rows, as they are read."""
+        """Returns the cells of a table's rows, as a person reads them."""
         found = self.driver.execute_script(CELLS, caption, part)
         demand(found is not None, f"there is no table {caption!r}: {self.driver.current_url} says {self.text()[:800]}")
         return found
@@ -191,7 +191,8 @@ class Browser:
     # --- how it looks ---
 
     def look(self, name: str) -> None:
-        """Keeps a picture, and demands what holds of each page: no sideways scrolling, contrast, labels, one heading."""
+        """Keeps a picture, and asserts what must hold for each page: no sideways scrolling, enough contrast, labels, one
+        heading."""
         driver = self.driver
         width = driver.execute_script("return document.documentElement.scrollWidth")
         demand(width <= self.size[0], f"{name}: the page is {width} wide on {self.size[0]}")
@@ -218,7 +219,7 @@ class Browser:
         self.kept += 1
 
     def shoot(self, path: str) -> None:
-        """A picture; once more where a busy machine hasn't drawn it within the driver's ten seconds."""
+        """Takes a picture. It tries again if a busy machine hasn't drawn the page within the driver's ten seconds."""
         for last in (False, False, True):
             try:
                 self.driver.save_screenshot(path)

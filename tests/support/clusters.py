@@ -1,4 +1,4 @@
-"""A cluster of Dask on the loopback: a scheduler and workers of a thread each, as programs of their own."""
+"""A cluster of Dask on the loopback address: a scheduler, and workers of one thread each, as separate processes."""
 from __future__ import annotations
 
 import json
@@ -14,7 +14,7 @@ ENV = {"DASK_LOGGING__DISTRIBUTED": "critical", "DASK_DISTRIBUTED__COMM__TIMEOUT
 
 
 def await_that(holds: Callable[[], bool], what: str) -> None:
-    """Waits until something holds, for so long at most."""
+    """Waits until a condition holds, for at most SECONDS seconds."""
     until = time.monotonic() + SECONDS
     while not holds():
         assert time.monotonic() < until, what
@@ -22,7 +22,7 @@ def await_that(holds: Callable[[], bool], what: str) -> None:
 
 
 class Cluster:
-    """A scheduler and two workers in a folder, which its logs and its workers' folders are written to."""
+    """A scheduler and two workers. Their logs and the folders of the workers are written to one folder."""
 
     def __init__(self, folder: Path) -> None:
         self.folder, self.workers = folder, dict[int, subprocess.Popen[bytes]]()

@@ -17,9 +17,9 @@ from tests.support.folders import Folder
 from tests.support.program import ROOT
 from tests.support.tools import Ended
 
-# the day by which rows are looked at
+# the day that `day --today` takes as today
 TODAY = "2024-06-03"
-# a file is handed in so long before
+# the seconds since a file was written, unless a test says otherwise
 OLD = 10
 
 
@@ -30,7 +30,7 @@ class Desk:
     folder: Folder
 
     def hand_in(self, name: str, rows: str | bytes, seconds_ago: float = OLD) -> Path:
-        """A file in the inbox, which was written some seconds ago."""
+        """Puts a file into the inbox that seems to have been written some seconds ago."""
         file = self.folder.write(f"inbox/{name}", rows)
         then = time.time() - seconds_ago
         os.utime(file, (then, then))
@@ -42,7 +42,7 @@ class Desk:
         return ended
 
     def log(self, *words: str, status: int = 0) -> list[dict[str, str]]:
-        """The rows of `log`."""
+        """Returns the rows that `log` prints."""
         return list(csv.DictReader(io.StringIO(self.folder.printed("log", *words, status=status))))
 
     @property
@@ -50,7 +50,7 @@ class Desk:
         return sorted(os.listdir(self.folder.path / "inbox"))
 
     def entry(self, number: int) -> dict[str, Any]:
-        """The `entry.json` of an entry."""
+        """Returns the `entry.json` of an entry."""
         found: dict[str, Any] = json.loads((self.entry_folder(number) / "entry.json").read_text())
         return found
 
@@ -62,13 +62,14 @@ class Desk:
         return int(self.folder.life("state").out.splitlines()[-1].partition(",")[2])
 
     def records(self) -> list[str]:
-        """What was posted, in order: the fields behind the lane."""
+        """Returns what was posted, in order: the fields after the lane."""
         rows = csv.reader(io.StringIO(self.folder.printed("read", "journal.life")))
         return [",".join(row[1:]) for row in rows if row and row[0].isdecimal()]
 
 
 def started(desk: Desk, *words: str, ignored: int | None = None) -> subprocess.Popen[str]:
-    """A `day` that goes on meanwhile, as a process of its own, which heeds all signals but the one that is ignored."""
+    """Starts a `day` as a process of its own, and doesn't wait for it. The process heeds all signals except the one that is
+    ignored."""
     def heed() -> None:
         for number in (signal.SIGINT, signal.SIGTERM, signal.SIGHUP):
             signal.signal(number, signal.SIG_IGN if number == ignored else signal.SIG_DFL)

@@ -1,7 +1,7 @@
-"""Random scripts of eight clerks, the basis that their valuations go by, and an office of its own that runs them.
+"""Draws random scripts of eight lanes and the basis of their valuations, and runs scripts in an independent model of the office.
 
-The clerks share policies, and most commands are near what the rules allow, so that each kind is accepted and refused for
-each reason. The office takes one clerk's turn after another, at random, and is written without the program.
+The lanes share policies, and most commands are near what the rules allow, so that commands of each kind are accepted, and are
+refused for each reason. The model takes the turns of the lanes in random order. It uses no code of the program.
 """
 from __future__ import annotations
 
@@ -20,11 +20,11 @@ from life_tools.scripts.lines import Line, lanes_of, lines_in
 from life_tools.tables.basis import BasisRow
 
 BASIS = "2000-01-01,q.xml,0\n2010-01-01,m.xml,300\n2015-01-01,g.xml,400\n2018-01-01,select.xml,250\n"
-# a table of the ages 20 to 25, where one is likelier to die than not at 22
+# a table of the ages 20 to 25, by which a death is likelier than survival at age 22
 MIDDLE = ('<XTbML><Table><Values><Axis><Y t="20">0.01</Y><Y t="21">0.02</Y><Y t="22">0.6</Y><Y t="23">0.1</Y>'
           '<Y t="24">0.25</Y><Y t="25">1</Y></Axis></Values></Table></XTbML>\n')
 DAY = datetime.timedelta(1)
-# few ages and years for each table, so that few exact values have to be worked out
+# few ages and years for each table, so that few exact values have to be computed
 YOUNG = [(datetime.date(1999, 6, 1), (0, 1), (2,)), (datetime.date(2004, 2, 29), (0, 1, 2, 3, 4), (2, 3, 4, 5)),
          (datetime.date(2012, 2, 29), (19, 20, 21, 22, 24), (2, 3, 4)), (datetime.date(2016, 2, 29), (85, 100, 110), (2, 5, 9)),
          (datetime.date(2018, 2, 28), (0, 1, 2, 3), (2, 3, 4))]
@@ -39,7 +39,7 @@ def make_issue(draw: random.Random, number: int) -> Command:
 
 
 def days_near(draw: random.Random, policy: Policy) -> datetime.date:
-    """A day near one of those by which the policy's commands are judged."""
+    """Returns a day near one of those days by which the policy's commands are judged."""
     due = anniversary(policy.issued, policy.paid)
     near = [due, due - EARLY, due + GRACE, anniversary(policy.issued, policy.paid + REINSTATEMENT_ANNIVERSARIES),
             end_of(policy), policy.last, policy.last + draw.randrange(60) * DAY]
@@ -48,7 +48,7 @@ def days_near(draw: random.Random, policy: Policy) -> datetime.date:
 
 
 def make_command(draw: random.Random, book: Book, number: int) -> Command:
-    """A command on the policy, which would be accepted, or refused for a reason that is near."""
+    """Returns a command on the policy that would be accepted, or that is nearly acceptable and refused."""
     policy = book.policies.get(number)
     if policy is None and draw.random() < 0.9:
         return make_issue(draw, number)
@@ -78,19 +78,19 @@ def make_command(draw: random.Random, book: Book, number: int) -> Command:
 
 
 def next_premium(draw: random.Random, policy: Policy, number: int) -> Command:
-    """The next premium, on a right day where there is one."""
+    """Returns the next premium, on a day that the rules accept if there is one."""
     due = anniversary(policy.issued, policy.paid)
     day = max(due - draw.randrange(60) * DAY, policy.last)
     return Command("premium", number, min(day, LAST_DAY), amount=policy.premium)
 
 
 def book_policy(draw: random.Random) -> Policy:
-    """The policy of an issue that no book has."""
+    """Returns a policy that is in no book."""
     return Book([make_issue(draw, 1)]).policies[1]
 
 
 def make_book(draw: random.Random, count: int) -> Book:
-    """A book of so many policies, which no command has changed."""
+    """Returns a book with this number of policies, which no command has changed since their issue."""
     return Book(make_issue(draw, number) for number in range(1, count + 1))
 
 
@@ -99,19 +99,19 @@ def row_of(lane: int, command: Command) -> str:
 
 
 def valued_on(draw: random.Random) -> datetime.date:
-    """A day on which policies of each table have begun, and not all have ended."""
+    """Returns a day on which policies of each table have begun and not all have ended."""
     return datetime.date(draw.choice([2003, 2006, 2007, 2013, 2014, 2017, 2019]), draw.randrange(1, 13), 28)
 
 
 def value_words(draw: random.Random, on: object, measure: str) -> list[str]:
-    """The words of a valuation by a measure, with the number of workers, in a drawn order."""
+    """Returns the arguments of a valuation by a measure, with the number of workers, in a drawn order."""
     words = [[str(on)], ["--workers", draw.choice(["1", "2", "64"])], [] if measure == "terminal" else ["--" + measure]]
     draw.shuffle(words)
     return ["value", *(word for part in words for word in part)]
 
 
 def make_script(draw: random.Random, book: Book, sizes: range = range(50, 301)) -> str:
-    """A script of so many rows for the book, which is then the one that the rows would leave in their order."""
+    """Returns a script for the book. Afterwards the book is the one that the rows leave if they are decided in their order."""
     rows, asked, size = [], 0, draw.choice(sizes)
     numbers = list(book.policies)[-20:] + [draw.randrange(1, 2**32) for _ in range(size // 12 + 1)]
     for _ in range(size):
@@ -131,7 +131,7 @@ def make_script(draw: random.Random, book: Book, sizes: range = range(50, 301)) 
             rows.append(row_of(lane, UPGRADE))
         else:
             number = draw.choice(numbers)
-            # most commands on a policy are one clerk's, so that many come in the order in which they were thought of
+            # most commands on a policy are of one lane, so that many are decided in the order in which they were drawn
             lane = 1 + number % 8 if draw.random() < 0.8 else lane
             command = make_command(draw, book, number)
             after = book.decide(command)
@@ -142,7 +142,7 @@ def make_script(draw: random.Random, book: Book, sizes: range = range(50, 301)) 
 
 
 class Office:
-    """Runs a script: the clerks take turns at random, and the lines stand in the order of their first turns."""
+    """Runs a script: the lanes take turns at random, and the lines stand in the order of their first turns."""
 
     def __init__(self, draw: random.Random, book: Book, basis: list[BasisRow], known: Known) -> None:
         self.draw, self.book, self.basis, self.known = draw, book, basis, known
@@ -177,7 +177,7 @@ class Office:
             elif position < self.floor:
                 self.lines.append(",".join([*line.head, "refused", "trimmed", str(self.floor)]))
             else:
-                # so many turns to read, and one to give the pin up
+                # this number of turns to read, and one turn to release the pin
                 self.live[lane] = [position, self.draw.choice([0, 1, 2, 8, 20])]
                 self.show(line, position)
         else:
@@ -212,7 +212,7 @@ class Office:
 
 
 def folder_for(path: str, root: str) -> None:
-    """Puts the basis and its tables into a folder."""
+    """Creates a folder and puts the basis and its tables into it."""
     os.makedirs(path)
     for name in ("q.xml", "g.xml", "select.xml"):
         with open(os.path.join(root, "examples", name), encoding="ascii") as file:

@@ -1,7 +1,7 @@
 """A medium whose writes fail when a test says so: a file system on a loop device over a file that is made immutable.
 
-The mounts are those of a process of its own, which ends with the test, and they with it; so the machine's stay as they are.
-Their files are reached by /proc/PID/root.
+The mounts are in the mount namespace of a process of the test, and end with that process; so the mounts of the machine stay as
+they are. The files of a mount are reached by /proc/PID/root.
 """
 from __future__ import annotations
 
@@ -21,13 +21,13 @@ from tests.support.missing import need
 
 MEBIBYTE = 1 << 20
 LIBC = ctypes.CDLL(None)
-# of sync_file_range: wait for what is under way, write, and wait for that
+# the flags of sync_file_range: wait for what is being written, write, and wait for that
 SYNC_ALL = 7
 
 
 @dataclass(frozen=True)
 class System:
-    """A kind of file system, how one is made, and a size that its maker accepts."""
+    """A kind of file system, the command that makes one, and a size that this command accepts."""
 
     name: str
     maker: tuple[str, ...]
@@ -40,7 +40,7 @@ SYSTEMS = (
     System("xfs", ("mkfs.xfs", "-q", "-f"), 320),
     System("btrfs", ("mkfs.btrfs", "-q", "-f"), 128),
 )
-# what holds the medium and its copies: there a file can be made immutable, wherever the test's folder lies
+# the file system that holds the medium and its copies: on it a file can be made immutable, wherever the test's folder lies
 HOLDER = System("ext4", ("mkfs.ext4", "-q", "-F"), 8192)
 
 
@@ -58,13 +58,13 @@ def make(image: Path, system: System) -> None:
 
 @dataclass
 class Mounts:
-    """Mounts that nobody else sees."""
+    """Mounts that no other process sees."""
 
     folder: Path
     held: subprocess.Popen[str] = field(init=False)
 
     def __enter__(self) -> Mounts:
-        # it ends where this process does, since that closes its standard input
+        # this process ends when the test does, because the end of the test closes its standard input
         words = ["unshare", "--mount", "--propagation", "private", "sh", "-c", "echo mounts; read -r end"]
         self.held = subprocess.Popen(words, stdin=subprocess.PIPE, stdout=subprocess.PIPE, stderr=subprocess.PIPE, text=True)
         assert self.held.stdout
@@ -77,14 +77,14 @@ class Mounts:
         self.held.communicate()
 
     def mount(self, image: Path, name: str) -> Path:
-        """Mounts the file system in a file on the folder of this name: where its files are reached."""
+        """Mounts the file system of a file on the folder of this name, and returns the path by which its files are reached."""
         at = self.folder / name
         at.mkdir(exist_ok=True)
         device = called("losetup", "--find", "--show", str(image))
         try:
             called("nsenter", f"--target={self.held.pid}", "--mount", "mount", device, str(at))
         finally:
-            # it is given back once nothing is mounted on it
+            # the loop device is released once nothing is mounted on it
             called("losetup", "--detach", device)
         return Path(f"/proc/{self.held.pid}/root{at}")
 
@@ -93,8 +93,8 @@ class Mounts:
 
 
 def new_files(mounts: Mounts, image: Path, name: str, system: System) -> Path:
-    """The files of a new file system. Where it can't be mounted the test is skipped, also where CI is set: neither a loop device
-    nor what the kernel knows is a package that could be installed."""
+    """Mounts a new file system and returns the path of its files. If it can't be mounted, the test is skipped, even where CI
+    is set, because neither a loop device nor a kernel's file system is a package that could be installed."""
     make(image, system)
     try:
         return mounts.mount(image, name)
@@ -103,43 +103,44 @@ def new_files(mounts: Mounts, image: Path, name: str, system: System) -> Path:
 
 
 class Medium:
-    """A file system whose medium can fail, mounted at `files`. A copy of it is looked at once it is unmounted, and by itself,
-    since some systems refuse a second mount of what they take for the same one."""
+    """A file system whose medium can fail, mounted at `files`. A copy of the medium is examined after the medium is unmounted,
+    and is mounted alone, since some systems refuse to mount what they take for the same file system a second time."""
 
     def __init__(self, mounts: Mounts, system: System) -> None:
         self.mounts = mounts
         self.holder = new_files(mounts, mounts.folder / "holder", "held", HOLDER)
-        # nothing is left of it once it is unmounted
+        # the file is removed now, so that nothing is left of it once it is unmounted
         (mounts.folder / "holder").unlink()
         self.image = self.holder / "medium"
         self.files = new_files(mounts, self.image, "files", system)
         self.copies = 0
 
     def fail(self) -> None:
-        """Each write to the medium fails from now on."""
+        """Makes each write to the medium fail from now on."""
         called("chattr", "+i", str(self.image))
 
     def heal(self) -> None:
         called("chattr", "-i", str(self.image))
 
     def copy(self) -> Path:
-        """The medium as it is now."""
+        """Copies the medium as it is now, and returns the copy's path."""
         self.copies += 1
         to = self.holder / f"copy-{self.copies}"
         called("cp", "--sparse=always", str(self.image), str(to))
         return to
 
     def write_back(self) -> bool:
-        """Has the system write all it keeps to the medium: whether it could, and could before."""
+        """Has the system write everything it keeps to the medium. Returns whether this and all earlier writes succeeded."""
         return subprocess.run(["sync", "--file-system", str(self.files)], capture_output=True, check=False).returncode == 0
 
     def write_back_from(self, name: str, at: int) -> None:
-        """Has the system write a file from this byte on to the medium, and nothing before."""
+        """Has the system write a file to the medium from this byte on, and nothing before it."""
         with open(self.files / name, "rb") as file:
             assert LIBC.sync_file_range(file.fileno(), ctypes.c_int64(at), ctypes.c_int64(0), SYNC_ALL) == 0
 
     def within(self, *words: str) -> list[str]:
-        """A command that is run in the folder of the files, where these are mounted: what it finds by full paths, too."""
+        """Returns a command that runs in the folder of the files, in the namespace in which they are mounted, so that full
+        paths work, too."""
         folder = str(self.mounts.folder / "files")
         return ["nsenter", f"--target={self.mounts.held.pid}", "--mount", "sh", "-c", 'cd "$0" && exec "$@"', folder, *words]
 
@@ -148,13 +149,13 @@ class Medium:
 
     @contextmanager
     def files_on(self, copy: Path) -> Iterator[Path]:
-        """The files on a copy of the medium."""
+        """Mounts a copy of the medium, and yields the path of its files."""
         yield self.mounts.mount(copy, "copy")
         self.mounts.unmount("copy")
 
 
 class StoppedRun:
-    """A run of the program that strace stops after its n-th write to a file."""
+    """A run of the program that strace stops after the n-th write to a file."""
 
     def __init__(self, words: list[str], folder: Path, log: Path, script: Path, n: int) -> None:
         stop = ["-e", "trace=pwrite64", "-e", f"inject=pwrite64:signal=SIGSTOP:when={n}"]
@@ -172,7 +173,7 @@ class StoppedRun:
         raise AssertionError(f"it ended before it was stopped: {self.traced.communicate()}")
 
     def go_on(self) -> tuple[int, str]:
-        """Its status and what it printed."""
+        """Lets the run go on to its end, and returns its exit status and what it printed."""
         called("kill", "-CONT", str(self.process))
         out, _ = self.traced.communicate()
         return self.traced.returncode, out

@@ -1,4 +1,4 @@
-"""The folder of a book, as an office has it: its files, the program and the tools run in it, and what a refusal leaves."""
+"""A folder of a book in a test: its files, runs of the program and the tools in it, and checks of what a refusal leaves."""
 from __future__ import annotations
 
 import os
@@ -12,9 +12,9 @@ from tests.support.program import ROOT, Program
 from tests.support.tools import Ended, run_tool
 
 EXAMPLES = ROOT / "examples"
-# lines of a refusal, but for a usage
+# the most lines of a refusal, unless it shows a usage
 MOST_LINES = 3
-# what a tool may print with a refusal: the line by which the program refuses
+# the only output that a tool may print with a refusal: the line by which the program refuses
 REFUSAL = re.compile(r"(usage|bad(script|basis|journal),.*)\n")
 
 
@@ -39,59 +39,60 @@ class Folder:
         return (self.path / name).read_text(encoding="utf-8")
 
     def take(self, *names: str) -> None:
-        """Copies these files of examples/ here."""
+        """Copies these files of examples/ to this folder."""
         for name in names:
             shutil.copy(EXAMPLES / name, self.path / name)
 
     def below(self, name: str) -> Folder:
-        """A folder in this one, made where there is none."""
+        """Returns a folder in this one, which is made if there is none."""
         (self.path / name).mkdir(exist_ok=True)
         return Folder(self.path / name, self.program)
 
     def life(self, *words: str, given: str | bytes = b"") -> Ended:
-        """The program with these arguments and this standard input."""
+        """Runs the program with these arguments and this standard input."""
         given = given.encode() if isinstance(given, str) else given
         ran = subprocess.run([*self.program.words, *words], cwd=self.path, input=given, capture_output=True, check=False)
         return Ended(ran.returncode, ran.stdout.decode("ascii", "replace"), ran.stderr.decode("utf-8", "replace"))
 
     def count(self) -> int:
-        """The commands in the journal: its records up to the first commit byte that isn't open."""
+        """Returns the number of commands in the journal: its records up to the first commit byte that isn't 1."""
         data, count = self.journal.read_bytes(), 0
         while data[17 + 65 * count] == 1:
             count += 1
         return count
 
     def post(self, script: str) -> str:
-        """Runs a script, which must end with status 0: its transcript."""
+        """Runs a script, asserts that the run ends with status 0, and returns its transcript."""
         ran = self.life("run", given=script)
         assert ran.status == 0, ran
         return ran.out
 
     def tools(self, *words: str, given: str | bytes = b"", program: Path | None = None) -> Ended:
-        """A name of life-tools with its arguments, over the program under test or over one that stands for it."""
+        """Runs a command of life-tools with its arguments, over the program under test or over another one."""
         given = given.encode() if isinstance(given, str) else given
         return run_tool(words, self.path, {"LIFE_PROGRAM": str(program or self.program.path)}, given)
 
     def printed(self, *words: str, given: str | bytes = b"", status: int = 0) -> str:
-        """What a tool prints that must end with this status, and without a traceback."""
+        """Runs a tool, asserts that it ends with this status and without a traceback, and returns its output."""
         ended = self.tools(*words, given=given)
         assert ended.status == status and "Traceback" not in ended.err, ended
         return ended.out
 
     def command(self, *words: str) -> str:
-        """What another command prints here, which must end with status 0."""
+        """Runs another command here, asserts that it ends with status 0, and returns its output."""
         ran = subprocess.run(words, cwd=self.path, capture_output=True, text=True, check=False)
         assert ran.returncode == 0, (words, ran.stderr)
         return ran.stdout
 
     def finds(self, *words: str, says: str, given: str | bytes = b"") -> Ended:
-        """A tool must end with status 1 and a line on standard error that the pattern finds, without a traceback."""
+        """Runs a tool, and asserts that it ends with status 1 and without a traceback, and that the pattern matches a line of
+        its standard error."""
         ended = self.tools(*words, given=given)
         assert ended.status == 1 and re.search(says, ended.err, re.M) and "Traceback" not in ended.err, ended
         return ended
 
     def files(self) -> dict[str, tuple[int, int, int]]:
-        """Each file and folder below, by what changes where one is written or made anew."""
+        """Returns each file and folder below this one, with the figures that change if it is written or made anew."""
         found = {}
         for top, folders, names in os.walk(self.path):
             for name in (*folders, *names):
@@ -101,8 +102,8 @@ class Folder:
         return found
 
     def refused(self, *words: str, says: str, status: int = 2, given: str | bytes = b"") -> Ended:
-        """A tool must end with this status and a message that the pattern finds, in a few lines; print nothing but the line
-        by which the program refuses; and write nothing."""
+        """Runs a tool, and asserts that it ends with this status and a message of a few lines that the pattern matches; that
+        it prints nothing except the line by which the program refuses; and that it writes nothing."""
         before = self.files()
         ended = self.tools(*words, given=given)
         assert ended.status == status, ended

@@ -1,4 +1,4 @@
-"""Journals that are full, or nearly so, spelled without the tools' code."""
+"""Writes journals that are full, or nearly full, without code of the tools."""
 from __future__ import annotations
 
 import datetime
@@ -18,27 +18,27 @@ def days_of(day: datetime.date) -> bytes:
 
 
 def records(kind: bytes, numbers: list[bytes], day: datetime.date, amount: int, premium: int) -> bytes:
-    """A record of each number, all of one day."""
+    """Returns one record for each number, all of the same day."""
     front = b"\x01" + kind
     rest = days_of(day) + amount.to_bytes(8, "big") + premium.to_bytes(8, "big") + bytes(36)
     return b"".join(front + number + rest for number in numbers)
 
 
 def fill(out: Path, today: datetime.date) -> None:
-    """Adds what a nearly full journal lacks, as issues of a day."""
+    """Fills a nearly full journal with issues of one day."""
     with open(out, "r+b") as file:
         count = (file.seek(0, os.SEEK_END) - len(HEADER)) // RECORD
         file.seek(len(HEADER) + count * RECORD)
-        # numbers are given in order, one for each record that is no premium
+        # the numbers go on in order; each record that is no premium has used one
         first = count - OLD * PREMIUMS + 1
         numbers = [number.to_bytes(4, "big") for number in range(first, first + MOST - count)]
         file.write(records(TERM, numbers, today, 100_000, 1_000) + b"\x00")
 
 
 def write_nearly_full(out: Path, left: int, today: datetime.date) -> None:
-    """A journal with so many commands left. 32,000 whole lives from the age 20, issued in 1900, have paid all their 111
-    premiums, and their cover has ended. Then policies were issued three years before a day, one is dated 2081, and 401,000
-    were issued on the days of the year up to it."""
+    """Writes a journal in which `left` commands are left. 32,000 whole life policies issued in 1900 at age 20 have paid all
+    their 111 premiums, and their cover has ended. After these, policies were issued three years before `today`; one is dated
+    2081; and 401,000 were issued on the 365 days that end with `today`."""
     begun = OLD * (PREMIUMS + 1)
     rest = [number.to_bytes(4, "big") for number in range(OLD + 1, OLD + 1 + MOST - left - begun)]
     before, last = rest[:-LAST_YEAR - 1], rest[-LAST_YEAR:]

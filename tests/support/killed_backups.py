@@ -1,7 +1,7 @@
-"""A trial of `life-tools backup`: it follows runs of the program, and both are killed at any moment.
+"""A trial of `life-tools backup`: it copies a book while the program runs, and both are killed at any moment.
 
-A backup is a process that is forked off the test. It is killed after a drawn time, or before a drawn call of the system; the run
-is killed after a drawn time, or ends by itself.
+A backup is a process that is forked off the test. It is killed after a drawn time, or before a drawn system call; the run is
+killed after a drawn time, or ends by itself.
 """
 from __future__ import annotations
 
@@ -22,18 +22,18 @@ from life_tools.journal.seals import Seal
 from tests.support.folders import Folder
 from tests.support.killed_days import kill_before
 
-# a backup makes some so many calls of those that are counted, and both take some so many seconds
+# the most system calls of a backup that are counted, and the most seconds that a backup or a run takes
 MOST_CALLS, MOST_SECONDS = 70, 0.5
 MOST_ROWS = 12
 PATIENCE = 60
-# a book grows to so many kills, and then a new one is begun
+# a book is used until this number of kills; then a new one is begun
 KILLS_EACH = 100
 RESTORED_EACH = 10
 
 
 @dataclass
 class Trial:
-    """A book that grows, its copy, and what was killed."""
+    """A book that grows, its second copy, and counts of what was killed."""
 
     top: Folder
     draw: random.Random
@@ -45,7 +45,7 @@ class Trial:
     books: int = 0
 
     def begin(self) -> None:
-        """A new book of one policy, without a copy."""
+        """Begins a new book of one policy, which has no copy yet."""
         self.books, self.number, self.copied = self.books + 1, 0, 0
         self.book = self.top.below(f"book-{self.books}")
         self.book.write("basis.csv", "1900-01-01,q.xml,0\n")
@@ -57,7 +57,7 @@ class Trial:
         return self.top.path / f"copy-{self.books}"
 
     def rows(self, many: int) -> str:
-        """So many issues of new policies."""
+        """Returns this number of issues of new policies."""
         self.number += many
         return "".join(f"1,issue,{number},2020-01-01,whole,30,0,1000.00,20.00\n"
                        for number in range(self.number - many + 1, self.number + 1))
@@ -65,7 +65,8 @@ class Trial:
     # --- what is killed ---
 
     def start_backup(self, calls: int) -> int:
-        """A backup, which is killed before so many calls if there are as many."""
+        """Starts a backup that is killed before its system call of this number, if it makes as many; 0 means that it isn't
+        killed so."""
         child = os.fork()
         if child:
             return child
@@ -86,7 +87,7 @@ class Trial:
                                     stdout=subprocess.DEVNULL, stderr=subprocess.DEVNULL)
 
     def kill_some(self) -> None:
-        """A run and a backup beside it; one of both is killed, or each."""
+        """Starts a run and a backup at the same time, and kills one of them, both or neither."""
         way = self.draw.choice(("backup at a call", "backup at a time", "run", "both", "neither"))
         calls = self.draw.randint(1, MOST_CALLS) if way == "backup at a call" else 0
         run = self.start_run()
@@ -113,7 +114,7 @@ class Trial:
     # --- what is judged ---
 
     def sealed(self) -> Seal | None:
-        """The copy's seal: of what the journal has, and of no fewer postings than before."""
+        """Returns the copy's seal, and asserts that the copy is a prefix of the journal and has no fewer postings than before."""
         seal = seal_in_copy(str(self.copy)) if self.copy.exists() else None
         if seal is None:
             assert not self.copied, "the seal is gone"
@@ -125,7 +126,7 @@ class Trial:
         return seal
 
     def judge_restored(self, seal: Seal) -> None:
-        """The program opens the book that is made of the copy, to as many postings as were sealed."""
+        """Asserts that the program opens the book restored from the copy, with as many postings as were sealed."""
         to = self.top.path / "restored"
         shutil.rmtree(to, ignore_errors=True)
         ended = self.book.tools("restore", str(self.copy), "--folder", str(to))
@@ -134,7 +135,7 @@ class Trial:
         assert (opened.status, opened.out.splitlines()[-1]) == (0, f"count,{seal.position}"), opened
 
     def finish(self) -> None:
-        """A last backup of a book that no run has: nothing is missing."""
+        """Makes a last backup, while no run uses the book, and asserts that nothing is missing."""
         count = int(self.book.life("state").out.rpartition(",")[2])
         ended = self.book.tools("backup", str(self.copy))
         assert (ended.status, ended.out.splitlines()[0]) == (0, f"count,{count}"), ended

@@ -1,9 +1,9 @@
 """A trial of `life-tools day`: files are handed in, and each `day` over them is killed at some moment or step.
 
-A `day` is a process that is forked off the test, in a group of its own, with the program that it starts. It is killed after a
-drawn time, or before a drawn call of the system (a file opened, renamed, made safe or removed, a folder made, the program
-started), together with the program or without it; or the program is killed alone, or `day` is sent TERM. Beside it a second
-`day` may be at work, and files arrive.
+A `day` is a process that is forked off the test, in a process group of its own, together with the program that it starts. It is
+killed after a drawn time, or before a drawn system call (a file opened, renamed, synced or removed, a folder made, the program
+started), with the program or without it; or only the program is killed; or `day` is sent TERM. A second `day` may run at the same
+time, and files may arrive.
 """
 from __future__ import annotations
 
@@ -24,18 +24,18 @@ from life_tools.cli.entry import main
 from tests.support.desks import TODAY, Desk
 from tests.support.program import ROOT
 
-# the calls before which a `day` may be killed
+# the audit events before which a `day` may be killed
 CALLS = ("open", "os.rename", "os.mkdir", "os.remove", "os.rmdir", "subprocess.Popen", "os.listdir", "os.scandir", "fcntl.flock",
          "trial.fsync")
-# a `day` over one file has some so many of these, and takes some so many seconds
+# the most such events of a `day` over one file, and the most seconds that it takes
 MOST_CALLS, MOST_SECONDS = 160, 0.8
-# no `day` takes longer, not on a machine that gives it a fiftieth of a processor either
+# the most seconds of any `day`, even on a machine that gives it a fiftieth of a processor
 PATIENCE = 240
 WAYS = ("time", "time", "call", "call", "call", "tool", "program", "term", "none")
 
 
 def kill_before(calls: int, kill: Callable[[], None]) -> None:
-    """From here on this process calls `kill` before so many calls of the system."""
+    """Makes this process call `kill` before its system call of this number, counted from here."""
     left = [calls]
 
     def hook(event: str, _: object) -> None:
@@ -55,7 +55,7 @@ def kill_before(calls: int, kill: Callable[[], None]) -> None:
 
 
 def start_day(desk: Desk, name: str, way: str, calls: int, words: Sequence[str] = ()) -> int:
-    """A `day` in a process group of its own; what it says goes to a file."""
+    """Starts a `day` in a process group of its own, whose output goes to a file."""
     child = os.fork()
     if child:
         with contextlib.suppress(OSError):
@@ -83,7 +83,7 @@ def start_day(desk: Desk, name: str, way: str, calls: int, words: Sequence[str] 
 
 
 def program_of(group: int) -> int | None:
-    """The program that a `day` has started, while it runs."""
+    """Returns the process id of the program that a `day` has started, while it runs."""
     for pid in os.listdir("/proc"):
         with contextlib.suppress(OSError, ValueError):
             fields = Path("/proc", pid, "stat").read_text().rpartition(")")[2].split()
@@ -94,13 +94,13 @@ def program_of(group: int) -> int | None:
 
 @dataclass
 class Trial:
-    """A desk, what was handed in, and how many `day`s were killed."""
+    """A desk, what was handed in, and the number of kills."""
 
     desk: Desk
     draw: random.Random
     kills: int = 0
     ways: Counter[str] = field(default_factory=Counter)
-    # what was handed in, by the checksum, and how often
+    # how often each file was handed in, by its checksum
     handed_in: Counter[str] = field(default_factory=Counter)
     files: list[bytes] = field(default_factory=list)
     number: int = 0
@@ -109,7 +109,7 @@ class Trial:
     # --- what is handed in ---
 
     def new_rows(self) -> list[str]:
-        """Rows that the rules accept, in this order, and some that equal others or are refused."""
+        """Returns rows that the rules accept in this order, and sometimes one that equals another or is refused."""
         draw, rows = self.draw, []
         for _ in range(draw.randint(1, 12)):
             self.number += 1
@@ -137,7 +137,7 @@ class Trial:
         return data + b"1,lapse,1,2024-02-30\n" if draw.random() < 0.05 else data
 
     def hand_in(self) -> None:
-        """A file appears in the inbox at once, as a careful clerk puts it there; some are younger than two seconds."""
+        """Puts a file into the inbox by a rename, as a careful clerk does. Some files are younger than two seconds."""
         data, name = self.new_file(), f"f{sum(self.handed_in.values()):05}.csv"
         part = self.desk.folder.write(f"inbox/.{name}", data)
         then = time.time() - self.draw.choice([0, 10, 10, 10, 10])
@@ -149,7 +149,7 @@ class Trial:
     # --- a `day` that is killed ---
 
     def kill_one(self) -> None:
-        """Hands files in, starts a `day` or two, and kills each in some way."""
+        """Hands in files, starts one or two `day`s, and kills each of them in a drawn way."""
         for _ in range(self.draw.choice([0, 1, 1, 2, 3])):
             self.hand_in()
         begun = []
@@ -164,14 +164,14 @@ class Trial:
             self.end(child, way)
 
     def words(self) -> list[str]:
-        """What a `day` is asked for: mostly the inbox, and sometimes to release or discard the first rows that are held."""
+        """Returns the arguments of a `day`: mostly none, sometimes to release or discard the first rows that are held."""
         held = sorted(path.parent.name for path in self.desk.folder.path.glob("log/*/held.csv"))
         if not held or self.draw.random() < 0.8:
             return []
         return [self.draw.choice(["--release", "--discard"]), held[0], "--by", "anna"]
 
     def end(self, child: int, way: str) -> None:
-        """Kills a `day` as was drawn, or waits until it has ended, and counts it where it was killed."""
+        """Kills a `day` in the drawn way, or waits until it has ended, and counts the kill."""
         end = time.monotonic() + self.draw.uniform(0, MOST_SECONDS)
         while way in ("time", "term", "program") and time.monotonic() < end:
             time.sleep(0.002)
@@ -200,7 +200,8 @@ class Trial:
     # --- what has to hold ---
 
     def judge(self) -> None:
-        """After a `day` that nobody kills each row is posted once, held or refused; no file is gone; `log` names each row."""
+        """Runs a `day` that nobody kills, and asserts that each row was posted once, held or refused, that no file is gone,
+        and that `log` names each row."""
         self.desk.folder.path.joinpath("inbox").mkdir(exist_ok=True)
         for name in self.desk.inbox:
             os.utime(self.desk.folder.path / "inbox" / name, (time.time() - 10,) * 2)
@@ -215,7 +216,8 @@ class Trial:
         self.judge_postings(entries)
 
     def judge_files(self, entries: list[dict[str, Any]]) -> None:
-        """Each file that was handed in lies in one entry, and nothing else does but the rows that were released."""
+        """Asserts that each file that was handed in lies in exactly one entry, and that the log has nothing else except
+        released rows."""
         found = Counter(entry["file"]["sha256"] for entry in entries if entry["from"] is None)
         lies = Counter(hashlib.sha256(path.read_bytes()).hexdigest()
                        for path in self.desk.folder.path.glob("log/*/handed-in.csv"))
@@ -225,7 +227,8 @@ class Trial:
                     and path.name not in ("runs", ".lock")]
 
     def judge_postings(self, entries: list[dict[str, Any]]) -> None:
-        """The journal is what the entries say, no posting is doubled, and no issue that was handed in is missing."""
+        """Asserts that the journal is what the entries say, that no posting is doubled, and that no issue that was handed in
+        is missing."""
         records = self.desk.records()
         logged = self.desk.log()
         assert [int(row["position"]) for row in logged] == list(range(1, len(records) + 1))
@@ -241,7 +244,7 @@ class Trial:
 
 
 def judge_rows(entry: dict[str, Any]) -> None:
-    """Each row of an entry is in one list, once; of a file that is refused whole none is."""
+    """Asserts that each row of an entry is in one list, once. An entry of a file that was refused as a whole has no rows."""
     rows = [row for name in ("accepted", "refused", "answered") for row, *_ in entry[name]]
     rows += [held["row"] for held in entry["held"]]
     assert sorted(rows) == list(range(1, entry["rows"] + 1)), entry
@@ -249,7 +252,7 @@ def judge_rows(entry: dict[str, Any]) -> None:
 
 
 def judge_releases(entries: dict[str, dict[str, Any]]) -> None:
-    """A row is released by one entry at most, which has it, and both say so."""
+    """Asserts that a row is released by at most one entry, and that this entry and the entry that held the row agree."""
     of_releases = Counter((entry["from"]["entry"], row) for entry in entries.values() if entry["from"]
                           for row in entry["from"]["rows"])
     of_sources = Counter((name, held["row"]) for name, entry in entries.items() for held in entry["held"]

@@ -1,4 +1,5 @@
-"""A clone's launcher as somebody runs it: beside others, on a terminal, with a book that is in use, until it is stopped."""
+"""The launcher of a clone as somebody runs it: next to other launchers, on a terminal, with a book in use, or stopped by
+Ctrl-C."""
 from __future__ import annotations
 
 import fcntl
@@ -15,26 +16,26 @@ from tests.support.program import ROOT
 from tests.support.tools import Ended
 
 PATIENCE = 60
-# a shell loses a signal that comes while it starts a command, so another one is sent
+# a shell may lose a signal that comes while it starts a command; so another one is sent after this time
 SECONDS_TO_ANOTHER_SIGNAL = 10
 ENDS_BY_CTRL_C = ("env", "--default-signal=INT")
 EXAMPLE = ROOT / "examples" / "first-issues"
 
 
 def issue(number: int) -> str:
-    """A line of a script that issues a policy of this number."""
+    """Returns a line of a script that issues a policy of this number."""
     return f"1,issue,{number},2020-01-01,endowment,0,3,1000.00,400.00\n"
 
 
 def await_that(holds: Callable[[], object], seconds: float = PATIENCE) -> None:
-    """Waits until it holds; whatever is demanded next fails where it never does."""
+    """Waits until a condition holds, or until the time is over; in the latter case the caller's next assertion fails."""
     until = time.monotonic() + seconds
     while not holds() and time.monotonic() < until:
         time.sleep(0.05)
 
 
 class Begun:
-    """A command that runs in a folder; what it prints goes to files beside it, which may be read at any time."""
+    """A command that runs in a folder. Its output goes to files in the same folder, which may be read at any time."""
 
     def __init__(self, words: Sequence[str | Path], folder: Path, name: str = "begun", env: Mapping[str, str] | None = None,
                  given: int = subprocess.DEVNULL) -> None:
@@ -47,7 +48,7 @@ class Begun:
         return text in self.err.read_text(encoding="utf-8")
 
     def type(self, text: str) -> None:
-        """The whole of its standard input, which ends behind it."""
+        """Writes the whole standard input of the command, and closes it."""
         assert self.process.stdin
         with suppress(BrokenPipeError):
             self.process.stdin.write(text.encode())
@@ -63,14 +64,14 @@ class Begun:
 
 @contextmanager
 def in_use(path: Path) -> Iterator[str]:
-    """Somebody has the lock of this file, as a run has that of its journal: how a message names him."""
+    """Locks this file, as a run locks its journal, and yields how a message names the process that uses it."""
     with open(path, "rb") as file:
         fcntl.flock(file, fcntl.LOCK_EX)
         yield f"{path.name} is in use by process {os.getpid()}, "
 
 
 def processes_in(folder: Path) -> list[int]:
-    """The processes whose current folder is this one or one below it, and which haven't ended."""
+    """Returns the processes that haven't ended and whose current folder is this one or one below it."""
     found = []
     for each in filter(str.isdigit, os.listdir("/proc")):
         with suppress(OSError):
@@ -81,7 +82,7 @@ def processes_in(folder: Path) -> list[int]:
 
 def stopped(words: Sequence[str | Path], folder: Path, moment: Callable[[Begun], object], env: Mapping[str, str] | None = None,
             given: int = subprocess.DEVNULL) -> Ended:
-    """How a command ended that somebody stops by Ctrl-C at a moment."""
+    """Runs a command, stops it by Ctrl-C once `moment` holds, and returns how it ended."""
     begun = Begun([*ENDS_BY_CTRL_C, *words], folder, "stopped", env, given)
     await_that(lambda: moment(begun) or begun.process.poll() is not None)
     until = time.monotonic() + PATIENCE
@@ -93,7 +94,8 @@ def stopped(words: Sequence[str | Path], folder: Path, moment: Callable[[Begun],
 
 
 def is_stopped(done: Ended, says: str, clone: Path) -> bool:
-    """A launcher that was stopped says so in its last line, says nothing that isn't its own, and leaves no process."""
+    """Returns whether a launcher that was stopped says so in its last line, prints no messages except its own, and leaves no
+    process."""
     lines = done.err.splitlines()
     return (done.status == 130 and all(line.startswith("life: ") for line in lines) and f"stopped; {says}" in lines[-1]
             and processes_in(clone) == [])
@@ -101,9 +103,9 @@ def is_stopped(done: Ended, says: str, clone: Path) -> bool:
 
 def on_terminal(words: Sequence[str | Path], folder: Path, given: str | Path | None = os.devnull, taken: Path | None = None,
                 typed: bytes = b"", stop_when: Callable[[], object] | None = None) -> tuple[int, str]:
-    """The status of a command whose standard error is a terminal, and what stands on it. Standard output is the terminal, or
-    the file that is named; standard input is a file, or None for the terminal. What is typed there is typed at once; at a
-    moment somebody presses Ctrl-C."""
+    """Runs a command whose standard error is a terminal, and returns its exit status and what the terminal shows. Standard
+    output is the terminal, or the file `taken`; standard input is the file `given`, or the terminal if that is None. What is
+    typed is typed at the start; if `stop_when` is given, Ctrl-C is pressed once it holds."""
     child, terminal = pty.fork()
     if child == 0:
         signal.signal(signal.SIGINT, signal.SIG_DFL)
@@ -118,7 +120,7 @@ def on_terminal(words: Sequence[str | Path], folder: Path, given: str | Path | N
         await_that(stop_when)
         os.write(terminal, b"\x03")
     said = b""
-    with suppress(OSError):  # of a terminal that nobody has any more
+    with suppress(OSError):  # reading fails once no process has the terminal open
         while more := os.read(terminal, 1000):
             said += more
     os.close(terminal)

@@ -18,8 +18,8 @@ BEFALLS = ("claim", "lapse", "lapse", "paidup", "alter", "stop")
 
 
 class Times(NamedTuple):
-    """From when to when a book is drawn, when it is upgraded, and how many of a hundred policies go on paying from one premium to
-    the next."""
+    """The first and the last day of a drawn book, the day of its upgrade, and how many of a hundred policies go on paying from
+    one premium to the next."""
 
     first: datetime.date = datetime.date(1998, 1, 1)
     upgraded: datetime.date = datetime.date(2010, 6, 1)
@@ -39,7 +39,7 @@ def drawn_issue(draw: random.Random, number: int, times: Times = Times()) -> Com
 
 
 def following(draw: random.Random, policy: Policy, times: Times) -> Command | None:
-    """What may befall a policy next, if anything: it is tried, and kept where the rules take it."""
+    """Draws the next command on a policy, if any; the caller keeps it if the rules accept it."""
     number, due = policy.number, due_of(policy)
     if policy.status in ("claimed", "matured"):
         day = policy.last + datetime.timedelta(draw.randrange(60))
@@ -82,7 +82,7 @@ def lived(seed: int, policies: int, times: Times = Times()) -> list[Command]:
 
 
 def lived_by(draw: random.Random, policies: int, times: Times = Times()) -> list[Command]:
-    """The commands of a book, sorted by day, with an upgrade in the midst."""
+    """Returns the commands of a book, sorted by day, with an upgrade among them."""
     numbers = draw.sample(range(1, 50 * policies), policies) if policies else []
     commands = [command for number in numbers for command in life_of(draw, drawn_issue(draw, number, times), times)]
     commands.sort(key=lambda command: str(command.day))

@@ -1,4 +1,4 @@
-"""Books and tables that are made for a purpose: drawn books, a grid of ages, premiums around a net premium, select tables."""
+"""Makes books and tables for special purposes: drawn books, a grid of ages, premiums around a net premium, select tables."""
 from __future__ import annotations
 
 import datetime
@@ -18,12 +18,12 @@ ONE = 10**9
 
 
 def lay_drawn_book(folder: Folder, seed: int, policies: int, scripts: int) -> None:
-    """A drawn book with a basis of four tables: policies of all plans, statuses and ages around the ends of the tables, after
-    commands that clerks have drawn."""
+    """Writes a drawn book with a basis of four tables: policies of all plans and statuses, at ages around the ends of the
+    tables, after commands of drawn scripts."""
     draw = random.Random(seed)
     book = make_book(draw, policies)
     for _ in range(scripts):
-        # which takes what is accepted into the book
+        # make_script also takes the accepted commands into the book
         make_script(draw, book)
     folder.write("journal.life", bytes(file_of(book.commands)))
     folder.write("basis.csv", BASIS)
@@ -32,7 +32,7 @@ def lay_drawn_book(folder: Folder, seed: int, policies: int, scripts: int) -> No
 
 
 def grid_of_all_ages() -> bytes:
-    """A journal of every plan at every age, for short covers and those to a table's end and past it."""
+    """Returns a journal of every plan at every age, with short covers, and covers to the end of a table and beyond it."""
     day = datetime.date(2000, 2, 29)
     book = [(plan, age, years) for age in range(OLDEST_AT_ISSUE + 1) for plan in ("whole", "term", "endowment", "limited")
             for years in ((0,) if plan == "whole" else (2, 3, 11, 26, 120 - age, 121 - age, 131 - age))
@@ -42,7 +42,7 @@ def grid_of_all_ages() -> bytes:
 
 
 def script_of_ages(ages: list[int]) -> str:
-    """Issues of each plan at these ages, from short covers to those that go on behind a select period."""
+    """Returns issues of each plan at these ages, with short covers and with covers that last longer than a select period."""
     rows = []
     for age in ages:
         rows.append(("whole", age, 0))
@@ -52,8 +52,8 @@ def script_of_ages(ages: list[int]) -> str:
 
 
 def premiums_around(basis: list[BasisRow]) -> Iterator[tuple[str, str]]:
-    """Issues with premiums around the net premium to the cent, each with whether it is enough: of each plan, age and term two
-    below it, and two that aren't."""
+    """Yields issues with premiums around the net premium, to the cent, each with whether the premium is enough: for each plan,
+    age and term two that are short and two that are enough."""
     day, amount, number = day_in("2021-03-01"), 1234567, 0
     known: Known = {}
     for plan, age, years in ((plan, age, years) for plan in ("term", "whole", "endowment", "limited") for age in (20, 41, 67)
@@ -68,12 +68,12 @@ def premiums_around(basis: list[BasisRow]) -> Iterator[tuple[str, str]]:
 
 
 def ultimate(age: int) -> int:
-    """600 a^3 units of 10^-9, at most 1."""
+    """Returns the ultimate rate at an age in units of 10^-9: 600 age^3, at most 1."""
     return min(600 * age**3, ONE)
 
 
 def select(age: int, duration: int) -> int:
-    """Half of the ultimate rate, and nearer by a fiftieth with each duration."""
+    """Returns the select rate: half of the ultimate rate at duration 0, and a fiftieth of it more with each year of duration."""
     return ultimate(age + duration) * min(25 + duration, 50) // 50
 
 
@@ -93,8 +93,8 @@ def table(axes: list[str], values: list[str]) -> str:
 
 
 def select_table(first: int, last: int, durations: int, ultimate_first: int, ultimate_last: int) -> str:
-    """A select and ultimate table of real size, with a classification, metadata and names of its axes. The last issue ages have
-    as many rates as there are ages up to 130, and an empty Y for the rest."""
+    """Returns a select and ultimate table of realistic size, with a classification, metadata and names of its axes. For the
+    last issue ages there are rates only up to age 130, and an empty Y for each later duration."""
     values = []
     for age in range(first, last + 1):
         rows = [row(k + 1, select(age, k)) if age + k <= 130 else f'<Y t="{k + 1}"/>' for k in range(durations)]

@@ -1,4 +1,4 @@
-"""What a test needs and a machine may not have. On a desk the test is skipped; where CI is set it fails."""
+"""Checks for what a test needs and a machine may lack. On a desk such a test is skipped; if CI is set, it fails."""
 from __future__ import annotations
 
 import importlib.util
@@ -14,14 +14,14 @@ def in_ci() -> bool:
 
 
 def lacks(what: str) -> NoReturn:
-    """Skips the test because of what isn't there; where CI is set, which always has it, the test fails."""
+    """Skips the test because something is missing. If CI is set, the test fails, because CI always has everything."""
     if in_ci():
         pytest.fail(f"{what}, and CI is set", pytrace=False)
     pytest.skip(what)
 
 
 def need(thing: str) -> None:
-    """A command of this name, or a module, written python:MODULE."""
+    """Demands a command of this name, or a Python module, written python:MODULE."""
     kind, _, module = thing.partition("python:")
     if kind:
         if shutil.which(thing) is None:

@@ -1,4 +1,4 @@
-"""The program under test: the one that LIFE_PROGRAM names, else the proved one, else a preview, which is built unproved."""
+"""The program under test: the one that LIFE_PROGRAM names, otherwise the proved one, otherwise a preview, which is unproved."""
 from __future__ import annotations
 
 import os
@@ -12,14 +12,15 @@ PREVIEW = ROOT / "out" / "preview" / "life_preview"
 
 @dataclass(frozen=True)
 class Program:
-    """A program, and whether it is the proved one of this clone."""
+    """A program, and whether it is the proved program of this clone."""
 
     path: Path
     is_proved: bool
 
     @property
     def words(self) -> list[str]:
-        """What begins it as the launcher does: a file that grows too large is a fault of the device, not a signal."""
+        """The command that starts the program as the launcher does: with SIGXFSZ ignored, so that a file that grows too large
+        is reported as a fault of the device and doesn't end the program by a signal."""
         return ["sh", "-c", 'trap "" XFSZ; exec "$0" "$@"', str(self.path)]
 
 

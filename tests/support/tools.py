@@ -1,4 +1,5 @@
-"""`life-tools` as a user runs it, in a process that is forked off one that has read its modules: a tenth of a new start."""
+"""Runs `life-tools` as a user does, in a child forked from a process that has imported its modules, which takes a tenth of the
+time of a new start."""
 from __future__ import annotations
 
 import importlib
@@ -16,11 +17,11 @@ from life_tools.cli.entry import ENTRIES, main
 from life_tools.common.formats import Wrong
 from tests.support.program import ROOT
 
-# a tool that hasn't ended by then is stopped by a signal
+# the seconds after which a tool is stopped by a signal
 SECONDS = 400
-# so much of either end of an output is shown
+# the number of characters shown of either end of a long output
 SHOWN = 600
-# the status of one that ended with an exception
+# the exit status of a tool that ended with an exception
 FELL = 70
 
 
@@ -30,26 +31,26 @@ def ends_of(text: str) -> str:
 
 @dataclass(frozen=True, repr=False)
 class Ended:
-    """How a command ended: its status, less than 0 where by a signal, and its standard output and error."""
+    """How a command ended: its exit status (negative if a signal ended it), its standard output and its standard error."""
 
     status: int
     out: str
     err: str
 
     def __repr__(self) -> str:
-        """As a failed test shows it: of a long output the ends."""
+        """Shows the result in a failed test; of a long output only both ends are shown."""
         return f"status {self.status}, printed {ends_of(self.out)!r}, on standard error {ends_of(self.err)!r}"
 
 
 def read_modules(name: str) -> None:
-    """Imports the module of a name, unless a package that it needs is missing: the tool itself then says so."""
+    """Imports the module of a command, unless a package that it needs is missing; in that case the tool itself reports it."""
     if name in ENTRIES:
         with suppress(Wrong):
             importlib.import_module(f"life_tools.cli.{ENTRIES[name][0]}")
 
 
 def take_descriptors(given: IO[bytes], out: IO[bytes], err: IO[bytes]) -> None:
-    """Standard input, output and error are these files from here on, also for what the tool starts."""
+    """Makes these files standard input, output and error, also for processes that the tool starts."""
     for file, standard in ((given, 0), (out, 1), (err, 2)):
         os.dup2(file.fileno(), standard)
     sys.stdin = open(0, encoding="utf-8", closefd=False)
@@ -65,13 +66,13 @@ def in_child(words: Sequence[str], folder: Path, env: Mapping[str, str], files: 
         take_descriptors(*files)
         os.chdir(folder)
         os.environ.update(env)
-        # what the parent has found out of the environment
+        # the child must choose its folder for temporary files anew, by its own environment
         tempfile.tempdir = None
         sys.argv = [str(ROOT / "tools" / "life-tools"), *words]
         status = main(words)
     except SystemExit as end:
         status = end.code if isinstance(end.code, int) else 1
-    except BaseException:  # whatever it is, the parent has to hear of it
+    except BaseException:  # whatever it is, the parent must get its report
         traceback.print_exc()
     finally:
         with suppress(OSError):
@@ -86,7 +87,7 @@ def text_of(file: IO[bytes]) -> str:
 
 
 def run_tool(words: Sequence[str], folder: Path, env: Mapping[str, str], given: bytes = b"") -> Ended:
-    """A name of life-tools with its arguments, in a folder."""
+    """Runs a command of life-tools with its arguments in a folder."""
     read_modules(words[0] if words else "")
     with tempfile.TemporaryFile() as stdin, tempfile.TemporaryFile() as out, tempfile.TemporaryFile() as err:
         stdin.write(given)

@@ -1,4 +1,4 @@
-"""A window on a book as a browser of this machine sees it: it is opened by its address, asked for pages, and closed."""
+"""A window on a book as a browser on this machine sees it: the test opens it by its address, asks for pages, and closes it."""
 from __future__ import annotations
 
 import hashlib
@@ -19,12 +19,12 @@ from urllib.parse import urlsplit
 from tests.support.program import ROOT, Program
 
 PACKING = ROOT / "tools" / "packing" / "tools_file.py"
-# so long a page may take on a busy machine
+# the most seconds for a page on a busy machine
 PATIENCE = 120
 
 
 def installed(folder: Path, program: Program) -> Path:
-    """The tools as they are installed, in one file that knows the sum of its program; the program lies beside it."""
+    """Installs the tools as users have them: one file that knows the checksum of its program, with the program next to it."""
     folder.mkdir(parents=True, exist_ok=True)
     tools, content = folder / "life-tools", program.path.read_bytes()
     (folder / "life").write_bytes(content)
@@ -37,7 +37,7 @@ def installed(folder: Path, program: Program) -> Path:
 
 @dataclass
 class Answer:
-    """What a window answered: the status, the headers and the body."""
+    """A reply of a window: the status, the headers and the body."""
 
     status: int
     headers: Mapping[str, str]
@@ -45,7 +45,7 @@ class Answer:
 
     @property
     def text(self) -> str:
-        """What a person reads of a page."""
+        """The text that a person reads on the page."""
         page = self.body.decode("utf-8")
         page = re.sub(r"<(style|script|title)\b.*?</\1>", " ", page, flags=re.S)
         return " ".join(html.unescape(re.sub("<[^>]*>", " ", page)).split())
@@ -55,11 +55,11 @@ class Answer:
         return self.body.decode("utf-8")
 
     def links(self) -> list[str]:
-        """The addresses of the page, as a browser follows them."""
+        """Returns the addresses that the page links to, as a browser follows them."""
         return [html.unescape(each) for each in re.findall(r'<a [^>]*?href="([^"]*)"', self.page)]
 
     def rows(self, caption: str, part: str = "tbody") -> list[list[str]]:
-        """The cells of a table's rows, as they are read."""
+        """Returns the cells of a table's rows, as a person reads them."""
         for table in re.findall(r"<table>.*?</table>", self.page, re.S):
             named = re.search(r"<caption[^>]*>(.*?)</caption>", table, re.S)
             if named and html.unescape(named[1]).strip() == caption:
@@ -70,7 +70,7 @@ class Answer:
         raise AssertionError(f"there is no table {caption!r}: {self.text[:500]}")
 
     def marks(self, label: str) -> list[str]:
-        """What the marks of the chart of this label say."""
+        """Returns the texts of the marks in the chart with this label."""
         for chart in re.findall(r'<svg class="chart".*?</svg>', self.page, re.S):
             if html.unescape(re.search('aria-label="([^"]*)"', chart)[1]).startswith(label):  # type: ignore[index]
                 return [html.unescape(each) for each in re.findall("<title>(.*?)</title>", chart)]
@@ -79,7 +79,7 @@ class Answer:
 
 @dataclass
 class Window:
-    """An open window: where it answers, and the cookie of whoever came in by its key."""
+    """An open window: its address, and the cookie of whoever entered by its key."""
 
     tools: Path
     folder: Path
@@ -118,14 +118,14 @@ class Window:
         return self.address.port
 
     def enter(self) -> Answer:
-        """Comes in by the key of the address."""
+        """Enters by the key in the address, and keeps the cookie."""
         answer = self.ask(f"{self.root}/?{self.address.query}")
         if answer.status == 303:
             self.cookie = answer.headers["Set-Cookie"].split(";")[0]
         return answer
 
     def ask(self, path: str, **headers: str) -> Answer:
-        """One request, as it is."""
+        """Sends one request, without following redirections."""
         line = http.client.HTTPConnection("127.0.0.1", self.port, timeout=PATIENCE)
         try:
             line.request("GET", path, headers={**({"Cookie": self.cookie} if self.cookie else {}), **headers})
@@ -135,7 +135,7 @@ class Window:
             line.close()
 
     def get(self, path: str) -> Answer:
-        """A page once it is there, by way of whatever address it leads to."""
+        """Returns a page once it is there, following each redirection."""
         path = path if path.startswith(self.root) else self.root + path
         ends = time.monotonic() + PATIENCE
         answer = self.ask(path)
@@ -149,7 +149,7 @@ class Window:
         return answer
 
     def page(self, path: str) -> Answer:
-        """A page that has to be there."""
+        """Returns a page, and asserts that its status is 200."""
         answer = self.get(path)
         assert answer.status == 200, f"{path}: {answer.status}: {answer.text[:1500]} {self.err.read_text()[-1500:]}"
         return answer
