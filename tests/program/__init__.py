@@ -1,1 +1,1 @@
-"""The program: its answers, files, faults and kills."""
+"""Tests of the program: what it prints, the files it leaves, and what it does when a device fails or it is killed."""

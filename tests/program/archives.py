@@ -1,4 +1,5 @@
-"""Folders that all may read and none may write. Root may write any file, so the program is run there as nobody."""
+"""Folders that everybody may read and nobody may write. Root may write any file, so as root the program is run there as the
+user nobody."""
 from __future__ import annotations
 
 import os
@@ -11,7 +12,7 @@ from tests.support.program import Program
 
 
 def let_all_read(folder: Path) -> None:
-    """A temporary folder and those above it can be entered by anybody."""
+    """Lets everybody enter a temporary folder and the folders above it."""
     for one in (folder, *folder.parents):
         if one.is_relative_to("/tmp") and one != Path("/tmp") and os.stat(one).st_uid == os.geteuid():
             os.chmod(one, 0o755)
@@ -19,7 +20,7 @@ def let_all_read(folder: Path) -> None:
 
 @contextmanager
 def archive(folder: Path, program: Program) -> Iterator[list[str]]:
-    """Closes a folder with its files; gives what runs the program there as nobody."""
+    """Makes a folder and its files read-only, and yields the command that runs the program there as nobody."""
     reader = shutil.copy(program.path, folder.parent / "reader")
     os.chmod(reader, 0o755)
     let_all_read(folder.parent)

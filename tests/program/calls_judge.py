@@ -1,7 +1,7 @@
 """Judges the records that strace made of small runs: calls on the folder, the two files and the output.
 
-Each is a list of such calls with what was written and where, and has to be just what the journal and its checkpoint allow, in
-order and number. A line that tells of a posting may not be written before its record is safe.
+A record becomes a list of such calls, each with what was written and where. In order and number, the list must be exactly what
+the journal and its checkpoint allow. No line that reports a posting may be written before the posting's record is safe.
 """
 from __future__ import annotations
 
@@ -12,7 +12,7 @@ from typing import Any
 
 
 def part(pattern: str, text: str) -> tuple[str, ...]:
-    """The groups of a pattern that has to be in a text."""
+    """Returns the groups of a pattern that must match somewhere in a text."""
     found = re.search(pattern, text)
     if not found:
         raise AssertionError(f"a call that isn't read: {text}")
@@ -20,8 +20,8 @@ def part(pattern: str, text: str) -> tuple[str, ...]:
 
 
 def whole(record: Path) -> Iterator[Any]:
-    """The calls of a record. One in which another thread's stands counts where it ends, but a write to the output where it
-    begins."""
+    """Yields the calls of a record. A call that is interrupted by a line of another thread counts at the place where it ends,
+    but a write to the output counts where it begins."""
     begun = {}
     for line in record.read_text(encoding="ascii").splitlines():
         thread, call = line.split(None, 1)
@@ -39,7 +39,7 @@ def whole(record: Path) -> Iterator[Any]:
 
 
 def calls(record: Path) -> Any:
-    """The calls on the folder, the two files and the output, each with what it wrote and where."""
+    """Returns the calls on the folder, the two files and the output, each with what it wrote and where."""
     roles, found = {}, []
     for line in whole(record):
         call = re.match(r"\d+ +(\w+)\((.*)\) += (-?\d+)", line)
@@ -86,13 +86,14 @@ BOTH_ENDED = ["write output", "close journal", "close checkpoint"] + ["close fol
 
 
 def creation() -> list[str]:
-    """The three writes by which a journal is created, each synced before the next."""
+    """Returns the three writes by which a journal is created, each synced before the next."""
     writes = ((0, b"\0"), (1, b"LIFEJRNL\0\1\0\x40\0\0\0\0\0"), (0, b"\1"))
     return [call for at, written in writes for call in (f"write journal {at} {written.hex()}", "fsync journal")]
 
 
 def postings(journal: bytes, count: int) -> list[str]:
-    """Of each record the body and a closed commit byte behind it, then its own commit byte, each synced."""
+    """Returns the calls for this number of records: for each record its body followed by a commit byte that isn't 1, then its
+    own commit byte, each synced."""
     found = []
     for at in range(17, 17 + 65 * count, 65):
         found += [f"write journal {at + 1} {journal[at + 1:at + 65].hex()}00", "fsync journal", f"write journal {at} 01",
@@ -101,7 +102,8 @@ def postings(journal: bytes, count: int) -> list[str]:
 
 
 def saving(kept: bytes) -> list[str]:
-    """The commit byte is closed, all else is written, the commit byte is opened, each safe before the next."""
+    """Returns the calls that save a checkpoint: its commit byte is cleared, everything else is written, its commit byte is set
+    to 1; each is safe before the next."""
     return ["write checkpoint 0 00", "fsync checkpoint", f"write checkpoint 1 {kept[1:64].hex()}",
             f"write checkpoint 64 {kept[64:].hex()}", "fsync checkpoint", "write checkpoint 0 01", "fsync checkpoint"]
 
@@ -111,7 +113,8 @@ def judge(record: Path, wanted: list[str]) -> None:
 
 
 def judge_run(record: Path, wanted: list[str], accepted: int) -> None:
-    """A run writes its lines while it goes on, but none that tells of a posting before its commit byte is safe."""
+    """Judges a run that writes its lines while it goes on: no line may report a posting before the posting's commit byte is
+    safe."""
     made = calls(record)
     told = safe = gate = 0
     for place, call in enumerate(made):

@@ -1,4 +1,4 @@
-"""Judges records of strace: what passed through the program's devices, by the disk model and the files beside it."""
+"""Judges records of strace: whether what passed through the program's devices agrees with the disk model and the files."""
 from __future__ import annotations
 
 import re
@@ -16,7 +16,8 @@ class Wrong(Exception):
 
 @dataclass(frozen=True)
 class Call:
-    """A call of the program: its word, which file it was made on, the bytes that passed, the place and the answer."""
+    """A system call of the program: its name, the file, the bytes that passed, the place, how many bytes were asked for, and
+    the result."""
 
     word: str
     file: str
@@ -31,7 +32,7 @@ def bytes_of(text: str) -> bytes:
 
 
 def whole_lines(record: Path) -> Iterator[str]:
-    """The calls of a record; one in which another thread's stands counts where it ends."""
+    """Yields the calls of a record; a call that is interrupted by a line of another thread counts where it ends."""
     begun: dict[str, str] = {}
     for line in record.read_text().splitlines():
         thread, _, call = line.partition(" ")
@@ -45,7 +46,7 @@ def whole_lines(record: Path) -> Iterator[str]:
 
 
 def calls_of(record: Path) -> list[Call]:
-    """The calls of a record on files that it opened and on the standard streams, in order."""
+    """Returns the calls of a record on files that it opened and on the standard streams, in order."""
     files = {0: "input", 1: "output", 2: "error"}
     calls = []
     for line in whole_lines(record):
@@ -73,7 +74,7 @@ def calls_of(record: Path) -> list[Call]:
 
 
 def replay(calls: list[Call], content: bytes) -> bytes:
-    """What the journal's file holds after the calls; each answer has to be one that the disk model allows."""
+    """Returns the content of the journal's file after the calls. Each result must be one that the disk model allows."""
     failed_sync = False
     for call in calls:
         if call.word == "pread64":
@@ -94,7 +95,7 @@ def replay(calls: list[Call], content: bytes) -> bytes:
 
 
 def given(calls: list[Call], name: str) -> bytes:
-    """The bytes that a file or stream gave, up to its end, which was seen."""
+    """Returns the bytes that a file or stream gave, up to its end, which the program must have seen."""
     reads = [call for call in calls if call.word == "read"]
     if not reads or reads[-1].answer != 0:
         raise Wrong(f"the end of {name} wasn't seen")
@@ -102,7 +103,7 @@ def given(calls: list[Call], name: str) -> bytes:
 
 
 def judge(calls: list[Call], before: bytes, after: bytes, printed: bytes, folder: Path, script: bytes | None) -> None:
-    """Of a run in this folder, with this script where it reads one."""
+    """Judges the calls of a run in this folder, with this script if the run reads one."""
 
     def of(file: str) -> list[Call]:
         return [call for call in calls if call.file == file]
@@ -120,13 +121,13 @@ def judge(calls: list[Call], before: bytes, after: bytes, printed: bytes, folder
 
 
 def is_written_again(calls: list[Call], at: int) -> bool:
-    """Whether the first byte of a write is written over later, so that the file doesn't show it in the end."""
+    """Returns whether the first byte of a write is written over later, so that the file doesn't show it in the end."""
     place = calls[at].place
     return any(c.word == "pwrite64" and c.place <= place < c.place + len(c.data) for c in calls[at + 1:])
 
 
 def changed(calls: list[Call]) -> list[list[Call]]:
-    """The same calls, each time with one answer that an honest device doesn't give."""
+    """Returns variants of these calls; in each, one result is changed to one that an honest device doesn't give."""
     other = []
     for at, call in enumerate(calls):
         wrong = None

@@ -1,4 +1,4 @@
-"""Programs of the suite that try many runs by themselves, such as kills at random moments, each run as a process of its own."""
+"""Runs modules of the suite as processes of their own; each tries many runs of the program, such as kills at random moments."""
 from __future__ import annotations
 
 import os
@@ -14,7 +14,7 @@ from tests.support.program import ROOT, Program
 
 
 def passes(program: Program, module: str, *words: str | Path, seconds: int = 1200) -> str:
-    """What tests.program.MODULE prints with these words, which has to end with status 0."""
+    """Returns what tests.program.MODULE prints with these arguments, and asserts that it ends with status 0."""
     env = {**os.environ, "PYTHONPATH": f"{ROOT}:{ROOT / 'tools'}", "LIFE_PROGRAM": str(program.path)}
     ran = subprocess.run([sys.executable, "-m", f"tests.program.{module}", *map(str, words)], cwd=ROOT, env=env,
                          capture_output=True, text=True, timeout=seconds, check=False)
@@ -24,7 +24,7 @@ def passes(program: Program, module: str, *words: str | Path, seconds: int = 120
 
 @contextmanager
 def in_memory(beside: Path) -> Iterator[Path]:
-    """A folder in memory, where the machine has one, so that nothing waits for a disk."""
+    """Yields a folder in memory, if the machine has one, so that nothing waits for a disk."""
     shared = Path("/dev/shm")
     made = Path(tempfile.mkdtemp(dir=shared if os.access(shared, os.W_OK) else beside))
     try:

@@ -1,5 +1,5 @@
-"""The balances of the small office beside those of plain text accounting: what its records book is handed as transactions to
-`ledger` and to `hledger`, and their balances are those that `state` prints."""
+"""Compares the balances of the small office with those of plain text accounting: its records are written as transactions for
+`ledger` and `hledger`, and the balances of these programs must be those that `state` prints."""
 from __future__ import annotations
 
 import decimal

@@ -1,5 +1,5 @@
-"""A journal that can't be written, as in an archive: what only reads is answered as over files that can be written, a posting is
-answered `fault`, and nothing is made or changed."""
+"""Tests a journal that can't be written, such as in an archive: commands that only read print what they print over a writable
+file, a posting is answered `fault`, and nothing is created or changed."""
 from __future__ import annotations
 
 import fcntl
@@ -17,7 +17,7 @@ READERS = ["state", "value 2023-06-30", "project 2023-06-30 5"]
 
 
 def ran(words: list[str], folder: Folder, asked: str, given: str = "") -> tuple[int, str]:
-    """The status and what is printed; the folder stays as it is."""
+    """Returns the status and the output of a command, and asserts that the folder stays as it is."""
     before = folder.files()
     ended = subprocess.run([*words, *asked.split()], cwd=folder.path, input=given.encode(), capture_output=True, check=False)
     assert folder.files() == before
@@ -42,7 +42,7 @@ def test_an_archive(has_checkpoint: bool, desk: Folder) -> None:
         desk.life("checkpoint")
     else:
         (desk.path / "checkpoint.life").unlink(missing_ok=True)
-    # two postings that the rules take, one that they refuse, and a value
+    # two postings that the rules accept, one that they refuse, and a valuation
     lines = ISSUE.format(99) + "1,claim,98,2023-06-30\n1,value,2023-06-30,now,1\n" + ISSUE.format(100)
     faults = ("1,issue,99,fault\n1,claim,98,refused,unknown\n" + wanted[READERS[1]].out.replace("0,value", "1,value", 1)
               + "1,issue,100,fault\nwatcher,1,0,0\nwatcher,2,0,0\n")

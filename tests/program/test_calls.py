@@ -1,8 +1,8 @@
-"""The calls that the program makes on real files, recorded by strace: just those that the journal and its checkpoint allow, in
-order and number.
+"""Checks the calls that the program makes on real files, recorded by strace: in order and number, exactly those that the journal
+and its checkpoint allow.
 
-A sync that is left out, or made too late, is seen here and by no proof, and so is a write to a file that can only be read, and
-a line that is written before its record is safe.
+A sync that is left out or made too late is found here and by no proof; likewise a write to a file that can only be read, and a
+line that is written before its record is safe.
 """
 from __future__ import annotations
 
@@ -24,7 +24,7 @@ THREE = "".join(example("first-issues.csv").splitlines(keepends=True)[:3])
 
 
 def record(folder: Path, program: list[str], *words: str, given: str = "", traced: str = TRACED) -> tuple[Path, str]:
-    """The record of a run that has to end well, and what the run prints."""
+    """Returns strace's record of a run, which must end with status 0, and what the run prints."""
     made = folder.parent / "record"
     ran = subprocess.run(["strace", "-f", "-s", "400", "-xx", "-o", made, "-e", f"trace={traced}", *program, *words], cwd=folder,
                          input=given.encode(), capture_output=True, check=False)
@@ -56,7 +56,7 @@ def test_a_run_that_accepts_nothing(posted: Folder) -> None:
 
 
 def test_states_and_checkpoints(posted: Folder) -> None:
-    """Of an empty file and over a checkpoint, which a run doesn't touch."""
+    """Over an empty file and over a checkpoint; a run doesn't touch the checkpoint."""
     program = [str(posted.program.path)]
     judge(record(posted.path, program, "state")[0], BOTH + BOTH_ENDED)
     (posted.path / "checkpoint.life").unlink()
@@ -88,13 +88,14 @@ def long_journal(desk: Folder) -> Folder:
 
 
 def many_calls(folder: Folder, call: str, *words: str) -> tuple[int, str]:
-    """How often a run makes a call, and what it prints."""
+    """Returns how often a run makes a call, and what the run prints."""
     made, out = record(folder.path, [str(folder.program.path)], *words, traced=call)
     return made.read_text(encoding="ascii").count(f"{call}("), out
 
 
 def test_a_long_journal_is_read_by_pieces(long_journal: Folder) -> None:
-    """Twice: for its commit bytes, and for its bodies. For the account of one policy all that is done twice."""
+    """A journal is read in large pieces, twice: for its commit bytes and for its bodies. The state of one policy reads it
+    twice more."""
     reads, out = many_calls(long_journal, "pread64", "state")
     assert reads <= JOURNAL_BYTES // 32768 + 40 and out.endswith(f"count,{RECORDS}\n")
     reads, out = many_calls(long_journal, "pread64", "state", "7")
@@ -102,7 +103,7 @@ def test_a_long_journal_is_read_by_pieces(long_journal: Folder) -> None:
 
 
 def test_a_long_checkpoint_is_written_and_read_by_pieces(long_journal: Folder) -> None:
-    """With it all commit bytes are read, and no body."""
+    """A checkpoint is written and read in large pieces; `state` with it reads all commit bytes and no body."""
     writes, _ = many_calls(long_journal, "pwrite64", "checkpoint")
     assert (long_journal.path / "checkpoint.life").stat().st_size == CHECKPOINT_BYTES and writes <= CHECKPOINT_BYTES // 65536 + 4
     reads, out = many_calls(long_journal, "pread64", "state")

@@ -1,15 +1,15 @@
-"""What the program prints, byte by byte, and ends with, by the files of tests/cases.
+"""Compares what the program prints, byte by byte, and its exit status with the files of tests/cases.
 
-Their texts come from outside the program: by hand, from docs/reference/script.md, docs/howto/clerk.md and
-docs/explanation/reserves.md, or in fractions.
+The texts come from outside the program: worked out by hand from docs/reference/script.md, docs/howto/clerk.md and
+docs/explanation/reserves.md, or computed in fractions.
 
-words.txt has a case a line: a status, the one line that is printed, and the arguments, which stand between spaces; '' is the
-empty one. They are asked in a folder without a basis, with a script that asks for a value, and make no journal.
+Each line of words.txt is a case: a status, the one line that is printed, and the arguments, which are separated by spaces; '' is
+the empty argument. The cases run in a folder without a basis, with a script that asks for a value, and create no journal.
 
-Each folder of tests/cases has runs in one folder, one after the other: `words` has a line for each, its status, its arguments
-and the script that it is given (`<NAME`), and `transcript` all that they print. An empty line in both begins anew, with the
-journal away. `files` names files of the repository that stand beside the folder's own, each with its name there, if that is
-another one.
+Each folder of tests/cases has runs that are made in one folder, one after another: `words` has a line for each, with its status,
+its arguments and the script that it is given (`<NAME`); `transcript` has everything that they print. After an empty line in both
+files, the journal is removed and the next runs begin anew. `files` names files of the repository that are copied next to the
+folder's own files, each with its name there if that is another one.
 """
 from __future__ import annotations
 
@@ -26,7 +26,7 @@ from tests.support.program import ROOT
 CASES = ROOT / "tests" / "cases"
 WORDS = [line.split(" ", 2) for line in (CASES / "words.txt").read_text(encoding="utf-8").splitlines()]
 FOLDERS = sorted(folder.name for folder in CASES.iterdir() if folder.is_dir())
-# what reads bad arguments, a bad script, a bad basis or no input makes no journal; but a basis is read where there is one
+# after bad arguments, a bad script, a bad basis or unreadable input no journal is created; a basis is read only if one is needed
 WITHOUT_A_JOURNAL = (2, 3, 4, 6)
 
 
@@ -46,7 +46,8 @@ def lay_out(case: Path, folder: Folder) -> None:
 
 
 def run_one(folder: Folder, status: int, asked: str) -> str:
-    """What a run prints. Only `run` and `load` that end well change a journal, and a refusal makes none."""
+    """Runs one case, and returns what it prints. Only a `run` or `load` that ends with status 0 may change a journal, and a
+    refused command creates none."""
     words, _, script = asked.partition("<")
     before = folder.journal.read_bytes() if folder.journal.exists() else None
     ran = folder.life(*words.split(), given=folder.read(script) if script else b"")

@@ -1,6 +1,7 @@
-"""Checkpoints: bytes worked out by hand; a second file that is no checkpoint, or is held, can't be opened or fails; one that is
-older than the journal or than its upgrade; drawn books, whose every checkpoint is made anew without the program, byte by byte;
-`state`, which writes with a checkpoint what it writes without; and programs that are killed."""
+"""Tests checkpoints: bytes worked out by hand; a second file that is no checkpoint, is locked, can't be opened or fails; a
+checkpoint that is older than the journal or than its upgrade; drawn books, for which every checkpoint is computed again
+without the program, byte by byte; `state`, which prints with a checkpoint what it prints without one; and programs that are
+killed."""
 from __future__ import annotations
 
 import fcntl
@@ -23,7 +24,7 @@ from tests.support.program import Program
 
 CLAIMED = POLICY + "1,premium,7001,2020-01-01,400.00\n1,claim,7001,2020-06-01\n1,settle,7001,2020-07-01,400.00\n"
 SETTLED = "1,settle,7001,2020-07-03,600.00\n"
-# as docs/reference/journal.md spells them by hand
+# bytes as docs/reference/journal.md writes them out by hand
 BY_HAND = bytes.fromhex(
     "01 4c494645 4348 4b50 0001 0030 00000000 00000004 00000000 00000001"
     "0000000000000000 ffffffffffff63c0 00000000000186a0 ffffffffffff15a0 000000"
@@ -36,14 +37,14 @@ def kept(folder: Folder) -> Path:
 
 @pytest.fixture
 def claimed(table_q: Folder) -> Folder:
-    """Four commands on a policy, and the checkpoint of them."""
+    """A book of four commands on one policy, and its checkpoint."""
     table_q.post(CLAIMED)
     assert told(table_q, "checkpoint") == (0, "checkpoint,4\n")
     return table_q
 
 
 def stated_without(folder: Folder) -> tuple[int, str]:
-    """What `state` prints in a folder with the journal alone."""
+    """Returns what `state` prints in a folder that has only the journal."""
     alone = folder.below("alone")
     alone.write("journal.life", folder.journal.read_bytes())
     kept(alone).unlink(missing_ok=True)
@@ -51,14 +52,14 @@ def stated_without(folder: Folder) -> tuple[int, str]:
 
 
 def stated_alike(folder: Folder) -> bool:
-    """Whether `state` writes what it writes without the checkpoint, and leaves that as it is."""
+    """Returns whether `state` prints what it prints without the checkpoint, and leaves the checkpoint as it is."""
     before = kept(folder).read_bytes()
     stated = told(folder, "state")
     return stated[0] == 0 and stated == stated_without(folder) and kept(folder).read_bytes() == before
 
 
 def is_right(folder: Folder) -> None:
-    """The checkpoint is, byte by byte, that of the journal; behind it bytes of an earlier one may stand."""
+    """Asserts that the checkpoint is, byte by byte, that of the journal; bytes of an earlier checkpoint may follow it."""
     assert folder.printed("read-checkpoint", "checkpoint.life", "journal.life") == folder.life("state").out
     made = bytes_of_checkpoint(checkpoint_of(read_journal(folder.journal.read_bytes()).commands))
     assert kept(folder).read_bytes().startswith(made)
@@ -72,7 +73,7 @@ def put(path: Path, at: int, byte: int) -> None:
 
 @contextmanager
 def held(path: Path) -> Iterator[None]:
-    """Another process has this file."""
+    """Locks the file, as another process would."""
     with open(path, "rb") as file:
         fcntl.flock(file, fcntl.LOCK_EX)
         yield
@@ -87,7 +88,7 @@ def test_a_claim_and_a_settlement(claimed: Folder) -> None:
     for gate in (1, 0):
         put(kept(claimed), 0, gate)
         assert told(claimed, "state") == (0, settled)
-    # with the commit byte closed it isn't a checkpoint for the tool either
+    # if its commit byte is 0, the tool doesn't take it for a checkpoint either
     assert claimed.tools("read-checkpoint", "checkpoint.life", "journal.life").status == 2
 
 
@@ -109,7 +110,7 @@ def test_no_other_mode_makes_one(table_q: Folder) -> None:
 
 @pytest.mark.parametrize("words", OTHERS)
 def test_no_other_mode_touches_one(words: str, table_q: Folder) -> None:
-    """It is held meanwhile by another process: who doesn't open it doesn't meet the lock."""
+    """Another process has locked the checkpoint meanwhile: a command that doesn't open it doesn't meet the lock."""
     table_q.post("")
     file = table_q.write("checkpoint.life", os.urandom(200))
     os.utime(file, (978307200, 978307200))
@@ -128,9 +129,9 @@ def test_arguments_that_are_no_checkpoint(words: list[str], folder: Folder) -> N
 
 @pytest.mark.parametrize("at, byte, status", [
     (0, 0, 2), (0, 2, 2), (8, ord("K"), 2), (12, 0o61, 2),
-    # a position above the count, and one above the most commands
+    # a position above the count of the journal, and one above the greatest count
     (20, 5, 1), (17, 1, 2),
-    # an upgrade and more policies than commands, balances out of bounds, a broken policy
+    # an upgrade and more policies than commands, balances out of range, an invalid policy
     (24, 5, 2), (28, 5, 2), (29, 0o177, 2), (45, 0o200, 2), (63, 1, 2), (70, 1, 2), (71, 4, 2), (72, 1, 2), (78, 255, 2),
     (104, 255, 2), (111, 1, 2)])
 def test_a_changed_byte_makes_it_none(at: int, byte: int, status: int, claimed: Folder) -> None:
@@ -162,7 +163,7 @@ def test_a_foreign_file_is_none_and_is_written_over(content: bytes, claimed: Fol
 
 
 def test_one_of_another_journal_is_seen(claimed: Folder) -> None:
-    """A state that rests on it is another, so that the tests here see one."""
+    """With another book's checkpoint `state` prints something else, so the tests of this file would notice it."""
     other = claimed.below("other")
     other.post("1,issue,9,2020-01-01,term,0,3,500.00,200.00\n")
     other.life("checkpoint")
@@ -181,14 +182,15 @@ def test_one_that_is_older_than_an_upgrade(folder: Folder) -> None:
     assert stated_alike(folder)
     folder.life("checkpoint")
     is_right(folder)
-    # the position of the upgrade
+    # the byte with the position of the upgrade
     assert kept(folder).read_bytes()[24] == 3
     folder.post("1,issue,7002,2021-01-01,term,0,3,500.00,200.00\n")
     assert stated_alike(folder)
 
 
 def test_bad_records(claimed: Folder) -> None:
-    """What `state` reads again is refused as it is without a checkpoint; what lies before isn't read again, but by a run."""
+    """`state` refuses a bad record after the checkpoint's position as it does without a checkpoint. It doesn't read earlier
+    records again; a run does."""
     claimed.post(SETTLED)
     longer = claimed.journal.read_bytes()
     put(claimed.journal, FIRST_BYTES + 4 * RECORD, 9)
@@ -213,7 +215,7 @@ def folder_in_its_place(file: Path) -> None:
 SECONDS: dict[str, Callable[[Path], None]] = {
     "a folder": folder_in_its_place,
     "a link to nowhere": lambda file: file.symlink_to("nowhere/checkpoint.life"),
-    # the journal itself under the other name is locked already
+    # the hard link is the journal itself, which is locked already
     "a hard link to the journal": lambda file: os.link(file.with_name("journal.life"), file),
     "a link to the journal": lambda file: file.symlink_to("journal.life"),
 }
@@ -221,7 +223,7 @@ SECONDS: dict[str, Callable[[Path], None]] = {
 
 @pytest.mark.parametrize("second", ["held", *SECONDS])
 def test_a_second_file_that_fails(second: str, claimed: Folder) -> None:
-    """These two modes end with 8, and no other does."""
+    """`state` and `checkpoint` end with status 8, and the other commands don't."""
     before = claimed.journal.read_bytes()
     if second == "held":
         with held(kept(claimed)):
@@ -251,7 +253,7 @@ def test_a_file_that_cannot_grow(claimed: Folder) -> None:
 
 @pytest.mark.parametrize("word", ["checkpoint", "state"])
 def test_an_output_that_is_full(word: str, claimed: Folder) -> None:
-    """What was kept is kept."""
+    """If the output is full, the status is 7 and the checkpoint stays as it was."""
     with open("/dev/full", "wb") as full:
         ran = subprocess.run([*claimed.program.words, word], cwd=claimed.path, stdin=subprocess.DEVNULL, stdout=full, check=False)
     assert ran.returncode == 7 and kept(claimed).read_bytes() == BY_HAND
@@ -266,7 +268,7 @@ def test_a_journal_that_another_run_has(claimed: Folder) -> None:
 
 
 def test_closed_streams(claimed: Folder) -> None:
-    """The two files are none of them."""
+    """No closed stream's number is taken by one of the two files."""
     before = claimed.journal.read_bytes()
     words = ["sh", "-c", 'exec "$0" checkpoint <&- >&- 2>&-', str(claimed.program.path)]
     assert subprocess.run(words, cwd=claimed.path, check=False).returncode == 7
@@ -277,7 +279,7 @@ def test_closed_streams(claimed: Folder) -> None:
 
 @pytest.mark.parametrize("seed", [1, 2, 3])
 def test_drawn_books(seed: int, folder: Folder) -> None:
-    """Policies of all plans and statuses; a checkpoint of each prefix of the book, beside all of it."""
+    """Policies of all plans and statuses; a checkpoint of each of several prefixes of the book is used with the whole book."""
     lay_drawn_book(folder, seed, 300, 4)
     before = folder.journal.read_bytes()
     assert folder.life("checkpoint").status == 0

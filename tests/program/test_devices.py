@@ -1,7 +1,7 @@
-"""What passes through the real devices, recorded by strace beside the program: standard input gives the script up to its end, the
-folder the files of the basis, standard output takes the transcript, and each answer of the journal's file is one that the disk
-model allows. So the records that the adapters keep for contracts would have just this. And no file takes the place of a closed
-stream.
+"""Checks what passes through the real devices, as strace records it: standard input gives the script up to its end, the folder
+gives the files of the basis, standard output takes the transcript, and each result of a call on the journal's file is one that
+the disk model allows. So the records that the adapters keep for contracts would contain exactly this. It also checks that no file
+takes the number of a closed stream.
 """
 from __future__ import annotations
 
@@ -21,7 +21,7 @@ TRACED = "openat,pread64,read,pwrite64,write,fsync,fdatasync,close"
 
 
 def recorded(folder: Folder, *words: str, given: bytes = b"") -> tuple[list[Call], bytes, bytes, bytes]:
-    """The calls of a run that has to end well, the journal before and after it, and what it printed."""
+    """Returns the calls of a run, which must end with status 0, the journal before and after it, and what it printed."""
     before = folder.journal.read_bytes() if folder.journal.exists() else b""
     record = folder.path / "record"
     with open(folder.write("given", given), "rb") as file:
@@ -39,7 +39,7 @@ def test_the_devices_give_and_take_what_the_program_is_told_and_prints(runs: lis
         script = SCRIPT if words == "run" else None
         calls, before, after, printed = recorded(examples_basis, *words.split(), given=script or b"")
     judge(calls, before, after, printed, examples_basis.path, script)
-    # and the judge refuses each answer that an honest device doesn't give
+    # the judge must refuse each result that an honest device doesn't give
     lies = changed(calls)
     assert len(lies) > 2
     for lie in lies:
@@ -48,14 +48,14 @@ def test_the_devices_give_and_take_what_the_program_is_told_and_prints(runs: lis
 
 
 def closed_run(folder: Folder, words: list[str], closed: str) -> tuple[int, str]:
-    """The status of a run with these streams closed, and what it printed."""
+    """Returns the status of a run with these streams closed, and what it printed."""
     shut = " ".join({"input": "<&-", "output": ">&-", "error": "2>&-"}[one] for one in closed.split("-") if one)
     ran = subprocess.run(["sh", "-c", f'exec "$@" {shut}', "sh", *words, "run"], cwd=folder.path,
                          input=example("first-issues.csv").encode(), capture_output=True, check=False)
     return ran.returncode, ran.stdout.decode()
 
 
-# what is closed; the file before; the status; what is printed; the file afterwards
+# which streams are closed; the file before; the status; what is printed; the file afterwards
 CLOSED = [line.split() for line in """
     . fresh 0 transcript journal; . journal 0 taken journal; . foreign 5 notajournal foreign
     error fresh 0 transcript journal; error journal 0 taken journal; error foreign 5 notajournal foreign
@@ -71,7 +71,8 @@ CLOSED = [line.split() for line in """
 @pytest.mark.parametrize("closed, before, status, printed, after", CLOSED, ids=["-".join(case[:2]) for case in CLOSED])
 def test_no_file_takes_the_place_of_a_closed_stream(
         closed: str, before: str, status: str, printed: str, after: str, runner: str, folder: Folder) -> None:
-    """The program itself, and as the launcher begins it, whose own commands may not take such a place either."""
+    """Runs the program itself, and as the launcher starts it; the launcher's own commands may not take the number of a closed
+    stream either."""
     made = folder.below("made")
     transcript = made.post(example("first-issues.csv"))
     journal = made.journal.read_bytes()

@@ -1,5 +1,5 @@
-"""What `life` asks of the system before it runs the program: the book's files are synced, and then the system's copies of them
-are dropped, so that what the program reads comes from the disk, whatever became of an earlier sync."""
+"""Checks what `life` does before it runs the program: it syncs the book's files and then drops the system's cached copies of
+them, so that the program reads from the disk, whatever became of an earlier sync."""
 from __future__ import annotations
 
 import re
@@ -18,7 +18,8 @@ DROPPED = "fadvise64 0, 0, POSIX_FADV_DONTNEED"
 
 
 def calls_of(folder: Path, *words: str, inject: str = "") -> tuple[list[str], str]:
-    """The calls on the book's files, with what follows the descriptor, and what is said on standard error."""
+    """Returns the calls on the book's files, each with the arguments after the descriptor, and the launcher's messages on
+    standard error."""
     log = folder / "calls"
     files = [word for name in ("journal.life", "checkpoint.life") for word in ("-P", str(folder / name), "-P", name)]
     asked = ["-e", "trace=fsync,fadvise64"] + (["-e", f"inject={inject}"] if inject else [])
@@ -50,7 +51,7 @@ def test_a_failed_sync_is_reported_and_all_is_dropped(tmp_path: Path) -> None:
 
 
 def test_it_comes_before_the_book_is_verified_and_the_program_run() -> None:
-    """The clone's launcher and the installed `life` run the program by this one function."""
+    """The clone's launcher and the installed `life` both run the program by this function."""
     body = (LAUNCHER / "program.sh").read_text().split("run_program() {")[1]
     places = [body.index(call) for call in ('read_from_disk "$@"', 'demand_whole "$accepted"', 'exec "$program"')]
     assert places == sorted(places)

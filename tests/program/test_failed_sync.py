@@ -1,8 +1,8 @@
-"""A sync that fails, and the runs after it: what they answer is on the medium, whatever the system kept in memory.
+"""Tests runs after a sync that failed: what they print must be on the medium, whatever the system kept in memory.
 
-Linux marks pages whose write-back failed as clean. So the sync of the next run succeeds without a write, and what that run
-reads could come from such a page. Each case makes a medium whose writes fail at the commit byte of a posting, or at the byte
-that closes a checkpoint, and compares what each later run answers with a copy of the medium that is mounted elsewhere.
+Linux marks pages as clean even if writing them failed. So the sync of the next run succeeds without a write, and what that run
+reads could come from such a page. Each case makes a medium whose writes fail at the commit byte of a posting, or at the byte that
+closes a checkpoint, and compares what each later run prints with a copy of the medium that is mounted elsewhere.
 """
 from __future__ import annotations
 
@@ -23,11 +23,11 @@ from tests.support.program import ROOT, Program
 
 pytestmark = [pytest.mark.root, pytest.mark.needs("strace", "losetup", "unshare", "nsenter", "chattr")]
 
-# the commit byte of the next record is the last byte of a page, so that nothing else of that page changes: 17 + 65 * 1134 = 18
-# * PAGE - 1
+# The commit byte of the next record is the last byte of a page, so that nothing else of that page changes:
+# 17 + 65 * 1134 = 18 * PAGE - 1
 RECORDS = 1134
 PAGE = 4096
-# so many that the ends that are dropped at the opening leave a middle
+# so many records that a middle is left between the ends that are dropped at the opening
 LONG = 100_000
 DAY = day_in("2020-01-01")
 FIRST = 2001
@@ -37,7 +37,7 @@ LATER = (["state", str(FIRST)], ["state"], ["state", str(FIRST)], ["run"], ["sta
 
 
 class Answer(NamedTuple):
-    """What a later run was asked and answered, and the medium behind it."""
+    """The arguments of a later run, its status, its output, and the medium after it."""
 
     words: list[str]
     status: int
@@ -46,7 +46,7 @@ class Answer(NamedTuple):
 
 
 def read_from_disk(folder: Path, *words: str) -> None:
-    """What the launcher and the installed `life` do before they run the program with these words."""
+    """Does what the launcher and the installed `life` do before they run the program with these arguments."""
     part = 'called=life; . "$0/messages.sh"; . "$0/book.sh"; read_from_disk "$@"'
     subprocess.run(["sh", "-c", part, str(ROOT / "tools" / "launcher"), *words], cwd=folder, check=True)
 
@@ -81,8 +81,8 @@ def stopped(program: Program, medium: Medium, folder: Path, words: list[str], sc
 
 
 def fail_at_the_commit_byte(program: Program, medium: Medium, folder: Path, course: str) -> None:
-    """A posting whose commit byte is written and not synced: the medium fails from then on. The system tells of a failure once;
-    where another program syncs the file first, no later run hears of it."""
+    """Makes the medium fail after a posting's commit byte is written and before it is synced. The system reports a failure
+    only once: if another program syncs the file first, no later run learns of the failure."""
     run = stopped(program, medium, folder, ["run"], issue(FIRST), 2)
     medium.fail()
     if course == KILLED:
@@ -109,7 +109,8 @@ def answers(medium: Medium, book: Folder) -> list[Answer]:
 
 
 def is_on_medium(answer: Answer, there: Folder) -> bool:
-    """Whether what a run answered is so in the journal on the medium; one that says that the disk failed says nothing of it."""
+    """Returns whether the journal on the medium agrees with what a run printed; a run that reports a failed disk says nothing
+    about it."""
     if answer.words == ["run"]:
         accepted = re.findall(r"^1,issue,(\d+),accepted,", answer.out, re.M)
         return all(re.search(rf"^policy,{number},", there.life("state", number).out, re.M) for number in accepted)
@@ -140,7 +141,7 @@ def test_later_runs_answer_what_the_medium_has(medium: Medium, course: str, prog
 @pytest.mark.parametrize("writes", [1, 2, 3])
 def test_a_checkpoint_isnt_overwritten_while_it_counts(medium: Medium, writes: int, program: Program, tmp_path: Path) -> None:
     """The byte that closes a checkpoint didn't reach the medium. The next `checkpoint` ends after each of its writes in turn,
-    and all pages but the first reach the medium. The state is then what it is by the journal alone."""
+    and all pages except the first reach the medium. `state` must then print what it prints from the journal alone."""
     book = Folder(medium.files, program)
     book.write("journal.life", file_of(issues(400)))
     assert book.life("checkpoint").status == 0
@@ -165,7 +166,7 @@ def test_a_checkpoint_isnt_overwritten_while_it_counts(medium: Medium, writes: i
 @pytest.mark.slow
 @pytest.mark.parametrize("medium", SYSTEMS[:1], ids=[SYSTEMS[0].name], indirect=True)
 def test_the_middle_of_a_file_overwritten_in_place_is_read_from_the_medium(medium: Medium, program: Program) -> None:
-    """A journal is copied over another one in place, and the medium takes none of it. The next run prints what is on the
+    """A journal is copied over another one in place, but nothing of it reaches the medium. The next run prints what is on the
     medium."""
     book = Folder(medium.files, program)
     before, after = file_of(issues(LONG)), file_of(issues(LONG, premium=2500))

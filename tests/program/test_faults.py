@@ -1,6 +1,6 @@
-"""The program where its machine fails: calls that fail, a journal that is taken away, requests for memory that are refused,
-memory that comes to an end, signals, readers that go away, kills, and two runs at once. Each time the answers, the status and
-the file are judged by docs/reference/statuses.md.
+"""Tests the program if its machine fails: calls that fail, a journal that is taken away, requests for memory that are refused,
+memory that runs out, signals, readers that leave, kills, and two runs at the same time. Each time the output, the status and the
+file are judged by docs/reference/statuses.md.
 """
 from __future__ import annotations
 
@@ -50,8 +50,8 @@ def test_signals_stop_runs_and_readers_go_away(program: Program, tmp_path: Path)
 
 @pytest.mark.needs("strace")
 def test_a_transcript_is_seen_while_the_run_goes_on(program: Program, tmp_path: Path) -> None:
-    """When lines come, readers that stop, runs that are killed, and what is written before a record is safe. KILLS is how many
-    runs are killed."""
+    """Tests when lines are printed, readers that stop, runs that are killed, and that nothing is written before its record is
+    safe. KILLS is the number of runs that are killed."""
     kills = os.environ.get("KILLS") or ("100" if program.is_proved else "10")
     with in_memory(tmp_path) as quick:
         passes(program, "faults.streamed", program.path, quick, SEED, kills)
@@ -63,7 +63,7 @@ def test_an_accepted_line_is_read_as_soon_as_its_record_is_safe(program: Program
 
 
 def test_two_runs_at_once_over_one_file(program: Program, tmp_path: Path) -> None:
-    """One has the file, and the other is answered diskfault, or runs before or after it."""
+    """One run locks the file; the other reports diskfault, or runs before or after it."""
     passes(program, "faults.two_runs", program.path, tmp_path)
 
 

@@ -1,7 +1,6 @@
-"""Limits with real sizes, and bad input, through the real program on real files: what is one byte, row, field, record or element
-past a limit; right files of which one byte is changed; drawn files and arguments. A case that fails is named with its number.
-
-HOSTILE says for how many seconds changed bytes and drawn cases are tried, or `all`.
+"""Tests limits with real sizes, and bad input, with the real program on real files: what is one byte, row, field, record or
+element past a limit; right files in which one byte is changed; drawn files and arguments. A case that fails is named with its
+number. HOSTILE is the number of seconds for changed bytes and for drawn cases, or `all`.
 """
 from __future__ import annotations
 
@@ -46,7 +45,7 @@ def one_issue(folder: Folder) -> Folder:
 
 
 def test_a_commit_byte_of_2(one_issue: Folder) -> None:
-    """The journal ends there."""
+    """The journal ends before a record whose commit byte is 2."""
     journal = bytearray(one_issue.journal.read_bytes())
     journal[17] = 2
     one_issue.journal.write_bytes(bytes(journal))
@@ -57,7 +56,7 @@ def test_a_commit_byte_of_2(one_issue: Folder) -> None:
 
 @pytest.mark.parametrize("change, record", [
     (lambda journal: journal[:82], 0),
-    # 200000 days after 1970-01-01 no day is known
+    # 200,000 days after 1970-01-01 lies past the last day
     (lambda journal: journal[:26] + b"\0\3\15\100" + journal[30:], 0),
     (lambda journal: journal[:82] + journal[17:], 1),
 ], ids=["cut", "an unknown day", "the same issue twice"])
@@ -86,7 +85,7 @@ def test_scripts_at_a_limit(table_q: Folder) -> None:
 
 
 def nested(depth: int) -> str:
-    """A table of so many elements one in the other: the four of the path, its row, and further ones around the row."""
+    """Returns a table with elements that are nested to this depth: the four of the path, and further ones after its row."""
     around = depth - 4
     row = '<Y t="0">1</Y>' + "<a>" * around + "</a>" * around
     return f"<XTbML><Table><Values><Axis>{row}</Axis></Values></Table></XTbML>\n"
@@ -95,7 +94,7 @@ def nested(depth: int) -> str:
 def test_elements_one_in_the_other(table_q: Folder) -> None:
     table_q.post(POLICY)
     table_q.write("q.xml", nested(65))
-    # 28 bytes of the path, 14 of the row, and 60 elements of three bytes before the one that lies too deep
+    # 28 bytes of the path, 14 of the row, and 60 elements of three bytes before the one that is nested too deep
     assert told(table_q, "value", "2021-01-01") == (4, "badbasis,q.xml,222,notdocument\n")
     table_q.write("q.xml", nested(64))
     wanted = "0,value,2021-01-01,1,1\nrow,7001,inforce,0,pasttable\ntotal,0.00,0.00,1\n"
@@ -103,8 +102,8 @@ def test_elements_one_in_the_other(table_q: Folder) -> None:
 
 
 def test_all_issue_ages(table_q: Folder) -> None:
-    """Each with a rate for each age up to 130 and 131 durations in all; then a rate that is one too many, as many bytes as there
-    may be, and one byte more."""
+    """Each issue age has a rate for each age up to 130, in 131 durations in all. Then one rate too many is refused, a file of
+    the greatest size is read, and one byte more is refused."""
     table_q.post(POLICY)
     text = select_table(0, 130, 131, 0, 130)
     table_q.write("q.xml", text)
@@ -126,7 +125,8 @@ def test_all_issue_ages(table_q: Folder) -> None:
 @pytest.mark.needs_proof
 @pytest.mark.timeout(600)
 def test_a_load_of_100_000_policies(examples_basis: Folder) -> None:
-    """It syncs some hundred thousand times, so in memory; plain Rust adds up to the same sums (bench/plain_reserves.rs)."""
+    """The run syncs some hundred thousand times, so it runs in memory; a program in plain Rust computes the same sums
+    (bench/plain_reserves.rs)."""
     with in_memory(examples_basis.path) as quick:
         folder = Folder(quick, examples_basis.program)
         folder.take("basis.csv", "q.xml", "g.xml")
@@ -138,7 +138,7 @@ def test_a_load_of_100_000_policies(examples_basis: Folder) -> None:
 @pytest.mark.needs_proof
 @pytest.mark.timeout(900)
 def test_the_longest_valuation(examples_basis: Folder) -> None:
-    """As many policies as there may be, of the greatest amount; what one of them is worth is worked out without the program."""
+    """As many policies as possible, of the greatest amount; what one of them is worth is computed without the program."""
     write_big("greatest", 1, str(examples_basis.journal))
     block = told(examples_basis, "value", "2022-12-31")[1]
     examples_basis.write("block", block)
@@ -157,7 +157,8 @@ def test_the_longest_valuation(examples_basis: Folder) -> None:
 @pytest.mark.needs_proof
 @pytest.mark.timeout(600)
 def test_a_full_journal(folder: Folder) -> None:
-    """One that lacks a record, takes it, and is full; then one with a further open commit byte, which is the last byte."""
+    """A journal that lacks one record accepts it and is full. If its last byte, a further commit byte, is then set to 1, it is
+    refused."""
     write_big("policies", 3_999_999, str(folder.journal))
     issue = "1,issue,{},2020-01-01,endowment,0,3,1000.00,400.00\n"
     full = "1,issue,4000001,refused,full,4000000\n"

@@ -1,4 +1,4 @@
-"""Generated scripts, and the trial of one by `load`: by itself, over its own journal, and beside `run` and `value`."""
+"""Tests generated scripts, and `load` with one: alone, over its own journal, and compared with `run` and `value`."""
 from __future__ import annotations
 
 import pytest
@@ -8,7 +8,7 @@ from tests.support.folders import Folder
 
 
 def total_by_value(folder: Folder) -> str:
-    """The total of the valuation that the same book then has, which is worked out anew without the program."""
+    """Returns the total of a valuation of the same book, after the valuation was checked without the program."""
     status, block = told(folder, "value", "2020-12-31")
     assert status == 0
     folder.write("block", block)

@@ -1,5 +1,5 @@
-"""The program that measures, run once for each of its words: it prints the lines that it has to, and each caller's turns and
-postings are among those that are counted."""
+"""Tests the program `measure`, run once for each of its commands: it prints the right lines, and counts the turns and postings
+of each caller."""
 from __future__ import annotations
 
 import resource
@@ -22,7 +22,7 @@ def built() -> None:
 
 
 def told(folder: Path, words: str, kibibytes: int = 0) -> tuple[int, str]:
-    """The status and what is printed, where there is a limit within so much memory."""
+    """Returns the status and the output, with the address space limited to this number of KiB unless it is 0."""
     def limit() -> None:
         if kibibytes:
             resource.setrlimit(resource.RLIMIT_AS, (kibibytes * 1024, kibibytes * 1024))
@@ -41,11 +41,12 @@ def test_readers(tmp_path: Path) -> None:
 
 
 @pytest.mark.parametrize("words, line", [
-    # the sums of a program in plain Rust (bench/plain_reserves.rs), and of one by exact fractions (bench/plain_projections.py)
+    # the sums of a program in plain Rust (bench/plain_reserves.rs), and of a program with exact fractions
+    # (bench/plain_projections.py)
     ("reserves 1 1000", "reserves,1000,0,24895851521,24895852195"),
     ("projections 1 1000 40", "projections,1000,0,33280649834,33280649923"),
     ("turns 1 1000", "turns,1,1000"), ("turns 32 100", "turns,32,3200"), ("sleeping 8 80", "sleeping,8,80"),
-    # a version of each policy is left of many, also of a policy with four million
+    # one version of each policy is left of many, even if one policy has four million
     ("versions 1000 10 20 0", "versions,1000,10000,18497"), ("versions 1000 10 20 1", "versions,1000,1000,18497"),
     ("versions 1 4000000 500 0", "versions,1,4000000,24951"), ("versions 1 4000000 500 1", "versions,1,1,24951"),
     ("versions 0 10 10 1", "versions,0,0,0")])
@@ -61,7 +62,7 @@ def test_postings(tmp_path: Path) -> None:
 
 @pytest.mark.parametrize("kibibytes", [40000, 80000, 120000])
 def test_versions_without_memory(kibibytes: int, tmp_path: Path) -> None:
-    """Where the memory for a version is refused, sooner or later, a run says so."""
+    """If the memory for a version is refused, sooner or later, the run ends with status 9."""
     assert told(tmp_path, "versions 4000000 1 0 0", kibibytes) == (9, "")
 
 

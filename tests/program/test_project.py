@@ -1,6 +1,6 @@
-"""Projections: years worked out by hand, by tables of either kind; policies of whom nothing is expected; arguments and files that
-are refused; drawn books, whose every year is worked out anew without the program; and the same bytes for each number of
-workers."""
+"""Tests projections: years worked out by hand, by tables of either kind; policies for which no payment is expected; arguments
+and files that are refused; drawn books, for which every year is computed again without the program; and the same output for
+each number of workers."""
 from __future__ import annotations
 
 import fcntl
@@ -20,7 +20,7 @@ THREE_YEARS = ["400.00,400.00,100.00,100.00,0.00,0.00", "360.00,360.00,180.00,18
 
 
 def years(head: str, *cash: str, unvalued: int = 0) -> str:
-    """A projection's text: its head, and the cash of each year."""
+    """Returns a projection's text: its head, and the cash of each year."""
     rows = "".join(f"year,{number},{one}\n" for number, one in enumerate(cash))
     return f"project,{head},{len(cash)}\n{rows}unvalued,{unvalued}\n"
 
@@ -32,7 +32,7 @@ def one_policy(table_q: Folder) -> Folder:
 
 
 def projected(folder: Folder, words: str) -> str:
-    """A projection whose years are those that are worked out without the program."""
+    """Returns a projection, after its years were checked without the program."""
     status, text = told(folder, "project", *words.split())
     assert status == 0, words
     folder.write("projected", text)
@@ -43,7 +43,7 @@ def projected(folder: Folder, words: str) -> str:
 @pytest.mark.parametrize("words, wanted", [
     ("2020-12-31 3", years("2020-12-31,1,1", *THREE_YEARS)),
     ("--workers=64 2020-01-01 --basis basis.csv 1", years("2020-01-01,1,1", THREE_YEARS[0])),
-    # the second year is the current one; behind the last nothing is paid
+    # the second policy year is the current one; after the last year nothing is paid
     ("2021-01-01 3", years("2021-01-01,1,1", "400.00,400.00,200.00,200.00,0.00,0.00", "320.00,320.00,200.00,200.00,600.00,600.00",
                            NO_CASH)),
 ])
@@ -94,7 +94,7 @@ def test_an_empty_book(table_q: Folder) -> None:
 
 @pytest.mark.parametrize("layout", ["select", "select-inner", "select-outer"])
 def test_select_tables_by_hand(layout: str, folder: Folder) -> None:
-    """By the rates of the issue age, 0.05 and 0.1, and then by the ultimate one of age 2, 0.25."""
+    """The figures follow from the rates of the issue age, 0.05 and 0.1, and then the ultimate rate of age 2, 0.25."""
     folder.write("s.xml", example(f"{layout}.xml"))
     folder.write("basis.csv", "1900-01-01,s.xml,325\n")
     folder.post(POLICY)
@@ -144,7 +144,7 @@ def test_a_foreign_file_and_a_folder(table_q: Folder) -> None:
 
 @pytest.mark.parametrize("seed", range(1, 7))
 def test_every_year_of_a_drawn_book(seed: int, folder: Folder) -> None:
-    """Policies of all plans and statuses by four tables, one of them a select one, and of ages around the tables' ends."""
+    """Policies of all plans and statuses by four tables, one of them a select table, at ages around the ends of the tables."""
     lay_drawn_book(folder, seed, 300, 4)
     before, found = folder.journal.read_bytes(), ""
     for words in ("2003-06-01 1", "2007-02-28 6", "2014-12-31 131", "2019-06-30 40", "2120-01-01 2"):
@@ -164,7 +164,7 @@ def drawn(folder: Folder) -> Folder:
 
 @pytest.mark.parametrize("field, by", [*itertools.product(range(2, 8), (-100, 100)), (0, 0)])
 def test_the_judge_sees_a_changed_line(field: int, by: int, drawn: Folder) -> None:
-    """A bound of a year that is changed by more than it may be wide, or the number of policies without a value."""
+    """One bound of a year is changed by more than the bounds may differ, or the number of policies without a value is changed."""
     lines = [line.split(",") for line in projected(drawn, "2014-12-31 9").splitlines()]
     if field:
         line = next(line for line in lines if line[:2] == ["year", "1"])
@@ -178,7 +178,7 @@ def test_the_judge_sees_a_changed_line(field: int, by: int, drawn: Folder) -> No
 
 @pytest.mark.parametrize("table", ["g.xml", "made.xml"])
 def test_every_year_of_every_age(table: str, folder: Folder) -> None:
-    """By a table by age, and by a select one whose ultimate rates begin behind some of its issue ages."""
+    """By a table by age, and by a select table whose ultimate rates begin after some of its issue ages."""
     folder.write("journal.life", grid_of_all_ages())
     folder.write("made.xml", select_table(18, 70, 25, 40, 118))
     folder.take("g.xml")
@@ -194,7 +194,7 @@ def test_every_year_of_a_generated_book(examples_basis: Folder) -> None:
 
 
 def test_each_number_of_workers_writes_the_same(folder: Folder) -> None:
-    """A worker more is worth its thread for 8,192 policies."""
+    """A further worker starts for every 8,192 policies."""
     lay_drawn_book(folder, 7, 40001, 0)
     alone = projected(folder, "2014-12-31 40")
     for workers in ("1", "2", "3", "8", "64"):
@@ -202,7 +202,7 @@ def test_each_number_of_workers_writes_the_same(folder: Folder) -> None:
 
 
 def greatest(folder: Folder, count: int) -> None:
-    """Policies of the greatest amount and premium; the sums are by hand."""
+    """Projects policies of the greatest amount and premium; the expected sums are computed by hand."""
     write_big("greatest", count, str(folder.journal))
     each = 100_000_000
 

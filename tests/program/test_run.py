@@ -1,5 +1,5 @@
-"""Scripts as clerks run them: what is printed, the status, and what then stands in journal.life, with each kind of file before,
-and where the output or the disk fails."""
+"""Tests scripts as clerks run them: what is printed, the status, and the journal afterwards, over each kind of file, and if
+the output or the disk fails."""
 from __future__ import annotations
 
 import resource
@@ -11,7 +11,7 @@ import pytest
 from tests.program.office import EMPTY, FIRST_BYTES, FOREIGN, NONE_WATCHED, POLICY, RECORD, VALUED, checks, example, told
 from tests.support.folders import Folder
 
-# the first record, with policy 7001, by hand from docs/reference/journal.md
+# the first record, of policy 7001, written out by hand from docs/reference/journal.md
 FIRST_RECORD = (b"\1\1\3\0\3\0\0\x1bY\0\0GV" + b"\0\0\0\0\0\1\x86\xa0\0\0\0\0\0\0\x9c@" + b"\0" * 36)
 VALUE = "1,value,2021-01-01,now,1\n"
 
@@ -73,13 +73,13 @@ def test_what_is_refused_before_the_journal(words: list[str], given: str, wanted
 
 
 def run_into(folder: Folder, out: int) -> int:
-    """The status of the first day's run where its output goes to this descriptor."""
+    """Returns the status of the first day's run if its output goes to this descriptor."""
     return subprocess.run([*folder.program.words, "run"], cwd=folder.path, input=example("first-issues.csv").encode(),
                           stdout=out, check=False).returncode
 
 
 def test_an_output_that_is_full(folder: Folder, one_day: Folder) -> None:
-    """The postings stand."""
+    """The output fails with status 7, but the postings are kept."""
     wanted = one_day.journal.read_bytes()
     one_day.journal.unlink()
     with open("/dev/full", "wb") as full:
@@ -92,7 +92,7 @@ def test_an_output_that_nobody_reads(folder: Folder, one_day: Folder) -> None:
     one_day.journal.unlink()
     ran = subprocess.Popen([*folder.program.words, "run"], cwd=folder.path, stdin=subprocess.PIPE, stdout=subprocess.PIPE)
     assert ran.stdin and ran.stdout
-    # the reader has gone before the program has a line to write
+    # the reader leaves before the program has a line to write
     ran.stdout.close()
     time.sleep(0.2)
     ran.stdin.write(example("first-issues.csv").encode())
@@ -102,7 +102,7 @@ def test_an_output_that_nobody_reads(folder: Folder, one_day: Folder) -> None:
 
 
 def test_a_disk_that_is_full(folder: Folder) -> None:
-    """Of 512 bytes seven records fit; the others meet a fault each, and the run goes on."""
+    """The file may have 512 bytes, which holds seven records; each later posting meets a fault, and the run goes on."""
     script = "".join(f"1,issue,{n},2020-01-01,endowment,0,3,1000.00,400.00\n" for n in range(1, 10))
     wanted = "".join(f"1,issue,{n},accepted,{n}\n" for n in range(1, 8)) + "1,issue,8,fault\n1,issue,9,fault\n"
     ran = subprocess.run([*folder.program.words, "run"], cwd=folder.path, input=script.encode(), capture_output=True, check=False,
@@ -113,7 +113,7 @@ def test_a_disk_that_is_full(folder: Folder) -> None:
 
 
 def test_two_clerks(examples_basis: Folder) -> None:
-    """Whichever way their lines lie, the judge of transcripts has to accept it."""
+    """The judge of transcripts must accept the transcript, in whatever order the lines of the two clerks are."""
     examples_basis.take("two-clerks.csv")
     examples_basis.write("out", examples_basis.post(example("two-clerks.csv")))
     checks(examples_basis, "check-transcript", "two-clerks.csv", "out", "/dev/null", "journal.life", "basis.csv")
@@ -135,7 +135,7 @@ def lines_of(text: str, *heads: str) -> list[str]:
 def test_the_state_is_that_of_the_journal(name: str, folder: Folder) -> None:
     assert told(folder, "run", given=example(f"{name}.csv")) == (0, example(f"{name}.transcript"))
     assert told(folder, "state") == (0, example(f"{name}.state"))
-    # its records read, and its balances added up, without the program
+    # the records are read and the balances added up without the program
     heads = ("balance,", "count,")
     assert lines_of(folder.printed("read", "journal.life"), *heads) == lines_of(example(f"{name}.state"), *heads)
 

@@ -1,4 +1,4 @@
-"""Random scripts of eight clerks: each transcript has to be one history, and the journal has to hold what was accepted."""
+"""Tests random scripts of eight clerks: each transcript must be one history, and the journal must hold what was accepted."""
 from __future__ import annotations
 
 from pathlib import Path

@@ -1,5 +1,6 @@
-"""A journal that was upgraded: the program writes it, and reads it; one that is upgraded twice, or has a policy made paid up
-before it is, is refused at that record. A program from before the upgrade refuses it at the upgrade's record."""
+"""Tests a journal that was upgraded: the program writes it and reads it. A journal that is upgraded twice, or that makes a
+policy paid up before its upgrade, is refused at that record. A program from before the upgrade refuses the journal at the
+upgrade's record."""
 from __future__ import annotations
 
 import os
@@ -16,7 +17,7 @@ from tests.support.program import ROOT
 
 UPGRADE = Path(__file__).with_name("upgrade")
 UPGRADED = (UPGRADE / "upgraded.life").read_bytes()
-# tools that don't know the kinds of the upgrade
+# code of tools that don't know the kinds of records that came with the upgrade
 OLDER_TOOLS = """
 import pathlib
 from life_tools.common import formats
@@ -57,7 +58,8 @@ def test_a_journal_of_some_of_its_records_is_refused(records: tuple[int, ...], a
 
 
 def test_an_older_program_refuses_it(folder: Folder) -> None:
-    """OLDER_PROGRAM names one; the answer is also found by the tools without the kinds that it doesn't know."""
+    """OLDER_PROGRAM may name such a program; the same output comes from the tools if the new kinds of records are removed from
+    them."""
     folder.write("journal.life", UPGRADED)
     older = os.environ.get("OLDER_PROGRAM")
     if older:

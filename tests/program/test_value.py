@@ -1,5 +1,5 @@
-"""Valuations: rows worked out by hand, by each measure; positions; each way in which arguments, a basis or a table are refused;
-and every row of a book worked out anew in exact fractions, without the program."""
+"""Tests valuations: rows worked out by hand, by each measure; positions; each way in which arguments, a basis or a table are
+refused; and every row of a book computed again in exact fractions, without the program."""
 from __future__ import annotations
 
 import subprocess
@@ -17,7 +17,7 @@ MEASURES = ("", "--mean", "--deficiency")
 
 @pytest.fixture
 def one_policy(table_q: Folder) -> Iterator[Folder]:
-    """The policy that is valued by hand; a valuation leaves the journal as it was."""
+    """A folder with the policy that is valued by hand; no valuation may change the journal."""
     table_q.post(POLICY)
     before = table_q.journal.read_bytes()
     yield table_q
@@ -25,7 +25,7 @@ def one_policy(table_q: Folder) -> Iterator[Folder]:
 
 
 def valued(folder: Folder, words: str) -> str:
-    """The block of a valuation, which the judge of values works out anew."""
+    """Returns the block of a valuation, after `check-values` has computed it again."""
     status, block = told(folder, "value", *words.split())
     assert status == 0, words
     folder.write("block", block)
@@ -49,7 +49,7 @@ def test_an_output_that_is_full(one_policy: Folder) -> None:
     assert ran.returncode == 7
 
 
-# a day, a measure, the row and the total: by hand (docs/explanation/reserves.md)
+# a day, a measure, the row and the total, computed by hand (docs/explanation/reserves.md)
 BY_HAND = [
     ("2020-12-31", "--mean", "0,170.86,170.87", "170.86,170.87,0"),
     ("2021-01-01", "--mean", "1,563.61,563.62", "563.61,563.62,0"),
@@ -74,13 +74,14 @@ def test_a_premium_that_is_enough(table_q: Folder) -> None:
 
 
 def test_a_premium_that_is_close(table_q: Folder) -> None:
-    """Of 35.37 the net premium is 17.15, which isn't a whole number of the units in which it is computed."""
+    """For an amount of 35.37 the net premium is near 17.15, and isn't a whole number of the units in which it is computed."""
     table_q.post("".join(f"1,issue,{cents},2020-01-01,endowment,0,3,35.37,17.{cents}\n" for cents in (14, 15, 16)))
     rows = [line.split(",") for line in valued(table_q, "2021-01-01 --deficiency").splitlines() if line.startswith("row,")]
     assert [(row[1], row[-1]) for row in rows] == [("14", "short"), ("15", "close"), ("16", "enough")]
 
 
-# a policy by the rates of its issue age, its cap by those of the next one: by hand (docs/explanation/reserves.md)
+# a day and its row: a policy by the rates of its issue age, its cap by those of the next one; by hand
+# (docs/explanation/reserves.md)
 SELECT = [("2020-12-31", "0,0.00,0.00"), ("2021-01-01", "1,129.20,129.21"), ("2022-01-01", "2,541.68,541.69"),
           ("2023-01-01", "3,1000.00,1000.00")]
 
@@ -89,7 +90,7 @@ SELECT = [("2020-12-31", "0,0.00,0.00"), ("2021-01-01", "1,129.20,129.21"), ("20
 def test_select_tables_by_hand(layout: str, folder: Folder) -> None:
     text = example(f"{layout.replace('blank', 'select')}.xml")
     if layout == "blank":
-        # a blank row behind the durations of each issue age
+        # a blank row after the durations of each issue age
         text = text.replace("</Y></Axis></Axis>", '</Y><Y t="3"/></Axis></Axis>')
         assert text.count('<Y t="3"/>') == 2
     folder.write("s.xml", text)
@@ -106,8 +107,8 @@ def test_select_tables_by_hand(layout: str, folder: Folder) -> None:
     ((18, 70, 25, 18, 120), ""), ((40, 44, 6, 46, 70), "belowtable pasttable"), ((60, 70, 25, 18, 82), "pasttable"),
     ((0, 2, 3, 3, 9), "pasttable")], ids=str)
 def test_every_row_by_a_select_table(made: tuple[int, int, int, int, int], words: str, folder: Folder) -> None:
-    """Ages around the first and the last select age and the ends of the ultimate rates, which begin with the issue ages or behind
-    them, and end behind the select periods or before them."""
+    """Ages around the first and the last select age and the ends of the ultimate rates; the ultimate rates begin at the first
+    issue age or after it, and end after the select periods or before their end."""
     first, last, _, _, end = made
     folder.write("s.xml", select_table(*made))
     folder.write("basis.csv", "1900-01-01,s.xml,325\n")
@@ -140,7 +141,7 @@ FORTY = [f"1,{rest.format(number)}\n" for rest in (
 
 
 def test_each_position_is_valued_as_a_run_of_so_many(table_q: Folder) -> None:
-    """Forty commands, all of which are accepted, five of each of eight policies."""
+    """Forty commands, all of which are accepted, five for each of eight policies."""
     assert table_q.post("".join(FORTY)).count(",accepted,") == 40
     for count in range(41):
         alone = table_q.below(f"first-{count}")
@@ -185,7 +186,7 @@ ULTIMATE = SELECT_TEXT.index("<Table><Values><Axis><Y")
     ({"q.xml": CUT}, "", (4, "badbasis,q.xml,55,notdocument")), ({"q.xml": DURATION}, "", (4, "badbasis,q.xml,28,badduration")),
     # without the second table
     ({"q.xml": SELECT_TEXT[:ULTIMATE] + "</XTbML>"}, "", (4, "badbasis,q.xml,7,noultimate")),
-    # without a rate for the age 2, which is right behind the period of the issue age 0
+    # without a rate for age 2, which comes directly after the select period of issue age 0
     ({"q.xml": SELECT_TEXT[:ULTIMATE] + "<Table><Values><Axis>" + SELECT_TEXT[SELECT_TEXT.index('<Y t="3">', ULTIMATE):]}, "",
      (4, "badbasis,q.xml,22,ultimategap")),
     ({"basis.csv": "1900-01-01,q.xml,0\n"}, "", (4, "badbasis,q.xml,1,absent")), ({"q.xml": None}, "", (6, "readfault")),
@@ -228,7 +229,7 @@ def test_every_row_of_the_small_office_at_positions(small_office: Folder) -> Non
 
 @pytest.mark.parametrize("measure", MEASURES)
 def test_every_row_of_a_generated_book(measure: str, examples_basis: Folder) -> None:
-    """Its premiums are a fiftieth of the amounts, and so short for most of them."""
+    """The premiums are a fiftieth of the amounts, and therefore short for most of the policies."""
     examples_basis.post(told(examples_basis, "generate", "7", "300", "1")[1])
     blocks = [valued(examples_basis, f"{day} {measure}")
               for day in ("2000-06-01", "2005-12-31", "2009-12-31", "2020-12-31", "2190-01-01")]

@@ -1,7 +1,7 @@
-"""Workers of a valuation and of a projection, and the lanes of a run, which no contract tells apart.
+"""Tests the workers of a valuation and of a projection, and the lanes of a run; no contract states how many threads there are.
 
-A worker more is a thread more where each has 8,192 policies, and in a valuation another where each has 8,192 rows to write, and
-a lane more is one, as strace counts; and whatever the number of workers, the text is that of one.
+A further worker is one more thread if each has 8,192 policies, and in a valuation one more again if each has 8,192 rows to write;
+a further lane is one more thread, as strace counts. The text is the same for each number of workers.
 """
 from __future__ import annotations
 
@@ -22,7 +22,7 @@ FIRST, NAMES = datetime.date(2000, 1, 1), sorted(PLANS.values())
 
 
 def issues(count: int) -> Iterator[Command]:
-    """Of all plans, ages and durations, and of twenty years."""
+    """Yields issues of all plans, ages and durations, over twenty years."""
     for number in range(1, count + 1):
         plan = NAMES[number % len(NAMES)]
         yield Command("issue", number, FIRST + datetime.timedelta(days=number * 37 % 7305), plan, 20 + number * 13 % 50,
@@ -30,7 +30,7 @@ def issues(count: int) -> Iterator[Command]:
 
 
 def threads(folder: Folder, *words: str, given: str = "") -> tuple[int, str]:
-    """How many threads a run starts, and what it prints."""
+    """Returns how many threads a run starts, and what it prints."""
     log = folder.path / "log"
     ran = subprocess.run(["strace", "-f", "-qq", "-o", log, "-e", "trace=clone,clone3", str(folder.program.path), *words],
                          cwd=folder.path, input=given, capture_output=True, text=True, check=False)
@@ -38,10 +38,10 @@ def threads(folder: Folder, *words: str, given: str = "") -> tuple[int, str]:
     return len(re.findall(r"clone3?\(", log.read_text(encoding="ascii"))), ran.stdout
 
 
-# Of what is read 32,768 policies for each worker are valued together, or 131,072 in all, then the next; the thread that reads is
-# one of the workers. No more than sixteen value. In the end as many write the rows, at most one for 8,192 of them. The one
-# policy behind the first 65,536 is a part, which takes no worker more. A projection goes over 131,072 policies at once, and then
-# over the other 8,192; of these no more workers than two portions of 4,096 are set going.
+# A valuation reads 32,768 policies for each worker, or 131,072 in all, values them together, and then reads the next; the thread
+# that reads is one of the workers. No more than sixteen workers value. At the end as many threads write the rows, at most one for
+# each 8,192 of them. The one policy after the first 65,536 is a part of its own, which takes no further worker. A projection
+# values 131,072 policies at once, and then the other 8,192; for these it starts no more workers than two portions of 4,096.
 VALUE, PROJECT = "value 2020-12-31", "project 2020-12-31 40"
 
 
@@ -62,7 +62,7 @@ def test_workers(policies: int, asked: str, started: dict[int, int], examples_ba
 
 @pytest.mark.parametrize("lanes", [1, 2, 3, 5, 8])
 def test_lanes(lanes: int, folder: Folder) -> None:
-    """The thread that reads the script runs one of them, and the writer of the transcript has one."""
+    """The thread that reads the script runs one of the lanes, and the writer of the transcript has a thread of its own."""
     script = "".join(f"{lane},issue,{lane},2020-01-01,endowment,0,3,1000.00,400.00\n" for lane in range(1, lanes + 1))
     many, out = threads(folder, "run", given=script)
     assert many == lanes and out.count(",accepted,") == lanes

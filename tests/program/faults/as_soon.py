@@ -1,13 +1,15 @@
-"""Each accepted line is read at the other end of a pipe behind the sync that makes its record safe, and before the next
-record is safe: the program is run with each sync held back, and the moments at which its lines are read are put between
-those of its syncs. No sync is behind the last line; that is read before the watchers' lines are written, for which the
-program waits until the thread has ended that writes for the clerks, and that end is held back.
+"""Checks that each accepted line can be read at the other end of a pipe after the sync that makes its record safe and before the
+next record is safe.
+
+The program is run with each sync delayed, and the times at which its lines are read are compared with the times of its syncs. The
+last line has no later sync. It must be read before the watchers' lines are written; the program writes these only after the
+thread that writes for the lanes has ended, and that thread's end is delayed.
 
 usage: python3 -m tests.program.faults.as_soon PROGRAM FOLDER [--held-back | --clerk N]
 
-The program is first run so, and then behind a command that holds back what it writes, and behind one that holds back the
-last line alone, which both have to be found; with --held-back only this is done. With a clerk's number he posts in the
-place of clerk 1, and only the first is done.
+The program is first run in this way. Then its output is sent through a command that holds back what it reads, and through a
+command that holds back only the last line; both delays must be found. With --held-back only these two are run. With --clerk N the
+postings are on lane N in place of lane 1, and only the first run is made.
 """
 import re
 import subprocess
@@ -18,14 +20,14 @@ from pathlib import Path
 from tests.program.faults.runs import is_preview
 
 POSTINGS = 6
-# a preview is slow
+# milliseconds by which each sync is delayed; a preview is slow
 HELD_MS = 200 if is_preview(sys.argv[1]) else 50
-# more, since nothing but the reader has to come before it
+# milliseconds by which a thread's end is delayed; more, since only the reader must come before it
 ENDS_MS = 500
-# a run takes a second or two, or for ever
+# a run takes a second or two, or doesn't end
 LONGEST_SECONDS = "30"
 SCRIPT = "".join(f"1,issue,{7001 + k},2020-01-01,whole,40,0,1000.00,{20 + k}.00\n" for k in range(POSTINGS))
-# a record is two syncs: of its body, and of its gate
+# a record takes two syncs: of its body, and of its commit byte (which the code calls the gate)
 SYNCS = 2
 HOLDS = ["dd", "bs=8192", "iflag=fullblock", "status=none"]
 HOLDS_LAST = ["sh", "-c", f"sed -u {POSTINGS - 1}q; exec {' '.join(HOLDS)}"]
@@ -33,7 +35,8 @@ HOLDS_LAST = ["sh", "-c", f"sed -u {POSTINGS - 1}q; exec {' '.join(HOLDS)}"]
 
 def watch(program: str, folder: Path, behind: list[str],
           clerk: str = "1") -> tuple[list[float], list[float], list[float]]:
-    """When each accepted line was read, and when each sync of the journal's records and each write of watchers' lines began."""
+    """Returns when each accepted line was read, and when each sync of the journal's records and each write of watchers' lines
+    began."""
     script, log = folder / "script.csv", folder / "calls"
     script.write_text(SCRIPT.replace("1,issue,", f"{clerk},issue,"))
     traced = ["strace", "-f", "-ttt", "-o", str(log), "-s", "200", "-e", "trace=fsync,fdatasync,write,exit",
@@ -55,7 +58,7 @@ def watch(program: str, folder: Path, behind: list[str],
 
 
 def amiss(read: list[float], began: list[float], watched: list[float]) -> list[str]:
-    """What is wrong with the moments at which the lines were read."""
+    """Returns what is wrong with the times at which the lines were read."""
     if not watched:
         return ["no watcher's line was written, before which the last line has to be read"]
     if len(read) != POSTINGS or len(began) != SYNCS * POSTINGS:
@@ -65,7 +68,7 @@ def amiss(read: list[float], began: list[float], watched: list[float]) -> list[s
         safe = began[SYNCS * k + 1] + HELD_MS / 1000
         if moment < safe:
             told.append(f"line {k + 1} was read {(safe - moment) * 1000:.0f} ms before its record was safe")
-        # the sync of the next record's gate begins once that of its body has returned
+        # the sync of the next record's commit byte begins once the sync of its body has returned
         if k + 1 < POSTINGS and moment > began[SYNCS * (k + 1) + 1]:
             late = (moment - began[SYNCS * (k + 1) + 1]) * 1000
             told.append(f"line {k + 1} was read {late:.0f} ms after the next body was safe")

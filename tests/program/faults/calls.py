@@ -1,13 +1,12 @@
-"""The program where one call of the system fails: strace makes the k-th call of each kind fail, for every k of a run.
+"""Runs the program with one failing system call: strace makes the k-th call of each kind fail, for every k of a run.
 
 usage: python3 -m tests.program.faults.calls PROGRAM FOLDER [KIND K ERROR]
 
-With a kind: its k-th call on the journal, of one clerk's first run
+With a kind: only its k-th call on the journal fails, in the first run of one clerk.
 
-An undisturbed run is recorded first: how many calls of each kind each thread makes of each file, and which of them the
-first thread makes to open the journal, before there is a second thread or a record is written. strace counts the calls
-of each thread by itself, so the k-th call may fail in two threads; what is recorded of the disturbed run says how many
-failed.
+An undisturbed run is recorded first: how many calls of each kind each thread makes on each file, and which of them the first
+thread makes to open the journal, before there is a second thread or a record is written. strace counts the calls of each thread
+separately, so the k-th call may fail in two threads; the record of the disturbed run shows how many failed.
 """
 from __future__ import annotations
 
@@ -33,16 +32,16 @@ AT_ONCE = 2
 KINDS = ["openat", "flock", "statx", "newfstatat", "pread64", "read", "pwrite64", "write", "fsync", "fdatasync"]
 READ, WRITTEN = ["EIO", "EINTR"], ["EIO", "ENOSPC", "EDQUOT", "EINTR"]
 ERRORS = {"openat": WRITTEN, "pwrite64": WRITTEN, "write": WRITTEN, "fsync": WRITTEN, "fdatasync": WRITTEN}
-# Each of these calls is made again where a signal interrupted it. The program has no handler of a signal, so none of its
-# calls is ever interrupted but by such a trial.
+# Each of these calls is made again if a signal interrupts it. The program has no signal handler, so its calls are interrupted
+# only in such a trial.
 MADE_AGAIN = KINDS
-# the program holds the folder three times, so that no file takes the place of a closed stream; it does without
+# the program opens the folder three times, so that no file takes the number of a closed stream; it can do without
 HELD = 3
 
 
 @dataclass(frozen=True)
 class Target:
-    """The k-th call of a kind on a file, in each thread, or all from there on."""
+    """The k-th call of a kind on a file, in each thread, or all such calls from the k-th on."""
 
     kind: str
     file: str
@@ -54,24 +53,25 @@ class Target:
 
 
 def names_in(desk: Desk) -> dict[str, list[str]]:
-    """The files that are watched, each by the names under which strace may see it."""
+    """Returns the files that are watched, each with the names under which strace may see it."""
     names = {name: [name, desk.path(name)] for name in ("basis.csv", "q.xml", "g.xml", JOURNAL, KEPT, "script.csv", "out")}
     return {**names, "folder": [".", desk.folder]}
 
 
 def file_of_call(desk: Desk, args: str) -> str | None:
-    """The watched file that a call is on, by the name or the path in its arguments."""
+    """Returns the watched file that a call is on, by the name or the path in its arguments."""
     path = re.match(r'AT_FDCWD<[^>]*>, "([^"]*)"', args) or re.match(r"\d+<([^>]*)>", args)
     return next((file for file, names in names_in(desk).items() if path and path[1] in names), None)
 
 
 def is_record(call: re.Match[str]) -> bool:
-    """Whether the call writes a body and the gate behind it."""
+    """Returns whether the call writes a body and the commit byte after it."""
     return call[2] == "pwrite64" and re.search(r", 65, \d+", call[3]) is not None
 
 
 def record(desk: Desk, words: list[str]) -> tuple[dict[Any, Any], collections.Counter[Any]]:
-    """The calls of an undisturbed run: how many of each kind and file each thread makes, and how many open the journal."""
+    """Records an undisturbed run: how many calls of each kind and file each thread makes, and how many of them open the
+    journal."""
     kinds = ",".join([*KINDS, "clone3", "clone"])
     desk.run(words, ["strace", "-f", "-y", "-qq", "-o", desk.path("record"), "-e", f"trace={kinds}"])
     found: dict[Any, collections.Counter[Any]] = collections.defaultdict(collections.Counter)
@@ -85,7 +85,7 @@ def record(desk: Desk, words: list[str]) -> tuple[dict[Any, Any], collections.Co
             first = first or call[1]
             if not opening and (call[2].startswith("clone") or is_record(call)):
                 opening.update({key: counts[first] for key, counts in found.items()})
-                # before a record is written behind the end, the file is looked for
+                # before a record is written at the end of the file, the program checks that the file is still there
                 opening["statx", JOURNAL] -= bool(is_record(call))
             file = file_of_call(desk, call[3])
             if file:
@@ -94,7 +94,7 @@ def record(desk: Desk, words: list[str]) -> tuple[dict[Any, Any], collections.Co
 
 
 def targets_of(found: dict[Any, Any]) -> Iterator[Target]:
-    """Every k of each kind and file; of what is written and synced also all from the k-th on."""
+    """Yields every k for each kind and file; for writes and syncs also all calls from the k-th on."""
     for (kind, file), counts in found.items():
         for k in range(1, max(counts.values()) + 1):
             yield Target(kind, file, k)
@@ -103,7 +103,7 @@ def targets_of(found: dict[Any, Any]) -> Iterator[Target]:
 
 
 class Trial:
-    """A scene in which every call fails once: what was recorded of it, and what is counted."""
+    """A scene in which every call fails once: what was recorded of its undisturbed run, and what is counted."""
 
     def __init__(self, program: str, folder: str, scene: Scene) -> None:
         self.program, self.folder, self.scene = program, folder, scene
@@ -126,7 +126,7 @@ class Trial:
         desk.lay(self.before, self.scene.script, self.kept)
 
     def is_posting(self, target: Target) -> bool:
-        """Whether the call may be a posting's: one behind those that open the journal."""
+        """Returns whether the call may belong to a posting: it comes after those that open the journal."""
         return self.scene.posts and target.file == JOURNAL and target.k > self.opening[target.kind, JOURNAL]
 
     def try_one(self, number: int, target: Target, error: str) -> None:
@@ -138,7 +138,7 @@ class Trial:
         log = read_bytes(desk.path("log")).decode("utf-8", "replace").splitlines()
         try:
             failed = any("(INJECTED)" in line for line in log)
-            # how many writes there are of the text depends on who was faster, the clerks or the writer
+            # how many writes the output takes depends on whether the lanes or the writer were faster
             demand(failed or target.file == "out", "no call was made to fail")
             demand(not ended.complaints, f"on standard error: {ended.complaints[:300]}")
             if failed:
@@ -170,7 +170,7 @@ class Trial:
             demand(is_same, f"status {ended.status}, printed {ended.text[:200]!r}")
 
     def judge_cut(self, ended: Ended) -> None:
-        """The output failed: status 7, a front of the text, and what was posted is kept."""
+        """The output failed: the status is 7, a prefix of the text is printed, and what was posted is kept."""
         demand(ended.status == 7, f"status {ended.status}, wanted 7")
         if self.scene.posts:
             judge_unanswered(self.scene.script, self.before, ended.after, True)
@@ -189,7 +189,8 @@ class Trial:
 
 
 def errors_of(target: Target) -> list[str]:
-    # a call that is made again as long as it is interrupted would never end, so not all from the k-th on are interrupted
+    # a call that is made again as long as it is interrupted would never end; so EINTR isn't injected into all calls from the k-th
+    # on
     return [error for error in ERRORS.get(target.kind, READ) if not (target.on and error in ("EINTR", "EDQUOT"))]
 
 

@@ -1,10 +1,11 @@
-"""Drawn scripts of eight clerks in which a call of the journal fails, or two in a row, or that are killed.
+"""Runs drawn scripts of eight clerks in which one call on the journal fails, or two in a row.
 
 usage: python3 -m tests.program.faults.drawn PROGRAM FOLDER SEED
 
-Each failing call is one of a posting's, drawn among all that an undisturbed run of the same script makes, or one of the
-opening's; strace counts the calls of each thread by itself. Just as many lines as calls failed are answered `fault`, or
-each posting from a sync that failed on; what was accepted is in the file, and beyond it at most the last that wasn't.
+Each failing call is drawn among all that an undisturbed run of the same script makes; it belongs to a posting or to the opening.
+strace counts the calls of each thread separately. Exactly as many lines as calls failed are answered `fault`, or every posting
+from a failed sync on. What was accepted is in the file; beyond that the file may hold at most the last posting that wasn't
+accepted.
 """
 from __future__ import annotations
 
@@ -43,7 +44,7 @@ class Drawn:
         self.known: Known = {}
         ended = desk.run(["run"], self.strace(desk, KINDS, []))
         judge_transcript(self.script, ended, self.before, self.basis, self.known)
-        # by kind, how many calls the thread makes that makes most
+        # for each kind, the number of calls of the thread that makes most of them
         self.most: collections.Counter[str] = collections.Counter()
         by_thread = collections.Counter(tuple(line.split("(")[0].split()[-2:]) for line in self.log(desk))
         for (thread, kind), count in by_thread.items():

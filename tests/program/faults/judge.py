@@ -1,9 +1,9 @@
-"""Judges a run that met a fault, a limit or a signal, by docs/reference/statuses.md: its status, what it printed, the file
+"""Judges a run that met a fault, a limit or a signal, by docs/reference/statuses.md: its status, what it printed, and the file
 that it left.
 
-Nothing that was accepted may be lost, just the lines whose calls failed may be answered `fault`, and those behind a sync
-that failed; and the status has to be the one that is due. Beyond what was accepted the file may hold one command more, of
-a line that was answered `fault` and behind which nothing was accepted.
+Nothing that was accepted may be lost. Only the lines whose calls failed may be answered `fault`, and those after a failed sync;
+and the status must be the right one. Beyond what was accepted the file may hold one more command: that of a line that was
+answered `fault` and after which nothing was accepted.
 """
 from __future__ import annotations
 
@@ -20,12 +20,12 @@ from life_tools.reserves.exact import Known
 from life_tools.tables.basis import BasisRow
 from tests.program.faults.runs import Ended
 
-# the last line of a run that ends before its lanes begin
+# the last line of a run that ends before its lanes begin, by its exit status
 LAST_LINES = {6: "readfault\n", 8: "diskfault\n", 9: "nomemory\n"}
 
 
 def commands_in(data: bytes, what: str) -> list[Command]:
-    """The commands of a file, which has to be a journal or an unfinished creation of one."""
+    """Returns the commands of a file, which must be a journal or an unfinished creation of one."""
     journal = read_journal(data)
     demand(not journal.refused, f"{what}: {journal.refused}: {journal.why}")
     return journal.commands
@@ -37,7 +37,7 @@ class FaultyRun(Run):
     def __init__(self, lines: list[Line], book: Book, basis: list[BasisRow], known: Known) -> None:
         super().__init__(lines, book, basis, known)
         self.faults = self.unserved = 0
-        # of the lines that were answered `fault` those behind which one was accepted
+        # the lines that were answered `fault` and after which a line was accepted
         self.recovered = 0
         # the commands that the file may hold beyond the accepted ones
         self.in_doubt: list[Command] = []
@@ -64,7 +64,8 @@ class FaultyRun(Run):
 
 
 def follow(script: bytes, text: str, before: bytes, basis: list[BasisRow], known: Known) -> FaultyRun:
-    """The run that a whole transcript tells; every line of the script has to be answered, and the auditors' lines right."""
+    """Returns the run that a complete transcript reports. Every line of the script must be answered, and the watchers' lines
+    must be right."""
     run = FaultyRun(lines_in(script), read_journal(before).book, basis, known)
     answers, watchers = answers_in(text)
     for answer in answers:
@@ -77,7 +78,7 @@ def follow(script: bytes, text: str, before: bytes, basis: list[BasisRow], known
 
 
 def demand_file(after: bytes, accepted: list[Command], in_doubt: list[Command] | tuple[()] = ()) -> None:
-    """Demands that the file holds what was accepted, in order, and at most one command more, which is in doubt."""
+    """Demands that the file holds what was accepted, in order, and at most one more command, which is in doubt."""
     found = commands_in(after, "the file afterwards")
     for position, command in enumerate(accepted):
         demand(position < len(found), f"record {position} is lost: {','.join(words_of(command))}")
@@ -87,7 +88,7 @@ def demand_file(after: bytes, accepted: list[Command], in_doubt: list[Command] |
 
 
 def judge_transcript(script: bytes, ended: Ended, before: bytes, basis: list[BasisRow], known: Known) -> FaultyRun:
-    """A run that printed its transcript: its lines, its file and its status."""
+    """Judges a run that printed its whole transcript: its lines, its file and its status."""
     run = follow(script, ended.text, before, basis, known)
     demand_file(ended.after, run.book.commands, run.in_doubt)
     due = 8 if run.faults else 9 if run.unserved else 0
@@ -96,7 +97,8 @@ def judge_transcript(script: bytes, ended: Ended, before: bytes, basis: list[Bas
 
 
 def prefix_of(text: str) -> str:
-    """What is whole of a text that may be cut anywhere: its ended lines, but for those of a valuation without its total."""
+    """Returns the complete part of a text that may be cut anywhere: its ended lines, without those of a valuation that has no
+    total."""
     lines, whole, amid = text.split("\n")[:-1], 0, False
     for count, line in enumerate(lines, 1):
         fields = line.split(",")
@@ -106,7 +108,8 @@ def prefix_of(text: str) -> str:
 
 
 def judge_front(script: bytes, text: str, before: bytes, after: bytes, basis: list[BasisRow], known: Known) -> FaultyRun:
-    """A run whose transcript is cut: what is whole of it is a front of one, and the file has what it tells was accepted."""
+    """Judges a run whose transcript is cut: its complete part must be a prefix of a right transcript, and the file must hold
+    what it reports as accepted."""
     run = FaultyRun(lines_in(script), read_journal(before).book, basis, known)
     answers, watchers = answers_in(prefix_of(text))
     for answer in answers:
@@ -119,7 +122,8 @@ def judge_front(script: bytes, text: str, before: bytes, after: bytes, basis: li
 
 
 def failed_calls(log: list[str]) -> tuple[int, int]:
-    """How many calls strace made fail: those of a sync, of which the question about the name is a part; and the others."""
+    """Counts the calls that strace made fail, as two numbers: calls of a sync, including the check of the file's name that
+    belongs to it; and all others."""
     syncs, others, begun = 0, 0, {}
     for line in log:
         thread = line.split(" ", 1)[0]
@@ -135,7 +139,7 @@ def failed_calls(log: list[str]) -> tuple[int, int]:
 
 
 def demand_faults(run: FaultyRun, log: list[str]) -> None:
-    """Each call that failed cost one line. But behind a sync that failed no posting is accepted any more."""
+    """Demands that each failed call cost exactly one line. After a failed sync, however, no posting may be accepted."""
     syncs, others = failed_calls(log)
     if syncs:
         demand(run.recovered <= others < run.faults,
@@ -146,7 +150,7 @@ def demand_faults(run: FaultyRun, log: list[str]) -> None:
 
 
 def judge_early_end(ended: Ended, status: int, before: bytes) -> None:
-    """A run that ends before it posts: the last line is its only one, and the file has the commands of before."""
+    """Judges a run that ends before it posts: it prints only its last line, and the file has the commands that it had before."""
     demand(ended.status == status, f"status {ended.status}, wanted {status}; printed {ended.text[:200]!r}")
     demand(ended.text == LAST_LINES[status], f"printed {ended.text[:200]!r}, wanted {LAST_LINES[status]!r}")
     if status == 6:
@@ -154,10 +158,10 @@ def judge_early_end(ended: Ended, status: int, before: bytes) -> None:
     demand_file(ended.after, commands_in(before, "the file before"))
 
 
-# --- clerks whose policies are their own ---
+# --- clerks with policies of their own ---
 
 def due_of(lines: list[Line], kept: list[Command]) -> list[Command]:
-    """What is accepted of a clerk's lines behind these commands, where no other clerk has its policies."""
+    """Returns the commands that are accepted from a clerk's lines after these commands, if no other clerk uses the policies."""
     book = Book(kept)
     for line in lines:
         after = book.decide(line.command) if line.command else None
@@ -167,7 +171,7 @@ def due_of(lines: list[Line], kept: list[Command]) -> list[Command]:
 
 
 def judge_unanswered(script: bytes, before: bytes, after: bytes, is_whole: bool) -> int:
-    """The file of a run that printed no transcript: of each clerk the first of what is accepted, or all of it."""
+    """Judges the file of a run that printed no transcript: it holds for each clerk a prefix of what is accepted, or all of it."""
     kept, found = commands_in(before, "the file before"), commands_in(after, "the file afterwards")
     demand(found[:len(kept)] == kept, "a record from before is lost or another")
     lanes = lanes_of(lines_in(script))
@@ -184,8 +188,9 @@ def judge_unanswered(script: bytes, before: bytes, after: bytes, is_whole: bool)
 
 
 def judge_lacking(script: bytes, before: bytes, after: bytes) -> int:
-    """The file of a run that wanted memory and printed no transcript: of each clerk some of its postings, in their order,
-    each as the rules accept it behind those before it. One that wanted memory changes nothing, and the next may find it.
+    """Judges the file of a run that was out of memory and printed no transcript: it holds for each clerk some of its postings, in
+    their order, and the rules accept each after those before it. A posting that was out of memory changes nothing, and the next
+    one may find memory.
     """
     kept, found = commands_in(before, "the file before"), commands_in(after, "the file afterwards")
     demand(found[:len(kept)] == kept, "a record from before is lost or another")

@@ -1,7 +1,7 @@
-"""Runs of one mode that may want memory, judged beside a run that had ample.
+"""Judges runs of one mode that may be out of memory, by comparison with a run that had enough.
 
-The answer has to be the right text, or that memory was wanting: `nomemory` before the first posting, lines answered so,
-or a front of the text; with status 9 each time, and with a file that holds what was accepted.
+The output must be the right text, or report that memory was lacking: `nomemory` before the first posting, lines answered
+`nomemory`, or a prefix of the text; in each of these cases with status 9. The file must hold what was accepted.
 """
 from __future__ import annotations
 
@@ -17,7 +17,7 @@ from life_tools.common.formats import demand
 
 @dataclass
 class Mode:
-    """What is run, over which journal and which checkpoint. Of `load` the script is what it draws for itself."""
+    """The arguments of a run, its journal, checkpoint and script. `load` draws its script for itself."""
 
     name: str
     words: list[str]
@@ -31,7 +31,7 @@ class Mode:
 
 
 class Lacking:
-    """Judges the runs of a mode. Each has a desk of its own in the folder."""
+    """Judges the runs of a mode. Each run has its own desk in the folder."""
 
     def __init__(self, program: str, folder: str, mode: Mode) -> None:
         self.program, self.folder, self.mode = program, folder, mode
@@ -47,7 +47,7 @@ class Lacking:
         return desk
 
     def judge(self, ended: Ended) -> str:
-        """What became of the run: a word."""
+        """Judges how the run ended, and returns a word for it."""
         demand(ended.status in (0, 9), f"status {ended.status}, and {ended.text[:200]!r} {ended.complaints[:200]!r}")
         demand(not ended.complaints, f"on standard error: {ended.complaints[:200]!r}")
         demand(self.mode.posts or ended.after == self.mode.before, "the file was touched")
@@ -65,7 +65,8 @@ class Lacking:
         demand(not self.mode.posts or not self.unserved(ended), "a line wanted memory, at status 0")
 
     def judge_part(self, ended: Ended) -> None:
-        """Status 9 behind the first turn: some lines were answered so, or there was no memory for the text."""
+        """Judges a run with status 9 after its first turn: some lines were answered `nomemory`, or there was no memory for the
+        text."""
         demand(self.mode.posts, f"printed {ended.text[:200]!r}")
         if "\nwatcher," in ended.text or self.mode.words[0] == "load" and ended.text:
             self.judge_count(self.unserved(ended))
@@ -81,7 +82,7 @@ class Lacking:
         judge_lacking(self.mode.script, self.mode.before, ended.after)
 
     def unserved(self, ended: Ended) -> int:
-        """How many lines wanted memory, by the text of a run that posts, whose file holds what was accepted."""
+        """Returns how many lines were out of memory, by the text of a run that posts; its file must hold what was accepted."""
         if self.mode.words[0] == "load":
             posted = judge_lacking(self.mode.script, self.mode.before, ended.after)
             demand(ended.text.startswith(f"load,{posted},"), f"{posted} records, and printed {ended.text!r}")

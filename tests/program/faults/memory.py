@@ -1,11 +1,10 @@
-"""The program under falling limits of its address space, from ample to none.
+"""Runs the program under falling limits of its address space, from ample to none.
 
 usage: python3 -m tests.program.faults.memory PROGRAM FOLDER SEED
 
-The answer has to be that of a run which may want memory. In two cases the system ends the program, which then can say
-nothing, as docs/reference/statuses.md tells: below some limit it can't be loaded; and where memory ends just where the stack
-of the first thread has to grow, the system has no other answer than a signal. strace records where such a signal
-points.
+The output must be that of a run which may be out of memory. In two cases the system ends the program, which then can print
+nothing, as docs/reference/statuses.md states: below some limit the program can't be loaded; and if memory ends exactly where the
+stack of the first thread has to grow, the system can only send a signal. strace records the address of such a signal.
 """
 from __future__ import annotations
 
@@ -29,7 +28,7 @@ AT_ONCE = 2
 KIB = 1024
 AMPLE, LOADED_FROM = 256 * 1024, 4 * 1024
 DRAWN, FINE, PAGE = 20, 25, 4
-# the stacks of the first thread lie from here on, and nothing else does
+# the stacks of the first thread lie from this address on, and nothing else does
 STACKS_FROM = 0x7ffb_0000_0000
 # a thread's stack with its guard, and what the program takes besides, in KiB
 THREAD, BESIDE = 8256, 3100
@@ -37,7 +36,7 @@ BEFORE = 150
 
 
 def modes(program: str, folder: str) -> Any:
-    # what `load` runs is what `generate` writes
+    # `load` runs the script that `generate` writes
     generated = Desk(program, folder).run(["generate", "1", "300", "8"]).text.encode()
     before = file_of(many_policies(BEFORE).commands)
     return [Mode("run", ["run"], eight_clerks(25, BEFORE), before), Mode("value", ["value", "2021-01-01"], b"", before),
@@ -52,7 +51,7 @@ class Trial(Lacking):
         self.seen: collections.Counter[str] = collections.Counter()
 
     def try_limit(self, kib: Any) -> Any:
-        """What became of a run under this limit: a word."""
+        """Runs the program under this limit in KiB, and returns a word for how it ended."""
         desk = self.desk(f"{kib}")
         strace = ["strace", "-f", "-qq", "-o", desk.path("log"), "-e", "trace=none", "-e", "signal=SIGSEGV"]
         ended = desk.run(self.mode.words, [*strace, "prlimit", f"--as={kib * KIB}"])
@@ -78,7 +77,8 @@ class Trial(Lacking):
 
 
 def limits(draw: random.Random) -> Any:
-    """Limits that fall by a fifth each time, drawn ones between, and some that leave little beside the stacks of threads."""
+    """Returns limits in KiB: some that fall by a fifth each time, drawn ones between them, and some that leave little beyond
+    the stacks of the threads."""
     falling, limit = [], AMPLE
     while limit > 512:
         falling.append(limit)
@@ -88,7 +88,7 @@ def limits(draw: random.Random) -> Any:
 
 
 def least_loaded(trial: Trial, words: dict[int, str]) -> int:
-    """Between which limits, about, the program begins to be loaded."""
+    """Returns about the greatest limit in KiB under which the program isn't loaded."""
     below = max(kib for kib, word in words.items() if word == "not loaded")
     above = min(kib for kib, word in words.items() if word == "right")
     while above - below > 2 * PAGE:
@@ -101,7 +101,8 @@ def least_loaded(trial: Trial, words: dict[int, str]) -> int:
 
 
 def try_mode(trial: Trial, draw: random.Random) -> None:
-    """All limits, and then some between the greatest that doesn't load the program and the least right answer."""
+    """Tries all limits, and then some between the greatest that doesn't load the program and the least that gives the right
+    output."""
     with ThreadPoolExecutor(AT_ONCE) as pool:
         tried = limits(draw)
         words = dict(zip(tried, pool.map(trial.try_limit, tried)))

@@ -1,10 +1,10 @@
-"""The program with one request for memory refused, each of its requests in a run of its own.
+"""Runs the program with one request for memory refused; each of its requests is refused in a run of its own.
 
 usage: python3 -m tests.program.faults.refused PROGRAM FOLDER LIBRARY    (LIBRARY is refuse_nth.c, built)
 
-All other memory is given. So one line at most is answered `nomemory`, and where the text is cut all lines were served.
-Where several threads run, one run may ask less often than another; what comes to no refusal has to be the right text.
-Where a mode asks more than some hundred times, those behind are taken at even distances.
+All other memory is given. So at most one line is answered `nomemory`, and if the text is cut, all lines were processed. If
+several threads run, one run may make fewer requests than another; a run in which no request is refused must print the right text.
+If a mode makes more than some hundred requests, the later ones are sampled at even distances.
 """
 from __future__ import annotations
 
@@ -24,11 +24,11 @@ from tests.program.faults.runs import ROOT, Desk, Ended, is_preview, read_bytes,
 from life_tools.common.formats import Wrong, demand
 
 AT_ONCE = 4
-# of each mode the first so many requests are refused, and so many of those behind
+# for each mode, the first requests are refused one by one, and then this many of the later ones
 EACH, SPREAD = 300, 100
-# what the library writes: how many requests were made, and how many refused
+# what the library writes: how many requests were made, and how many were refused
 COUNTED = struct.Struct("=QQ")
-# how else a program might ask the system, which the library doesn't see
+# other functions by which a program could request memory, which the library doesn't see
 OTHER_WAYS = re.compile(rb"\0(mmap|mmap64|mremap|brk|sbrk|memalign|valloc|pvalloc|reallocarray)[@\0]")
 ON = "2024-12-31"
 
@@ -42,7 +42,7 @@ def modes(program: str, folder: str) -> list[Mode]:
     desk.lay(b"", office)
     before = desk.run(["run"]).after
     kept = bytes_of_checkpoint(checkpoint_of(read_journal(before).commands[:20]))
-    # what `load` runs is what `generate` writes
+    # `load` runs the script that `generate` writes
     drawn = desk.run(["generate", "1", "4", "2"]).text.encode()
     texts = [["state"], ["state", "14"], ["checkpoint"], ["project", ON, "5"],
              ["value", ON, "--at", "20", "--workers", "2"], ["value", ON, "--mean"], ["value", ON, "--deficiency"]]
@@ -61,7 +61,8 @@ class Refused(Lacking):
         self.library = library
 
     def refuse(self, desk: Desk, number: int) -> tuple[Ended, int, int]:
-        """A run whose request of this number is refused: how it ended, how often it asked, and was refused."""
+        """Runs the program with the request of this number refused. Returns how it ended, how many requests it made, and how
+        many were refused."""
         counted = desk.path("requests")
         write_bytes(counted, bytes(COUNTED.size))
         library = ["env", f"LD_PRELOAD={self.library}", f"REQUESTS={counted}", f"REFUSED_REQUEST={number}"]
@@ -70,14 +71,14 @@ class Refused(Lacking):
         return ended, made, refused
 
     def count(self) -> int:
-        """How often it asks where nothing is refused."""
+        """Returns the number of requests that a run makes if none is refused."""
         ended, made, _ = self.refuse(self.desk("counted"), 0)
         demand(self.judge(ended) == "right", f"{self.mode.name}: with all memory it ends with {ended.status}")
         demand(made, f"{self.mode.name}: no request for memory was counted")
         return made
 
     def try_one(self, number: int) -> str:
-        """What became of a run whose request of this number was refused, if it came to it: a word."""
+        """Runs the program with the request of this number refused, if it makes as many, and returns a word for how it ended."""
         desk = self.desk(str(number))
         try:
             ended, made, refused = self.refuse(desk, number)
@@ -100,7 +101,7 @@ class Refused(Lacking):
 
 
 def numbers(count: int) -> list[int]:
-    """Which of so many requests are refused."""
+    """Returns which of so many requests are refused."""
     beyond = range(EACH + 1, count + 1)
     return [*range(1, min(EACH, count) + 1), *beyond[::max(1, len(beyond) // SPREAD)]]
 

@@ -1,4 +1,5 @@
-"""Runs of the program in a folder of its own: with a journal before, a script, and what stands in front of the program."""
+"""Runs the program in a folder that the test lays out: a journal, a checkpoint, a script, and a command such as strace before
+the program's own arguments."""
 from __future__ import annotations
 
 from typing import Any
@@ -19,7 +20,7 @@ LONGEST_SECONDS = 60
 
 @dataclass
 class Ended:
-    """How a run ended: its status, negative where a signal ended it; what it printed; and the file afterwards."""
+    """How a run ended: its status, negative if a signal ended it; its output; its standard error; and the journal afterwards."""
 
     status: int
     text: str
@@ -28,7 +29,7 @@ class Ended:
 
 
 def read_bytes(path: str) -> bytes:
-    """What a file has, and nothing where there is none."""
+    """Returns the content of a file, which is empty if there is no file."""
     if not os.path.exists(path):
         return b""
     with open(path, "rb") as file:
@@ -41,12 +42,13 @@ def write_bytes(path: str, data: bytes) -> None:
 
 
 def is_preview(program: str) -> bool:
-    """Whether it has checks of memory in it, which ask for memory in their own way."""
+    """Returns whether the program is a preview, which is built with checks of memory that request memory in their own way."""
     return b"__asan_init" in read_bytes(program)
 
 
 class Desk:
-    """A folder with the basis of the examples, in which a program runs. Its journal goes on unless it is laid anew."""
+    """A folder with the basis of the examples, in which a program runs. Its journal is used again by the next run unless `lay`
+    replaces it."""
 
     def __init__(self, program: str, folder: str) -> None:
         shutil.rmtree(folder, ignore_errors=True)
@@ -63,7 +65,8 @@ class Desk:
         return read_bytes(self.path(JOURNAL))
 
     def lay(self, journal: bytes, script: bytes = b"", kept: bytes = b"") -> None:
-        """Puts this journal and this checkpoint there, or none where they are empty, and this script."""
+        """Puts this journal, this checkpoint and this script into the folder; an empty journal or checkpoint means that there
+        is none."""
         for name, data in ((JOURNAL, journal), (KEPT, kept)):
             if os.path.exists(self.path(name)):
                 os.remove(self.path(name))
@@ -72,7 +75,7 @@ class Desk:
         write_bytes(self.path("script.csv"), script)
 
     def start(self, words: list[str], before: list[str] | tuple[()] = ()) -> subprocess.Popen[bytes]:
-        """Starts the program, with these words in front of it, on the script as its input."""
+        """Starts the program with the script as its input; `before` is a command that runs it, such as strace."""
         with open(self.path("script.csv"), "rb") as script, open(self.path("out"), "wb") as out, \
                 open(self.path("err"), "wb") as err:
             return subprocess.Popen([*before, self.program, *words], cwd=self.folder, stdin=script, stdout=out, stderr=err,
@@ -89,7 +92,7 @@ class Desk:
         return self.ended(self.start(words, before))
 
     def judge_reopening(self) -> None:
-        """What is left opens to just its records, and takes one more."""
+        """Demands that what is left opens to exactly its records, and that one more can be posted."""
         count = len(read_journal(self.journal()).commands)
         write_bytes(self.path("script.csv"), b"1,issue,4294967295,2020-01-01,endowment,0,3,1000.00,400.00\n")
         again = self.run(["run"])
@@ -99,7 +102,7 @@ class Desk:
         self.judge_kept()
 
     def judge_kept(self) -> None:
-        """What is left of a checkpoint changes nothing of the state."""
+        """Demands that a checkpoint that is left doesn't change what `state` prints."""
         if os.path.exists(self.path(KEPT)):
             beside = self.run(["state"])
             os.remove(self.path(KEPT))
@@ -108,6 +111,6 @@ class Desk:
 
 
 def default_signals() -> None:
-    """Signals that the check's own shell ignores aren't ignored by the program."""
+    """Makes the program heed signals that the shell of the test ignores."""
     for number in (signal.SIGINT, signal.SIGTERM, signal.SIGPIPE):
         signal.signal(number, signal.SIG_DFL)

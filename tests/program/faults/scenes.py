@@ -1,4 +1,5 @@
-"""What is run while something fails: the words, the script, whether there is a journal, and the calls that must be made."""
+"""The scenes that are run while something fails: arguments, script, whether there is a journal, and the calls that must be
+made."""
 from __future__ import annotations
 
 from dataclasses import dataclass
@@ -10,8 +11,8 @@ from life_tools.common.formats import day_in
 from life_tools.rules.policies import Book
 from typing import Any
 
-# Two clerks whose policies are their own. The second has the policies of whole life, and asks for values. The last one's
-# lane is run by the first thread; each has postings that rest on earlier ones, and others that don't.
+# Two clerks with policies of their own. The second has the policies of whole life, and asks for values. The first thread runs the
+# last clerk's lane. Each clerk has postings that depend on earlier ones, and others that don't.
 TWO_CLERKS = b"""\
 1,issue,101,2020-01-01,endowment,0,3,1000.00,400.00
 2,issue,201,2020-03-01,whole,40,0,5000.00,90.00
@@ -43,7 +44,7 @@ class Scene:
     script: bytes
     has_journal: bool
     makes: list[Any]
-    # of how many commands there is a checkpoint, if there is one
+    # the number of commands that the checkpoint holds, or None if there is no checkpoint
     kept: int | None = None
 
     @property
@@ -52,7 +53,7 @@ class Scene:
 
 
 def book_before() -> Book:
-    """Three policies of before; the first was valued in no run, and the last is claimed."""
+    """Returns a book of three policies as it is before a scene; the last policy is claimed."""
     day = day_in("2020-01-01")
     issues = [Command("issue", number, day, plan="endowment", age=0, years=3, amount=100000, premium=40000)
               for number in (7, 8, 9)]
@@ -60,7 +61,7 @@ def book_before() -> Book:
 
 
 def checkpoint_before(count: int | None) -> bytes:
-    """That of the first so many commands of the book before."""
+    """Returns a checkpoint of the first `count` commands of that book."""
     return b"" if count is None else bytes_of_checkpoint(checkpoint_of(book_before().commands[:count]))
 
 
@@ -82,14 +83,14 @@ SCENES = [
 
 
 def many_policies(count: int) -> Book:
-    """A book of so many policies, of few ages, so that few exact values have to be worked out."""
+    """Returns a book of this number of policies, at few ages, so that few exact values have to be computed."""
     day = day_in("2020-01-01")
     return Book(Command("issue", number, day, plan="whole", age=30 + number % 7, years=0, amount=100000, premium=2000)
                 for number in range(1, count + 1))
 
 
 def eight_clerks(each: int, taken: int) -> bytes:
-    """A script of eight clerks, each with so many new policies and a premium for each, and two valuations."""
+    """Returns a script of eight clerks, each with `each` new policies and a premium for each, and two valuations."""
     rows = []
     for n in range(each * 8):
         lane, number = 1 + n % 8, taken + 1 + n

@@ -1,4 +1,4 @@
-"""The judge has to refuse: runs in which a call failed, with one thing changed in what they answered or left.
+"""Tests the judge: it must refuse runs in which a call failed if one thing is changed in what they printed or left.
 
 usage: python3 -m tests.program.faults.self_test PROGRAM FOLDER
 """
@@ -22,7 +22,7 @@ from life_tools.common.formats import Wrong, demand
 
 
 def disturbed(program: str, folder: str, script: bytes, kind: str, when: int, file: str) -> tuple[Desk, bytes, Ended]:
-    """A run over the journal of before in which a call fails."""
+    """Runs the program over the journal of `book_before` while a call fails."""
     desk = Desk(program, folder)
     before = file_of(book_before().commands)
     desk.lay(before, script)
@@ -44,32 +44,32 @@ def refused(judge: Callable[..., Any]) -> bool:
 
 
 def demand_refused(changed: dict[str, Callable[..., Any]]) -> None:
-    """Demands that a judge refuses each of these; those that it takes are told, all of them."""
+    """Demands that a judge refuses each of these; all that it accepts are named."""
     taken = [what for what, judge in changed.items() if not refused(judge)]
     demand(not taken, f"the judge takes {'; '.join(taken)}")
 
 
 def replaced(ended: Ended, old: str, new: str) -> Ended:
-    """The run with the first line that ends so ended otherwise."""
+    """Returns the run with the end of one line replaced: the first line that contains `old`."""
     lines = ended.text.splitlines(keepends=True)
     place = next(i for i, line in enumerate(lines) if old in line)
     return replace(ended, text="".join(lines[:place] + [lines[place].split(old)[0] + new + "\n"] + lines[place + 1:]))
 
 
 def cut(ended: Ended, records: int) -> Ended:
-    """The run with so many records cut off the end of its file."""
+    """Returns the run with this number of records cut off the end of its file."""
     commands = read_journal(ended.after).commands
     return replace(ended, after=file_of(commands[:len(commands) - records]))
 
 
 def doubled(ended: Ended) -> bytes:
-    """The run's file with its last record once more."""
+    """Returns the run's file with its last record repeated."""
     commands = read_journal(ended.after).commands
     return file_of(commands + commands[-1:])
 
 
 def try_transcripts(program: str, folder: str) -> int:
-    """A run of two clerks in which a sync failed, and what may not be made of it."""
+    """Tests the judge with a run of two clerks in which a sync failed, and with changed versions of it."""
     desk, before, ended = disturbed(program, folder, TWO_CLERKS, "fsync", 7, JOURNAL)
     basis = read_basis(desk.path("basis.csv"))
 
@@ -81,7 +81,7 @@ def try_transcripts(program: str, folder: str) -> int:
     demand_faults(run, log_of(desk))
     more = read_journal(ended.after).commands
     changed = {
-        # the last record may be that of the posting that failed, of which the file may be without
+        # the last record may be that of the posting that failed, which the file may lack
         "two records cut off": cut(ended, 2),
         "all records cut off": cut(ended, len(more)),
         "a byte of a record changed": replace(ended, after=ended.after[:30] + b"\1" + ended.after[31:]),
@@ -99,7 +99,8 @@ def try_transcripts(program: str, folder: str) -> int:
 
 
 def try_counts(program: str, folder: str) -> int:
-    """A run goes on behind a write that failed, and not behind a sync; each with the calls of the other is refused."""
+    """A run goes on after a failed write, but not after a failed sync; so the judge must refuse each with the calls of the
+    other."""
     runs = {}
     for kind, when in (("pwrite64", 3), ("fsync", 4)):
         desk, before, ended = disturbed(program, os.path.join(folder, kind), ONE_CLERK, kind, when, JOURNAL)
@@ -111,7 +112,7 @@ def try_counts(program: str, folder: str) -> int:
 
 
 def try_ends(program: str, folder: str) -> int:
-    """Runs that end early or whose output fails, and what may not be made of them."""
+    """Tests the judge with runs that end early or whose output fails, and with changed versions of them."""
     _, before, early = disturbed(program, os.path.join(folder, "early"), ONE_CLERK, "fsync", 1, JOURNAL)
     judge_early_end(early, 8, before)
     _, _, unread = disturbed(program, os.path.join(folder, "unread"), ONE_CLERK, "read", 1, "script.csv")
@@ -134,7 +135,7 @@ def try_ends(program: str, folder: str) -> int:
 
 
 def without_the_last(program: str, folder: str, rows: int) -> Ended:
-    """A run of one clerk without its last rows, told as one that found no memory for them."""
+    """Returns a run of one clerk without its last rows, reported as a run that was out of memory for them."""
     desk, lines = Desk(program, folder), ONE_CLERK.splitlines(keepends=True)
     desk.lay(file_of(book_before().commands), b"".join(lines[:-rows]))
     unserved = "".join(",".join(line.decode().split(",")[:3]) + ",nomemory\n" for line in lines[-rows:])
@@ -143,7 +144,7 @@ def without_the_last(program: str, folder: str, rows: int) -> Ended:
 
 
 def try_refusals(program: str, folder: str) -> int:
-    """Runs as they may be where one request for memory is refused, and what may not be made of them."""
+    """Tests the judge with runs as they may be if one request for memory is refused, and with changed versions of them."""
     before = file_of(book_before().commands)
     trial = Refused(program, folder, "", Mode("a run", ["run"], ONE_CLERK, before))
     whole, lacking = trial.right, without_the_last(program, os.path.join(folder, "lacking"), 1)

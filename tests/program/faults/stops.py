@@ -1,9 +1,9 @@
-"""Stops: signals at random moments of runs and of openings, and an output that is closed before the text ends.
+"""Stops the program: by signals at random moments of runs and of openings, and by an output that is closed before the text ends.
 
 usage: python3 -m tests.program.faults.stops PROGRAM FOLDER QUICK SEED
 
-In half of the runs the journal lies in FOLDER, on a real disk, where most of the time is a sync's; in the others in QUICK,
-a disk in memory. tests/program/kills kills runs that have no valuations; here two are under way.
+In half of the runs the journal lies in FOLDER, on a real disk, where syncs take most of the time; in the others it lies in QUICK,
+a disk in memory. tests/program/kills kills runs that have no valuations; here two valuations run.
 """
 from __future__ import annotations
 
@@ -27,13 +27,13 @@ from collections.abc import Sequence
 SIGNALS = [signal.SIGTERM, signal.SIGINT, signal.SIGKILL]
 RUNS, OPENINGS = 24, 12
 BEFORE, EACH, LARGE = 150, 12, 20000
-# what opens a journal and may not change it
+# commands that open a journal and may not change it
 OPENING = [["state"], ["checkpoint"], ["state", "7"], ["value", "2021-01-01"], ["value", "2021-01-01", "--mean"],
            ["value", "--deficiency", "2021-01-01"], ["project", "2021-01-01", "40"], ["run"]]
 
 
 def span_of(desk: Any, words: list[str]) -> Any:
-    """How long an undisturbed run takes, and how it ended."""
+    """Returns how long an undisturbed run takes in seconds, and how it ended."""
     start = time.perf_counter()
     ended = desk.run(words)
     return time.perf_counter() - start, ended
@@ -47,7 +47,7 @@ def stop(desk: Any, words: list[str], delay: float, number: int) -> Any:
 
 
 class Runs:
-    """Runs of eight clerks with two valuations that are stopped."""
+    """Runs of eight clerks with two valuations, which are stopped."""
 
     def __init__(self, program: str, folder: str) -> None:
         self.desk = Desk(program, folder)
@@ -75,7 +75,7 @@ class Runs:
 
 
 class Openings:
-    """Openings of a large journal that are stopped: not a byte of it may change."""
+    """Openings of a large journal, which are stopped: not a byte of it may change."""
 
     def __init__(self, program: str, folder: str) -> None:
         self.desk = Desk(program, folder)
@@ -94,7 +94,7 @@ class Openings:
 
 
 def read_a_line(desk: Any, words: list[str]) -> Any:
-    """Runs the program into a pipe of which one line is read, as `head -n 1` does; its status, and that line."""
+    """Runs the program into a pipe of which one line is read, as `head -n 1` does; returns its status and that line."""
     with open(desk.path("script.csv"), "rb") as script:
         run: Any = subprocess.Popen([desk.program, *words], cwd=desk.folder, stdin=script, stdout=subprocess.PIPE,
                                     stderr=subprocess.PIPE, preexec_fn=default_signals)
@@ -106,7 +106,8 @@ def read_a_line(desk: Any, words: list[str]) -> Any:
 
 
 def try_closed_pipes(desk: Any) -> None:
-    """The reader leaves after a line of a text that no pipe holds whole: 7, and the postings are kept."""
+    """Demands that if the reader leaves after one line of a text that no pipe can hold, the status is 7 and the postings are
+    kept."""
     before, script = file_of(many_policies(4000).commands), eight_clerks(EACH, 4000)
     desk.lay(before, script)
     status, line = read_a_line(desk, ["run"])
@@ -124,14 +125,15 @@ def try_closed_pipes(desk: Any) -> None:
 
 
 def pause(run: Any) -> None:
-    """Stops the program for a moment, once it has had time to wait for something."""
+    """Stops and continues the program, once it has had time to wait for something."""
     for number in (signal.SIGSTOP, signal.SIGCONT):
         time.sleep(0.1)
         run.send_signal(number)
 
 
 def try_pauses(desk: Any) -> None:
-    """A run that is stopped, and goes on, while it waits for the rest of its input and for room in its output."""
+    """Demands that a run is right if it is stopped and continued while it waits for the rest of its input and for space in its
+    output."""
     before, script = file_of(many_policies(4000).commands), eight_clerks(EACH, 4000)
     desk.lay(before)
     run: Any = subprocess.Popen([desk.program, "run"], cwd=desk.folder, stdin=subprocess.PIPE, stdout=subprocess.PIPE, bufsize=0,

@@ -1,10 +1,10 @@
-"""A transcript that is seen while the run goes on.
+"""Checks that a transcript is seen while its run goes on.
 
 usage: python3 -m tests.program.faults.streamed PROGRAM FOLDER SEED KILLS
 
-Each line comes as soon as its place is settled; a reader that stops, or that leaves, holds up no posting; what a killed run
-has printed is a front that its journal bears out; and at no moment of a run of eight clerks are more accepted lines written
-than gates are safe.
+Each line is printed as soon as its place is settled. A reader that stops, or that leaves, delays no posting. What a killed run
+has printed is a prefix that agrees with its journal. At no moment of a run of eight clerks have more accepted lines been written
+than commit bytes are safe.
 """
 from __future__ import annotations
 
@@ -34,7 +34,7 @@ def started(desk: Desk, words: list[str]) -> Any:
 
 
 def try_arrivals(desk: Desk) -> None:
-    """A clerk's first line is read while most of its postings have yet to be made."""
+    """Demands that a clerk's first line is read while most of its postings are yet to be made."""
     desk.lay(b"", b"".join(b"1,issue,%d,2020-01-01,endowment,0,3,1000.00,400.00\n" % n for n in range(1, LINES + 1)))
     run = started(desk, ["run"])
     text = run.stdout.read(65536)
@@ -46,7 +46,8 @@ def try_arrivals(desk: Desk) -> None:
 
 
 def try_stopped_reader(desk: Desk, before: bytes, basis: list[BasisRow]) -> None:
-    """A reader that stops after a byte of more text than a pipe holds, while all postings are made, and then reads the rest."""
+    """Demands that all postings are made while a reader has stopped after the first byte of more text than a pipe holds, and
+    that the text is right once the reader reads the rest."""
     script = eight_clerks(MANY, BEFORE)
     desk.lay(before, script)
     run = started(desk, ["run"])
@@ -63,7 +64,7 @@ def try_stopped_reader(desk: Desk, before: bytes, basis: list[BasisRow]) -> None
 
 
 def try_left_reader(desk: Desk, before: bytes) -> None:
-    """A reader that leaves after a byte while the postings go on: 7, and all of them are made."""
+    """Demands that if a reader leaves after one byte, the status is 7 and all postings are made."""
     script = eight_clerks(MANY, BEFORE)
     desk.lay(before, script)
     run = started(desk, ["run"])
@@ -79,7 +80,7 @@ def wait_for_records(desk: Desk, run: Any, count: int) -> None:
 
 
 def try_kills(desk: Desk, before: bytes, script: bytes, basis: list[BasisRow], draw: random.Random, kills: int) -> Any:
-    """Runs that are killed: what they printed is a front, and stands in the journal. Tells how many had printed."""
+    """Kills runs, demands that what each printed is a prefix and agrees with its journal, and returns how many had printed."""
     desk.lay(before, script)
     begun = time.perf_counter()
     desk.run(["run"])
@@ -88,7 +89,7 @@ def try_kills(desk: Desk, before: bytes, script: bytes, basis: list[BasisRow], d
     for number in range(kills):
         desk.lay(before, script)
         run = desk.start(["run"])
-        # at a moment, or once so many records are begun, which other work doesn't put off
+        # at a drawn time, or once a drawn number of records is begun, which doesn't depend on how busy the machine is
         if number % 2:
             time.sleep(draw.uniform(0, span))
         else:
@@ -102,7 +103,7 @@ def try_kills(desk: Desk, before: bytes, script: bytes, basis: list[BasisRow], d
 
 
 def try_calls(desk: Any, before: Any, script: bytes) -> None:
-    """At no moment are more accepted lines written than gates are safe."""
+    """Demands that at no moment more accepted lines have been written than commit bytes are safe."""
     desk.lay(before, script)
     ended = desk.run(["run"], ["strace", "-f", "-y", "-qq", "-s", "70000", "-o", desk.path("record"),
                                "-e", "trace=pwrite64,write,fsync"])

@@ -1,12 +1,12 @@
-"""Runs whose journal is taken away: removed, renamed, replaced by another file, or cut, while strace holds up a call.
+"""Takes the journal of a run away while strace delays a call: removes it, renames it, replaces it by another file, or cuts it.
 
 usage: python3 -m tests.program.faults.taken PROGRAM FOLDER [DEED KIND K | link]
 
-With a deed and a call, or a link, just this one is tried
+With a deed and a call, or with `link`, only this one is tried.
 
-From then on no line may be answered `accepted`, and the status is 8. What was accepted before is in the file that was taken
-away; the file that took its place isn't touched. Where the name is a symbolic link, it is so of the file to which it leads,
-and the folder of that file is synced.
+From then on no line may be answered `accepted`, and the status is 8. What was accepted before is in the file that was taken away;
+a file that took its place isn't changed. If the journal's name is a symbolic link, this holds for the file to which it leads, and
+the folder of that file is synced.
 """
 from __future__ import annotations
 
@@ -25,13 +25,14 @@ from life_tools.tables.basis import BasisRow, read_basis
 from life_tools.common.formats import Wrong, demand
 
 AT_ONCE = 4
-# a call is held up for so long, in microseconds; the deed is done once the file has stood still for so long, in seconds
+# a call is delayed for HELD_UP microseconds; the deed is done once the file hasn't changed for STILL seconds
 HELD_UP, STILL = 1_500_000, 0.2
 # the same for a preview, which is slow
 HELD_UP_LONG, STILL_LONG = 6_000_000, 1.0
-# The calls of the journal that are held up: the first sync and the question behind it; of the second posting the question
-# before it, both syncs and the question behind the second; and the last sync of all and the question behind it. The opening
-# makes one sync and asks four times; a posting makes two, and asks before its first write and behind its last sync.
+# The calls on the journal that are delayed: the first sync and the check of the file's name after it; for the second posting the
+# check before it, both syncs and the check after the second one; and the last sync of all and the check after it. The opening
+# makes one sync and checks the name four times; a posting makes two syncs, and checks the name before its first write and after
+# its last sync.
 HELD = [("fsync", 1), ("statx", 3), ("statx", 7), ("fsync", 4), ("fsync", 5), ("statx", 8), ("fsync", 9), ("statx", 12)]
 
 
@@ -57,7 +58,7 @@ DEEDS = [remove, rename, replace, cut]
 
 
 def wait_until_still(desk: Any, run: Any) -> None:
-    """Waits until the program makes no progress: it is held up."""
+    """Waits until the program makes no progress, because its call is delayed."""
     last, since = None, time.monotonic()
     still = STILL_LONG if is_preview(desk.program) else STILL
     while run.poll() is None and time.monotonic() - since < still:
@@ -73,14 +74,15 @@ def wait_until_still(desk: Any, run: Any) -> None:
 
 
 def held_up(desk: Any, kind: str, k: Any) -> Any:
-    """Starts a run of the four lines in which a call is held up."""
+    """Starts a run of the four lines in which a call is delayed."""
     span = HELD_UP_LONG if is_preview(desk.program) else HELD_UP
     hold = ["-e", f"trace={kind}", "-e", f"inject={kind}:delay_enter={span}:when={k}"]
     return desk.start(["run"], ["strace", "-f", "-qq", "-o", desk.path("log"), "-P", desk.path(JOURNAL), "-P", JOURNAL, *hold])
 
 
 def judge(ended: Any, before: Any, kept: Any, was_cut: bool, basis: list[BasisRow]) -> int:
-    """Nothing is accepted behind the first fault, and what was is kept; tells how many lines met one."""
+    """Demands that nothing is accepted after the first fault and that what was accepted is kept; returns how many lines met a
+    fault."""
     demand(ended.status == 8, f"status {ended.status}, wanted 8; printed {ended.text[:200]!r}")
     if ended.text == "diskfault\n":
         return 0
@@ -88,7 +90,7 @@ def judge(ended: Any, before: Any, kept: Any, was_cut: bool, basis: list[BasisRo
     demand(run.faults > 0, f"no line is answered fault: {ended.text[:200]!r}")
     demand(",accepted," not in ended.text[ended.text.index(",fault"):], f"accepted behind a fault: {ended.text[:200]!r}")
     if was_cut:
-        # a file that is cut behind an open gate is refused from there on
+        # a file that is cut after a commit byte of 1 is refused from there on
         found = read_journal(kept).commands
         demand(found == run.book.commands[:len(found)], "a record of the cut file is another")
     else:
@@ -117,7 +119,8 @@ def try_one(program: str, folder: str, deed: Any, kind: str, k: Any) -> Any:
 
 
 def try_a_link(program: str, folder: str) -> None:
-    """The journal is a symbolic link into another folder: that one is synced, and the file there is the journal."""
+    """Demands that if the journal is a symbolic link into another folder, that folder is synced and the file there is the
+    journal."""
     desk = Desk(program, folder)
     desk.lay(b"", ONE_CLERK)
     os.mkdir(desk.path("far"))

@@ -1,4 +1,4 @@
-"""Two runs at once over one file, again and again: two_runs.py PROGRAM FOLDER.
+"""Runs the program twice at the same time over one file, again and again: two_runs.py PROGRAM FOLDER.
 """
 from __future__ import annotations
 
@@ -40,7 +40,7 @@ for round in range(ROUNDS):
     runs = [start(folder), start(folder)]
     for run, first in zip(runs, (1, 1 + POSTINGS)):
         run.stdin.write(script(first))
-    # both have read their scripts but for the end, so they open the file at about the same time
+    # both have read their scripts except for the end, so they open the file at about the same time
     for run in runs:
         run.stdin.close()
     ended = [end(run) for run in runs]

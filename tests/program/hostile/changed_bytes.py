@@ -1,11 +1,11 @@
-"""Right files in which one byte is changed: set to 0, 1, 2, 127 or 255, or with one bit turned. Each is a case, and the
-program has to answer it as docs/reference/ says.
+"""Tries right files in which one byte is changed: set to 0, 1, 2, 127 or 255, or with one bit inverted. Each changed file is a
+case, for which the program must do what docs/reference/ says.
 
 usage: python3 -m tests.program.hostile.changed_bytes PROGRAM FOLDER SECONDS PART PARTS [SEED]
 
-The files are a journal of forty records of all kinds, its script, a basis file, a table and a select table. The cases are
-taken in an order drawn by the seed, one part of so many, until the time is over and there were two hundred; where SECONDS
-is `all`, until there are none left.
+The files are a journal of forty records of all kinds, its script, a basis file, a table and a select table. The cases are taken
+in an order drawn by the seed, one part of PARTS, until the time is over and at least two hundred were tried. If SECONDS is `all`,
+every case of the part is tried.
 """
 from __future__ import annotations
 
@@ -21,17 +21,17 @@ from life_tools.rules.policies import Book
 
 VALUES = (0, 1, 2, 127, 255)
 HERE = os.path.dirname(os.path.abspath(__file__))
-# every further case of a journal is a run that posts
+# one of so many cases of a journal is a run that posts
 POSTINGS = 4
 TABLE = (b'\xef\xbb\xbf <?xml version="1.0"?>\n<!-- Q --><XTbML><Table><MetaData><ScalingFactor> 1.0 </ScalingFactor></MetaData>'
          b"<Values><Axis id='a'>\n<Y t=\"0\">0.1</Y><Y t='01' >2E-1</Y><Y t=\"2\">.25<!-- -->"
          b'</Y></Axis></Values></Table><Table/></XTbML>\n').replace(b"<!-- --></Y>", b"</Y><!-- -->")
-# issue ages 0 and 1, each with rates of its own layout and number; blank rows, an axis and a table that are passed over
+# issue ages 0 and 1, each with rates in its own layout and number; blank rows, an axis and a table that are ignored
 SELECT = (b'<XTbML><Table><MetaData><ScalingFactor>0</ScalingFactor></MetaData><Values>\n<Axis t="0"><Axis><Y t="1">0.05</Y>'
           b'<Y t="02">.1</Y><Y t="x"> </Y><Y/></Axis></Axis><Axis t=\'1\'><Y '
           b't="0">1E-1</Y><Axis/></Axis></Values></Table><!-- -->\n'
           b'<Table><Values><Axis><Y t="2">0.25</Y><Y t="3">0.5</Y></Axis></Values></Table><Table/></XTbML>')
-# policies in force that the tables fit, so that a valuation rests on their rates
+# policies in force that the tables cover, so that a valuation depends on their rates
 VALUED = b"""1,issue,1,2004-02-29,whole,0,0,1000.00,400.00
 1,issue,2,2004-03-01,endowment,0,2,1000.00,400.00
 1,issue,3,2012-03-01,endowment,20,3,1000.00,330.00
@@ -58,24 +58,24 @@ def book_of_values() -> Book:
 
 
 def files(book: Book) -> dict[str, bytes]:
-    """Each file by its kind."""
+    """Returns each file by its kind."""
     return {"journal": file_of(book.commands), "script": script_of_forty() + b"2,trim\n3,value,2021-01-01,7,64\n", "basis": BASIS,
             "table": TABLE, "select": SELECT}
 
 
 def changes(byte: int) -> list[int]:
-    """What a byte is changed to."""
+    """Returns the values to which a byte is changed."""
     return sorted({*VALUES, *(byte ^ 1 << bit for bit in range(8))} - {byte})
 
 
 def cases(book: Book) -> list[tuple[str, int, int]]:
-    """All cases, as kind, place and new byte."""
+    """Returns all cases, each as a kind, a place and the new byte."""
     return [(kind, place, new) for kind, data in files(book).items() for place in range(len(data))
             for new in changes(data[place])]
 
 
 def judge(trials: dict[str, Trial], book: Book, case: tuple[str, int, int]) -> str:
-    """What the program makes of a case, in a word."""
+    """Judges what the program does with a case, and returns a word for it."""
     kind, place, new = case
     data = bytearray(files(book)[kind])
     data[place] = new

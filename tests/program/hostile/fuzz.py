@@ -1,10 +1,10 @@
-"""Drawn scripts, words, journals, checkpoints, basis files and tables, most of them spoilt: the program has to answer each as
-docs/reference/ says, without a signal, a word on standard error, or a hang.
+"""Tries drawn scripts, arguments, journals, checkpoints, basis files and tables, most of them spoilt. The program must do with
+each what docs/reference/ says, without a signal, output on standard error, or a hang.
 
 usage: python3 -m tests.program.hostile.fuzz PROGRAM FOLDER SECONDS SEED [CASE]
 
-The cases of a seed are numbered from 0 on, and taken until the time is over and there were two hundred, or there were
-twelve thousand, so that the gate tries no other cases on a faster machine; with CASE just this one is tried.
+The cases of a seed are numbered from 0 on. They are taken until the time is over and at least two hundred were tried, or until
+twelve thousand were tried, so that CI tries no other cases on a faster machine. With CASE only this one is tried.
 """
 from __future__ import annotations
 
@@ -60,7 +60,7 @@ WORDS = [b"run", b"value", b"project", b"state", b"checkpoint", b"generate", b"l
          b"basis.csv", b"none.csv", b"100", b"101", b"131", b"132", b"x" * 100_000, b"--mean", b"--mean", b"--deficiency",
          b"--deficiency", b"--mean=",
          b"--mean=1", b"--deficiency=mean", b"--Mean", b"--mea", b"-mean", b"mean"]
-# words that fit, so that not all are refused
+# arguments that are right, so that not all are refused
 RIGHT = [[b"run"], [b"run", b"--basis", b"none.csv"], [b"state"], [b"checkpoint"], [b"state", b"1"], [b"state", b"9"],
          [b"value", b"2021-01-01"],
          [b"value", b"2021-01-01", b"--at", b"12"], [b"value", b"2021-01-01",
@@ -75,7 +75,7 @@ SCRIPT = b"1,issue,77,2020-01-01,endowment,0,3,1000.00,400.00\n8,lapse,77,2020-0
 
 
 def spoilt(draw: random.Random, data: bytes, tokens: list[bytes], most: int) -> bytes:
-    """The data with up to so many changes."""
+    """Returns the data with at most `most` changes."""
     data = bytearray(data)
     for _ in range(draw.randrange(most + 1)):
         place, what = draw.randrange(len(data) + 1), draw.randrange(8)
@@ -107,7 +107,7 @@ def drawn_script(draw: random.Random) -> bytes:
 
 
 def drawn_journal(draw: random.Random, book: Book) -> bytes:
-    """A journal of which records may be left out, put in again or changed, and bytes spoilt."""
+    """Returns a journal whose records may be left out, repeated or replaced, and whose bytes may be spoilt."""
     commands = list(book.commands[:draw.randrange(41)])
     for _ in range(draw.randrange(3)):
         if commands:
@@ -119,14 +119,14 @@ def drawn_journal(draw: random.Random, book: Book) -> bytes:
 
 
 def drawn_checkpoint(draw: random.Random, book: Book) -> bytes:
-    """That of a front of the book or of another book, or of more commands, with bytes spoilt."""
+    """Returns a checkpoint of a prefix of the book or of another book, perhaps longer than the journal, with bytes spoilt."""
     commands = list(book.commands[:draw.randrange(41)])
     if draw.random() < 0.2:
         commands = list(book_of_values().commands)
     data = bytes_of_checkpoint(checkpoint_of(commands)) + draw.choice([b"", b"", bytes(60),
                                                                        bytes(draw.randrange(256) for _ in range(100))])
     if draw.random() < 0.5:
-        # one byte of it alone, so that most of the rest is still right
+        # only one byte is changed, so that most of the rest is still right
         data = bytearray(data)
         data[draw.randrange(len(data))] = draw.choice([0, 1, 2, 3, 255, draw.randrange(256)])
         return bytes(data)
@@ -145,7 +145,7 @@ def drawn_words(draw: random.Random) -> list[bytes]:
 
 
 def tables(root: str) -> list[bytes]:
-    """Tables by age, and select ones in each layout."""
+    """Returns tables by age, and select tables in each layout."""
     found = [TABLE, TABLE, SELECT, SELECT, MIDDLE.encode()]
     for name in ("g.xml", "select.xml", "select-inner.xml"):
         with open(os.path.join(root, "examples", name), "rb") as file:
@@ -154,7 +154,7 @@ def tables(root: str) -> list[bytes]:
 
 
 def judge(trials: dict[str, Trial], book: Book, draw: random.Random, kind: str) -> str:
-    """What the program makes of a drawn case, in a word."""
+    """Judges what the program does with a drawn case, and returns a word for it."""
     trial = trials[kind]
     if kind == "script":
         return judge_script(trial, drawn_script(draw))

@@ -1,6 +1,6 @@
-"""A plain reading of the mortality table file, piece by piece as docs/reference/tables.md has them.
+"""Reads the mortality table file in a plain way, piece by piece as docs/reference/tables.md describes.
 
-It takes all files of the profile, some of which are no XML. The checks behind the document are those of
+It accepts all files of the profile, some of which are not XML. The checks after the document is read are those of
 tools/life_tools/tables/basis.py.
 """
 from __future__ import annotations
@@ -34,7 +34,8 @@ class Document:
         self.is_whole = self.at == len(data) and self.root is not None and not self.open
 
     def take(self) -> bool:
-        """Takes a piece, or a run of single bytes, or stands still before what may not follow."""
+        """Takes the next piece of the file. Returns whether one could be taken; nothing is taken if the piece may not follow
+        here."""
         for piece, taken in ((TEXT, self.text), (DECLARATION, self.declaration), (COMMENT, self.comment), (END, self.end),
                              (START, self.start)):
             found = piece.match(self.data, self.at)
@@ -63,7 +64,7 @@ class Document:
         return True
 
     def begin(self) -> None:
-        """An element or a comment stands here: no declaration may follow, and the element around isn't plain."""
+        """Notes that an element or a comment stands here: no declaration may follow, and the enclosing element isn't plain."""
         self.is_begun = True
         if self.open:
             self.open[-1].is_plain = False
@@ -93,7 +94,7 @@ class Document:
 
 
 def read_plain_table(data: bytes, name: str) -> SelectTable | Table | None:
-    """The table of a file of this name, or `BadBasis` with the first check that applies."""
+    """Returns the table of a file of this name, or raises `BadBasis` with the first check that applies."""
     document = Document(data)
     if not document.is_whole or document.root is None:
         raise BadBasis(name, document.at, "notdocument")

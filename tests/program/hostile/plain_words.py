@@ -1,4 +1,5 @@
-"""A plain reading of the arguments of a command line (docs/reference/commands.md), and the shape of the answer to each."""
+"""Reads the arguments of a command line in a plain way (docs/reference/commands.md), and gives the shape of the output of
+each."""
 from __future__ import annotations
 
 import datetime
@@ -14,7 +15,7 @@ from life_tools.tables.basis import NAME
 OPTIONS: dict[str, tuple[str, ...]] = {
     "run": ("--basis",), "value": ("--at", "--workers", "--basis"), "project": ("--workers", "--basis"), "state": (),
     "checkpoint": (), "generate": (), "load": ()}
-# which stand alone; of two such words there is none that fits
+# options without a value; at most one of them may be given
 FLAGS = {"value": ("--mean", "--deficiency")}
 PLACES: dict[str, list[str]] = {
     "run": [], "value": ["day"], "project": ["day", "years"], "state": ["id"], "checkpoint": [],
@@ -25,14 +26,14 @@ LIMITS = {"years": (1, MOST_YEARS), "id": (1, MOST_NUMBER), "seed": (0, 2**31 - 
 AMOUNT = r"(0|[1-9][0-9]*)\.[0-9]{2}"
 
 
-# status and text
+# the exit status and the text that was printed
 Answer = Tuple[int, str]
 
 
 @dataclass
 class Meaning:
-    """What is asked, `usage` where nothing is; whether an answer, status and text, is of its shape; the policy's number, and
-    the measure of a valuation."""
+    """What is asked (`usage` if the arguments are wrong), a check whether status and text have the right shape, the policy's
+    number, and the measure of a valuation."""
 
     mode: str
     fits: Callable[[Answer], bool]
@@ -45,7 +46,7 @@ def usage() -> Meaning:
 
 
 def value_of(name: str, text: str) -> datetime.date | int | str | None:
-    """What a word says at its place or for its option, or none."""
+    """Returns the value of an argument at its place or of its option, or None if it has none."""
     if name == "measure":
         return text
     if name == "day":
@@ -56,7 +57,7 @@ def value_of(name: str, text: str) -> datetime.date | int | str | None:
 
 
 def split(words: list[str], mode: str) -> tuple[list[str], dict[str, str]] | None:
-    """The words that are no options, and the options with their words, a flag with its own; or none where they don't fit."""
+    """Splits the arguments into those that are no options and the options with their values; returns None if they don't fit."""
     plain, options, left = [], {}, list(words)
     while left:
         word = left.pop(0)
@@ -76,7 +77,7 @@ def split(words: list[str], mode: str) -> tuple[list[str], dict[str, str]] | Non
 
 
 def meaning_of(given: list[bytes], count: int) -> Meaning:
-    """What the words ask where so many commands are accepted."""
+    """Returns what the arguments ask of a book in which this number of commands is accepted."""
     try:
         words = [word.decode("utf-8") for word in given]
     except UnicodeDecodeError:
@@ -116,7 +117,8 @@ def is_checkpoint(_: list[Any], __: dict[Any, Any], count: int) -> Meaning:
 
 
 def is_by_another_basis(found: Answer, name: str) -> bool:
-    """Whether an answer fits where the basis isn't basis.csv: there is none but the tables, which may be no basis."""
+    """Returns whether the output is right for a basis other than basis.csv: no other file is there except the tables, which
+    may not be a basis."""
     return found[0] == 4 and found[1] == f"badbasis,{name},0,absent\n" or name in ("q.xml", "g.xml", "m.xml", "select.xml")
 
 

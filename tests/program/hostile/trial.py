@@ -1,8 +1,8 @@
-"""The program on one case after the other, in a folder of its own, and what it must answer by docs/reference/.
+"""Runs the program on one case after another, in a folder of its own, and judges what it does by docs/reference/.
 
-The judges use the readers in tools/, and for tables and words the plain readings beside this file. Each raises `Wrong`
-where the program does anything else: another line, another status, a signal, a word on standard error, a file that was
-changed, or no answer within a time that no such case needs.
+The judges use the readers in tools/, and for tables and arguments the plain readers of this folder. Each raises `Wrong` if the
+program does anything else: another line, another status, a signal, output on standard error, a file that was changed, or no
+output within a time that no such case needs.
 """
 from __future__ import annotations
 
@@ -33,14 +33,14 @@ from life_tools.reserves.exact import Known
 ROOT = os.path.abspath(os.path.join(os.path.dirname(os.path.abspath(__file__)), "..", "..", ".."))
 
 SECONDS = 30
-# so many cases are tried whatever their time
+# the number of cases that are tried even if the time is over
 LEAST = 200
 ON = "2021-01-01"
 FRESH = 4294967295
 
 
 def try_for(seconds: float, cases: Iterable[Any] | list[tuple[str, int, int]], try_one: Callable[..., Any], what: str) -> None:
-    """Tries cases until the time is over and there were some, and tells how many became of each kind."""
+    """Tries cases until the time is over and at least LEAST were tried, and prints how many ended in each way."""
     end = time.monotonic() + seconds
     seen: collections.Counter[str] = collections.Counter()
     for case in cases:
@@ -51,12 +51,12 @@ def try_for(seconds: float, cases: Iterable[Any] | list[tuple[str, int, int]], t
 
 
 class Trial:
-    """A program, and a folder with the basis of the random scripts in which it runs."""
+    """A program, and a folder with the basis of the drawn scripts, in which the program runs."""
 
     def __init__(self, program: str, folder: str) -> None:
         self.program, self.folder = os.path.abspath(program), folder
         folder_for(folder, ROOT)
-        self.known: Known = {}  # Exact values that were worked out, by what they rest on.
+        self.known: Known = {}  # exact values that were computed, by what they depend on
 
     def path(self, name: str) -> str:
         return os.path.join(self.folder, name)
@@ -66,7 +66,7 @@ class Trial:
             file.write(data)
 
     def read(self, name: str) -> bytes:
-        """What a file has, and nothing where there is none."""
+        """Returns the content of a file, which is empty if there is no file."""
         if not os.path.exists(self.path(name)):
             return b""
         with open(self.path(name), "rb") as file:
@@ -77,7 +77,7 @@ class Trial:
             os.remove(self.path(name))
 
     def run(self, *words: Any, script: bytes = b"", seconds: int = SECONDS) -> tuple[int, str]:
-        """The status, and what was printed."""
+        """Runs the program, and returns its status and what it printed."""
         try:
             ran = subprocess.run([self.program, *words], cwd=self.folder, input=script, capture_output=True, timeout=seconds)
         except subprocess.TimeoutExpired:
@@ -100,7 +100,7 @@ def demand_answer(found: tuple[int, str], status: int, text: str, words: list[by
 # --- journals ---
 
 def state_of(book: Book, balances: dict[str, int] | None = None) -> str:
-    """What `state` prints of a book, with its own balances or these."""
+    """Returns what `state` prints for a book, with these balances if they are given and otherwise with the book's own."""
     lines = []
     for it in book.policies.values():
         lines.append(f"policy,{it.number},{it.status},{it.plan},{it.age},{it.years},{money(it.amount)},{money(it.premium)},"
@@ -110,7 +110,8 @@ def state_of(book: Book, balances: dict[str, int] | None = None) -> str:
 
 
 def judge_journal(trial: Trial, data: bytes) -> str:
-    """Any bytes as journal.life: the book that they hold or the cause of their refusal, and what stands there afterwards."""
+    """Judges `state` over any bytes as journal.life: it prints the book that they hold or the reason for their refusal, and
+    leaves the right file."""
     trial.write("journal.life", data)
     journal = read_journal(data)
     found = trial.run("state")
@@ -123,7 +124,7 @@ def judge_journal(trial: Trial, data: bytes) -> str:
 
 
 def state_from(checkpoint: Checkpoint, commands: list[Command]) -> tuple[int, str]:
-    """The status and text of `state` where it begins with these books, be they of this journal or not."""
+    """Returns the status and the text of `state` if it begins with this checkpoint, whether or not it belongs to this journal."""
     book, balances = Book(), dict(checkpoint.balances)
     book.policies = {policy.number: policy for policy in checkpoint.policies}
     book.upgrade, book.commands = checkpoint.upgrade, list(commands[:checkpoint.position])
@@ -139,7 +140,8 @@ def state_from(checkpoint: Checkpoint, commands: list[Command]) -> tuple[int, st
 
 
 def judge_checkpoint(trial: Trial, data: bytes, book: Book) -> str:
-    """Any bytes as checkpoint.life beside the journal of the book: the state, and the checkpoint that is made then."""
+    """Judges the program over any bytes as checkpoint.life and the journal of the book: what `state` prints, and the
+    checkpoint that `checkpoint` then makes."""
     trial.write("journal.life", file_of(book.commands))
     trial.write("checkpoint.life", data)
     try:
@@ -165,7 +167,7 @@ def judge_checkpoint(trial: Trial, data: bytes, book: Book) -> str:
 
 
 def judge_posting(trial: Trial, data: bytes) -> str:
-    """Any bytes as journal.life, and a script of one issue."""
+    """Judges a run of one issue over any bytes as journal.life."""
     trial.write("journal.life", data)
     journal = read_journal(data)
     script = f"1,issue,{FRESH},2020-01-01,endowment,0,3,1000.00,400.00\n".encode()
@@ -190,7 +192,8 @@ def judge_posting(trial: Trial, data: bytes) -> str:
 # --- scripts ---
 
 def judge_script(trial: Trial, data: bytes) -> str:
-    """Any bytes as a script, on no journal: the place of the first fault, or a history of its lines."""
+    """Judges any bytes as a script, without a journal: the program must report the place of the first fault, or a history of
+    the lines."""
     trial.remove("journal.life")
     status, text = trial.run("run", script=data)
     lines = read_script(data)
@@ -206,8 +209,8 @@ def judge_script(trial: Trial, data: bytes) -> str:
 # --- bases and tables ---
 
 def judge_values(trial: Trial, basis: list[BasisRow], book: Book, wanted: str, data: bytes) -> None:
-    """The valuation of the book by a basis, or the line of the bad file where there is none. The measure is drawn from the
-    bytes of the file."""
+    """Judges the valuation of the book by a basis, or the line for the bad file if there is no basis. The measure is drawn
+    from the bytes of the file."""
     measure = MEASURES[zlib.crc32(data) % len(MEASURES)]
     status, text = trial.run("value", ON, *([] if measure == "terminal" else ["--" + measure]))
     if wanted:
@@ -220,7 +223,7 @@ def judge_values(trial: Trial, basis: list[BasisRow], book: Book, wanted: str, d
 
 
 def judge_basis(trial: Trial, data: bytes, book: Book) -> str:
-    """Any bytes as basis.csv, beside right tables and the journal of the book."""
+    """Judges a valuation by any bytes as basis.csv, with right tables and the journal of the book."""
     trial.write("basis.csv", data)
     trial.write("journal.life", file_of(book.commands))
     basis: Any = []
@@ -234,8 +237,8 @@ def judge_basis(trial: Trial, data: bytes, book: Book) -> str:
 
 
 def judge_table(trial: Trial, data: bytes, book: Book) -> str:
-    """Any bytes as the table t.xml of a basis of one row, beside the journal of the book. Where an XML parser takes the
-    file, what tools/life_tools/tables/basis.py makes of it has to be the same."""
+    """Judges a valuation by any bytes as the table t.xml of a basis of one row, with the journal of the book. If an XML parser
+    accepts the file, tools/life_tools/tables/basis.py must read the same table."""
     trial.write("basis.csv", b"1900-01-01,t.xml,250\n")
     trial.write("t.xml", data)
     trial.write("journal.life", file_of(book.commands))
@@ -264,7 +267,7 @@ def demand_parsers_agree(data: bytes, table: SelectTable | Table, wanted: str) -
 # --- words ---
 
 def judge_words(trial: Trial, words: list[bytes], script: bytes, book: Book) -> str:
-    """Any words, each as bytes, beside the journal of the book; the script is right, and has no valuation."""
+    """Judges any arguments, each as bytes, with the journal of the book; the script is right, and has no valuation."""
     trial.write("journal.life", file_of(book.commands))
     found = trial.run(*words, script=script)
     meaning = meaning_of(words, len(book.commands))

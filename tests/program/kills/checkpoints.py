@@ -1,10 +1,11 @@
 #!/usr/bin/env python3
-"""Kills `life checkpoint`, and `life run` beside a checkpoint, with SIGKILL at random moments, and judges each time that
-`state` writes what it writes without the checkpoint, and that the file holds no checkpoint or one of the journal's front.
+"""Kills `life checkpoint`, and `life run` in a folder with a checkpoint, with SIGKILL at random moments. After each kill it
+demands that `state` prints what it prints without the checkpoint, and that the file holds no checkpoint or that of a prefix of
+the journal.
 
 usage: PYTHONPATH=tools python3 -m tests.program.kills.checkpoints PROGRAM FOLDER KILLS SEED
 
-FOLDER is made, and is left as it is. The seed fixes what is drawn, not where a kill falls.
+FOLDER is made, and is left as it is. The seed fixes what is drawn, not when a kill happens.
 """
 from __future__ import annotations
 
@@ -63,7 +64,7 @@ class Office:
         return bool(made.wait() != 0)
 
     def judge(self) -> None:
-        """What the killed program left of both files, before anything is repaired."""
+        """Judges what the killed program left of both files, before anything is repaired."""
         journal, kept = self.read(JOURNAL), self.read(KEPT)
         commands = read_journal(journal or b"").commands
         try:

@@ -1,10 +1,10 @@
 #!/usr/bin/env python3
-"""Kills runs of eight clerks at random moments, and looks at the file that is left each time.
+"""Kills runs of eight clerks at random moments, and examines the file that is left each time.
 
 usage: python3 tests/program/kills/eight_clerks.py ROUNDS FOLDER    (the program has to be built)
 
-All records from before have to be there, and of each clerk's postings the first so many, in order, once each. Then the
-program has to open the file to just these records. The same file goes on from round to round.
+All earlier records must be there, followed by a prefix of each clerk's postings, in order and once each. Then the program must
+open the file to exactly these records. The same file is used in all rounds.
 """
 from __future__ import annotations
 
@@ -21,7 +21,7 @@ CLERKS, POSTINGS_EACH, LONGEST_SECONDS = 8, 400, 0.9
 
 
 def policies_of(journal: str) -> list[Any]:
-    """The numbers of the policies in the open records, in order."""
+    """Returns the numbers of the policies in the records whose commit byte is 1, in order."""
     if not os.path.exists(journal):
         return []
     image = open(journal, "rb").read()
@@ -40,7 +40,7 @@ def need(right: bool, message: str) -> None:
 
 
 def kill_one(folder: str, first: int) -> tuple[list[list[int]], bytes]:
-    """Kills a run whose policies are numbered from there on; gives each clerk's numbers, and what it had printed."""
+    """Kills a run whose policies are numbered from `first` on; returns each clerk's numbers, and what the run had printed."""
     numbers = range(first, first + CLERKS * POSTINGS_EACH)
     lanes = [[n for n in numbers if n % CLERKS == clerk] for clerk in range(CLERKS)]
     rows = "".join(f"{n % CLERKS + 1},issue,{n},2020-01-01,endowment,0,3,1000.00,400.00\n" for n in numbers)

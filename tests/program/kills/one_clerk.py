@@ -1,13 +1,14 @@
 #!/usr/bin/env python3
-"""Kills `life run` with SIGKILL at random moments of runs over a real file, and judges each time that the program
-reopens to exactly the records whose gates stood open in the file that the killed run left.
+"""Kills `life run` with SIGKILL at random moments of runs over a real file. After each kill it demands that the program reopens
+to exactly the records whose commit bytes were 1 in the file that the killed run left. (The code calls the commit byte the gate; a
+gate is open if the byte is 1.)
 
 usage: python3 tests/program/kills/one_clerk.py [KILLS] [--folder FOLDER] [--seed SEED]     (python3 and its standard library)
 
-A third of the kills falls on fresh folders, in or near the creation of the journal; the rest on a journal that earlier
-kills left. The seed fixes what is drawn, not where a kill falls. The files lie in a temporary folder made in FOLDER,
-by default in the parent of the current folder; it is removed where all is well and kept where a round fails.
-A run that ends before its kill is judged like the others and counted as no kill.
+A third of the kills is in fresh folders, during or near the creation of the journal; the others are on a journal that earlier
+kills left. The seed fixes what is drawn, not when a kill happens. The files lie in a temporary folder made in FOLDER, by default
+in the parent of the current folder; it is removed if all rounds are right and kept if a round fails. A run that ends before its
+kill is judged like the others, but isn't counted as a kill.
 """
 from __future__ import annotations
 
@@ -39,7 +40,7 @@ def need(holds: bool | list[int], text: str) -> None:
 
 
 def read_bytes(path: str) -> bytes | None:
-    """The bytes of a file, or None where there is none."""
+    """Returns the bytes of a file, or None if there is no file."""
     if not os.path.exists(path):
         return None
     with open(path, "rb") as file:
@@ -53,18 +54,18 @@ def gate_of(n: int) -> int:
 
 
 def body(policy: int) -> bytes:
-    """The record that the program has to write for a line of `lines_of`."""
+    """Returns the body that the program must write for a line of `Office.start`."""
     return (bytes([1, 3, 0, 3]) + policy.to_bytes(4, "big") + (18262).to_bytes(4, "big")
             + (100000).to_bytes(8, "big") + (40000).to_bytes(8, "big") + bytes(36))
 
 
 def prefix_of(policies: list[int]) -> bytes:
-    """The file up to the end of the last of these records."""
+    """Returns the file up to the end of the last of these records."""
     return b"\1" + HEADER + b"".join(b"\1" + body(policy) for policy in policies)
 
 
 def is_unfinished(image: bytes) -> bool:
-    """Whether the file is a creation that didn't end."""
+    """Returns whether the file is an unfinished creation of a journal."""
     if len(image) <= 1:
         return True
     if image[0] == 0:
@@ -73,7 +74,7 @@ def is_unfinished(image: bytes) -> bool:
 
 
 def open_gates(image: bytes) -> int:
-    """How many gates stand open from that of record 0 on."""
+    """Returns how many commit bytes in a row are 1, from that of record 0 on."""
     n = 0
     while gate_of(n) < len(image) and image[gate_of(n)] == 1:
         n += 1
@@ -83,7 +84,7 @@ def open_gates(image: bytes) -> int:
 # The runs.
 
 class Office:
-    """A folder with a journal, and the ids of its open records."""
+    """A folder with a journal, and the ids of its records."""
 
     def __init__(self, folder: str, start: bytes | None = None) -> None:
         shutil.rmtree(folder, ignore_errors=True)
@@ -101,7 +102,7 @@ class Office:
         return read_bytes(self.path(JOURNAL))
 
     def start(self, policies: list[int], name: str) -> subprocess.Popen[bytes]:
-        """Starts the program on a line for each id."""
+        """Starts the program on a script with one line for each id."""
         with open(self.path(name + ".csv"), "w") as script:
             script.writelines("1,issue,%d,2020-01-01,endowment,0,3,1000.00,400.00\n" % policy for policy in policies)
         with open(self.path(name + ".csv")) as script, open(self.path(name + ".out"), "wb") as out:
@@ -109,7 +110,7 @@ class Office:
 
 
 class Ids:
-    """Ids that were never given out before, in no order."""
+    """Gives out ids that were never given out before, in no order."""
 
     def __init__(self) -> None:
         self.given = 0
@@ -120,7 +121,7 @@ class Ids:
 
 
 def wait(seconds: float) -> None:
-    """More exact than a sleep where it is short."""
+    """Waits for this time; more exact than `time.sleep` if the time is short."""
     end = time.perf_counter() + seconds
     if seconds > 0.01:
         time.sleep(seconds - 0.005)
@@ -129,7 +130,7 @@ def wait(seconds: float) -> None:
 
 
 def kill_run(office: Office, asked: list[int], delay: float, on_file: bool) -> bool:
-    """Kills a run after a delay from its start, or from when its file is there. False where the run had ended."""
+    """Kills a run after a delay from its start, or from the creation of its file. Returns False if the run had ended before."""
     run = office.start(asked, "killed")
     while on_file and run.poll() is None and not os.path.exists(office.path(JOURNAL)):
         pass
@@ -143,7 +144,7 @@ def kill_run(office: Office, asked: list[int], delay: float, on_file: bool) -> b
 # What the killed run left.
 
 def judge_left(office: Office, asked: list[int]) -> tuple[str, int]:
-    """What kind of file it is, and how many records are open."""
+    """Judges what the killed run left; returns the kind of the file and its number of records."""
     image = office.image()
     kept = office.kept
     printed = read_bytes(office.path("killed.out")) or b""
@@ -171,7 +172,7 @@ def judge_left(office: Office, asked: list[int]) -> tuple[str, int]:
 
 
 def reopen(office: Office, count: int, new: int, drawn: int) -> None:
-    """Runs the program on what was left, and judges its answers and the file after."""
+    """Runs the program on what was left, and judges its output and the file afterwards."""
     with open(office.path("left.life"), "wb") as file:
         file.write(office.image() or b"")
     taken = [drawn, office.kept[-1]] if office.kept else []
@@ -203,21 +204,21 @@ class Trial:
         self.span = self.seconds_of_a_run()
 
     def seconds_of_a_run(self) -> float:
-        """About how long two thirds of a long script take here."""
+        """Returns about how many seconds two thirds of a long script take on this machine."""
         office = Office(os.path.join(self.folder, "timed"))
         start = time.perf_counter()
         office.start(self.ids.take(LONG_SCRIPT * 2 // 3), "timed").wait()
         return time.perf_counter() - start
 
     def fresh(self, draw: random.Random) -> tuple[Office, list[int], float, bool]:
-        """A fresh folder, or one with the creation that an earlier kill left unfinished."""
+        """Returns a run in a fresh folder, or in one with a creation that an earlier kill left unfinished."""
         start = draw.choice(self.unfinished) if self.unfinished and draw.random() < 0.25 else None
         office = Office(os.path.join(self.folder, "fresh"), start)
         on_file = start is None and draw.random() < 0.5
         return office, self.ids.take(SHORT_SCRIPT), draw.uniform(0, 0.0015 if on_file else 0.003), on_file
 
     def grown(self, draw: random.Random) -> tuple[Office, list[int], float, bool]:
-        """The journal that earlier kills left; a quarter of the kills falls near the start of the run."""
+        """Returns a run on the journal that earlier kills left; a quarter of these kills is near the start of the run."""
         if self.standing is None or len(self.standing.kept) > MOST_RECORDS:
             self.standing = Office(os.path.join(self.folder, "standing"))
         near = self.span / 20 if draw.random() < 0.25 else self.span
@@ -232,7 +233,7 @@ class Trial:
         need(killed or count == before + len(asked), "a run that ended left %d records" % count)
         if kind == "creation":
             self.unfinished.append(office.image() or b"")
-        # The id of a body that was staged is as free as one that was never asked for.
+        # the id of a body that was written without its commit byte is as free as one that was never asked for
         free = asked[count - before] if kind in ("whole", "torn") and draw.random() < 0.5 else self.ids.take(1)[0]
         reopen(office, count, free, draw.choice(office.kept or [0]))
         if not killed:
@@ -253,7 +254,7 @@ class Trial:
 
 
 def run_rounds(trial: Trial, kills: int, seed: int) -> bool:
-    """Answers whether all rounds were right."""
+    """Runs rounds until the number of kills is reached; returns whether all were right."""
     number = 0
     while len(trial.counts) < kills:
         number += 1

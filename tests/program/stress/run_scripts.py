@@ -1,11 +1,11 @@
-"""Runs the program on random scripts of eight clerks, and checks what it prints and leaves.
+"""Runs the program on random scripts of eight clerks, and judges what it prints and leaves.
 
 usage: python3 -m tests.program.stress.run_scripts PROGRAM ROOT FOLDER QUICK SCRIPTS [FIRST_SEED]
 
-Two scripts run in each new folder, the second on the journal of the first, and what they leave is valued by each measure;
-in one of four the first has a book of many policies, so that a valuation takes several reads and others post and trim
-between them. One folder of four is made in FOLDER, on a real disk, where a posting takes long and the others wait; three
-are made in QUICK. Where a run isn't right, its files are left.
+Two scripts run in each new folder, the second on the journal of the first, and what they leave is valued by each measure. In one
+of four folders the first script has a book of many policies, so that a valuation takes several reads while others post and trim
+between them. One of four folders is made in FOLDER, on a real disk, where a posting takes long and the others wait; three are
+made in QUICK. If a run isn't right, its files are left.
 """
 from __future__ import annotations
 
@@ -26,13 +26,13 @@ from life_tools.journal.file import file_of, read_journal
 from life_tools.tables.basis import BasisRow, read_basis
 from life_tools.reserves.exact import Known
 
-# all but `full`
+# all reasons except `full`
 REASONS = 16
 MANY = 1200
 
 
 def bytes_of(path: str) -> Any:
-    """What a file has, and nothing where there is none."""
+    """Returns the content of a file, which is empty if there is no file."""
     if not os.path.exists(path):
         return b""
     with open(path, "rb") as file:
@@ -40,7 +40,7 @@ def bytes_of(path: str) -> Any:
 
 
 def run_pair(program: str, root: str, folder: str, seed: int, known: Any, seen: Any) -> None:
-    """Two scripts one after the other in a new folder."""
+    """Runs two scripts, one after the other, in a new folder, and judges them."""
     folder_for(folder, root)
 
     def path(name: str) -> str:
@@ -71,7 +71,7 @@ def run_pair(program: str, root: str, folder: str, seed: int, known: Any, seen: 
 
 
 def value_by_each(program: str, folder: str, draw: random.Random, basis: list[BasisRow], known: Any, seen: Any) -> None:
-    """Values what the scripts left, on a drawn day, by each measure."""
+    """Values what the scripts left, on a drawn day, by each measure, and judges the rows."""
     policies = list(read_journal(bytes_of(os.path.join(folder, "journal.life"))).book.policies.values())
     on = valued_on(draw)
     for measure in MEASURES:
@@ -90,7 +90,7 @@ def value_by_each(program: str, folder: str, draw: random.Random, basis: list[Ba
 
 
 def count(text: str, accepted: Any, seen: Any) -> None:
-    """What there was to be seen in a transcript."""
+    """Counts in `seen` what a transcript contains."""
     changes, last = 0, None
     for line in printed_rows(text):
         seen["paid-up rows"] += line[0] == "row" and line[2] == "paidup"

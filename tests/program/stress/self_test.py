@@ -1,4 +1,4 @@
-"""The checker of transcripts has to refuse: right transcripts of an office of its own, with one thing changed.
+"""Tests the judge of transcripts: it must refuse right transcripts of an independent office model in which one thing is changed.
 
 usage: python3 -m tests.program.stress.self_test ROOT FOLDER
 """
@@ -30,7 +30,7 @@ def cents_of(text: str) -> int:
 
 
 def places(draw: random.Random, lines: list[str], pattern: str) -> list[int]:
-    """Some of the lines that are like the pattern."""
+    """Returns the places of some of the lines that match the pattern."""
     found = [i for i, line in enumerate(lines) if re.search(pattern, line)]
     return draw.sample(found, min(PLACES, len(found)))
 
@@ -53,7 +53,7 @@ def cents_more(by: int) -> Callable[..., Any]:
     return lambda text: money(cents_of(text) + by)
 
 
-# what is changed in a line: which lines, which field, and how
+# what is changed in a line: its name, which lines, which field, and how
 LINES: list[tuple[str, str, int, Callable[[str], str]]] = [
     ("a position one too high", r",accepted,", -1, more(1)),
     ("a position one too low", r",accepted,", -1, more(-1)),
@@ -86,7 +86,7 @@ LINES: list[tuple[str, str, int, Callable[[str], str]]] = [
 
 
 def changed_texts(draw: random.Random, text: str) -> Iterator[tuple[str, list[str]]]:
-    """Each right transcript with one thing changed, and what."""
+    """Yields the right transcript with one thing changed, and the name of the change."""
     lines = text.splitlines()
     for name, pattern, place, change in LINES:
         for i in places(draw, lines, pattern):
@@ -94,7 +94,7 @@ def changed_texts(draw: random.Random, text: str) -> Iterator[tuple[str, list[st
     for i in places(draw, lines, "."):
         yield "a line left out", with_line(lines, i, None)
         yield "a line twice", lines[:i] + [lines[i]] + lines[i:]
-    # two lines of one clerk; two trims, or two lines alike, may stand either way
+    # two lines of one clerk are swapped, but not two trims or two equal lines, which may stand in either order
     heads = [i for i, line in enumerate(lines) if re.search(r"^\d,(?!value.*\d$|trim)", line)]
     for _ in range(PLACES):
         i = draw.choice(heads)
@@ -105,7 +105,7 @@ def changed_texts(draw: random.Random, text: str) -> Iterator[tuple[str, list[st
 
 
 def changed_files(draw: random.Random, file: bytes, before: bytes) -> Iterator[tuple[str, bytes]]:
-    """The journal after the run with one thing changed, and what."""
+    """Yields the journal after the run with one thing changed, and the name of the change."""
     records = read_journal(file).commands
     for _ in range(PLACES):
         i = draw.randrange(18, 17 + 65 * len(records))
