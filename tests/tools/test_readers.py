@@ -1,5 +1,5 @@
-"""The tools' readers of journals, scripts and tables beside the program: of drawn files, most of them with a fault, both say
-the same."""
+"""Compares the tools' readers of journals, scripts and tables with the program: about drawn files, most of them with a fault,
+both report the same."""
 from __future__ import annotations
 
 from collections import Counter
@@ -19,9 +19,9 @@ from tests.support.folders import Folder
 
 
 def drawn_journal(draw: Random) -> bytes:
-    """The bytes of a journal with something changed, cut off, put in or left as it is."""
+    """Returns the bytes of a journal, with something changed, cut off or added, or as it is."""
     book = make_book(draw, draw.randrange(4))
-    # which leaves the commands in the book that the script would have accepted
+    # make_script leaves in the book the commands of the script that are accepted
     make_script(draw, book)
     data = bytearray(file_of(book.commands[:draw.randrange(1, 60)]))
     what = draw.randrange(8)
@@ -59,7 +59,7 @@ FIELDS = ["", "9", "-1", "2100-02-29", "now", "whole", "value", "\u00e9", "1.5",
 
 
 def drawn_script(draw: Random) -> bytes:
-    """A script with something changed in a row or two."""
+    """Returns a script with something changed in at most two rows."""
     rows = make_script(draw, Book()).split("\n")[:30]
     for _ in range(draw.randrange(3)):
         place = draw.randrange(len(rows))
@@ -99,7 +99,7 @@ CHANGES = [(b"XTbML", b"XTBML"), (b"<Values>", b"<Value>"), (b"Axis", b"axis"), 
 
 
 def drawn_rows(draw: Random, first: int, wrong: float) -> list[str]:
-    """A few rows from a first age or duration on, of which one is wrong or strange with this chance."""
+    """Returns a few rows from a first age or duration on; with this chance one of them is wrong or strange."""
     rates = [draw.choice(RATES) for _ in range(draw.randrange(1, 4))]
     if draw.random() < wrong:
         rates[draw.randrange(len(rates))] = draw.choice(WRONG_RATES)
@@ -113,7 +113,7 @@ def with_factor(draw: Random, factors: list[str | None], axes: str) -> str:
 
 
 def broken(draw: Random, data: bytes) -> bytes:
-    """The file, at times cut short or with a piece changed."""
+    """Returns the file, sometimes cut short or with a piece changed."""
     what = draw.randrange(10)
     if what == 0:
         return data[:draw.randrange(len(data))]
@@ -121,7 +121,7 @@ def broken(draw: Random, data: bytes) -> bytes:
 
 
 def drawn_table(draw: Random) -> bytes:
-    """A table's file with something in it that is passed over, or that isn't right."""
+    """Returns a table's file that may have something to be ignored, or something wrong."""
     rows = drawn_rows(draw, draw.choice([0, 0, 5, 128]), 0.3)
     if draw.random() < 0.3:
         rows[draw.randrange(len(rows))] = draw.choice(STRANGE_ROWS)
@@ -132,7 +132,7 @@ def drawn_table(draw: Random) -> bytes:
 
 
 def drawn_issue_age(draw: Random, age: int, is_inner: bool) -> str:
-    """The axis of an issue age with its rates in it, or in an axis in it."""
+    """Returns the axis of an issue age with its rates directly in it, or in an axis inside it."""
     rows = drawn_rows(draw, draw.choice([0, 1, 1]), 0.05)
     if draw.random() < 0.1:
         rows[draw.randrange(len(rows))] = draw.choice(STRANGE_DURATIONS)
@@ -142,7 +142,7 @@ def drawn_issue_age(draw: Random, age: int, is_inner: bool) -> str:
 
 
 def drawn_select_table(draw: Random) -> bytes:
-    """A select table's file in one of the layouts, most with an ultimate table that begins at or near its ages."""
+    """Returns a select table's file in one of the layouts, mostly with an ultimate table that begins at or near its ages."""
     first, is_inner = draw.choice([0, 0, 5, 128]), draw.random() < 0.6
     axes = "".join(drawn_issue_age(draw, first + place, is_inner) for place in range(draw.randrange(1, 4)))
     if draw.random() < 0.6 or not is_inner:
@@ -156,7 +156,8 @@ def drawn_select_table(draw: Random) -> bytes:
 
 
 def judge_table(folder: Folder, data: bytes) -> str:
-    """What both say: that the table is taken, a word of a bad basis, or that it is no XML, which the program may pass over."""
+    """Returns what both report: that the table is accepted, the word of a bad basis, or that it isn't XML, which the program
+    may ignore."""
     folder.write("t.xml", data)
     valued = folder.life("value", "2021-01-01")
     try:
@@ -171,7 +172,7 @@ def judge_table(folder: Folder, data: bytes) -> str:
     return "taken"
 
 
-# seeds of each kind of file, side by side in blocks
+# the seeds of each kind of file are divided into blocks, which can run at the same time
 BLOCKS = range(5)
 
 

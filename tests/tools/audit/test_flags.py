@@ -1,4 +1,5 @@
-"""`audit flags`: one of each by hand, and those of a drawn book beside SQLite over what `export` wrote of it."""
+"""Tests `audit flags`: one flag of each kind worked out by hand, and those of a drawn book compared with SQLite queries over
+what `export` wrote."""
 from __future__ import annotations
 
 import csv
@@ -11,8 +12,8 @@ from life_tools.journal.file import file_of
 from tests.support.folders import Folder
 from tests.support.lived_books import lived
 
-# 1 is claimed five months behind its reinstatement; 2 on the day of its premium, and paid at once in two parts; 3 is
-# reinstated on the third anniversary behind the one of its unpaid premium; 4 matures 91 days late, 5 90 days
+# Policy 1 is claimed five months after its reinstatement; 2 is claimed on the day of its premium, and paid at once in two parts;
+# 3 is reinstated on the third anniversary after the one of its unpaid premium; 4 matures 91 days late, 5 matures 90 days late.
 SCRIPT = """\
 1,issue,1,2020-03-15,whole,41,0,1000.00,10.00
 1,issue,2,2020-03-15,whole,41,0,1000.00,10.00
@@ -48,7 +49,7 @@ COUNTS = "soon-after-reinstatement: 1; on-last-day: 1; paid-at-once: 1; last-day
 
 YEAR_LATER = """case when substr({day}, 6) = '02-29' then (substr({day}, 1, 4) + 1) || '-02-28'
                 else (substr({day}, 1, 4) + 1) || substr({day}, 5) end"""
-# the last day of a reinstatement isn't asked of SQLite
+# SQLite isn't asked for the last day of a reinstatement
 BY_SQL = {
     "soon-after-reinstatement": f"""
         select c.position from command c where c.kind = 'claim' and exists (

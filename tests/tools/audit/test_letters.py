@@ -1,4 +1,5 @@
-"""Letters of confirmation: until when a policy is insured, what is due of it, and the book's own name; by hand."""
+"""Tests letters of confirmation: until when a policy is insured, what is due for it, and the book's own name. The figures are
+worked out by hand."""
 from __future__ import annotations
 
 import csv
@@ -8,10 +9,10 @@ import pytest
 
 from tests.support.folders import Folder
 
-# By hand, of the day 2021-03-31; a whole life covers up to age 131. 1 is paid until 2022-01-15. 2 has a premium due since
-# 2021-03-15, whose grace of 31 days ends on 2021-04-15. 3 was due on 2021-01-20; its grace ended on 2021-02-20, and no lapse
-# is posted. 4 is paid up since the upgrade, so no premium is told. 5 has missed two premiums and is past its grace since
-# 2020-04-01.
+# Worked out by hand for the day 2021-03-31; whole life covers up to age 131. Policy 1 is paid until 2022-01-15. Policy 2 has a
+# premium due since 2021-03-15, and its 31 days of grace end on 2021-04-15. Policy 3 had a premium due on 2021-01-20; its grace
+# ended on 2021-02-20, and no lapse is posted. Policy 4 is paid up since the upgrade, so the letter shows no premium. Policy 5 has
+# missed two premiums, and its grace ended on 2020-04-01.
 SCRIPT = """\
 1,issue,1,2020-01-15,whole,40,0,1000.00,10.00
 1,premium,1,2020-01-15,10.00
@@ -27,7 +28,7 @@ SCRIPT = """\
 1,paidup,4,2021-03-01,500.00
 1,issue,5,2020-03-01,limited,40,10,5000.00,50.00
 """
-# policy: premium a year, next premium due, premium in arrears, insured until
+# by policy: premium a year, next premium due, premium in arrears, insured until
 WANTED = {"1": ("10.00", "2022-01-15", "", "2111-01-15"), "2": ("20.00", "2021-03-15", "20.00", "2021-04-15"),
           "3": ("30.00", "2021-01-20", "30.00", "2021-02-20"), "4": ("", "", "", "2111-02-10"),
           "5": ("50.00", "2020-03-01", "100.00", "2020-04-01")}

@@ -1,4 +1,4 @@
-"""Monetary unit samples: by hand, how often rows are drawn, papers and letters on them."""
+"""Tests monetary unit samples: samples worked out by hand, how often rows are drawn, and the papers and letters on a sample."""
 from __future__ import annotations
 
 import re
@@ -14,18 +14,18 @@ from tests.support.folders import Folder
 from tests.support.missing import need
 
 SEEDS = 10_000
-# so many deviations from what is expected that none of some hundred rows lies farther off by chance
+# so many standard deviations that none of some hundred rows lies further from the expected count by chance
 DEVIATIONS = 5
 ON = ["--on", "2022-12-31", "--at", "11"]
-# By hand: the reserves' upper bounds are 1418.86 and 2656.23, and 0 of the two terms; a third of their sum is 1358.36, so
-# both are drawn whatever the seed. By amount 15000.00, 9000.00, 50000.00, and 0 of 15, which is issued later.
+# By hand: the upper bounds of the reserves are 1418.86 and 2656.23, and 0 for the two terms; a third of their sum is 1358.36, so
+# both are drawn whatever the seed is. The amounts are 15000.00, 9000.00, 50000.00, and 0 for policy 15, which is issued later.
 ROWS = "row,14,inforce,1,1418.85,1418.86\nrow,13,inforce,1,2656.22,2656.23\n"
 
 # --- how often rows are drawn ---
 
 
 def chance(size: int, asked: int, total: int) -> Fraction:
-    """The least of 1 and the size over the interval, which is the total over the count."""
+    """Returns the chance that a row is drawn: its size over the interval, which is the total over the count, and at most 1."""
     return min(Fraction(1), Fraction(size) / Fraction(total, asked))
 
 
@@ -49,7 +49,7 @@ def test_over_many_seeds_each_row_comes_by_its_chance(sizes: list[int], asked: i
         assert abs(count - float(SEEDS * wanted)) <= DEVIATIONS * spread, (size, count)
         assert wanted < 1 or count == SEEDS
         assert size or not count
-    # a whole sample has as many rows as the chances add up to, but for less than one
+    # a whole sample has as many rows as the chances add up to, with a difference below one
     expected = sum((chance(size, asked, total) for size in sizes), Fraction(0))
     sure = sum(size * asked >= total for size in sizes)
     assert max(abs(each - expected) for each in rows) < max(1, 2 * sure)
@@ -74,9 +74,9 @@ def test_over_all_starts_just_as_many_draw_a_row_as_its_chance_says(sizes: list[
 
 
 @pytest.mark.parametrize(("asked", "places"), [
-    # of 2 and 3 cents, one row; the points are 0 to 4, of which 0 and 1 lie in the first
+    # rows of 2 and 3 cents, one drawn; the starts are 0 to 4, of which 0 and 1 lie in the first row
     (1, [[0], [0], [1], [1], [1]]),
-    # two points, start and start + 5 on a line of 4 and 6; the second row is at least the interval, 2.5, and stands once
+    # two points, start and start + 5, on a line of 4 and 6; the second row is at least the interval, 2.5, and is drawn once
     (2, [[0, 1], [0, 1], [0, 1], [0, 1], [1]]),
 ])
 def test_starts_by_hand(asked: int, places: list[list[int]]) -> None:
@@ -153,7 +153,7 @@ def test_papers_of_another_sample(sample: Folder, old: str, new: str, says: str)
 
 
 def shown(text: str) -> str:
-    """What a page of HTML says, without its tags."""
+    """Returns what a page of HTML says, without its tags."""
     return " ".join(re.sub("<[^>]*>", " ", re.sub("(?s)<style>.*?</style>", "", text)).split())
 
 

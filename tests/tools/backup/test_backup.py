@@ -1,4 +1,4 @@
-"""What `life-tools backup` copies and what it leaves, what it refuses, and the book that `restore` makes of a copy."""
+"""Tests what `life-tools backup` copies and what it leaves, what it refuses, and the book that `restore` makes from a copy."""
 from __future__ import annotations
 
 import fcntl
@@ -21,7 +21,7 @@ from tests.support.program import ROOT
 from tests.support.tools import Ended
 
 DAY = day_in("2020-01-01")
-# stands for ssh in the tests: it runs the command on this machine
+# stands in for ssh in the tests: it runs the command on this machine
 SSH = """#!/bin/sh
 while [ "${1#-}" != "$1" ]; do shift; done
 shift
@@ -30,14 +30,14 @@ exec sh -c "$*"
 
 
 def issues(count: int) -> bytes:
-    """A journal of so many policies."""
+    """Returns a journal of this number of policies."""
     return file_of([Command("issue", number, DAY, plan="whole", age=30, years=0, amount=100000, premium=2000)
                     for number in range(1, count + 1)])
 
 
 @pytest.fixture
 def book(table_q: Folder) -> Folder:
-    """A book of five policies, below a folder that has room for its copies."""
+    """A book of five policies, in a folder that also takes its copies."""
     made = table_q.below("book")
     for name in ("basis.csv", "q.xml"):
         made.write(name, table_q.read(name))
@@ -48,7 +48,7 @@ def book(table_q: Folder) -> Folder:
 
 @pytest.fixture(params=["folder", pytest.param("machine", marks=pytest.mark.needs("rsync"))])
 def place(request: pytest.FixtureRequest, book: Folder) -> list[str]:
-    """Where the copy is: in a folder, or on another machine; and how that is reached."""
+    """Returns where the copy is, in a folder or on another machine, and the options by which it is reached."""
     copy = book.path.parent / "copy"
     return [str(copy)] if request.param == "folder" else [f"far:{copy}", "--ssh", str(book.path.parent / "ssh")]
 
@@ -63,7 +63,7 @@ def prefix_of(copy: Path) -> bytes:
 
 
 def everything(copy: Path) -> dict[str, bytes]:
-    """The bytes of all files of a copy."""
+    """Returns the bytes of all files of a copy."""
     return {str(path.relative_to(copy)): path.read_bytes() for path in copy.rglob("*") if path.is_file() and path.name != ".lock"}
 
 
@@ -74,7 +74,7 @@ def backed_up(book: Folder, place: list[str], count: int, added: int) -> Ended:
 
 
 def restored(book: Folder, place: list[str]) -> Folder:
-    """The book that is made of a copy, which must be whole."""
+    """Restores a copy, asserts that `restore` reports it as whole, and returns the restored book."""
     made = book.path.parent / "restored"
     printed = book.printed("restore", *place, "--folder", str(made))
     assert printed.splitlines()[-1] == "whole"
@@ -109,7 +109,7 @@ def test_basis_tables_settings_seals_and_log_are_kept(book: Folder, place: list[
     assert {name: made.read(name) for name in given} == given
     assert made.read("basis.csv") == book.read("basis.csv") and made.read("q.xml") == book.read("q.xml")
     assert not (made.path / "log" / ".lock").exists()
-    # a file that changed is copied again, and one that was removed stays
+    # a file that changed is copied again, and a file that was removed stays in the copy
     book.write("log/000001-2026-12-01-monday/transcript", "1,issue,1,accepted,1\n1,issue,2,accepted,2\n")
     (book.path / "one.seal").unlink()
     backed_up(book, place, 5, 0)
@@ -129,7 +129,7 @@ def test_only_what_was_added_is_written_and_nothing_is_locked(book: Folder, copy
     written = re.findall(r"pwrite64\(\d+<[^>]*journal\.prefix>, .*, (\d+), (\d+)\) = (\d+)", calls)
     assert written == [(str(2 * 65), str(gate_of(5)), str(2 * 65))]
     assert not re.search(r"(flock|F_SETLK|F_OFD_SETLK)[^<]*<[^>]*journal\.life", calls)
-    # the copy is synced before its seal takes its place
+    # the copy is synced before its new seal replaces the old one
     assert calls.index("journal.prefix>) = 0") < calls.index("backup.seal")
 
 
@@ -137,7 +137,7 @@ def test_only_what_was_added_is_written_and_nothing_is_locked(book: Folder, copy
 
 @contextmanager
 def held(book: Folder) -> Iterator[None]:
-    """A process has the journal, as a run has it."""
+    """Locks the journal, as a run does."""
     with open(book.journal, "rb") as file:
         fcntl.flock(file, fcntl.LOCK_EX)
         yield
@@ -226,7 +226,7 @@ def test_what_a_killed_copier_left_is_kept_or_cut_off(tail: bytes, book: Folder,
 
 
 def test_a_copy_that_finds_no_space_goes_on_later(book: Folder, copy: Path) -> None:
-    """No file may have more than 512 bytes; so much of the postings is taken."""
+    """No file may have more than 512 bytes, so only this much of the postings is copied at first."""
     book.write("journal.life", issues(20))
     words = [sys.executable, "-B", str(ROOT / "tools" / "life-tools"), "backup", str(copy)]
     ran = subprocess.run(["sh", "-c", 'ulimit -f 1; exec "$@"', "sh", *words], cwd=book.path, check=False, capture_output=True,
@@ -266,7 +266,7 @@ def test_a_changed_table_is_reported(book: Folder, place: list[str], copy: Path)
 
 
 def test_what_the_log_knows_more_is_posted_anew(book: Folder, place: list[str]) -> None:
-    """A posting that was logged and not copied any more: the restored book lacks it, and `day --restored` posts it."""
+    """A posting was logged and not copied any more: the restored book lacks it, and `day --restored` posts it."""
     book.journal.unlink()
     handed_in = book.write("inbox/monday.csv", "1,issue,1,2020-01-01,endowment,0,3,1000.00,400.00\n")
     os.utime(handed_in, (1, 1))
@@ -276,7 +276,7 @@ def test_what_the_log_knows_more_is_posted_anew(book: Folder, place: list[str]) 
     handed_in = book.write("inbox/tuesday.csv", "1,issue,2,2020-01-01,endowment,0,3,1000.00,400.00\n")
     os.utime(handed_in, (1, 1))
     assert book.tools("day", *day).status == 0
-    # the journal's last posting is still under way for the copier, and the log is copied whole
+    # the last posting isn't copied, because the journal is in use and the posting may not be safe yet; the log is copied whole
     with held(book):
         backed_up(book, place, 1, 0)
     ended = book.tools("restore", *place, "--folder", "../restored")
@@ -293,7 +293,7 @@ def test_every_second(book: Folder, copy: Path) -> None:
     with subprocess.Popen(words, cwd=book.path, stdout=subprocess.PIPE, stderr=subprocess.PIPE, text=True) as backup:
         assert backup.stdout and backup.stderr
         assert [backup.stdout.readline(), backup.stdout.readline()] == ["count,5\n", "added,5\n"]
-        # a copy in which nothing can be made now is tried again
+        # `backup` looks again after a second, and copies the new posting
         book.write("journal.life", issues(6))
         assert [backup.stdout.readline(), backup.stdout.readline()] == ["count,6\n", "added,1\n"]
         turned(book.journal, gate_of(2) + 40)

@@ -1,4 +1,4 @@
-"""A backup after a disk failed: it copies what the disk has, whatever the system keeps in memory."""
+"""Tests a backup after a failure of the disk: it copies what the disk has, whatever the system keeps in memory."""
 from __future__ import annotations
 
 import os
@@ -27,7 +27,8 @@ def medium(tmp_path: Path) -> Iterator[Medium]:
 
 
 def test_a_posting_that_the_disk_never_received_is_not_copied(medium: Medium, tmp_path: Path, program: Program) -> None:
-    """The last commit byte was written and its sync failed, of which another program heard; it shows in memory alone."""
+    """The last commit byte was written, but its sync failed, and the failure was reported to another program; so the byte
+    exists only in memory."""
     day = day_in("2020-01-01")
     whole = file_of([Command("issue", number, day, plan="whole", age=30, years=0, amount=100000, premium=2000)
                      for number in range(1, RECORDS + 1)])

@@ -1,7 +1,7 @@
-"""Whatever kills a backup or the run that it follows, each copy opens to a prefix and loses nothing that it had.
+"""Kills backups and the runs that they follow: each copy must open to a prefix, and lose nothing that it had.
 
-By hand on 2026-12-01, with LIFE_TRIAL_KILLS=1000 and LIFE_TRIAL_SEED=1000 over a preview: 1,000 kills in 902 of 2,239 rounds, of
-the backup, the run or both, over 11 books, in 23 minutes. Each copy was as it has to be, and after each last backup nothing was
+Measured by hand on 2026-12-01, with LIFE_TRIAL_KILLS=1000 and LIFE_TRIAL_SEED=1000 over a preview: 1,000 kills in 902 of 2,239
+rounds, of the backup, the run or both, over 11 books, in 23 minutes. Each copy was right, and after each last backup nothing was
 missing.
 """
 from __future__ import annotations
@@ -14,7 +14,7 @@ import pytest
 from tests.support.folders import Folder
 from tests.support.killed_backups import Trial
 
-# so many kills; another number may be asked for, as for a long trial by hand
+# the number of kills; another number may be set, such as for a long trial by hand
 SOME, MANY = 15, int(os.environ.get("LIFE_TRIAL_KILLS", "100"))
 SEED = int(os.environ.get("LIFE_TRIAL_SEED", "75"))
 

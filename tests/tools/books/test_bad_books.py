@@ -1,4 +1,4 @@
-"""A list in which a book is bad: the others are still worked on, and the bad one has one status whoever reads it."""
+"""Tests a list with one bad book: the other books are still processed, and every command gives the bad book the same status."""
 from __future__ import annotations
 
 import shutil
@@ -7,13 +7,13 @@ import pytest
 
 from tests.support.folders import EXAMPLES, Folder
 
-# the program's own status of a file that is no journal
+# the program's own status for a file that isn't a journal
 BAD_JOURNAL = 5
 
 
 @pytest.fixture
 def three(small_office: Folder) -> Folder:
-    """Three books, of which the second one is no journal."""
+    """A list of three books; the second one's journal isn't a journal."""
     for name in ("a", "b", "c"):
         book = small_office.below(name)
         for each in ("journal.life", "basis.csv", "q.xml", "g.xml"):
@@ -29,14 +29,14 @@ def test_the_positions_of_the_others(three: Folder) -> None:
     lines = ended.out.splitlines()
     assert ended.status == BAD_JOURNAL and lines[0] == f"a,{alone}" and lines[2] == f"c,{alone}", ended
     assert lines[1].startswith(f"b,failed,{BAD_JOURNAL},badjournal,notajournal")
-    # which can't be taken for a list of positions
+    # the output must not be accepted as a list of positions
     three.write("positions.csv", ended.out)
     three.refused("books", "books.csv", "value", "2022-12-31", "--at", "positions.csv",
                   says="line 2: .* is no name with a position")
 
 
 def test_parts_dont_replace_a_basis(small_office: Folder) -> None:
-    """The part of a book that is named basis is basis.csv."""
+    """The part of a book named basis would be written to basis.csv."""
     small_office.write("books.csv", "basis,.,basis.csv\n")
     ended = small_office.tools("books", "books.csv", "value", "2022-12-31", "--parts", ".")
     assert ended.status == 2 and "basis.csv is a book's own file" in ended.err, ended

@@ -1,4 +1,5 @@
-"""`books`: many books valued, projected and added up, beside runs of each; and what fails is told, and never left out."""
+"""Tests `books`: many books are valued, projected and added up, compared with a run of each; a book that fails is reported,
+and never left out."""
 from __future__ import annotations
 
 import csv
@@ -29,7 +30,7 @@ VALUE = ["books", "books.csv", "value", "2010-12-31"]
 
 @pytest.fixture(scope="module")
 def drawn(tmp_path_factory: pytest.TempPathFactory) -> Path:
-    """Three books of 120 policies each."""
+    """A folder with three books of 120 policies each."""
     folder = tmp_path_factory.mktemp("three")
     words = [sys.executable, str(EXAMPLES / "many_books.py"), ".", "3", "120"]
     subprocess.run(words, cwd=folder, check=True, capture_output=True)
@@ -43,7 +44,7 @@ def three(folder: Folder, drawn: Path) -> Folder:
 
 
 def each(three: Folder, *words: str) -> list[str]:
-    """The lines that the program prints of each book, behind the book's name."""
+    """Returns the lines that the program prints for each book, after the book's name."""
     return [f"{name},{line}" for name in BOOKS for line in three.below(name).life(*words).out.splitlines()]
 
 
@@ -56,7 +57,7 @@ def money(value: int) -> str:
 
 
 def added(lines: list[str]) -> str:
-    """The totals of valuations added up here."""
+    """Returns the last line of a list's valuation, with the totals of these lines added up by the test."""
     totals = [line.split(",")[2:] for line in lines if line.split(",")[1] == "total"]
     sums = [money(sum(cents(total[place]) for total in totals)) for place in range(len(totals[0]) - 1)]
     return ",".join(["all,total", *sums, str(sum(int(total[-1]) for total in totals)), "3", "3"])
@@ -91,7 +92,7 @@ def test_states_and_checkpoints(three: Folder) -> None:
 
 
 def test_positions_of_a_day(three: Folder) -> None:
-    """Drawn days don't rise, so that each position lacks a command."""
+    """The days of a drawn book don't rise, so each position lacks a command."""
     ended = three.tools("books", "books.csv", "position-on", "2004-06-30")
     alone = [three.tools("position-on", "2004-06-30", f"{name}/journal.life").out.strip() for name in BOOKS]
     assert ended.status == 1 and re.search("^book3: position [0-9]* lacks commands", ended.err, re.M), ended
@@ -129,7 +130,7 @@ def test_parts_as_tables(three: Folder) -> None:
         assert sums == (name, cents(lower), cents(upper))
 
 
-# --- books that fail, each tried once more, and never left out ---
+# --- books that fail are each tried once more, and never left out ---
 
 
 def fails(ended: Ended, status: int, line: str) -> None:
@@ -166,7 +167,7 @@ def test_a_book_in_use_and_who_waits_for_it(three: Folder) -> None:
 
 
 def stand_in(three: Folder, text: str) -> Path:
-    """A shell script in place of the program, which it knows as $life."""
+    """Returns a shell script that stands in for the program, which the script can call as $life."""
     script = three.write("stand-in", f"#!/bin/sh\nlife={shlex.quote(str(three.program.path))}\n{text}\n")
     script.chmod(0o755)
     return script

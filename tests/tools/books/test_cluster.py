@@ -1,5 +1,5 @@
-"""`books --scheduler`: a cluster of Dask on the loopback, with a worker that dies and a scheduler that goes away, prints what
-this machine prints, byte for byte."""
+"""Tests `books --scheduler`: a cluster of Dask on the loopback address, even if a worker dies or the scheduler goes away,
+prints what this machine prints, byte for byte."""
 from __future__ import annotations
 
 import fcntl
@@ -25,7 +25,7 @@ VALUE = ["books", "books.csv", "value", "2010-12-31", "--totals"]
 
 @pytest.fixture
 def three(folder: Folder) -> Folder:
-    """Three books of 120 policies each."""
+    """A folder with three books of 120 policies each."""
     subprocess.run([sys.executable, str(EXAMPLES / "many_books.py"), ".", "3", "120"], cwd=folder.path, check=True,
                    capture_output=True)
     return folder
@@ -52,7 +52,8 @@ def test_no_scheduler(three: Folder) -> None:
 
 
 def test_what_the_cluster_prints(three: Folder, cluster: Cluster) -> None:
-    """By books that the workers see, by books that they are sent, and of a book in use, cut short or damaged."""
+    """For books that the workers can read, for books that are sent to them, and for a book that is in use, cut short or
+    damaged."""
     there = ["--scheduler", cluster.address]
     three.printed(*VALUE[:-1], "--parts", "parts")
     wanted = three.printed(*VALUE)
@@ -84,7 +85,7 @@ def test_workers_that_die_and_a_scheduler_that_goes_away(three: Folder, cluster:
     slow.chmod(0o755)
 
     def begin() -> subprocess.Popen[bytes]:
-        """`books` at work on the cluster by a program that takes its time, once it has begun with a book."""
+        """Starts `books` on the cluster with a slow program, and waits until a book is begun."""
         for file in three.path.glob("begun.*"):
             file.unlink()
         run = subprocess.Popen([sys.executable, str(ROOT / "tools" / "life-tools"), *VALUE, "--scheduler", cluster.address],
@@ -110,7 +111,8 @@ def test_workers_that_die_and_a_scheduler_that_goes_away(three: Folder, cluster:
 
 @pytest.mark.needs_proof
 def test_eight_large_books(folder: Folder) -> None:
-    """400,000 policies: beside a run of each, by processes, and on a cluster by folders and sent, byte for byte."""
+    """400,000 policies, valued by one run for each book, by processes, and on a cluster with shared and with sent books: the
+    output is the same, byte for byte."""
     subprocess.run([sys.executable, str(EXAMPLES / "many_books.py"), ".", "8", "50000"], cwd=folder.path, check=True,
                    capture_output=True)
     names = [f"book{number}" for number in range(1, 9)]
@@ -133,7 +135,7 @@ def test_eight_large_books(folder: Folder) -> None:
         cluster.end()
 
 
-# --- a worker that has another program, or sees another book ---
+# --- a worker that has another program, or reads another book ---
 
 WORDS = ("value", "2010-12-31")
 NAMES = ("journal.life", "basis.csv", "g.xml")

@@ -1,7 +1,8 @@
-"""`headroom` of a book and of a list: what is left, how fast it is used by the calendar, and what the policies still need.
+"""Tests `headroom` of one book and of a list: how many commands are left, how fast they are used, and how many the policies still
+need.
 
-A small book and one with 19 commands left are worked by hand; what drawn policies need is compared with a list of single
-commands, made with the calendar of `datetime` alone.
+The figures of a small book and of one with 19 commands left are worked out by hand. What drawn policies need is compared with a
+list of single commands, which is made only with the calendar of `datetime`.
 """
 from __future__ import annotations
 
@@ -26,10 +27,10 @@ from tests.support.full_journals import fill, write_nearly_full
 from tests.support.program import Program
 
 HEAD = "commands,left,in_last_year,full,premiums,at_end,full_without_issues\n"
-# 1 has two of three premiums to come, and a maturity; 2, an endowment of four years, all of its premiums (the first is
-# overdue), a maturity and its settlement; 3 is claimed, and to be settled; 4 has lapsed. Three commands are of the year
-# before 2024-06-01, one of a day behind it. Premiums: 2 of 1, 4 of 2, 2 each of 5 and 6; at the end: 1 of 1, 2 of 2, 1 of 3,
-# 1 each of 5 and 6.
+# Policy 1 needs two of three premiums, and a maturity. Policy 2, an endowment of four years, needs all of its premiums (the first
+# is overdue), a maturity and its settlement. Policy 3 is claimed and must be settled; 4 has lapsed. Three commands are dated in
+# the year before 2024-06-01, and one is dated after it. Premiums: 2 for policy 1, 4 for 2, 2 each for 5 and 6. At the end: 1 for
+# policy 1, 2 for 2, 1 for 3, 1 each for 5 and 6.
 SCRIPT = """\
 1,issue,1,2023-01-10,term,30,3,1000.00,10.00
 1,premium,1,2023-01-10,10.00
@@ -51,14 +52,14 @@ def book(folder: Folder) -> Folder:
 
 
 def gives(folder: Folder, row: str, *words: str, status: int = 0, told: int = 0) -> list[str]:
-    """The row that is printed; how many lines are told, and these."""
+    """Asserts that `headroom` prints this row and this number of lines on standard error, and returns those lines."""
     ended = folder.tools("headroom", *words)
     assert (ended.status, ended.out, len(ended.err.splitlines())) == (status, f"{HEAD}{row}\n", told), ended
     return ended.err.splitlines()
 
 
 def noted(folder: Folder, entry: str, day: str, before: int) -> None:
-    """A run of the log that found so many commands."""
+    """Writes a log entry of a run that found this number of commands."""
     folder.write(f"log/runs/{entry}/run.json", json.dumps({"begun": f"{day}T18:00:00+00:00", "before": before, "after": 9}))
 
 
@@ -71,18 +72,18 @@ def test_a_small_book_by_hand(book: Folder) -> None:
 
 @pytest.mark.parametrize(("today", "used"), [("2024-05-30", 2), ("2024-05-31", 3), ("2024-07-30", 3), ("2024-07-31", 2)])
 def test_the_last_year_has_365_days_and_ends_with_today(book: Folder, today: str, used: int) -> None:
-    """The lapse of 2023-08-01 and the issue of 2024-05-31 are at its ends."""
+    """The lapse of 2023-08-01 and the issue of 2024-05-31 are at the two ends of the year."""
     printed = book.tools("headroom", "--today", today).out.splitlines()[1]
     assert printed.split(",")[2] == str(used)
 
 
 def test_two_hundred_years_later_nothing_was_used(book: Folder) -> None:
-    """Policy 6 is 30 then, and each policy is overdue."""
+    """Policy 6 would be 30 years old in that year, and all policies are overdue."""
     gives(book, "9,3999991,0,never,10,6,never", "--today", "2199-06-01")
 
 
 def test_a_count_that_was_noted_a_year_ago(book: Folder) -> None:
-    """The newest that is a year old counts, where it tells of more than the commands' days."""
+    """The newest recorded count that is a year old is used if it gives a higher number than the days of the commands."""
     (book.path / "log" / "runs" / "strange").mkdir(parents=True)
     noted(book, "000001", "2023-05-01", 2)
     noted(book, "000002", "2024-05-31", 7)
@@ -116,7 +117,7 @@ def test_refused(book: Folder, words: list[str], says: str) -> None:
 
 @pytest.fixture(scope="module")
 def full(tmp_path_factory: pytest.TempPathFactory, program: Program) -> Folder:
-    """A book with 19 commands left, of which 401,000 were used in the year."""
+    """A book with 19 commands left, of which 401,000 were used in the last year."""
     folder = Folder(tmp_path_factory.mktemp("full"), program)
     write_nearly_full(folder.journal, 19, datetime.date(2026, 11, 29))
     return folder
@@ -129,7 +130,7 @@ def test_19_commands_left(full: Folder) -> None:
 
 
 def test_10000_commands_left(full: Folder, folder: Folder) -> None:
-    """Nine days at this pace; the old policies need 64,000 at once."""
+    """Nine days at this pace are left; the old policies need 64,000 commands at once."""
     shutil.copy(full.journal, folder.journal)
     os.truncate(folder.journal, 17 + 65 * 3990000)
     with open(folder.journal, "ab") as file:
@@ -143,7 +144,7 @@ def test_10000_commands_left(full: Folder, folder: Folder) -> None:
 
 @pytest.fixture
 def books(folder: Folder, full: Folder) -> Folder:
-    """A list with a missing, cut, held, foreign, full, damaged and good book."""
+    """A list with a missing, a cut, a locked, a foreign, a full, a damaged and a good book."""
     for name in ("good", "held"):
         folder.below(name).post(SCRIPT)
     data = folder.below("good").journal.read_bytes()
@@ -212,7 +213,7 @@ def years_later(day: datetime.date, years: int) -> datetime.date:
 
 
 def drawn_policy(draw: Random, number: int) -> tuple[list[Command], list[datetime.date]]:
-    """A policy's commands, and the days of those that it still needs."""
+    """Returns a policy's commands, and the days of those that it still needs."""
     plan, age = draw.choice(["term", "whole", "endowment", "limited"]), draw.randrange(0, 100)
     years = 0 if plan == "whole" else draw.randrange(2, 31)
     issued = draw.choice([datetime.date(2020, 2, 29), datetime.date(2015, 1, 1) + datetime.timedelta(draw.randrange(3600))])

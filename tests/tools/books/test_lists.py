@@ -1,6 +1,8 @@
-"""Reports, movements, statements, what is due, flags, samples, papers and letters over a list of books: a book is divided, and
-its parts together have to say what it says alone, by one basis and by classes, by new rows and by those that were left; and a
-bad book is told."""
+"""Tests reports, movements, statements, what is due, flags, samples, papers and letters over a list of books.
+
+A book is divided. Its parts together must give what the undivided book gives: by one basis and by classes, from new rows and
+from rows that were kept. A bad book must be reported.
+"""
 from __future__ import annotations
 
 import re
@@ -23,7 +25,7 @@ CLASSES = ["--classes", "classes.csv", "--bases", "bases.csv"]
 
 @pytest.fixture(scope="module")
 def divided(tmp_path_factory: pytest.TempPathFactory, program: Program) -> Path:
-    """A book in main, divided into low and high; positions of two days of the book, and of its parts."""
+    """A folder with the book main, its parts low and high, and the positions of two days in the book and in its parts."""
     folder = Folder(tmp_path_factory.mktemp("divided"), program)
     main = folder.below("main")
     main.take("basis.csv", "q.xml", "g.xml")
@@ -54,13 +56,14 @@ def position(books: Folder, name: str) -> str:
 
 
 def rows(text: str) -> list[str]:
-    """The rows of all tables that a text has, whatever blanks stand in them."""
+    """Returns the rows of all tables in a text, whatever blanks are in them."""
     found = [" ".join(line.split()) for line in text.splitlines()]
     return [line for line in found if re.search(r" -?[0-9]+\.[0-9]{2} [0-9-]", line)]
 
 
 def demand_alike(single: str, listed: str, has_books: bool = False) -> None:
-    """The same rows; a list's report begins with a table of its books, which ends with a total."""
+    """Asserts that both texts have the same rows. A list's report may begin with a table of its books, which ends with a
+    total."""
     found = [line for line in rows(listed) if not line.startswith(("low ", "high "))]
     if has_books and found and found[0].startswith("total "):
         del found[0]
@@ -79,14 +82,14 @@ def test_reports(books: Folder, words: str) -> None:
 
 
 def test_a_report_by_rows_that_were_left(books: Folder) -> None:
-    """Nothing is valued anew."""
+    """No policy is valued again."""
     report = [*LIST, "report", "2019-12-31", "--at", "p2.csv"]
     books.printed(*LIST, "value", "2019-12-31", "--at", "p2.csv", "--parts", "rows")
     books.printed(*report, "--csv", "new-rows")
     lazy = books.write("lazy", f'#!/bin/sh\n[ "$1" != value ] || exit 9\nexec {shlex.quote(str(books.program.path))} "$@"\n')
     lazy.chmod(0o755)
     assert books.tools(*report, "--rows", "rows", "--csv", "left-rows", program=lazy).status == 0
-    # each file says that the program that was asked isn't the proved one, and which it is
+    # each file names the program that was used, because it isn't the proved one
     for file in (books.path / "new-rows").iterdir():
         new, left = ([line for line in books.read(f"{folder}/{file.name}").splitlines() if not line.startswith("not the proved")]
                      for folder in ("new-rows", "left-rows"))
@@ -110,7 +113,7 @@ def test_movements(books: Folder) -> None:
 
 
 def test_statements(books: Folder) -> None:
-    """To the cent, also where exact sums are rounded."""
+    """The sheets are equal to the cent, even if exact sums are rounded."""
     first, last = position(books, "p1"), position(books, "p2")
     books.printed("statement", DAYS[0], first, DAYS[1], last, "--folder", "main", "--csv", "single")
     books.printed(*LIST, "statement", *DAYS, "--from", "p1.csv", "--at", "p2.csv", "--csv", "listed")
@@ -123,7 +126,7 @@ def test_statements(books: Folder) -> None:
 
 
 def of_both(books: Folder, listed: list[str], single: list[str], has_books: bool = False) -> tuple[str, str]:
-    """The same of the undivided book and of its parts."""
+    """Returns what is printed for the undivided book and for its parts, and asserts that the rows are the same."""
     one, other = books.printed(*single, "--folder", "main"), books.printed(*LIST, *listed)
     demand_alike(one, other, has_books)
     return one, other
@@ -146,7 +149,7 @@ def test_a_movement_and_a_statement_by_classes(books: Folder) -> None:
 
 
 def refuses_papers(books: Folder, sample: str, status: int, says: str) -> None:
-    """Papers on a sample end with this status, and nothing is written."""
+    """Asserts that papers on a sample end with this status, and that nothing is written."""
     ended = books.tools(*LIST, "papers", sample, "--html", "no.html")
     assert ended.status == status and says in ended.err and "Traceback" not in ended.err, ended
     assert not (books.path / "no.html").exists()
@@ -181,13 +184,13 @@ def test_a_policy_in_no_class(books: Folder) -> None:
 
 
 def without_book(text: str, *fields: int) -> list[str]:
-    """The rows of a list but for its books, and but for these fields."""
+    """Returns the rows of a list without the book and without these fields, sorted."""
     return sorted(",".join(field for place, field in enumerate(line.split(",")[1:]) if place not in fields)
                   for line in text.splitlines()[1:])
 
 
 def test_flags(books: Folder) -> None:
-    """A position is another one in a part."""
+    """A command's position in a part is different from its position in the undivided book."""
     single = books.tools("audit", "flags", "--folder", "main", "--after", position(books, "p1"), "--late", "3")
     listed = books.tools(*LIST, "flags", "--from", "p1.csv", "--late", "3")
     assert single.status == listed.status == 1
@@ -207,13 +210,14 @@ def test_what_is_due(books: Folder) -> None:
 
 @pytest.fixture
 def drawn(books: Folder) -> Folder:
-    """A sample of twelve rows of the list."""
+    """A folder with a sample of twelve rows of the list."""
     books.write("drawn", books.printed(*LIST, "sample", "12", "--seed", "5", "--on", "2019-12-31", "--at", "p2.csv"))
     return books
 
 
 def walk(total: int, start: int, lines: list[str]) -> list[str]:
-    """The rows that a monetary unit sample of twelve draws, by a walk along the units of all rows, in twelfths of a cent."""
+    """Returns the rows that a monetary unit sample of twelve draws. It steps along the units of all rows, in twelfths of a
+    cent."""
     found, point, ahead = [], start, 0
     for line in lines:
         fields = line.split(",")
@@ -226,7 +230,7 @@ def walk(total: int, start: int, lines: list[str]) -> list[str]:
 
 
 def test_a_sample_of_all_rows(drawn: Folder) -> None:
-    """Its sum and start are those of the undivided book; the rows, of both books, are those of another walk."""
+    """Its sum and its start are those of the undivided book; the rows, from both books, are those that `walk` finds."""
     alone = drawn.printed("audit", "sample", "12", "--seed", "5", "--on", "2019-12-31", "--folder", "main", "--at",
                           position(drawn, "p2"))
     total, start = alone.splitlines()[1].split(",")[4:6]
@@ -338,7 +342,7 @@ def test_a_policy_in_two_books(books: Folder) -> None:
     assert ended.status == 1 and re.search("^policy [0-9]* stands in low, main$", ended.err, re.M), ended
 
 
-# an option that was passed over would give another list than the one that was asked for
+# an option that was ignored would give another list than the one that was asked for
 @pytest.mark.parametrize(("words", "says"), [
     ("books.csv statement 2015-12-31 2019-12-31", "wants --from and --at"),
     ("books.csv statement 2015-12-31", "statement takes 2 arguments"),

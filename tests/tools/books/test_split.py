@@ -1,8 +1,7 @@
-"""`books split`: books after every kind of command, divided, beside the undivided ones; runs that are killed; programs that
-say of a new book what the old one doesn't; and what can't be divided.
+"""Tests `books split`: books are divided after every kind of command and compared with the undivided ones; runs are killed;
+programs print something else for a new book; and what can't be divided is refused.
 
-Nothing here is compared by the tool's own comparisons: lines are sorted and amounts added here, and commands are read one by
-one.
+The comparisons of the tool aren't used here: the test sorts lines and adds up amounts itself, and reads commands one by one.
 """
 from __future__ import annotations
 
@@ -46,7 +45,7 @@ def printed(folder: Folder, *words: str, script: str = "") -> list[str]:
 
 
 def summed(lines_of_books: Iterable[list[str]], begins: str) -> tuple[list[str], dict[tuple[str, str | int], int]]:
-    """The last lines of several books added up, in cents, and the lines of policies, sorted."""
+    """Returns the lines of policies of several books, sorted, and the sums of their last lines in cents."""
     sums: defaultdict[tuple[str, str | int], int] = defaultdict(int)
     policies: list[str] = []
     for lines in lines_of_books:
@@ -63,7 +62,7 @@ def summed(lines_of_books: Iterable[list[str]], begins: str) -> tuple[list[str],
 
 
 def commands_of(folder: Folder) -> dict[int, list[list[str]]]:
-    """Each policy's commands in their order; under 0 the upgrades."""
+    """Returns each policy's commands in their order; the upgrades have the key 0."""
     found: defaultdict[int, list[list[str]]] = defaultdict(list)
     for command in read_journal(folder.journal.read_bytes()).commands:
         found[command.number].append(words_of(command))
@@ -84,7 +83,8 @@ def demand_alike(old: Folder, parts: list[Folder]) -> None:
 
 
 def answers(folder: Folder, rows: list[str]) -> dict[str, list[list[str]]]:
-    """The answers to rows of one clerk by policy: of what is accepted the position doesn't count, nor that of an upgrade."""
+    """Returns the answers to one clerk's rows by policy. The position of an accepted row is left out, and so is that of an
+    upgrade."""
     found: defaultdict[str, list[list[str]]] = defaultdict(list)
     for line in printed(folder, "run", script="".join(f"{row}\n" for row in rows)):
         fields = line.split(",")
@@ -144,7 +144,7 @@ def put() -> None:
 
 
 def killed_at(most: int) -> bool:
-    """Whether a child was killed at its step of this number."""
+    """Returns whether a child was killed at its step of this number."""
     child = os.fork()
     if child == 0:
         done = 0
@@ -171,7 +171,7 @@ def demand_whole(folder: str) -> None:
 
 @pytest.fixture
 def made(tmp_path: Path, monkeypatch: pytest.MonkeyPatch) -> None:
-    """A folder with what new books are filled from."""
+    """A folder with the files from which new books are made."""
     monkeypatch.chdir(tmp_path)
     for folder in FOLDERS:
         Path(f"made-{folder}").mkdir()
@@ -180,7 +180,7 @@ def made(tmp_path: Path, monkeypatch: pytest.MonkeyPatch) -> None:
 
 @pytest.mark.usefixtures("made")
 def test_killed_at_each_step() -> None:
-    """What is there is whole, what is in place isn't written over, and what else was left is removed."""
+    """After a kill, each new book that exists is complete and isn't overwritten, and everything else that was left is removed."""
     step, seen = 1, set[int]()
     while killed_at(step):
         there = [folder for folder in FOLDERS if os.path.exists(folder)]
@@ -224,7 +224,7 @@ def main(folder: Folder) -> Folder:
 
 
 def in_place_of_the_program(folder: Folder, text: str) -> Path:
-    """A shell script that stands for the program, which it knows as $life."""
+    """Returns a shell script that stands in for the program, which the script can call as $life."""
     script = folder.write("stand-in", f'#!/bin/sh\nlife={shlex.quote(str(folder.program.path))}\n{text}')
     script.chmod(0o755)
     return script
@@ -236,7 +236,7 @@ def demand_nothing_made(main: Folder) -> None:
 
 
 def killed_in(main: Folder, phase: str) -> None:
-    """A split that is killed while the program is at work on this word."""
+    """Kills a split while the program runs this command."""
     stays = main.path / "stays"
     stand_in = in_place_of_the_program(main, f'[ "$1" != {phase} ] || {{ touch "{stays}"; while [ -e "{stays}" ]; do sleep 0.1; '
                                        'done; }\nexec "$life" "$@"\n')
@@ -277,9 +277,9 @@ def test_what_new_books_have(main: Folder) -> None:
     main.refused("books", "split", "main/journal.life", *HALVES[:2], "low", "other", says="low is there already")
 
 
-# --- programs that say something else of a new book ---
+# --- programs that print something else for a new book ---
 
-# what a program does otherwise in the folder of a new book, and what is told
+# by name: the new book and the command, what the stand-in does in place of the program, and what is reported
 LIES = {
     "another status": ("1state", "$life state | sed '3s/^\\(policy,[0-9]*\\),[a-z]*/\\1,strange/'",
                        "state: the old book has policy,.*, and new book 2 has policy,"),

@@ -1,4 +1,4 @@
-"""Each name of `life-tools` has a help, refuses what it doesn't know, and names a package that it misses."""
+"""Tests that each command of `life-tools` has a help text, refuses an unknown option, and names a package that is missing."""
 from __future__ import annotations
 
 import os
@@ -30,7 +30,7 @@ def test_help(name: str, tmp_path: Path) -> None:
 
 @pytest.mark.parametrize("command", ["value", "report", "sample", "split"])
 def test_help_of_one_command_of_books(command: str, tmp_path: Path) -> None:
-    """It has the options that belong to the command, and no other's."""
+    """The help shows the options of this command, and none that belong only to another one."""
     words = ["books", "split", "--help"] if command == "split" else ["books", "books.csv", command, "--help"]
     ended = run_tool(words, tmp_path, {"COLUMNS": "80"})
     own = {"value": "--totals", "report": "--by", "sample": "--seed", "split": "--classes"}[command]
@@ -58,7 +58,7 @@ def test_the_reference_has_it(name: str) -> None:
 
 @pytest.mark.parametrize("name", ["position-on", "movement", "statement", "report"])
 def test_without_numpy(name: str, tmp_path: Path) -> None:
-    """A module of this name that can't be imported stands in its place."""
+    """A module of this name that can't be imported takes its place."""
     assert name in BY_NUMPY
     (tmp_path / "numpy.py").write_text("raise ImportError\n", encoding="utf-8")
     env = {**os.environ, "PYTHONPATH": str(tmp_path), "LIFE_TOOLS_ANEW": "1"}

@@ -1,7 +1,7 @@
-"""Files that aren't what they must be: each tool says so, with the place, ends with 2 and writes nothing.
+"""Tests files that aren't what they must be: each tool reports it, with the place, ends with status 2 and writes nothing.
 
-By the first table a fault of each kind, with what is said of it; by the second each place that takes a file is handed
-strange ones.
+The first table has one fault of each kind, with its message. The second table has each place that takes a file, into which
+strange files are put.
 """
 from __future__ import annotations
 
@@ -16,7 +16,7 @@ from tests.support.folders import EXAMPLES, Folder
 NEXT = "1,premium,12,2025-02-28,310.00\n1,value,2025-02-28,now,1\n"
 NONE = "No such file or directory"
 CUT = "badjournal,badrecord,1: record 1: it is cut short at byte 100"
-# the words of a tool | what its message has to say
+# the arguments of a tool | what its message must say
 FAULTS = f"""\
 check nowhere | nowhere: {NONE}
 check small-office.csv --folder cut | badjournal,badrecord,1
@@ -87,7 +87,7 @@ at --folder nowhere 0 state | nowhere/journal.life: {NONE}
 at --folder cut 1 state | {CUT}
 at 1 value 2021-02-29 | life value 2021-02-29 ended with 2
 """
-# Where @ stands, a strange file is handed; the others are those of the folder.
+# A strange file is put in the place of @; the other files are those of the folder.
 PLACES = """\
 day --folder @
 day --status --folder @
@@ -172,7 +172,8 @@ MOST_LINES = 12
 
 @pytest.fixture
 def office(small_office: Folder) -> Folder:
-    """The small office after a further script, with all that the program prints of it, and with files cut short."""
+    """The small office after a further script, with everything that the program prints about it, and with files that are cut
+    short."""
     office = small_office
     office.write("before.life", office.journal.read_bytes())
     office.write("next.csv", NEXT)
@@ -198,7 +199,7 @@ def test_a_fault(office: Folder, row: str) -> None:
 
 @pytest.fixture
 def places(office: Folder) -> Folder:
-    """The small office, with what the tools take that read further files."""
+    """The small office, with the files that other tools read."""
     office.write("map.csv", (EXAMPLES / "other-system-map.csv").read_text(encoding="utf-8"))
     office.write("other.csv", office.read("map.csv").splitlines()[0] + "\n")
     office.write("books.csv", "main,.,basis.csv\n")
@@ -217,7 +218,7 @@ def test_each_tool_that_takes_a_file_is_tried() -> None:
 @pytest.mark.parametrize("row", PLACES.splitlines())
 @pytest.mark.needs("python:numpy", "python:pandas", "python:flask")
 def test_strange_files(places: Folder, row: str) -> None:
-    """An empty file may be a right one: a journal of no commands, a script of no rows."""
+    """An empty file may be right: a journal without commands, or a script without rows."""
     before = places.files()
     for file in (*STRANGE, "folder", "nowhere.csv"):
         ended = places.tools(*shlex.split(row.replace("@", file)))

@@ -1,4 +1,5 @@
-"""What a tool writes: under a private name at first, never over a book's own files, and with no cell that is a formula."""
+"""Tests what a tool writes: under a private name at first, never over a book's own files, and without a cell that is a
+formula."""
 from __future__ import annotations
 
 import csv
@@ -24,7 +25,7 @@ def test_a_books_own_file_isnt_replaced(small_office: Folder, words: str, name: 
     for of, other in (("journal.life", "renamed.life"), ("basis.csv", "other-basis.txt"), ("small-office.csv", "monday.txt"),
                       ("q.xml", "table.txt")):
         shutil.copy(small_office.path / of, small_office.path / other)
-    # one that doesn't look like a table where it begins, but that the basis names
+    # a table that doesn't begin as a table does, but that the basis names
     small_office.write("odd.txt", f"<!--{'x' * 5000}-->{small_office.read('q.xml')}")
     small_office.write("basis.csv", small_office.read("basis.csv") + "2199-12-31,odd.txt,0\n")
     ended = small_office.refused(*words.format(name).split(), says=f"{name} is ", status=2)
@@ -34,7 +35,7 @@ def test_a_books_own_file_isnt_replaced(small_office: Folder, words: str, name: 
 @pytest.mark.parametrize("words", ["report 2022-12-31 --csv {}", "report 2022-12-31 --html {}", "report 2022-12-31 --xlsx {}",
                                    "table round g.xml {}"])
 def test_a_file_beside_the_target_stays(small_office: Folder, words: str) -> None:
-    """The temporary file was TARGET.part, whoever had made it."""
+    """The temporary file used to be TARGET.part, even if somebody else had made a file of that name."""
     small_office.write("made.part", "somebody's own\n")
     before = set(os.listdir(small_office.path))
     ended = small_office.tools(*words.format("made").split())
@@ -78,7 +79,7 @@ def test_what_is_left_of_an_import_has_no_formula(folder: Folder, formula: str) 
 
 
 def test_a_books_name_is_no_formula_in_letters(small_office: Folder, tmp_path: Path) -> None:
-    """The book is named by its folder."""
+    """The book has the name of its folder."""
     folder = small_office.below("=1+1")
     for name in ("journal.life", "basis.csv", "q.xml", "g.xml"):
         shutil.copy(small_office.path / name, folder.path)

@@ -1,4 +1,4 @@
-"""What a tool is given to read: a pipe or a device is refused at once, and bytes that nobody expects are no traceback."""
+"""Tests what a tool is given to read: a pipe or a device is refused at once, and unexpected bytes cause no traceback."""
 from __future__ import annotations
 
 import os
@@ -36,7 +36,7 @@ def test_a_pipe_or_a_device_is_refused_at_once(office: Folder, words: str) -> No
         office.refused(*words.format(name).split(), says=f"{name}: it is a pipe or a device: save it as a file first")
 
 
-# a script, a row, a state, counts, balances, a valuation, numbers, a table, and bytes that are no text
+# a script, a row, a state, counts, balances, a valuation, numbers, a table, and bytes that aren't text
 STRANGE = (
     f"1,premium,{DIGITS},2022-01-01,{DIGITS}.00\n", f"row,{DIGITS},inforce,{DIGITS},1.00,{DIGITS}.00\n",
     f"policy,{DIGITS},inforce,term,1,2,{DIGITS}.00,1.00,2020-01-01,{DIGITS},0.00\ncount,{DIGITS}\n", f"count,{DIGITS}\n",

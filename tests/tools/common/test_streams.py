@@ -1,4 +1,5 @@
-"""How a tool ends whose output can't be written, or that meets what nobody foresaw: one line and 2, never a traceback."""
+"""Tests a tool whose output can't be written, or that meets an unexpected error: it prints one line and ends with 2, without a
+traceback."""
 from __future__ import annotations
 
 import errno
@@ -16,9 +17,9 @@ from tests.support.folders import Folder
 from tests.support.program import ROOT
 
 TOOLS = str(ROOT / "tools" / "life-tools")
-# Python writes at once where this is set, and else at the end
+# Python writes at once if this is set, and otherwise at the end
 BUFFERED = {name: text for name, text in os.environ.items() if name != "PYTHONUNBUFFERED"}
-# the arguments, and the status with a whole output
+# the arguments, and the status if the whole output is written
 PRINT = [("read journal.life", 0), ("check small-office.csv", 1), ("report 2022-12-31", 0), ("verify", 0), ("--help", 0)]
 
 
@@ -28,7 +29,7 @@ def office(small_office: Folder) -> Folder:
 
 
 def ran(folder: Folder, words: str, redirected: str, env: dict[str, str] | None = None) -> tuple[int, str]:
-    """The status of a tool with its output redirected by a shell, and what it says on standard error."""
+    """Runs a tool with its output redirected by a shell; returns its status and its standard error."""
     done = subprocess.run(["bash", "-c", f'"$0" "$@" {redirected}', sys.executable, TOOLS, *words.split()], cwd=folder.path,
                           stderr=subprocess.PIPE, stdin=subprocess.DEVNULL, check=False,
                           env={**BUFFERED, "LIFE_PROGRAM": str(folder.program.path), **(env or {})})
@@ -44,7 +45,7 @@ def test_an_output_that_cant_be_written(office: Folder, words: str, status: int,
 
 @pytest.mark.parametrize("words, status", PRINT)
 def test_a_reader_that_has_left(office: Folder, words: str, status: int) -> None:
-    """Something was left out, so it isn't 0, and a 1 isn't made a 0."""
+    """Some output was lost, so the status isn't 0, and a status of 1 stays 1."""
     ended, said = ran(office, words, '| true; exit "${PIPESTATUS[0]}"', {"PYTHONUNBUFFERED": "1"})
     assert ended in (1, status) and "Traceback" not in said and "Broken pipe" not in said, (ended, said)
     if words == "check small-office.csv":
@@ -52,7 +53,7 @@ def test_a_reader_that_has_left(office: Folder, words: str, status: int) -> None
 
 
 def test_standard_error_that_is_closed(office: Folder) -> None:
-    """What is told people doesn't go to the next program."""
+    """Messages for people don't go to the next program of a pipe."""
     done = subprocess.run(["sh", "-c", '"$0" "$@" 2>&-', sys.executable, TOOLS, "check", "small-office.csv"], cwd=office.path,
                           capture_output=True, check=False, env={**os.environ, "LIFE_PROGRAM": str(office.program.path)})
     assert done.returncode == 1 and b"nothing is posted" not in done.stdout
@@ -78,7 +79,7 @@ def test_no_lock_is_to_be_had(office: Folder, monkeypatch: pytest.MonkeyPatch) -
 
 
 def test_what_nobody_foresaw(office: Folder, monkeypatch: pytest.MonkeyPatch, tmp_path: Path) -> None:
-    """One line and 2; the traceback is in a file whose path is printed."""
+    """The tool prints one line and ends with 2; the traceback is in a file whose path is printed."""
     from life_tools.cli import verify
 
     def fail(*_: object) -> None:
@@ -128,7 +129,7 @@ def on_terminal(folder: Folder, *words: str) -> str:
 
 
 def test_a_terminal_isnt_sent_what_it_obeys(office: Folder) -> None:
-    """A row, a name and a table of strangers that would clear the screen and set its title."""
+    """A row, a name and a table from strangers would clear the screen and set the terminal's title."""
     evil = "\x1b[2J\x1b]0;owned\x07"
     office.write("evil.csv", f'1,premium,7001,2022-01-01,"{evil}"\n')
     for words in (("explain", "badscript,1,5", "evil.csv"), ("check", "evil.csv"), ("read", f"no{evil}file"),
@@ -139,7 +140,7 @@ def test_a_terminal_isnt_sent_what_it_obeys(office: Folder) -> None:
 
 
 def test_a_file_is_written_what_it_was(office: Folder) -> None:
-    """Only a terminal is shown other bytes: the rest of a script is that script's rows."""
+    """Only a terminal is shown escaped bytes: the rest of a script has exactly that script's rows."""
     row = '1,"premium",7001,2030-01-01,"1.00"'
     office.write("rows.csv", f"{row}\n")
     count = str((office.journal.stat().st_size - 18) // 65)

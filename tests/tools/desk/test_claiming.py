@@ -1,4 +1,5 @@
-"""Files that are hard to claim: whatever becomes of a file, its disk and its writer, each row is posted once or reported."""
+"""Tests files that are hard to claim: whatever happens to a file, its disk and its writer, each row is posted once or
+reported."""
 from __future__ import annotations
 
 import os
@@ -32,7 +33,7 @@ def desk(folder: Folder) -> Desk:
 
 @pytest.fixture
 def unseen(monkeypatch: pytest.MonkeyPatch) -> None:
-    """The system doesn't report who has a file open: it does so only of the caller's own files."""
+    """Makes the system not report who has a file open, as it does for files of other users."""
     monkeypatch.setattr(claiming, "is_being_written", lambda path: False)
 
 
@@ -67,14 +68,14 @@ def test_an_inbox_that_is_not_there_is_reported(desk: Desk) -> None:
 # --- whose a file is ---
 
 def test_a_user_without_a_name_has_a_number(monkeypatch: pytest.MonkeyPatch) -> None:
-    """As in a container: `day` ended with a traceback."""
+    """Such as in a container, where `day` once ended with a traceback."""
     monkeypatch.setattr(os, "getlogin", lambda: os.stat("/nowhere"))
     monkeypatch.setattr(os, "geteuid", lambda: 54321)
     assert claiming.login() == "54321"
 
 
 def test_who_posts_the_rest_of_anothers_day_is_named(desk: Desk, monkeypatch: pytest.MonkeyPatch) -> None:
-    """The log named whoever had claimed the file."""
+    """The log once named whoever had claimed the file."""
     desk.folder.write("stand-in", "#!/bin/sh\ncat >/dev/null\nexit 8\n").chmod(0o755)
     desk.hand_in("a.csv", ISSUE.format(2))
     for name in ("anna", "berta"):
@@ -101,7 +102,7 @@ def test_a_file_that_is_replaced_before_its_claim_has_its_own_time(desk: Desk, m
 # --- writers that go on ---
 
 def test_what_is_written_after_a_day_has_ended_is_taken_by_the_next(desk: Desk, unseen: None) -> None:
-    """A clerk's program wrote a second row after a pause of ten seconds: no day and no log said a word of it."""
+    """A clerk's program wrote a second row after a pause of ten seconds, and once no `day` and no log reported it."""
     file = desk.hand_in("slow.csv", ISSUE.format(2))
     with open(file, "a", encoding="ascii") as late:
         os.utime(file, (1e9, 1e9))
@@ -116,7 +117,7 @@ def test_what_is_written_after_a_day_has_ended_is_taken_by_the_next(desk: Desk, 
 
 
 def test_what_is_added_is_taken_once_where_that_was_interrupted(desk: Desk, unseen: None) -> None:
-    """The entry of what was added is on the disk, and the one that it comes from does not say so yet."""
+    """The entry of the added rows is on the disk, but the entry that they come from doesn't name it yet."""
     file = desk.hand_in("slow.csv", ISSUE.format(2))
     with open(file, "a", encoding="ascii") as late:
         os.utime(file, (1e9, 1e9))
@@ -132,7 +133,7 @@ def test_what_is_added_is_taken_once_where_that_was_interrupted(desk: Desk, unse
 
 
 def test_a_file_with_a_second_name_is_copied(desk: Desk) -> None:
-    """Whoever writes to it under the other name changes nothing that was posted."""
+    """A write to the file under its other name changes nothing that was posted."""
     os.link(desk.hand_in("a.csv", ISSUE.format(2)), desk.folder.path / "other.csv")
     desk.day(status=1)
     (desk.folder.path / "other.csv").write_text(ISSUE.format(3))
@@ -140,7 +141,7 @@ def test_a_file_with_a_second_name_is_copied(desk: Desk) -> None:
 
 
 def test_what_was_claimed_is_on_the_disk_before_it_is_posted(desk: Desk, monkeypatch: pytest.MonkeyPatch) -> None:
-    """After a power cut the log can show the file of each posting."""
+    """So after a power failure the log can show the file of each posting."""
     synced: list[str] = []
     sync = os.fsync
 
@@ -156,7 +157,7 @@ def test_what_was_claimed_is_on_the_disk_before_it_is_posted(desk: Desk, monkeyp
 # --- records that are changed ---
 
 def test_a_claimed_file_that_is_changed_stops_only_its_own_rows(desk: Desk) -> None:
-    """The others are posted, and the log lists what it can read."""
+    """The other files are posted, and the log lists what it can read."""
     desk.folder.write("stand-in", "#!/bin/sh\ncat >/dev/null\nexit 8\n").chmod(0o755)
     desk.hand_in("a.csv", ISSUE.format(2))
     desk.day("--life", "stand-in", status=1)
@@ -174,7 +175,7 @@ def test_a_claimed_file_that_is_changed_stops_only_its_own_rows(desk: Desk) -> N
 @pytest.mark.parametrize("name, says", [
     ("entry.json", "entry.json is not JSON"), ("handed-in.csv", "was changed since it was read")])
 def test_the_log_lists_what_it_can_read(desk: Desk, name: str, says: str) -> None:
-    """One bad entry, and nothing at all was listed."""
+    """Once, with one bad entry, the log listed nothing at all."""
     desk.hand_in("a.csv", ISSUE.format(2))
     desk.day(status=1)
     os.truncate(desk.entry_folder(2) / name, 20)
@@ -184,7 +185,7 @@ def test_the_log_lists_what_it_can_read(desk: Desk, name: str, says: str) -> Non
 
 
 def test_a_file_without_its_record_is_reported(desk: Desk) -> None:
-    """It was passed over without a word."""
+    """Once such a file was ignored without a message."""
     desk.hand_in("a.csv", ISSUE.format(2))
     desk.day(status=1)
     (desk.entry_folder(2) / "entry.json").unlink()
@@ -207,8 +208,8 @@ def memory(desk: Desk) -> Iterator[Path]:
 
 
 def test_a_claim_whose_inbox_is_away_waits_for_it(desk: Desk, memory: Path, monkeypatch: pytest.MonkeyPatch) -> None:
-    """The file has its hidden name, and its disk is not mounted when the next day looks: the entry was removed, and the file
-    lay in the inbox unseen for ever."""
+    """The file has its hidden name, and its disk isn't mounted when the next `day` looks. Once the entry was removed, and the
+    file stayed in the inbox, unseen for ever."""
     with monkeypatch.context() as patched:
         patched.setattr(shutil, "copyfile", lambda *_: os.stat("/nowhere"))
         desk.hand_in("a.csv", ISSUE.format(2))
@@ -227,7 +228,7 @@ def test_a_claim_whose_inbox_is_away_waits_for_it(desk: Desk, memory: Path, monk
 @pytest.mark.needs("mount")
 @pytest.mark.parametrize("free", [8, 12, 24, 36, 48])
 def test_a_log_on_a_full_disk_loses_nothing(desk: Desk, tmp_path: Path, free: int) -> None:
-    """So many kB are free for a claim, for the record of a run, or for what it printed."""
+    """`free` kB are left: for a claim, for the record of a run, or for what the run printed."""
     place, log = tmp_path / "small", desk.folder.path / "log"
     place.mkdir()
     subprocess.run(["mount", "-t", "tmpfs", "-o", "size=400k", "tmpfs", place], check=True)
@@ -241,7 +242,7 @@ def test_a_log_on_a_full_disk_loses_nothing(desk: Desk, tmp_path: Path, free: in
             desk.hand_in(name, "".join(map(ISSUE.format, range(first, first + 150))))
         ended = desk.folder.tools("day", "--today", "2024-06-03")
         assert ended.status in (1, 2) and "No space left on device" in ended.err, ended
-        # what is said to be left in the inbox is there
+        # files that are reported as left in the inbox are there
         said = [name for name in ("a.csv", "b.csv") if f"{name} is left where it is" in ended.err]
         assert set(said) <= set(desk.inbox)
         (place / "fill").unlink()

@@ -1,4 +1,5 @@
-"""`life-tools day`: files are claimed, looked over, posted as lanes of one run; what comes of each row is kept and reported."""
+"""Tests `life-tools day`: files are claimed, checked and posted as lanes of one run; what happened to each row is kept and
+reported."""
 from __future__ import annotations
 
 import fcntl
@@ -25,13 +26,13 @@ SETTLE = "1,settle,7001,2024-05-27,300.00"
 
 @pytest.fixture
 def desk(folder: Folder) -> Desk:
-    """A desk whose book is to be begun, and which has no basis."""
+    """A desk whose book hasn't been begun, and which has no basis."""
     return Desk(folder)
 
 
 @pytest.fixture
 def begun(desk: Desk) -> Desk:
-    """One whose book has an issue, a claim and a part settlement, of one file that is done."""
+    """A desk whose book has an issue, a claim and a part settlement, all from one file that is done."""
     desk.hand_in("monday.csv", f"{ISSUE}\n{CLAIM}\n{SETTLE}\n")
     ended = desk.day("--new", status=1)
     assert "premiums of issues are not compared with net premiums" in ended.err
@@ -41,7 +42,7 @@ def begun(desk: Desk) -> Desk:
     return desk
 
 
-# --- a book is begun only where that is asked for ---
+# --- a book is begun only if that is asked for ---
 
 def test_no_book_is_begun_by_mistake(desk: Desk) -> None:
     desk.hand_in("a.csv", ISSUE)
@@ -72,7 +73,7 @@ def test_a_young_file_is_left_for_the_next_run(begun: Desk) -> None:
 
 
 def test_a_file_that_is_still_open_for_writing_is_left(begun: Desk) -> None:
-    """39 rows that were written during a run lost 24 of them, with status 0."""
+    """Once, of 39 rows that were written during a run, 24 were lost, with status 0."""
     file = begun.hand_in("slow.csv", "1,settle,7001,2024-06-01,1.00\n")
     with open(file, "a", encoding="ascii") as writer:
         ended = begun.day(status=1)
@@ -83,7 +84,7 @@ def test_a_file_that_is_still_open_for_writing_is_left(begun: Desk) -> None:
 
 
 def test_a_file_that_is_replaced_after_its_claim_is_the_next_one(begun: Desk) -> None:
-    """A file that was changed while the lock was awaited was posted under its old checksum."""
+    """Once a file that was changed while `day` waited for the lock was posted under its old checksum."""
     file = begun.hand_in("a.csv", "1,settle,7001,2024-06-01,1.00\n")
     entry = claimed(str(file), str(begun.folder.path), Log(str(begun.folder.path)))
     begun.hand_in("a.csv", "1,settle,7001,2024-06-02,2.00\n")
@@ -163,7 +164,7 @@ def other_lane(rows: str) -> str:
 
 @pytest.mark.parametrize("saved", [str, crlf, marked, quoted, spaced, other_lane])
 def test_a_settlement_is_recognised_however_it_is_saved(begun: Desk, saved: object) -> None:
-    """The same part settlement, saved in another way, was paid twice."""
+    """Once the same part settlement, saved in another way, was paid twice."""
     assert callable(saved)
     begun.hand_in("again.csv", saved(f"{SETTLE}\n"))
     ended = begun.day(status=1)
@@ -214,8 +215,9 @@ def test_what_is_not_plausible_waits_for_a_person(begun: Desk, row: str) -> None
 
 
 def test_the_band_goes_by_the_net_premium(begun: Desk) -> None:
-    """By hand from table Q (rates 0.1, 0.2, 0.25) without interest, an endowment of 3 years: benefits 1, annuity 1 + 0.9 +
-    0.72 = 2.62, so of 1000.00 the net premium is 381.68; half of it 190.84, and 190.83 lies below."""
+    """Computed by hand from table Q (rates 0.1, 0.2, 0.25) without interest, for an endowment of 3 years: the benefits are 1
+    and the annuity is 1 + 0.9 + 0.72 = 2.62, so for 1000.00 the net premium is 381.68. Half of it is 190.84, so 190.83 is
+    below the limit."""
     begun.folder.take("q.xml")
     begun.folder.write("basis.csv", "1900-01-01,q.xml,0\n")
     row = "1,issue,{},2024-05-01,endowment,0,3,1000.00,{}\n"
@@ -227,7 +229,8 @@ def test_the_band_goes_by_the_net_premium(begun: Desk) -> None:
 
 
 def test_the_limits_themselves_are_allowed(begun: Desk) -> None:
-    """400 days before 2024-06-03 is 2023-04-30; today's issue is no later one; a premium as high as the amount is not below."""
+    """400 days before 2024-06-03 is 2023-04-30; an issue dated today isn't after today; a premium equal to the amount isn't
+    below it."""
     row = "1,issue,{},{},endowment,0,3,1000.00,{}\n"
     begun.hand_in("a.csv", row.format(1, "2023-04-30", "400.00") + row.format(2, "2023-04-29", "400.00")
                   + row.format(3, TODAY, "999.99") + row.format(4, TODAY, "1000.00"))
@@ -322,7 +325,7 @@ def test_eight_files_are_the_lanes_of_one_run(desk: Desk) -> None:
 
 
 def test_files_that_share_a_policy_are_posted_one_after_the_other(desk: Desk) -> None:
-    """As lanes of one run nobody would know whether the premium comes before the issue."""
+    """As lanes of one run it would be open whether the premium comes before the issue."""
     desk.hand_in("a.csv", f"{ISSUE}\n")
     desk.hand_in("b.csv", "1,premium,7001,2024-05-01,400.00\n")
     desk.hand_in("c.csv", ISSUE.replace("7001", "7002") + "\n")
@@ -372,7 +375,7 @@ def test_what_a_bad_end_leaves_is_posted_by_the_next_day(begun: Desk, ends: str,
 
 
 def test_rows_that_find_the_book_full_are_kept_for_another_one(begun: Desk) -> None:
-    """As the program answers them, which a stand-in repeats: no book of 4,000,000 postings is needed for that."""
+    """A stand-in prints what the program would answer, so no book of 4,000,000 postings is needed."""
     begun.folder.write("stand-in", "#!/bin/sh\ncat >/dev/null\necho 1,settle,7001,refused,full,4000000\n"
                        "echo 1,lapse,7001,refused,wrongstatus,claimed\n").chmod(0o755)
     begun.hand_in("a.csv", '1,"settle",7001,2024-06-01,1.00\r\n1,lapse,7001,2024-06-01\r\n')
@@ -402,7 +405,7 @@ def test_a_damaged_book_is_never_written_to(begun: Desk) -> None:
 
 
 def test_the_last_record_that_is_gone_is_noticed_by_the_log(begun: Desk) -> None:
-    """A last commit byte that was damaged looks like what a crash leaves, but the log noted more."""
+    """A damaged last commit byte looks like what a crash leaves, but the log recorded more postings."""
     data = bytearray(begun.folder.journal.read_bytes())
     data[17 + 2 * 65] = 0
     begun.folder.journal.write_bytes(data)
@@ -423,7 +426,7 @@ def test_a_book_in_use_is_waited_for_and_given_up(begun: Desk) -> None:
 
 
 def says(ran: subprocess.Popen[str], wanted: str) -> None:
-    """Reads what it says up to a line with these words."""
+    """Reads its standard error up to a line that contains this text."""
     assert ran.stderr
     lines = iter(ran.stderr.readline, "")
     assert any(wanted in line for line in lines)
@@ -446,7 +449,7 @@ def test_a_signal_ends_a_waiting_day_at_once(begun: Desk, number: signal.Signals
 
 
 def test_a_signal_that_is_ignored_stays_so(begun: Desk) -> None:
-    """As under `nohup`: a closed terminal doesn't end the work."""
+    """Such as under `nohup`: a closed terminal doesn't end the work."""
     begun.hand_in("a.csv", "1,settle,7001,2024-06-01,1.00\n")
     with open(begun.folder.journal, "rb") as journal:
         fcntl.flock(journal, fcntl.LOCK_EX)
@@ -507,8 +510,8 @@ def test_what_a_backup_lacks_is_posted_anew(begun: Desk) -> None:
 
 
 def test_a_backup_that_was_made_while_a_run_was_noted(begun: Desk, monkeypatch: pytest.MonkeyPatch) -> None:
-    """The record of the run in it has ended, and the entry does not know of the run yet. Its rows were posted, and are not
-    posted again: they were held, or refused, and no entry had their positions."""
+    """In the backup, the record of the run has ended, but the entry doesn't name the run yet. Its rows were posted, and must
+    not be posted again. Once they were held, or refused, and no entry had their positions."""
     begun.hand_in("a.csv", ISSUE.replace("7001", "7002") + "\n1,premium,7002,2024-05-01,400.00\n"
                   "1,settle,7001,2024-06-01,9000.00\n")
     with monkeypatch.context() as patched:

@@ -1,11 +1,11 @@
-"""`check` names an issue that is not plausible, as `day` holds it."""
+"""Tests that `check` names an issue that isn't plausible, as `day` holds it."""
 from __future__ import annotations
 
 from tests.support.folders import Folder
 
 
 def test_check_names_doubtful_issues(table_q: Folder) -> None:
-    """Of 1000.00 the net premium by table Q is 381.68, as in the trial of the band."""
+    """For an amount of 1000.00 the net premium by table Q is 381.68, as in the test of `day`'s limits."""
     rows = ["1,issue,1,2024-05-01,endowment,0,3,1000.00,400.00", "1,issue,2,1901-05-01,endowment,0,3,1000.00,40.00"]
     table_q.write("a.csv", "\n".join(rows))
     printed = table_q.printed("check", "a.csv", "--today", "2024-06-03", status=1)

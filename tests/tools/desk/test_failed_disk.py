@@ -1,4 +1,4 @@
-"""A disk that fails while `day` posts: what the log notes as accepted is on the disk."""
+"""Tests a disk that fails while `day` posts: what the log records as accepted is on the disk."""
 from __future__ import annotations
 
 import os
@@ -25,7 +25,7 @@ pytestmark = [pytest.mark.root, pytest.mark.needs("strace", "losetup", "unshare"
 # the commit byte of the next record is the last byte of a page
 RECORDS = 1134
 ROW = "1,issue,2001,2024-05-01,whole,40,0,1000.00,40.00\n"
-# the program, stopped after the second write of its posting, which is that of the commit byte
+# the program, stopped after the second write of its posting, which writes the commit byte
 STOPPED = """#!/bin/sh
 exec strace -f -qq -o {log} -e trace=pwrite64 -e inject=pwrite64:signal=SIGSTOP:when=2 {program} "$@"
 """
@@ -34,12 +34,12 @@ exec strace -f -qq -o {log} -e trace=pwrite64 -e inject=pwrite64:signal=SIGSTOP:
 @pytest.fixture
 def medium(tmp_path: Path) -> Iterator[Medium]:
     with Mounts(tmp_path) as mounts:
-        # without a journal of its own the file system goes on once the medium is sound again
+        # a file system without a journal of its own goes on once the medium works again
         yield Medium(mounts, SYSTEMS[1])
 
 
 def stopped(log: Path, day: subprocess.Popen[str]) -> int:
-    """The program, once it is stopped."""
+    """Waits until the program is stopped, and returns its process id."""
     while day.poll() is None:
         found = re.search(r"^(\d+) .*stopped by SIGSTOP", log.read_text() if log.exists() else "", re.M)
         if found:
@@ -49,7 +49,8 @@ def stopped(log: Path, day: subprocess.Popen[str]) -> int:
 
 
 def test_a_row_that_the_disk_never_received_is_posted_by_the_next_day(medium: Medium, tmp_path: Path, program: Program) -> None:
-    """The program is killed after it wrote a commit byte, and the disk takes no more; only the journal lies on that disk."""
+    """The program is killed after it wrote a commit byte, and the disk takes no more writes; only the journal lies on that
+    disk."""
     desk = Desk(Folder(medium.files, program))
     for name in ("inbox", "log"):
         (tmp_path / "sound" / name).mkdir(parents=True)

@@ -1,4 +1,4 @@
-"""After an interruption one `day` goes on: it says what was posted, and posts the rest."""
+"""Tests that after an interruption the next `day` goes on: it reports what was posted, and posts the rest."""
 from __future__ import annotations
 
 import contextlib
@@ -22,7 +22,7 @@ ROWS = 120
 
 @pytest.fixture
 def desk(folder: Folder) -> Desk:
-    """A book that is begun, and a file of many rows in the inbox."""
+    """A desk whose book is begun, with a file of many rows in the inbox."""
     desk = Desk(folder)
     desk.hand_in("first.csv", "1,issue,9000,2024-05-01,whole,40,0,1000.00,40.00\n")
     desk.day("--new", status=1)
@@ -31,7 +31,7 @@ def desk(folder: Folder) -> Desk:
 
 
 def posted(desk: Desk) -> int:
-    """How many records the file has begun; the last ones may not be postings yet."""
+    """Returns how many records the file has begun; the last ones may not be postings yet."""
     return (desk.folder.journal.stat().st_size - 18) // 65
 
 
@@ -63,7 +63,7 @@ def test_the_rest_of_a_killed_run_is_posted(desk: Desk) -> None:
 
 
 def test_a_transcript_that_is_missing_or_lost_is_no_hindrance(desk: Desk) -> None:
-    """As after a power cut: the journal is safe, and what was printed is not."""
+    """Such as after a power failure: the journal is safe, and what was printed is lost."""
     child = start_day(desk, "said", "none", 0)
     until_posted(desk, 20)
     kill(child)
@@ -74,7 +74,7 @@ def test_a_transcript_that_is_missing_or_lost_is_no_hindrance(desk: Desk) -> Non
 
 
 def test_after_a_kill_that_posted_nothing_the_whole_file_is_posted(desk: Desk) -> None:
-    """It was refused as sent before; whoever believed that lost the file."""
+    """Once such a file was refused as sent before; a clerk who believed this lost the file."""
     run = desk.folder.path / "log/runs/000002"
     child = start_day(desk, "said", "none", 0)
     while not (run / "run.json").exists():
@@ -88,7 +88,8 @@ def test_after_a_kill_that_posted_nothing_the_whole_file_is_posted(desk: Desk) -
 
 
 def slow(desk: Desk) -> Desk:
-    """The same desk with a program whose syncs take 20 ms each: a quick one has posted all before the next `day` looks."""
+    """Returns the same desk with a program whose syncs take 20 ms each; a fast program would have posted everything before the
+    next `day` looks."""
     program = shlex.quote(str(desk.folder.program.path))
     traced = "strace -f -qq -o /dev/null -e trace=fsync -e inject=fsync:delay_exit=20000"
     wrapper = desk.folder.write("slow", f'#!/bin/sh\n[ "$1" = run ] || exec {program} "$@"\nexec {traced} {program} "$@"\n')
@@ -98,7 +99,7 @@ def slow(desk: Desk) -> Desk:
 
 @pytest.mark.needs("strace")
 def test_a_program_whose_day_was_killed_is_waited_for(desk: Desk) -> None:
-    """It goes on without `day`, and no other one takes up its rows meanwhile."""
+    """The program goes on without `day`, and meanwhile no other `day` posts its rows."""
     child = start_day(slow(desk), "said", "none", 0)
     until_posted(desk, 10)
     os.kill(child, signal.SIGKILL)
@@ -126,7 +127,7 @@ def test_a_signal_during_a_posting_is_noted_in_the_entry(desk: Desk, number: sig
 
 
 def test_a_released_row_that_equals_another_is_found_again(desk: Desk) -> None:
-    """Two equal part settlements of one release, and the kill of its run."""
+    """A release has two equal part settlements, and its run is killed."""
     desk.day(status=1)
     desk.hand_in("a.csv", "1,claim,1,2024-05-20\n" + "1,settle,1,2024-05-21,1.00\n" * 60)
     desk.day(status=1)
@@ -147,7 +148,7 @@ def test_a_released_row_that_equals_another_is_found_again(desk: Desk) -> None:
 
 
 def test_a_row_is_not_held_with_a_later_one_of_its_policy(desk: Desk) -> None:
-    """The file's last row equals its 100th, and is held before the run that is killed; the 100th is not held after it."""
+    """The file's last row equals its 100th, and is held before the run that is killed; after it the 100th row isn't held."""
     row = "1,issue,{},2024-05-01,whole,40,0,1000.00,40.00\n"
     desk.hand_in("many.csv", "".join(row.format(number) for number in range(1, ROWS + 1)) + row.format(100))
     child = start_day(desk, "said", "none", 0)
@@ -160,7 +161,7 @@ def test_a_row_is_not_held_with_a_later_one_of_its_policy(desk: Desk) -> None:
 
 
 def test_an_interrupted_release_is_not_made_twice(desk: Desk) -> None:
-    """The release is on the disk, and the entry from which its rows come does not say so yet."""
+    """The release is on the disk, but the entry from which its rows come doesn't record it yet."""
     desk.day(status=1)
     desk.hand_in("a.csv", "1,claim,1,2024-05-20\n" + "1,settle,1,2024-05-21,1.00\n" * 2)
     desk.day(status=1)
@@ -184,7 +185,7 @@ def test_a_claim_that_was_interrupted_before_the_rename_is_made_again(desk: Desk
 
 @pytest.mark.parametrize("call", range(1, 60, 3))
 def test_a_claim_killed_at_any_call_is_finished(desk: Desk, call: int) -> None:
-    """Each third of the first calls of a `day`, which verifies the book and claims the file."""
+    """The kill comes before every third of the first calls of a `day`, which verifies the book and claims the file."""
     child = start_day(desk, "said", "call", call)
     os.waitpid(child, 0)
     desk.day(status=1)
@@ -192,7 +193,7 @@ def test_a_claim_killed_at_any_call_is_finished(desk: Desk, call: int) -> None:
 
 
 def test_what_is_added_to_a_claimed_file_is_an_entry_of_its_own(desk: Desk, monkeypatch: pytest.MonkeyPatch) -> None:
-    """Where the system can't say that a file is still open, as on a network: the rows that come late are posted, too."""
+    """If the system can't say whether a file is still open, such as on a network, the rows that come late are posted, too."""
     desk.day(status=1)
     monkeypatch.setattr(claiming, "is_being_written", lambda path: False)
     file = desk.hand_in("late.csv", "1,claim,1,2024-05-20\n")

@@ -1,4 +1,4 @@
-"""Whatever kills a `day`, each row that was handed in is posted once, or held, or refused; and no file is lost."""
+"""Kills `day`: each row that was handed in is posted once, or held, or refused; and no file is lost."""
 from __future__ import annotations
 
 import hashlib
@@ -15,7 +15,7 @@ from tests.support.folders import Folder
 from tests.support.killed_days import Trial
 from tests.support.missing import lacks
 
-# so many kills; another number may be asked for, as for a long trial by hand
+# the number of kills; another number may be set, such as for a long trial by hand
 SOME, MANY = 25, int(os.environ.get("LIFE_TRIAL_KILLS", "120"))
 SEED = int(os.environ.get("LIFE_TRIAL_SEED", "70"))
 FEW = 12
@@ -32,7 +32,7 @@ def memory(folder: Folder) -> Iterator[Path]:
 
 
 def killed(folder: Folder, seed: int, kills: int) -> Trial:
-    """A trial of so many kills, judged again and again."""
+    """Runs a trial of this number of kills, and judges the desk after every JUDGED_EACH of them."""
     trial = Trial(Desk(folder), random.Random(seed))
     trial.desk.folder.path.joinpath("inbox").mkdir(exist_ok=True)
     trial.number = 1

@@ -1,4 +1,5 @@
-"""What became of each row of a run, from what it printed and from the journal: against runs that are played by the rules."""
+"""Tests what `reckoned` finds of each row of a run, from what the run printed and from the journal; the runs are played by the
+rules."""
 from __future__ import annotations
 
 from dataclasses import dataclass, field
@@ -13,7 +14,7 @@ from life_tools.rules.policies import Book, Refusal
 from life_tools.scripts.lines import Line, lanes_of, lines_in
 
 POLICIES = (1, 2, 3)
-# of each policy what a script may ask, each row once
+# the rows that a script may have for each policy, each at most once
 KINDS = ("issue,{},2024-05-01,endowment,0,3,1000.00,400.00", "premium,{},2024-05-01,400.00", "claim,{},2024-05-20",
          "settle,{},2024-05-21,1.00", "settle,{},2024-05-22,2.00", "lapse,{},2024-05-20", "premium,{},2024-05-02,400.00")
 ROWS = [kind.format(policy) for policy in POLICIES for kind in KINDS]
@@ -21,7 +22,7 @@ ROWS = [kind.format(policy) for policy in POLICIES for kind in KINDS]
 
 @dataclass
 class Played:
-    """A run: what it printed, what it posted, and the answer to each row that it came to."""
+    """A run: what it printed, what it posted, and the answer to each row that it reached."""
 
     text: list[str] = field(default_factory=list)
     records: list[Command] = field(default_factory=list)
@@ -41,7 +42,7 @@ class Played:
 
 @st.composite
 def runs(draw: st.DrawFn) -> tuple[list[Line], Played, int]:
-    """A script of some lanes, the run of a part of it in some order of turns, and the count before it."""
+    """Draws a script of some lanes, a run of a part of it in some order of turns, and the count before the run."""
     rows = draw(st.permutations(ROWS))[:draw(st.integers(1, len(ROWS)))]
     script = "".join(f"{draw(st.integers(1, 3))},{row}\n" for row in rows)
     lines = lines_in(script.encode())
@@ -61,7 +62,7 @@ def found(lines: list[Line], played: Played, text: str, before: int) -> Reckoned
 @settings(max_examples=300)
 @given(runs(), st.data())
 def test_each_accepted_row_is_found(run: tuple[list[Line], Played, int], data: st.DataObject) -> None:
-    """Wherever the transcript ends, in a line or before the first one; and what is left of a lane stands at its end."""
+    """The transcript may end anywhere, in a line or before the first one. The rows of a lane that are left are its last ones."""
     lines, played, before = run
     text = "".join(f"{line}\n" for line in played.text)
     cut = text[:data.draw(st.integers(0, len(text)))]
@@ -70,7 +71,7 @@ def test_each_accepted_row_is_found(run: tuple[list[Line], Played, int], data: s
     assert found_rows.accepted == accepted and found_rows.foreign == 0
     for row, words in found_rows.refused.items():
         assert played.answers[row] in (f"refused,{words}", *([played.answers[row]] if words == NOT_PRINTED else []))
-    # each row is in one place; none that was not answered is called refused
+    # each row is in one list, and no row that was not answered is called refused
     assert sorted([*found_rows.accepted, *found_rows.refused, *found_rows.left]) == [line.row.number for line in lines]
     for rows in lanes_of(lines).values():
         left = [line.row.number in found_rows.left for line in rows]
@@ -86,7 +87,7 @@ def test_postings_of_another_run_are_no_rows_of_this_one() -> None:
 
 
 def test_a_faulted_row_that_is_in_the_journal_was_posted() -> None:
-    """The row that met a fault may stand in the file all the same, behind all that was accepted."""
+    """A row that met a fault may be in the file all the same, after everything that was accepted."""
     lines = lines_in(b"1,claim,1,2024-05-20\n1,settle,1,2024-05-21,1.00\n2,claim,2,2024-05-20\n")
     text = "1,claim,1,accepted,1\n1,settle,1,fault\n2,claim,2,fault\n"
     assert reckoned(lines, text, {1: lines[0].posted, 2: lines[2].posted}, 0).accepted == {1: 1, 3: 2}

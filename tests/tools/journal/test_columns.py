@@ -1,5 +1,6 @@
-"""The bulk reader beside the one that judges record by record: on drawn and damaged journals both say the same of the file,
-of each policy, of what each command books, and of the book as it was before. The fullest journals within processor seconds."""
+"""Compares the reader that works on columns with the one that judges record by record: on drawn and damaged journals both
+report the same about the file, each policy, what each command books, and the book as it was before. The fullest journals are
+read within limits of processor seconds."""
 from __future__ import annotations
 
 import datetime
@@ -29,7 +30,7 @@ from tests.support.drawn_scripts import make_book, make_script
 from tests.support.lived_books import lived
 from tests.support.program import ROOT
 
-# a command, and what it books
+# a command, and the amounts that it books
 Booked = tuple[Command, dict[str, int]]
 DAYS_OFF = (-366, -91, -90, -32, -31, -1, 1, 31, 32, 90, 91, 365, 366, 1096, 36500)
 # each reason of a refusal that a journal's record can have
@@ -42,7 +43,7 @@ BLOCKS = 4
 
 
 def drawn(draw: Random) -> list[Command]:
-    """The commands of a right journal, whose numbers lie close together or far apart."""
+    """Returns the commands of a right journal, whose policy numbers lie close together or far apart."""
     if draw.random() < 0.5:
         commands = lived(draw.randrange(10**6), draw.choice((3, 20, 60)))
     else:
@@ -61,7 +62,7 @@ def moved(draw: Random, command: Command) -> datetime.date:
 
 
 def changed(draw: Random, command: Command, others: list[Command]) -> Command:
-    """A command with a field of another value, mostly a valid one."""
+    """Returns a command in which one field has another value, mostly a valid one."""
     field = draw.choice(("kind", "kind", "number", "day", "day", "day", "amount", "amount", "premium"))
     if field == "kind" and draw.random() < 0.5:
         return replace(command, kind=draw.choice(list(CODES)))
@@ -77,7 +78,7 @@ def changed(draw: Random, command: Command, others: list[Command]) -> Command:
 
 
 def disordered(draw: Random, commands: list[Command]) -> list[Command]:
-    """The commands with one changed, left out, twice, or in another's place."""
+    """Returns the commands with one of them changed, left out, repeated or moved."""
     kind = draw.choice(sorted({it.kind for it in commands}))
     made, at = list(commands), draw.choice([at for at, it in enumerate(commands) if it.kind == kind])
     what = draw.randrange(8)
@@ -93,7 +94,7 @@ def disordered(draw: Random, commands: list[Command]) -> list[Command]:
 
 
 def damaged(draw: Random, data: bytearray) -> bytes:
-    """The bytes with some changed, cut off or put in."""
+    """Returns the bytes with some of them changed, cut off or added."""
     what, place = draw.randrange(6), draw.randrange(len(data))
     if what == 0:
         return bytes(data[:place])
@@ -132,7 +133,7 @@ def compare_books(columns: Columns, book: Book, booked: list[Booked]) -> None:
 
 
 def compare_texts(columns: Columns, booked: list[Booked]) -> None:
-    """The lines of `read`, and those of its ledger."""
+    """Compares the lines of `read`, and those of its ledger."""
     lines = [",".join([str(position), *words_of(command)]) + "\n" for position, (command, _) in enumerate(booked, 1)]
     assert "".join(lines_of(columns.records, plain_template)) == "".join(lines)
     ledger = [f"{command.day} {command.kind} {command.number}\n"
@@ -148,7 +149,8 @@ def said_of(read: Callable[[bytes], object], data: bytes) -> object:
 
 
 def compare_checkpoint(draw: Random, columns: Columns, book: Book) -> str:
-    """A checkpoint of the book, with a byte changed in two of three cases: whether it still is one."""
+    """Compares the readers on a checkpoint of the book, in which a byte is changed in two of three cases; returns whether it
+    still is one."""
     whole = checkpoint_of(book.commands)
     data = bytearray(bytes_of_checkpoint(whole))
     if draw.randrange(3):
@@ -170,7 +172,8 @@ def compare_checkpoint(draw: Random, columns: Columns, book: Book) -> str:
 
 
 def compare(draw: Random, data: bytes) -> list[str]:
-    """What both readers say of the same bytes: a reason of a refusal, or that the journal is right, and of a checkpoint."""
+    """Compares both readers on the same bytes, and returns what they report: a reason of a refusal, or `right` with a word
+    about a checkpoint."""
     slow, found = read_journal(data), judged(data)
     if slow.refused or not isinstance(found, Columns):
         assert isinstance(found, Journal) and (found.refused, found.why) == (slow.refused, slow.why)
@@ -198,7 +201,7 @@ def test_drawn_and_damaged_journals(block: int, monkeypatch: pytest.MonkeyPatch)
     assert min(met["checkpoint"], met["no checkpoint"]) > 10, met
 
 
-# which few drawn journals meet
+# few drawn journals meet each of these
 @pytest.mark.parametrize("reason", sorted(REASONS))
 def test_each_reason_of_a_refusal_is_met(reason: str) -> None:
     for seed in range(4 * JOURNALS):
@@ -219,7 +222,7 @@ def test_records_without_an_issue_of_great_numbers() -> None:
 
 
 def within(seconds: int, folder: Path, *words: str) -> subprocess.CompletedProcess[str]:
-    """A tool within so many processor seconds."""
+    """Runs a tool with a limit of processor seconds."""
     return subprocess.run([sys.executable, str(ROOT / "tools" / "life-tools"), *words], cwd=folder, capture_output=True,
                           text=True, check=False, preexec_fn=lambda: resource.setrlimit(resource.RLIMIT_CPU, (seconds, seconds)))
 
@@ -237,7 +240,7 @@ def test_4000000_issues(tmp_path: Path) -> None:
 
 @pytest.mark.slow
 def test_4000000_premiums_of_which_few_can_follow(tmp_path: Path) -> None:
-    """A whole life of 131 premiums, paid to its end at age 131."""
+    """The policy is whole life with 131 premiums, paid up to its end at age 131."""
     write("premiums", 4000000, str(tmp_path / "full.life"))
     verified = within(20, tmp_path, "read", "--verify", "full.life")
     assert (verified.returncode, verified.stdout) == (2, "badjournal,badrecord,132\n")

@@ -1,4 +1,4 @@
-"""A tool that reads a journal shows nothing of a damaged one: it ends with 1 and says what is wrong."""
+"""Tests that a tool which reads a journal shows nothing of a damaged one: it ends with status 1 and reports what is wrong."""
 from __future__ import annotations
 
 import shutil
@@ -11,7 +11,7 @@ from tests.support.folders import Folder
 from tests.support.program import ROOT
 from tests.support.windows import Window
 
-# by FORMATS: 17 bytes lie before the first record, and 65 are a record
+# docs/reference/journal.md: 17 bytes come before the first record, and a record has 65 bytes
 FIRST, RECORD = 17, 65
 DAMAGED = "bytes follow byte"
 TOOLS = (
@@ -25,7 +25,7 @@ TOOLS = (
 
 
 def damage(journal: Path, record: int) -> None:
-    """Closes the commit byte of a record, counted from 0."""
+    """Sets the commit byte of a record, counted from 0, to 0."""
     data = bytearray(journal.read_bytes())
     data[FIRST + RECORD * record] = 0
     journal.write_bytes(data)
@@ -75,7 +75,7 @@ def test_verify_names_what_it_finds(small_office: Folder) -> None:
 
 
 def test_no_journal_is_mapped() -> None:
-    """A page that a process has mapped couldn't be dropped by the program after a sync that failed."""
+    """A page of a file that a process has mapped could not be dropped after a failed sync."""
     found = subprocess.run(["grep", "-rnE", r"\bmmap\b|memmap", "--include=*.py", str(ROOT / "tools")], capture_output=True,
                            text=True, check=False)
     assert found.stdout == ""

@@ -1,4 +1,5 @@
-"""`export`: its tables, as SQLite and as frames for pandas, beside what the program prints; the days of policies by hand."""
+"""Compares the tables of `export`, in SQLite and as frames for pandas, with what the program prints; the days of policies are
+worked out by hand."""
 from __future__ import annotations
 
 import re
@@ -14,7 +15,7 @@ from tests.support.lived_books import lived
 
 TABLES = ("command", "booking", "policy", "valuation", "valued")
 Tables = dict[str, list[dict[str, Any]]]
-# of every plan: awaiting a premium from 29 February on; paid in full; lapsed; claimed; paid up
+# policies of every plan: one awaits a premium from 29 February on; the others are paid in full, lapsed, claimed and paid up
 POLICIES = """\
 1,issue,801,2020-02-29,whole,40,0,1000.00,10.00
 1,premium,801,2020-02-29,10.00
@@ -30,7 +31,7 @@ POLICIES = """\
 1,upgrade
 1,paidup,805,2020-03-12,400.00
 """
-# by hand: the end of the insurance, the day that premiums are paid to, that of the next premium, the last of its grace
+# by hand: the end of the insurance, the day up to which premiums are paid, the next premium's day, and the last day of its grace
 DAYS = {
     "801": ("2111-02-28", "2021-02-28", "2021-02-28", "2021-03-31"),
     "802": ("2022-01-15", "2022-01-15", None, None),
@@ -65,7 +66,7 @@ def row(*values: object) -> str:
 
 
 def state_lines(tables: Tables) -> Iterator[str]:
-    """The lines of `state` that the tables hold."""
+    """Yields the lines of `state` that the tables give."""
     for it in tables["policy"]:
         yield row("policy", it["policy"], it["status"], it["plan"], it["age"], it["years"], money(it["amount_cents"]),
                   money(it["premium_cents"]), it["issued"], it["premiums_paid"], money(it["outstanding_cents"]))
@@ -91,7 +92,7 @@ def valued_rows(tables: Tables) -> Iterator[str]:
 
 
 def printed_rows(text: str) -> Iterator[str]:
-    """The rows of printed valuations, each behind its day, position and measure."""
+    """Yields the rows of printed valuations, each after its day, position and measure."""
     head = ""
     for line in text.splitlines():
         fields = line.split(",")
@@ -103,7 +104,7 @@ def printed_rows(text: str) -> Iterator[str]:
 
 @pytest.fixture
 def office(small_office: Folder) -> Folder:
-    """The small office with five policies more, and three valuations of it as `printed`."""
+    """The small office with five more policies, and three valuations of it in the file `printed`."""
     small_office.post(POLICIES)
     small_office.write("printed", "".join(small_office.life("value", *words).out for words in VALUATIONS))
     return small_office

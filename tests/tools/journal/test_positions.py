@@ -1,6 +1,7 @@
-"""`position-on`, of a book and of a list of books: what a position lacks, or has of later days, is told and gives 1.
+"""Tests `position-on` for one book and for a list of books: commands that a position lacks, or that have later days, are reported
+and give status 1.
 
-Each position and each list is worked by hand from the script beside it.
+Each position and each list is worked out by hand from the script in this file.
 """
 from __future__ import annotations
 
@@ -8,7 +9,7 @@ import pytest
 
 from tests.support.folders import Folder
 
-# positions 1 to 3 are of 2025, 4 is of 2099, 5 to 9 are of 2025 again
+# the commands of positions 1 to 3 have days of 2025, that of 4 is dated 2099, those of 5 to 9 are of 2025 again
 OUT_OF_ORDER = """\
 1,issue,1,2025-01-10,whole,30,0,60.00,1.00
 1,premium,1,2025-01-10,1.00
@@ -32,7 +33,7 @@ HAS = """\
 position 9 has commands of days after 2025-12-31: 1
   4,issue,3,2099-02-01,whole,30,0,60.00,1.00
 """
-# words: status, position, and what is told, or how many lines of it
+# the arguments: the status, the position, and what is reported, or its number of lines
 POSITIONS: dict[str, tuple[int, int, str | int]] = {
     "2025-12-31": (1, 3, LACKS),
     "2025-12-31 --last": (1, 9, HAS),
@@ -79,7 +80,7 @@ def test_an_upgrade_has_no_day_and_of_many_the_first_are_listed(folder: Folder) 
     ended = folder.tools("position-on", "2025-01-31", "journal.life")
     assert (ended.status, ended.out, len(ended.err.splitlines())) == (1, "0\n", 12)
     assert ended.err.splitlines()[-1] == "  and 2 more"
-    # 14 is the position of the day's last command; the upgrade, of position 2, isn't out of order
+    # 14 is the position of the last command of the day; the upgrade, at position 2, isn't out of order
     gives(folder, ["--last", "2025-01-31", "journal.life"], 1, 14,
           "position 14 has commands of days after 2025-01-31: 1\n  1,issue,1,2025-06-01,whole,30,0,60.00,1.00\n")
     gives(folder, ["2025-06-01", "journal.life"], 0, 15, "")

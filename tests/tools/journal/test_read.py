@@ -1,5 +1,5 @@
-"""What the tools read of a book beside what the program prints of it: records, balances, the book as it was, exports, a
-checkpoint, positions."""
+"""Compares what the tools read from a book with what the program prints for it: records, balances, the book as it was,
+exports, a checkpoint, positions."""
 from __future__ import annotations
 
 import csv
@@ -18,12 +18,12 @@ def lines(text: str, *starts: str) -> list[str]:
 
 
 def records(folder: Folder) -> list[str]:
-    """What `read` lists: position, kind, and the command's fields."""
+    """Returns the records that `read` lists: position, kind, and the command's fields."""
     return [line for line in folder.printed("read", "journal.life").splitlines() if line[0].isdigit()]
 
 
 def entries(folder: Folder, number: str) -> list[str]:
-    """What `state` prints of a policy's postings."""
+    """Returns the lines that `state` prints for a policy's postings."""
     return lines(folder.life("state", number).out, "entry,")
 
 
@@ -87,7 +87,7 @@ def test_a_checkpoint_that_is_longer_than_the_journal(small_office: Folder) -> N
 
 @pytest.mark.parametrize("day", ["2021-01-19", "2022-01-20", "2024-03-12", "2199-12-31"])
 def test_the_position_of_a_day(small_office: Folder, day: str) -> None:
-    """The commands before the first one of a later day."""
+    """The position is the number of commands before the first one of a later day."""
     days = [row.split(",")[3] for row in records(small_office)]
     wanted = next((place for place, each in enumerate(days) if each > day), len(days))
     assert small_office.printed("position-on", day, "journal.life") == f"{wanted}\n"

@@ -1,4 +1,4 @@
-"""`seal`: each byte of a sealed book, its basis and tables, changed is told, and nothing of what a later posting changes."""
+"""Tests `seal`: a change of any byte of a sealed book, its basis or its tables is reported; a change by later postings isn't."""
 from __future__ import annotations
 
 from pathlib import Path
@@ -14,7 +14,7 @@ POSITION = 3
 
 @pytest.fixture
 def few(examples_basis: Folder, monkeypatch: pytest.MonkeyPatch) -> Folder:
-    """A book of a few postings, as the folder that seals are made of."""
+    """A book of a few postings, in the current folder, of which seals are made."""
     lines = (EXAMPLES / "small-office.csv").read_text(encoding="ascii").splitlines(keepends=True)
     examples_basis.post("".join(lines[:8]))
     monkeypatch.chdir(examples_basis.path)
@@ -22,12 +22,12 @@ def few(examples_basis: Folder, monkeypatch: pytest.MonkeyPatch) -> Folder:
 
 
 def test_each_byte_of_the_journal(few: Folder) -> None:
-    """The commit byte, the header, each field of each record: all that stands before the commit byte behind the prefix."""
+    """The bytes up to the sealed position: the header's commit byte, the header, and each record."""
     data, seal = few.journal.read_bytes(), seal_of(".", POSITION)
     assert seal_in(text_of(seal)) == seal and seal.size == 17 + 65 * POSITION
     for place in range(len(data)):
         few.journal.write_bytes(data[:place] + bytes([data[place] ^ 1]) + data[place + 1:])
-        # behind the prefix a commit byte that is closed hides postings, and the last one that is opened has no record
+        # after the sealed prefix, a commit byte of 0 hides postings, and if the last one is set to 1, it has no record
         is_commit_byte = seal.size <= place <= 17 + 65 * seal.count and (place - 17) % 65 == 0
         assert bool(differences(seal, ".")) == (place < seal.size or is_commit_byte), place
     for size in (0, 1, 17, seal.size - 1, seal.size):
@@ -60,7 +60,7 @@ def test_each_character_of_a_seal(few: Folder) -> None:
 
 @pytest.fixture
 def office(small_office: Folder) -> Folder:
-    """The small office, sealed at position 11, and whole after a further posting."""
+    """The small office, sealed at position 11, and then with a further posting."""
     small_office.write("seal", small_office.printed("seal", "--at", "11"))
     small_office.printed("seal", "--check", "seal")
     small_office.post("1,premium,12,2025-02-28,310.00\n")

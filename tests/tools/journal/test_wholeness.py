@@ -1,6 +1,6 @@
-"""A damaged byte isn't told as a shorter book: commit bytes at the front, in the middle and at the end, with and without a
-checkpoint, a log and a seal, by each tool that reads a book. What a crash leaves is told apart where somebody noted a greater
-count. The lengths and counts are those of docs/reference/journal.md, by hand."""
+"""Tests that a damaged byte isn't reported as a shorter book: commit bytes at the start, in the middle and at the end, with
+and without a checkpoint, a log and a seal, by each tool that reads a book. Damage is distinguished from what a crash leaves if
+a greater count was recorded somewhere. The lengths and counts are those of docs/reference/journal.md, worked out by hand."""
 from __future__ import annotations
 
 import fcntl
@@ -23,12 +23,13 @@ READERS = ("read journal.life", "position-on 2024-12-31 journal.life", "seal --n
 
 
 def commit_byte(record: int) -> int:
-    """The place of the commit byte of a record, counted from 0."""
+    """Returns the place of the commit byte of a record, counted from 0."""
     return 17 + 65 * record
 
 
 def ends(folder: Folder, status: int, says: str, *words: str) -> Ended:
-    """A tool ends with this status, and says this on standard error, or nothing where this is empty."""
+    """Asserts that a tool ends with this status and says this on standard error, or nothing if it is empty; returns how it
+    ended."""
     ended = folder.tools(*words)
     assert ended.status == status and "Traceback" not in ended.err, ended
     assert re.search(says, ended.err, re.M) if says else not ended.err, ended
@@ -37,7 +38,7 @@ def ends(folder: Folder, status: int, says: str, *words: str) -> Ended:
 
 @pytest.fixture
 def book(examples_basis: Folder) -> Folder:
-    """A book of 40 commands, its script and transcript, and a list of it."""
+    """A book of 40 commands, its script and transcript, and a list of this book."""
     book = examples_basis
     book.write("script", book.life("generate", "1", "20", "2").out)
     book.write("transcript", book.post(book.read("script")))
@@ -53,7 +54,7 @@ def set_byte(book: Folder, place: int, value: int) -> None:
 
 
 def is_told_damaged(book: Folder, says: str, *words: str) -> None:
-    """`verify` says that commands are gone, and a list of books values nothing of the book."""
+    """Asserts that `verify` reports that commands are gone, and that a list of books values nothing of the book."""
     assert ends(book, 1, says, "verify", *words).out.endswith("damaged\n")
     rows = ends(book, 1, says, "books", "books.csv", "state").out.splitlines()
     assert rows[0].startswith("main,failed,1,") and rows[1:] == ["all,nothing,0,1"], rows
@@ -69,7 +70,7 @@ def test_a_whole_book(book: Folder) -> None:
 @pytest.mark.parametrize("record", [0, 25, 38])
 def test_a_closed_commit_byte_before_the_last(book: Folder, record: int) -> None:
     set_byte(book, commit_byte(record), 0)
-    # the program itself takes the journal to end there, as its format has it
+    # the program itself takes the journal to end there, as its format says
     assert book.life("state").out.endswith(f"count,{record}\n")
     behind = LENGTH - 18 - 65 * record
     is_told_damaged(book, f"{behind} bytes follow byte {commit_byte(record)}, the commit byte of record {record}, which isn't 1")
@@ -93,12 +94,12 @@ def test_a_list_leaves_out_a_damaged_book(book: Folder, words: str) -> None:
     assert rows[0].startswith("main,failed,1,") and rows[1:] == ["all,nothing,0,1"], rows
 
 
-# --- the last commit byte, which a crash may have left closed ---
+# --- the last commit byte, which may also be 0 after a crash ---
 
 
 @pytest.fixture
 def ended(book: Folder) -> Folder:
-    """The book after its last commit byte was closed, as a crash may leave it, too."""
+    """The book after its last commit byte was set to 0, which a crash may leave, too."""
     set_byte(book, commit_byte(39), 0)
     return book
 
@@ -151,7 +152,7 @@ def test_a_log_of_more_commands_and_its_newest_run(ended: Folder) -> None:
     noted(ended, "000001", 0, 7)
     noted(ended, "000009", 0, 40)
     is_told_damaged(ended, "journal.life has 39 commands, and had 40 by .*log")
-    # the newest by its number
+    # the run with the highest number is the newest
     noted(ended, "000010", 0, 39)
     ends(ended, 1, "is undecided", "verify")
 
@@ -185,7 +186,7 @@ def test_a_seal_of_more_commands(book: Folder) -> None:
 
 def test_an_amount_that_was_changed_is_known_by_a_seal_alone(book: Folder) -> None:
     book.write("sealed", book.printed("seal", "--no-basis"))
-    # the last byte of the amount of record 3: its body begins behind its commit byte, and the amount ends with its byte 19
+    # the last byte of the amount of record 3: its body begins after its commit byte, and the amount ends with byte 19 of the body
     set_byte(book, commit_byte(3) + 1 + 19, 0o377)
     ends(book, 0, "", "verify")
     says = r"the first 17 \+ 65 \* 40 bytes aren't those that were sealed, by sealed"
@@ -214,7 +215,7 @@ def test_what_is_no_journal(book: Folder, data: bytes | None, says: str) -> None
     book.journal.unlink()
     if data is not None:
         book.write("journal.life", data)
-    # an empty file is an unfinished creation, and no book yet
+    # an empty file is an unfinished creation, and not a book yet
     ends(book, 1 if data == b"" else 2, says, "verify")
 
 

@@ -1,4 +1,4 @@
-"""A clone whose program counts as proved, and the programs as `life install` lays them."""
+"""Fixtures for a clone whose program counts as proved, and for the programs as `life install` installs them."""
 from __future__ import annotations
 
 import os
@@ -17,14 +17,14 @@ NOTE = 'root=$0 && . "$root/tools/launcher/shared.sh" && note_proof "$root/crate
 
 
 def ran(words: Sequence[str | Path], folder: Path, given: str = "", env: dict[str, str] | None = None) -> Ended:
-    """How a command ended in a folder, with this standard input."""
+    """Runs a command in a folder with this standard input, and returns how it ended."""
     done = subprocess.run([str(word) for word in words], cwd=folder, input=given.encode(), capture_output=True, check=False,
                           env={**os.environ, **(env or {})})
     return Ended(done.returncode, done.stdout.decode("utf-8", "replace"), done.stderr.decode("utf-8", "replace"))
 
 
 def note_proof(clone: Path) -> None:
-    """Notes that the clone's program is proved, of its sources as they are."""
+    """Records that the clone's program is proved, with its sources as they are."""
     subprocess.run(["sh", "-c", NOTE, clone], check=True)
 
 
@@ -67,7 +67,7 @@ def installed(proved_clone: Path, tmp_path_factory: pytest.TempPathFactory) -> P
 
 @dataclass(frozen=True)
 class Called:
-    """A way in which a user calls the program: what begins the command, and how a message names it."""
+    """One form in which a user calls the program: the first arguments of the command, and how a message names it."""
 
     words: tuple[str | Path, ...]
     named: str

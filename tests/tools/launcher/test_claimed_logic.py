@@ -1,4 +1,4 @@
-"""What the pages claim: the logic by which the program was proved, as it was noted then."""
+"""Tests the logic that the pages claim: it must be the one by which the program was proved, as recorded at the proof."""
 from __future__ import annotations
 
 from pathlib import Path
@@ -40,7 +40,7 @@ def test_the_noted_logic_is_written(clone: Path) -> None:
 
 
 def test_the_pages_claim_one_logic() -> None:
-    """And that of the proof, in a clone in which one is noted."""
+    """It is also the logic of the recorded proof, if the clone has one."""
     claims = claims_in(str(ROOT))
     assert {"README.md", "CHANGELOG.md", "docs/proof/index.md"} <= set(claims)
     numbers = set().union(*claims.values())

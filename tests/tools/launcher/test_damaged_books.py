@@ -1,5 +1,5 @@
-"""A damaged commit byte ends the journal for the program. Neither the clone's launcher nor the installed `life` lets it post
-after that, unless the caller accepts the loss; what only reads is warned of."""
+"""Tests a damaged commit byte, which ends the journal for the program. Neither the clone's launcher nor the installed `life`
+lets the program post after it, unless the caller accepts the loss; commands that only read are run with a warning."""
 from __future__ import annotations
 
 import json
@@ -12,13 +12,13 @@ import pytest
 from tests.support.folders import EXAMPLES, Folder
 from tests.tools.launcher.conftest import Called, ran
 
-# by FORMATS: 17 bytes lie before the first record, 65 are a record; the small office has 27
+# docs/reference/journal.md: 17 bytes come before the first record, and a record has 65 bytes; the small office has 27 records
 FIRST, RECORD, COMMANDS = 17, 65, 27
 ISSUE = "1,issue,9001,2024-03-01,endowment,30,20,1000.00,40.00\n"
 
 
 def damage(journal: Path, record: int) -> None:
-    """Closes the commit byte of a record, counted from 0."""
+    """Sets the commit byte of a record, counted from 0, to 0."""
     data = bytearray(journal.read_bytes())
     data[FIRST + RECORD * record] = 0
     journal.write_bytes(data)
@@ -26,7 +26,7 @@ def damage(journal: Path, record: int) -> None:
 
 @pytest.fixture
 def damaged(small_office: Folder) -> Folder:
-    """The small office, whose record 3 has a damaged commit byte: 23 records after it can't be read."""
+    """The small office with a damaged commit byte in record 3: the 23 records after it can't be read."""
     damage(small_office.journal, 3)
     return small_office
 
@@ -58,12 +58,12 @@ def test_what_reads_is_run_and_warned_of(damaged: Folder, life: Called) -> None:
 
 
 def test_a_count_that_a_checkpoint_or_a_log_noted(small_office: Folder, life: Called) -> None:
-    """The last commit byte alone is damaged: the length is that of a crash, and only who noted 27 commands can tell."""
+    """Only the last commit byte is damaged. The length is that after a crash, so only a recorded count of 27 shows the damage."""
     assert small_office.life("checkpoint").out == f"checkpoint,{COMMANDS}\n"
     damage(small_office.journal, COMMANDS - 1)
     done = ran([*life.words, "run"], small_office.path, ISSUE)
     assert done.status == 67 and f"; journal.life has {COMMANDS - 1} commands, and had {COMMANDS} by checkpoint.life)" in done.err
-    # a new checkpoint would take away what shows the loss
+    # a new checkpoint would replace the one that shows the loss
     noted = (small_office.path / "checkpoint.life").read_bytes()
     assert ran([*life.words, "checkpoint"], small_office.path).status == 67
     assert (small_office.path / "checkpoint.life").read_bytes() == noted

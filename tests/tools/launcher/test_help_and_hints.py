@@ -1,4 +1,5 @@
-"""`life` explains itself alike where it is installed and in a clone: help of every command, and hints on a terminal."""
+"""Tests that `life` explains itself in the same words where it is installed and in a clone: help for every command, and hints
+on a terminal."""
 from __future__ import annotations
 
 import fcntl
@@ -87,7 +88,7 @@ def test_a_message_isnt_cut_or_obeyed(installed: Path, tmp_path: Path) -> None:
 @pytest.mark.root
 @pytest.mark.needs("setpriv")
 def test_a_users_name_with_a_backslash(proved_clone: Path) -> None:
-    r"""Of ACME\carl a hint ended at `\c`."""
+    r"""For the user ACME\carl a hint once ended at `\c`."""
     hints = (proved_clone / "tools/launcher/hints.sh").read_text()
     stand_ins = r"id() { printf %s 'ACME\carl'; }; holder_of() { :; }"
     script = f"called=life waits=life-wait tools=life-tools\n{hints}\n{stand_ins}\nwhy_not /etc/passwd"

@@ -1,4 +1,4 @@
-"""An installation is whole or isn't made, and runs without the clone."""
+"""Tests that an installation is complete or isn't made, and runs without the clone."""
 from __future__ import annotations
 
 import os
@@ -19,7 +19,7 @@ INSTALLED = ["life", "life-program", "life-tools", "life-wait"]
 
 @pytest.fixture
 def bin_(clone: Path, tmp_path: Path) -> Path:
-    """Where the programs of the test's own clone are installed."""
+    """The folder in which the programs of the test's own clone are installed."""
     done = ran(["sh", clone / "life", "install", tmp_path / "home" / "bin"], tmp_path)
     assert done.status == 0, done
     return tmp_path / "home" / "bin"
@@ -94,7 +94,7 @@ def test_without_a_home(proved_clone: Path, tmp_path: Path) -> None:
 
 
 def test_an_installation_is_stopped(clone: Path, tmp_path: Path) -> None:
-    """Before anything is in its place: a command that is slow stands for a slow disk."""
+    """The installation is stopped before anything is in its place; a slow command stands for a slow disk."""
     slow = tmp_path / "slow"
     slow.mkdir()
     (slow / "sync").write_text(f'#!/bin/sh\n: >"{tmp_path}/begun"\nsleep 2\n')

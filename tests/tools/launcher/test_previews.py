@@ -1,5 +1,5 @@
-"""Previews: one is built once, runs on copies, and is never taken for the proved program; one that is stopped leaves nothing half
-done. And what the launcher says on a terminal while a long script runs."""
+"""Tests previews: one is built once, runs on copies, and is never taken for the proved program; a preview that is stopped
+leaves nothing half done. Also tests what the launcher says on a terminal while a long script runs."""
 from __future__ import annotations
 
 import os
@@ -18,7 +18,7 @@ from tests.support.program import PREVIEW
 from tests.support.tools import Ended
 from tests.tools.launcher.conftest import Called, ran
 
-# they go by the clock: one is stopped while it runs
+# these tests depend on the clock: a preview is stopped while it runs
 pytestmark = [pytest.mark.needs("rt"), pytest.mark.slow, pytest.mark.alone, pytest.mark.timeout(1500)]
 
 FIRST, FIRST_TEXT, SECOND, SECOND_TEXT = (
@@ -37,14 +37,14 @@ def launcher(unproved_clone: Path, tmp_path_factory: pytest.TempPathFactory) -> 
 
 @pytest.fixture(scope="module")
 def built(launcher: Path, tmp_path_factory: pytest.TempPathFactory) -> list[Ended]:
-    """How two previews ended that were begun at once where none was built."""
+    """Starts two previews at the same time before one is built, and returns how they ended."""
     folders = [tmp_path_factory.mktemp("first") for _ in range(2)]
     begun = [Begun(["sh", launcher, "try", "state"], folder) for folder in folders]
     return [each.ended() for each in begun]
 
 
 class Previews:
-    """Previews in a folder, by a launcher that has one built."""
+    """Runs previews in a folder, by a launcher whose preview is built."""
 
     def __init__(self, launcher: Path, folder: Folder) -> None:
         self.launcher, self.folder = launcher, folder
@@ -79,7 +79,7 @@ def test_a_preview_runs_on_a_journal_of_its_own(previews: Previews) -> None:
     assert os.listdir(previews.folder.path) == [] and list(previews.rooms.rglob("preview.checkpoint"))
     done = previews.run("value", "2021-02-29")
     assert (done.status, done.out) == (2, "usage\n"), done
-    # it isn't where the proved program is looked for
+    # a preview isn't in the place where the proved program is looked for
     assert not list(previews.launcher.parent.rglob("life_cli/out"))
     done = ran(["sh", previews.launcher, "state"], previews.folder.path)
     assert (done.status, done.out) == (69, "") and "sh life try state" in done.err, done
@@ -95,7 +95,8 @@ def test_a_link_on_the_path_and_a_basis(previews: Previews, tmp_path: Path) -> N
 
 
 def test_two_previews_of_a_folder(previews: Previews) -> None:
-    """One waits for the other; but one that reads the other's output, more than a pipe holds, doesn't wait for its journal."""
+    """One preview waits for the other one. A preview that reads the other's output, more than a pipe holds, doesn't wait for
+    its journal."""
     begun = [Begun(previews.words("run"), previews.folder.path, f"run{n}", given=subprocess.PIPE) for n in (8, 9)]
     for n, each in zip((8, 9), begun):
         each.type("".join(issue(100 * n + place) for place in range(4)))
@@ -106,7 +107,8 @@ def test_two_previews_of_a_folder(previews: Previews) -> None:
 
 
 def test_a_preview_beside_a_real_journal(previews: Previews) -> None:
-    """It begins with a copy, and anew where the journal has changed; its checkpoint goes with its journal."""
+    """The preview begins with a copy, and with a new copy if the journal has changed; its checkpoint is replaced with its
+    journal."""
     folder = previews.folder
     folder.post(FIRST)
     before = folder.journal.read_bytes()
@@ -165,8 +167,8 @@ def test_a_checkpoint_that_is_in_use(folder: Folder, life: Called) -> None:
 
 
 def test_the_growth_of_a_journal_is_told(folder: Folder, life: Called) -> None:
-    """The terminal is told how the journal grows until the text begins, which is soon; where the text goes to a file, until the
-    run ends; and where it is stopped, what stands."""
+    """The terminal shows how the journal grows: until the text begins, which is soon; or, if the text goes to a file, until
+    the run ends. If the run is stopped, the launcher says what was kept."""
     lines = 3000 if folder.program.path != PREVIEW else 1000
     script = folder.write("long.csv", folder.life("generate", "1", str(lines), "8").out)
     lines = len(script.read_text().splitlines())
@@ -179,7 +181,7 @@ def test_the_growth_of_a_journal_is_told(folder: Folder, life: Called) -> None:
     assert said.count(",accepted,") == lines, said[-300:]
     folder.journal.unlink()
     status, said = on_terminal([*life.words, "run"], folder.path, script, folder.path / "text")
-    # a disk on which the run ends within the first second tells nothing
+    # if the disk is so fast that the run ends within the first second, no growth is shown
     assert status == 0 and re.fullmatch(rf"{told}{grows}{'+' if took > 3 else '*'}\r\x1b\[K", said), said
     assert len(folder.read("text").splitlines()) == lines + 2
     folder.journal.unlink()

@@ -1,5 +1,5 @@
-"""Only the program that was proved, of the sources from which it was, is run, installed or packed: both are known by their
-SHA-256, whatever the times of their files say."""
+"""Tests that only the proved program, with the sources from which it was proved, is run, installed or packed. Both are
+recognized by their SHA-256, whatever the times of their files are."""
 from __future__ import annotations
 
 import os
@@ -19,7 +19,7 @@ def is_run(clone: Path) -> bool:
 
 
 def changed_and_older(path: Path) -> None:
-    """Another byte at its end, with the time that the file had."""
+    """Adds a byte at the end of a file, and sets the time that the file had."""
     times = os.stat(path)
     with open(path, "ab") as file:
         file.write(b"\n")
@@ -38,7 +38,7 @@ def test_another_source_or_program_isnt_run(clone: Path, name: str) -> None:
     for words in (["install", str(clone.parent / "bin")], ["pack"]):
         done = ran(["sh", clone / "life", *words], clone)
         assert done.status == 69 and done.out == "", done
-    # newer than anything else, and the same bytes again
+    # the same bytes again, in the newest of all files
     path.write_bytes(before)
     assert is_run(clone)
 
@@ -76,7 +76,7 @@ def test_the_kit_is_that_of_the_proof(clone: Path) -> None:
 
 
 def test_an_installation_that_was_killed_leaves_nothing_for_long(clone: Path) -> None:
-    """What a kill left is removed by the next installation; another's folder of such a name stays."""
+    """The next installation removes what a killed one left, but keeps a folder of such a name that somebody else made."""
     bin_, share = clone.parent / "home" / "bin", clone.parent / "home" / "share"
     for left, files in ((bin_ / ".life.Abc123", ("life-program", "life")), (share / ".life.xyzXYZ", ("life.1",)),
                         (bin_ / ".life.theirs", ("notes",))):

@@ -1,5 +1,5 @@
-"""`sh life prove`, `sh life test` and CI over a stand-in for the kit: what is current after them, what their counts say, and what
-a signal leaves."""
+"""Tests `sh life prove`, `sh life test` and CI with a stand-in for the kit: what is current after them, what their counts say,
+and what a signal leaves."""
 from __future__ import annotations
 
 import os
@@ -12,7 +12,7 @@ from tests.support.launchers import is_stopped, stopped
 from tests.support.tools import Ended
 from tests.tools.launcher.conftest import note_proof, ran
 
-# `rt` does what STAND_IN says; it proves nothing
+# the stand-in for `rt` does what STAND_IN says; it proves nothing
 KIT = """#!/bin/sh
 case $STAND_IN-$1 in
     stopped-all | slow-try) sleep 60 & echo $! >"$NOTED"; wait ;;
@@ -57,7 +57,7 @@ def pytest_runtest_setup(item):
 """
 
 
-# the launcher begins pytest anew
+# the launcher starts another pytest
 pytestmark = pytest.mark.timeout(600)
 
 
@@ -129,7 +129,8 @@ def crates_of_tests(clone: Path) -> int:
 
 @pytest.mark.needs("python:xdist")
 def test_the_counts_are_of_crates_and_of_the_suite(suite: Path) -> None:
-    """Crates with two tests that pass, one with one of two, one without any; and the suite's own. A skip is counted apart."""
+    """The crates have two passing tests each, except one with a single passing test of two and one that doesn't compile; the
+    suite has its own tests. A skip is counted separately."""
     done = sh_life_test(suite)
     passed = crates_of_tests(suite) * 2 - 2
     assert done.status == 1 and done.out.splitlines()[-1] == f"{passed} passed, 3 failed, 2 skipped, nothing proved", done.out
@@ -160,7 +161,7 @@ def test_tests_are_stopped(suite: Path) -> None:
     assert is_stopped(done, "the tests weren't run to their end", suite), done
 
 
-# tests that fail at their first run, and pass at the next
+# tests that fail in their first run and pass in the next one
 FLAKY = """import os
 import pytest
 
@@ -180,7 +181,8 @@ def test_beside_others():
 
 
 def ci(clone: Path, stand_in: str) -> Ended:
-    """CI in a clone where nothing has to be installed, as another program runs it: without a terminal or standard input."""
+    """Runs CI in a clone in which nothing has to be installed, as another program runs it: without a terminal or standard
+    input."""
     (clone / ".ci" / "setup.sh").write_text("")
     (clone / "HANDLES").write_text("")
     judged = {"CI": "true", "RT_JOBS": "2", "LIFE_PROGRAM": f"{clone}/crates/life_cli/out/life_cli"}

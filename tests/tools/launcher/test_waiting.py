@@ -1,4 +1,5 @@
-"""Who waits for a book gets it: alone, of many, and without keeping another off. A folder without a book is reported."""
+"""Tests waiting for a book: whoever waits gets it, alone or among many, and delays nobody else. A folder without a book is
+reported."""
 from __future__ import annotations
 
 import fcntl
@@ -14,7 +15,7 @@ from tests.support.launchers import Begun, await_that, in_use, issue, stopped
 from tests.tools.launcher.conftest import ran
 
 WAITERS = 6
-# so long the book is locked again and again while somebody waits, who looks five times a second
+# the seconds for which the book is locked again and again while somebody waits; the waiter looks five times a second
 SECONDS_TRIED = 2
 FIRST_ISSUES = (EXAMPLES / "first-issues.csv").read_text(encoding="utf-8")
 
@@ -26,7 +27,7 @@ def launcher(proved_clone: Path) -> list[str]:
 
 @pytest.fixture
 def book(folder: Folder) -> Folder:
-    """The book of the first example, of four commands."""
+    """The book of the first example, which has four commands."""
     folder.post(FIRST_ISSUES)
     return folder
 
@@ -49,7 +50,7 @@ def test_what_needs_no_book_doesnt_wait(book: Folder, launcher: list[str]) -> No
 
 
 def test_none_of_many_that_wait_is_refused(book: Folder, launcher: list[str]) -> None:
-    """The script is a pipe, which can be read once."""
+    """The script is a pipe, which can be read only once."""
     with in_use(book.journal) as user:
         waiters = [Begun([*launcher, "--wait", "600", "run"], book.path, f"waiter{n}", given=subprocess.PIPE)
                    for n in range(WAITERS)]
@@ -64,8 +65,8 @@ def test_none_of_many_that_wait_is_refused(book: Folder, launcher: list[str]) ->
 
 
 def test_one_that_waits_keeps_nobody_off(book: Folder, launcher: list[str]) -> None:
-    """One that waits for its turn never locks the book meanwhile, not for a moment: a program that begins then would be
-    refused. The one that has its turn holds a lock on the folder."""
+    """A launcher that waits for its turn never locks the book meanwhile, not even for a moment, because a program that starts
+    then would be refused. The launcher whose turn it is holds a lock on the folder."""
     turn = os.open(book.path, os.O_RDONLY)
     fcntl.flock(turn, fcntl.LOCK_EX)
     waiter = Begun([*launcher, "--wait", "600", "state"], book.path)

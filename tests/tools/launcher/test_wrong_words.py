@@ -1,4 +1,4 @@
-"""Arguments that are none of the launcher do nothing, and where nothing is proved no command of the program is run."""
+"""Tests wrong arguments of the launcher, which do nothing; and that no command of the program is run if nothing is proved."""
 from __future__ import annotations
 
 import os
@@ -17,7 +17,7 @@ WRONG = ("", "stat", "prove it", "try", "try stat", "try try run", "test /nowher
          "--wait 1234567 run")
 WORDS = ("run", "state", "state 7001", "checkpoint", "value 2021-01-01", "project 2021-01-01 2", "generate 1 1 1", "load 1 1 1 1",
          "--wait 5 run")
-# what the launcher needs of Debian, without the kit
+# the commands of Debian that the launcher needs, without the kit
 COMMANDS = ("sh awk cat cut date dirname find flock grep head id mkdir mktemp nproc readlink rm sed sha256sum sort stat touch "
             "tr wc").split()
 
@@ -62,7 +62,7 @@ def test_a_proved_program_isnt_proved_again(proved_clone: Path) -> None:
 
 
 def test_a_source_is_changed_while_the_program_runs(clone: Path, folder: Folder) -> None:
-    """The run that had begun ends as if nothing had happened; the next one isn't begun."""
+    """The run that had begun ends as if nothing had happened; a later run isn't started."""
     words = ["sh", str(clone / "life")]
     begun = Begun([*words, "run"], folder.path, given=subprocess.PIPE)
     await_that(lambda: begun.says("a new book is begun"))

@@ -1,7 +1,8 @@
-"""Sums beside the sheets of a statement: by SQLite over `export`, by exact fractions, by the lists of `read` and `due`.
+"""Computes the sums of a statement's sheets independently: by SQLite over `export`, by exact fractions, and by the lists of
+`read` and `due`.
 
-The increase in reserves is worked out a second way: by the anniversaries on which each policy was in force, each with the
-exact value of `life_tools.reserves`.
+The increase in reserves is computed a second way: by the anniversaries on which each policy was in force, each with the exact
+value of `life_tools.reserves`.
 """
 from __future__ import annotations
 
@@ -19,7 +20,7 @@ from life_tools.rules.policies import Book, Policy, anniversary, completed
 from life_tools.tables.basis import BasisRow
 from tests.support.folders import Folder
 
-# what is in force at a position: the last command that changes a status, and the last that sets an amount
+# what is in force at a position: the last command that changes a status, and the last one that sets an amount
 IN_FORCE = """
 with moved as (select policy, kind, plan, position, max(position) over (partition by policy) as last from command
                where position <= :at and kind in ('issue', 'lapse', 'reinstate', 'claim', 'mature', 'paidup')),
@@ -43,12 +44,12 @@ def rows_of(sheet: Any) -> Any:
 
 
 def kinds_read(folder: Folder) -> list[str]:
-    """The kind of each command, as `read` lists them."""
+    """Returns the kind of each command, as `read` lists them."""
     return [line.split(",")[1] for line in folder.printed("read", "journal.life").splitlines() if line[0].isdigit()]
 
 
 def judge_exhibit(base: sqlite3.Connection, sheet: Any, first: int, last: int, kinds: list[str]) -> None:
-    """Counts and amounts by SQLite, and postings by kind, which are `read`'s; every column balances."""
+    """Judges counts and amounts by SQLite, and the postings of each kind by `read`; each column must balance."""
     lines = rows_of(sheet)
     for name, at in (("in force at the beginning", first), ("in force at the end", last)):
         found = {group: (lines[name][1 + 2 * place], lines[name][2 + 2 * place]) for place, group in enumerate(GROUPS)}
@@ -69,7 +70,7 @@ def judge_exhibit(base: sqlite3.Connection, sheet: Any, first: int, last: int, k
 
 
 def judge_money(base: sqlite3.Connection, sheets: dict[str, Any], first: int, last: int) -> None:
-    """What was collected, and what is outstanding, by SQLite."""
+    """Judges by SQLite what was collected and what is outstanding."""
     lines = rows_of(sheets["premiums"])
     found = lines["first-year premiums collected"][3] + lines["renewal premiums collected"][3]
     sums = dict(base.execute(COLLECTED + "('premium', 'reinstate') group by kind", (first, last)))
@@ -88,14 +89,14 @@ def judge_money(base: sqlite3.Connection, sheets: dict[str, Any], first: int, la
 
 
 def printed_total(folder: Folder, on: datetime.date, position: int, measure: list[str]) -> list[int]:
-    """The sums of the last line of a valuation, and how many rows have a word: of the program, by itself."""
+    """Returns the sums of the last line of a valuation by the program, and how many rows have a word."""
     ended = folder.life("value", str(on), "--at", str(position), *measure)
     assert ended.status == 0, ended
     return [int(text.replace(".", "")) for text in ended.out.splitlines()[-1].split(",")[1:]]
 
 
 def judge_reserves(folder: Folder, sheets: dict[str, Any], asked: Asked) -> None:
-    """The sums are those of the last line that the program prints of both positions."""
+    """Judges the sums by the last line that the program prints for each of the two positions."""
     measure = [] if asked.measure == "terminal" else ["--mean"]
     opening = printed_total(folder, asked.on1, asked.first, measure)
     closing = printed_total(folder, asked.on2, asked.last, measure)
@@ -116,10 +117,10 @@ def judge_reserves(folder: Folder, sheets: dict[str, Any], asked: Asked) -> None
     assert counted == [in_force[11], in_force[12]], f"reserves are of {counted}, in force are {in_force}"
 
 
-# --- the increase, a second way ---
+# --- the increase, computed a second way ---
 
 def histories(commands: list[Command]) -> Any:
-    """Of each policy its states, each with the position and the day from which on it stands."""
+    """Returns the states of each policy, each with the position and the day from which it applies."""
     book = Book()
     found: dict[Any, Any] = {}
     for position, command in enumerate(commands, 1):
@@ -140,8 +141,9 @@ def worth_of(policy: Policy, basis: list[BasisRow], known: dict[Any, Any]) -> An
 
 
 def by_anniversaries(history: Any, asked: Asked, basis: list[BasisRow], known: dict[Any, Any]) -> Any:
-    """Net premiums, interest and cost of one policy, in exact cents: for each anniversary up to the closing day on which it was
-    in force, those of the year that ended then. Of a policy of the opening book those from its day on."""
+    """Returns net premiums, interest and cost of insurance of one policy, in exact cents. They are summed over the
+    anniversaries up to the closing day on which the policy was in force, each for the year that ended then. For a policy of
+    the opening book they begin with the opening day."""
     found = [Fraction(0)] * 3
     states = [it for it in history if it[0] <= asked.last]
     opening = [it for it in states if it[0] <= asked.first]
@@ -178,13 +180,14 @@ def judge_exactly(sheets: dict[str, Any], asked: Asked, past: dict[int, Any], ba
             f"{name}: {increase[name][2]} cents, by anniversaries {float(exact)}"
 
 
-# --- premiums, a second way ---
+# --- premiums, computed a second way ---
 
 def listed_due(folder: Folder, commands: list[Command], on: datetime.date) -> Any:
-    """What `due` lists of a prefix: of those in grace and of those to lapse, how many, and of the former the sum."""
+    """Returns what `due` lists for a prefix of the book: the number of premiums in grace and their sum, and the number of
+    policies to lapse."""
     folder.write("prefix.life", file_of(commands))
     rows = [line.split(",") for line in folder.printed("due", str(on), "prefix.life").splitlines()[1:]]
-    # a premium that is due on the day itself is listed as such, and has its days of grace before it
+    # a premium that is due on the day itself is listed as `premium`, and its days of grace are yet to come
     in_grace = [row for row in rows if row[0] in ("grace", "premium")]
     return (len(in_grace), sum(int(row[4].replace(".", "")) for row in in_grace), sum(row[0] == "lapse" for row in rows))
 
@@ -205,8 +208,8 @@ def judge_premiums(folder: Folder, sheets: dict[str, Any], asked: Asked, command
 
 
 def paid_ahead(states: Any, on: datetime.date, basis: list[BasisRow], known: dict[Any, Any]) -> Any:
-    """Policies, premiums, gross and net of one policy: each posting pays so many premiums, of the years that follow
-    on one another."""
+    """Returns whether a policy is paid in advance, how many premiums, and their gross and net amounts. Each posting pays for a
+    number of policy years that follow each other."""
     if not states or states[-1][3].status != "inforce":
         return 0, 0, 0, 0
     policy, gross, years = states[-1][3], 0, []

@@ -1,4 +1,4 @@
-"""Rows of numbers and amounts made at once are those that are made one by one."""
+"""Tests that rows of numbers and amounts which are made together are those that are made one by one."""
 from __future__ import annotations
 
 from hypothesis import given

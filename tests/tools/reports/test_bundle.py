@@ -1,4 +1,4 @@
-"""The page to hand over: its numbers are the program's, and what it says has to come out does come out."""
+"""Tests the page to hand over: its numbers are the program's, and each check that it names gives the result that it names."""
 from __future__ import annotations
 
 import html
@@ -26,7 +26,7 @@ def test_it_needs_nothing_of_a_network(page: str) -> None:
 
 def test_its_totals_and_charts_are_the_programs(page: str, small_office: Folder) -> None:
     total = small_office.printed("at", "11", "value", "2022-12-31").splitlines()[-1].split(",")
-    # by hand: 50000.00 + 9000.00 + 15000.00 + 100000.00 are insured
+    # by hand: the insured amounts are 50000.00 + 9000.00 + 15000.00 + 100000.00
     lower, upper = (f"{int(each.replace('.', '')) / 100:,.2f}" for each in total[1:3])
     assert f"total 4 4 174,000.00 {lower} {upper} 0" in text(page)
     charts = re.findall(r'<svg class="chart".*?</svg>', page, re.S)
@@ -37,7 +37,8 @@ def test_its_totals_and_charts_are_the_programs(page: str, small_office: Folder)
 
 
 def test_the_sampled_rows_are_worked_out(page: str) -> None:
-    """The upper bounds are 1418.86 and 2656.23, and a third of their sum is less than both: each is drawn for certain."""
+    """The upper bounds are 1418.86 and 2656.23, and a third of their sum is less than each, so both rows are certain to be
+    drawn."""
     assert "printed: 2656.22,2656.23: the same" in page and "printed: 1418.85,1418.86: the same" in page
     assert "drawn 4,075.09 4,075.07 4,075.09" in text(page)
 

@@ -1,4 +1,4 @@
-"""`plot`: its drawings show the numbers that the program printed, and no others."""
+"""Tests `plot`: its drawings show the numbers that the program printed, and no others."""
 from __future__ import annotations
 
 import re
@@ -13,7 +13,7 @@ DAYS = ("2022-12-31", "2023-12-31", "2024-12-31")
 
 
 class Picture:
-    """The circles, lines and words of a drawing."""
+    """The circles, lines and texts of a drawing."""
 
     def __init__(self, svg: str) -> None:
         drawn = xml.dom.minidom.parseString(svg)
@@ -23,13 +23,13 @@ class Picture:
         self.words = [str(it.firstChild.data) for it in drawn.getElementsByTagName("text")]
 
     def shows(self, amount: str) -> bool:
-        """Whether an axis shows an amount: of great ones the thousands."""
+        """Returns whether an axis shows an amount; large amounts are shown in thousands."""
         in_thousands = any(word.endswith(", in thousands") for word in self.words)
         return (str((Decimal(amount) / 1000).quantize(Decimal("0.01"))) if in_thousands else amount) in self.words
 
 
 def in_order(heights: list[float], numbers: list[float]) -> bool:
-    """Whether what is greater stands higher, which is nearer to 0."""
+    """Returns whether the greater of two numbers always stands higher, which is a smaller coordinate."""
     return [height for _, height in sorted(zip(numbers, heights))] == sorted(heights, reverse=True)
 
 
@@ -61,7 +61,7 @@ def test_reserves_of_some_policies(office: Folder) -> None:
 
 
 def test_minimum_reserves(office: Folder) -> None:
-    """By hand the total is 16492.17, in thousands."""
+    """The total is 16492.17, worked out by hand, and is shown in thousands."""
     drawn = office.printed("plot", "reserves", "deficiency")
     assert re.search("minimum reserves, upper bounds.*, in thousands", drawn) and ">16.49<" in drawn
     assert re.search("^total,.*,16492.17,0$", office.read("deficiency"), re.M)

@@ -1,5 +1,5 @@
-"""Reports, movements and single rows worked out: over the small office by amounts worked out by hand
-(docs/explanation/reserves.md), over drawn books by sums of SQLite and of the printed rows, and on wrong input."""
+"""Tests reports, movements and rows worked out: for the small office by amounts computed by hand
+(docs/explanation/reserves.md), for drawn books by sums of SQLite and of the printed rows, and for wrong input."""
 from __future__ import annotations
 
 import csv
@@ -22,7 +22,7 @@ plan,limited,1,1,15000.00,1418.85,1418.86,0
 plan,term,2,2,150000.00,0.00,0.00,0
 all,total,4,4,174000.00,4075.07,4075.09,0
 """
-# a valuation, then groups
+# a valuation, followed by its groups
 PRINTED = """\
 2022-12-31 at position 11, terminal
 endowment 1 1 9000.00 2656.22 2656.23 0
@@ -33,7 +33,7 @@ total 4 4 174000.00 4075.07 4075.09 0
 2022, inforce 1 1 50000.00 0.00 0.00 0
 2023, inforce 1 1 100000.00 0.00 0.00 0
 """
-# policy 13 matures (2656.22), policy 14 is reduced from 15000.00 to 10000.00 and so from 1418.85 to 945.90, and then ages
+# policy 13 matures (2656.22); policy 14 is reduced from 15000.00 to 10000.00, and so from 1418.85 to 945.90, and then grows older
 MOVED = """\
 policies by lower bounds by upper bounds
 opening reserve 4 4075.07 4075.09
@@ -47,7 +47,7 @@ MOVEMENT = ["movement", "2022-12-31", "11", "2024-06-30", "27"]
 
 
 def has(text: str, lines: str) -> None:
-    """Each of these lines is printed, whatever blanks stand in it."""
+    """Asserts that each of these lines is printed, whatever blanks are in it."""
     found = {" ".join(line.split()) for line in text.splitlines()}
     assert set(lines.splitlines()) <= found, text
 
@@ -72,7 +72,7 @@ def test_as_a_page(small_office: Folder) -> None:
         assert words in page, words
     assert re.search("<dt>made</dt><dd>20[0-9-]{8} [0-9]{2}:[0-9]{2} UTC</dd>", page)
     assert not re.search("https?:|src=|@import", page), "the page asks for something of the network"
-    # bars to one scale, by hand: 2656.23 of 4075.09 are 65.1 of a hundred
+    # the bars have one scale, by hand: 2656.23 of 4075.09 are 65.1 of a hundred
     assert page.count("width:100.0%") == 2 and "width:65.1%" in page
 
 
@@ -89,13 +89,13 @@ def test_a_movement_as_a_page(small_office: Folder) -> None:
     assert "3,902.44" in page
 
 
-# --- workbooks as a person reads them: LibreOffice shows ### where a column is too narrow ---
+# --- workbooks as a person reads them: LibreOffice shows ### if a column is too narrow ---
 
 WORKBOOKS = pytest.mark.needs("soffice", "pdftotext", "python:openpyxl")
 
 
 def as_text(folder: Folder, name: str) -> set[str]:
-    """The lines of a workbook as LibreOffice prints it, whatever blanks stand in them."""
+    """Returns the lines of a workbook as LibreOffice prints it, whatever blanks are in them."""
     folder.command("env", f"HOME={folder.path}", "timeout", "200", "soffice", "--headless", "--convert-to", "pdf", f"{name}.xlsx")
     text = folder.command("pdftotext", "-layout", f"{name}.pdf", "-")
     assert "##" not in text, "an amount isn't shown"
@@ -131,7 +131,7 @@ def test_a_workbook_of_the_greatest_amounts_is_read(examples_basis: Folder) -> N
 
 @pytest.mark.needs("python:openpyxl")
 def test_a_number_of_a_workbook_is_one(small_office: Folder) -> None:
-    """With two places, under heads that stay."""
+    """The cell has two decimal places, and the heads of the columns stay in view."""
     import openpyxl
 
     small_office.printed(*AT, "--xlsx", "book.xlsx")
@@ -147,7 +147,7 @@ POLICY = "1,issue,7001,2020-01-01,endowment,0,3,1000.00,400.00\n"
 
 @pytest.fixture
 def by_hand(table_q: Folder) -> Folder:
-    """A policy that is valued by hand from table Q."""
+    """A book with the policy that is valued by hand from table Q."""
     table_q.post(POLICY + "1,premium,7001,2020-01-01,400.00\n")
     return table_q
 
@@ -187,7 +187,7 @@ def cents(amount: str) -> int:
 
 
 def test_groups_add_up_to_the_printed_total_by_sqlite(folder: Folder) -> None:
-    """A book of all plans, statuses and words."""
+    """The book has all plans, statuses and words."""
     lay_drawn_book(folder, 7, 300, 6)
     folder.printed("report", "2017-06-30", "--by", "plan,status", "--by", "basis-row", "--by", "age-band", "--deficiency",
                    "--csv", "report.csv")
@@ -208,13 +208,13 @@ MEASURES: list[list[str]] = [[], ["--mean"], ["--deficiency"]]
 
 
 def analysed(text: str) -> dict[str, list[str]]:
-    """The lines of a movement: name, policies, lower, upper."""
+    """Returns the lines of a movement by their names: policies, lower bound, upper bound."""
     return {line[:17].strip(): line[17:].split() for line in text.splitlines()[2:14]}
 
 
 @pytest.mark.parametrize("block", range(BLOCKS))
 def test_movements_of_drawn_pairs_add_up(folder: Folder, block: int) -> None:
-    """The reserves are those that the program prints, and the lines add up to the closing one."""
+    """The opening and closing reserves are those that the program prints, and the lines add up to the closing reserve."""
     lay_drawn_book(folder, 7, 20, 6)
     draw, count = Random(block), folder.count()
     for _ in range(PAIRS // BLOCKS):
@@ -223,7 +223,7 @@ def test_movements_of_drawn_pairs_add_up(folder: Folder, block: int) -> None:
         measure = draw.choice(MEASURES)
         lines = analysed(folder.printed("movement", str(on1), str(first), str(on2), str(last), *measure))
         for name, on, at in (("opening reserve", on1, first), ("closing reserve", on2, last)):
-            # those of minimum reserves stand behind the others
+            # the bounds of the minimum reserves stand after the others
             total = folder.life("value", str(on), "--at", str(at), *measure).out.splitlines()[-1].split(",")[-3:-1]
             assert lines[name][1:] == total, (name, on, at, measure)
         for bound in (1, 2):

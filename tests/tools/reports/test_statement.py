@@ -1,6 +1,6 @@
-"""`statement`: over a small book its sheets by hand; of drawn pairs of positions what SQLite over `export`, exact values and
-`read` come to; classes are what a book for each class has; a program whose prints don't add up is found; and the files are
-read as a person reads them."""
+"""Tests `statement`: the sheets of a small book are worked out by hand; for drawn pairs of positions they are compared with
+SQLite over `export`, with exact values and with `read`; a statement by classes is what a book for each class has; a program
+whose output doesn't add up is found; and the files are read as a person reads them."""
 from __future__ import annotations
 
 import datetime
@@ -24,11 +24,11 @@ from tests.support.folders import Folder
 from tests.support.made_books import lay_drawn_book
 from tests.tools.reports import statement_sums as sums
 
-# By hand, from table Q (0.1, 0.2, 0.25, 0.5, 1): without interest an endowment of age 0 for 3 years has beta 343/707.4 =
-# 0.484874, the net premium 0.214504 of its first year, and the reserve 0.127226 at year 1 (docs/explanation/reserves.md). At
-# 5 percent its first net premium is 0.202174, and a paid-up term of 3 years is worth 0.413994 at the issue and 0.371882 at
-# year 1. 7001 is paid ahead for 2022; 7002 is made paid up; 7003 lapses; 7004 dies in its second year; 7005 is on its last
-# day of grace, 7006 past it.
+# By hand, from table Q (0.1, 0.2, 0.25, 0.5, 1). Without interest, an endowment at age 0 for 3 years has beta 343/707.4 =
+# 0.484874, a net premium of 0.214504 in its first year, and a reserve of 0.127226 at year 1 (docs/explanation/reserves.md). At 5
+# percent its first net premium is 0.202174, and a paid-up term of 3 years is worth 0.413994 at issue and 0.371882 at year 1.
+# Policy 7001 is paid ahead for 2022; 7002 is made paid up; 7003 lapses; 7004 dies in its second year; 7005 is on its last day of
+# grace, and 7006 is past it.
 BASIS = "1900-01-01,q.xml,0\n2020-02-01,q.xml,500\n"
 SCRIPT = """\
 1,upgrade
@@ -49,8 +49,8 @@ SCRIPT = """\
 1,premium,7001,2021-12-20,400.00
 """
 BETWEEN = ["statement", "2019-12-31", "0", "2021-12-31", "16"]
-# the cost of insurance: 0.1 * (3000.00 - 381.68) of the endowments, 0.1 * (300.00 - 111.56) of the paid-up term; interest:
-# 0.05 * 124.20; 7004 leaves 254.45 behind; 7001 has the minimum reserve 1000 - 400 * 1.8 = 280.00
+# The cost of insurance is 0.1 * (3000.00 - 381.68) for the endowments and 0.1 * (300.00 - 111.56) for the paid-up term. The
+# interest is 0.05 * 124.20. Policy 7004 releases 254.45. Policy 7001 has the minimum reserve 1000 - 400 * 1.8 = 280.00.
 SHEETS = """\
 issued 0 0.00 4 3200.00 2 1500.00 0 0.00 0 0.00 6 4700.00 6
 decreased 0 0.00 0 0.00 0 -700.00 0 0.00 0 0.00 0 -700.00 0
@@ -83,14 +83,14 @@ settled 0 -500.00 0 0.00 0 -500.00 1
 
 
 def has(text: str, lines: str) -> None:
-    """Each of these lines is printed, whatever blanks stand in it."""
+    """Asserts that each of these lines is printed, whatever blanks are in it."""
     missing = set(lines.splitlines()) - {" ".join(line.split()) for line in text.splitlines()}
     assert not missing, f"{missing} in {text}"
 
 
 @pytest.fixture
 def book(folder: Folder) -> Folder:
-    """A policy of each kind."""
+    """A book with a policy of each kind."""
     folder.take("q.xml")
     folder.write("basis.csv", BASIS)
     assert folder.post(SCRIPT).count(",accepted,") == 16
@@ -102,8 +102,8 @@ def test_each_sheet_by_hand(book: Folder) -> None:
 
 
 def test_by_mean_reserves_policy_by_policy(book: Folder) -> None:
-    """At the middle of 2021 and of its policy year a mean reserve has all of the year's net premium, and half of interest and
-    cost: 7001 has 214.50 + 484.87, less 87.28 and half of 0.2 * (1000 - 515.13) = 96.97."""
+    """In the middle of 2021 and of its policy year, a mean reserve has all of the year's net premium and half of the interest
+    and cost. Policy 7001 has 214.50 + 484.87, less 87.28 and less half of 0.2 * (1000 - 515.13) = 96.97."""
     book.printed(*BETWEEN, "--mean", "--policies", "parts")
     wanted = "7001,0.00,0.00,699.38,0.00,-135.76,0.00,0.00,0.00,0.00,0.00,0.00,0.00,563.61,563.62"
     assert wanted in book.read("parts/increase.csv").splitlines()
@@ -144,9 +144,9 @@ def test_as_a_workbook(book: Folder) -> None:
         assert re.search(f"^{re.escape(line)}", shown, re.M), line
 
 
-# --- a program whose prints don't add up ---
+# --- a program whose output doesn't add up ---
 
-# a row, a sum, a policy or a balance is another one, the same in rows and totals
+# a row, a sum, a policy or a balance is changed, in the same way in rows and totals
 FORGERIES = {
     "a row and its total": ("s/^row,7001,inforce,1,127.22,127.23/row,7001,inforce,1,128.22,128.23/;"
                             "s/^total,238.78,238.80/total,239.78,239.80/", "printed row of policy 7001 doesn't hold"),
@@ -183,7 +183,7 @@ def test_refused(book: Folder, words: str, says: str) -> None:
     book.refused("statement", *words.split(), says=says)
 
 
-# --- classes, by hand: 7005 and 7006 go by late.csv, which has no row for them, the others by basis.csv ---
+# --- classes, by hand: 7005 and 7006 have late.csv, which has no row for them; the others have basis.csv ---
 
 CLASSES = ["--classes", "classes.csv", "--bases", "bases.csv"]
 
@@ -244,7 +244,7 @@ def test_options_that_dont_go_together(classes: Folder, words: list[str], says: 
     classes.refused("value", "2021-12-31", *words, says=says)
 
 
-# --- drawn pairs of positions and days, beside other sums ---
+# --- drawn pairs of positions and days, compared with other sums ---
 
 FIRST, LAST = datetime.date(2000, 1, 1), datetime.date(2026, 12, 31)
 PAIRS, EXACT, BLOCKS = 20, 3, 5
@@ -252,7 +252,7 @@ PAIRS, EXACT, BLOCKS = 20, 3, 5
 
 @pytest.fixture
 def drawn(folder: Folder, monkeypatch: pytest.MonkeyPatch) -> tuple[Folder, list[Command]]:
-    """A small book with every kind of posting, and its tables in SQLite; the folder is the current one."""
+    """A small book with every kind of posting, and its tables in SQLite, in the current folder."""
     lay_drawn_book(folder, 7, 20, 6)
     folder.printed("export", "sqlite", "journal.life", "book.db")
     monkeypatch.chdir(folder.path)
@@ -278,7 +278,7 @@ def test_drawn_pairs(drawn: tuple[Folder, list[Command]], block: int) -> None:
             sums.judge_premiums(folder, sheets, asked, commands, past, basis, known)
 
 
-# --- a book by classes beside a book for each class ---
+# --- a book by classes, compared with a book for each class ---
 
 APART = {"north": "basis.csv", "south": "other.csv", "east": "basis.csv"}
 ON1, ON2 = datetime.date(2013, 12, 31), datetime.date(2017, 6, 30)

@@ -1,4 +1,4 @@
-"""The statement on paper and on a screen, and the sentences that stand beside its sums."""
+"""Tests the statement on paper and on a screen, and the sentences that accompany its sums."""
 from __future__ import annotations
 
 import re
@@ -9,7 +9,8 @@ import pytest
 
 from tests.support.folders import Folder
 
-# four plans of 900,000,000.00 in all and more, of which one has a premium past its grace on 2021-12-31 and one was issued later
+# Four plans of more than 900,000,000.00 in all, with a premium past its grace on 2021-12-31, and one policy that was issued
+# later.
 SCRIPT = "".join(f"1,issue,{number},2020-01-15,{plan},30,{years},{amount},1000.00\n1,premium,{number},2020-01-15,1000.00\n"
                  for number, (plan, years, amount) in enumerate(
                      [("whole", 0, "99999999.99"), ("endowment", 20, "87654321.09"), ("term", 20, "98765432.10"),
@@ -26,7 +27,7 @@ def office(table_q: Folder) -> Folder:
 
 
 def words_of_pdf(page: Path) -> list[str]:
-    """The words on paper, as they are printed on A4."""
+    """Returns the words on paper, as the page is printed on A4."""
     made = page.with_suffix(".pdf")
     subprocess.run(["chromium", "--headless", "--no-sandbox", "--disable-gpu", "--no-pdf-header-footer", f"--print-to-pdf={made}",
                     f"file://{page}"], check=True, capture_output=True, timeout=120)
@@ -36,7 +37,7 @@ def words_of_pdf(page: Path) -> list[str]:
 
 @pytest.mark.needs("chromium", "pdftotext")
 def test_the_printed_exhibit_has_all_its_columns(office: Folder) -> None:
-    """By hand: 3 * (99999999.99 + 87654321.09 + 98765432.10 + 76543210.98) = 1088888892.48, of 12 policies and 12 postings."""
+    """By hand: 3 * (99999999.99 + 87654321.09 + 98765432.10 + 76543210.98) = 1088888892.48, for 12 policies and 12 postings."""
     office.printed("statement", *MOMENTS, "--mean", "--html", "page.html")
     words = words_of_pdf(office.path / "page.html")
     for wanted in ("299,999,999.97", "262,962,963.27", "296,296,296.30", "229,629,632.94", "1,088,888,892.48", "postings"):
@@ -69,14 +70,14 @@ def test_the_first_line_says_which_reserve_and_why(office: Folder) -> None:
 
 
 def test_notes_of_those_in_force_by_their_status_alone(office: Folder) -> None:
-    """On 2021-12-31 the second premium, of 2021-01-15, is past its grace for all 12; 99 is issued later."""
+    """On 2021-12-31 the second premium, due on 2021-01-15, is past its grace for all 12 policies; 99 is issued later."""
     printed = office.printed("statement", "2019-12-31", "0", "2021-12-31", "25")
     assert "In force on 2021-12-31 by their status, but past the grace of an unpaid premium, with no lapse posted: 12" in printed
     assert "In force on 2021-12-31 by their status, but issued after that day: 1" in printed
 
 
 def test_what_the_minimum_is_compared_with(office: Folder) -> None:
-    """A premium of 1000.00 on such amounts is far below the net premium, so each policy is short."""
+    """A premium of 1000.00 for such amounts is far below the net premium, so each policy is short."""
     printed = office.printed("statement", *MOMENTS, "--mean")
     assert "The minimum reserve is a terminal one" in printed
     assert re.search("Warning: of 12 policies the minimum reserve is above the terminal reserve", printed)

@@ -1,5 +1,5 @@
-"""The tools that judge what the program printed, valuations, transcripts and projections: they accept what it printed, and
-find each change of it."""
+"""Tests the tools that judge what the program printed, valuations, transcripts and projections: they accept what it printed,
+and find each change of it."""
 from __future__ import annotations
 
 import re
@@ -13,7 +13,7 @@ MEASURES: dict[str, list[str]] = {"terminal": [], "mean": ["--mean"], "deficienc
 
 
 def changed(text: str, pattern: str, to: str) -> str:
-    """A text with a pattern replaced in each of its lines, as sed does."""
+    """Returns a text in which a pattern is replaced in each line, as sed does."""
     made = re.sub(pattern, to, text, flags=re.M)
     assert made != text, f"{pattern} isn't in: {text}"
     return made
@@ -66,7 +66,7 @@ def test_a_premium_that_is_called_otherwise_is_found(office: Folder, old: str, n
 
 
 def test_policies_that_have_no_value(office: Folder) -> None:
-    """By a basis that begins after the issue of some, which have a word."""
+    """By a basis that begins after the issue of some policies, which have a word in place of a value."""
     office.write("later.csv", "2021-06-01,g.xml,400\n")
     text = office.life("value", "2024-03-12", "--basis", "later.csv").out
     words = int(text.splitlines()[-1].split(",")[-1])
@@ -83,7 +83,7 @@ def test_a_measure_that_isnt_one(office: Folder) -> None:
 
 @pytest.fixture
 def sample(office: Folder) -> str:
-    """Two rows of a valuation, under its head."""
+    """Two rows of a valuation, after its first line."""
     lines = office.read("terminal").splitlines(keepends=True)
     return "".join([lines[0], *(line for number in (15, 11) for line in lines if line.startswith(f"row,{number},"))])
 
@@ -109,7 +109,8 @@ def test_a_changed_sample_is_found(office: Folder, sample: str, pattern: str, to
 
 
 def test_by_a_table_that_is_written_otherwise(office: Folder) -> None:
-    """A byte order mark, a comment that isn't ASCII, blanks in a tag: the program takes it, and its values are the same."""
+    """The table has a byte order mark, a comment that isn't ASCII, and blanks in a tag: the program accepts it, with the same
+    values."""
     table = office.read("g.xml").split("\n", 1)[1].replace('<Y t="50">', '<Y t="50" >').replace('<Y t="51">', '<Y\n  t = "51">')
     office.write("g.xml", '\ufeff<?xml version="1.0" encoding="utf-8"?>\n<!-- Sterblichkeit der Männer -->\n' + table)
     assert office.life("value", "2024-03-12").out == office.read("terminal")
@@ -118,7 +119,7 @@ def test_by_a_table_that_is_written_otherwise(office: Folder) -> None:
 
 @pytest.fixture
 def by_select(office: Folder) -> Folder:
-    """The small office and a policy more, valued by a select table."""
+    """The small office with one more policy, valued by a select table."""
     for name in ("select.xml", "select-inner.xml", "select-outer.xml"):
         office.take(name)
     office.write("basis.csv", "1900-01-01,select.xml,0\n")
@@ -132,7 +133,7 @@ def test_by_a_select_table(by_select: Folder) -> None:
     by_select.printed(*VALUES, "by-select")
 
 
-# by its ultimate rates, by the select rates of the age above, and by those of one below
+# by the ultimate rates, by the select rates of the next higher age, and by those of the next lower age
 @pytest.mark.parametrize("bounds", ["105.63,105.64", "127.22,127.23", "58.37,58.38"])
 def test_other_bounds_by_a_select_table_are_found(by_select: Folder, bounds: str) -> None:
     text = changed(by_select.read("by-select"), r"^(row,99,.*,)129.20,129.21", rf"\g<1>{bounds}")
@@ -228,7 +229,7 @@ def test_a_state_is_no_projection(projected: Folder) -> None:
 
 
 def test_the_examples_transcripts_are_right(table_q: Folder) -> None:
-    """Those that the pages show, as files of the repository."""
+    """The transcripts that the pages show, which are files of the repository."""
     for name in ("first-issues", "second-day"):
         table_q.write("before.life", table_q.journal.read_bytes() if table_q.journal.exists() else b"")
         table_q.take(f"{name}.csv", f"{name}.transcript")

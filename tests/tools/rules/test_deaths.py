@@ -1,5 +1,5 @@
-"""What is told of a refused line, by its kind: no death outside the cover is paid by following it. And deaths of drawn
-policies, told late, are judged as the program would have judged them on their day."""
+"""Tests the advice on a refused line, by its kind: nobody who follows it pays for a death outside the cover. Deaths of drawn
+policies that are reported late are judged as the program would have judged them on their day."""
 from __future__ import annotations
 
 import datetime
@@ -23,7 +23,7 @@ BENEFITS = [(kind, reason) for kind, reason in BY_PAIR if kind in ("claim", "mat
 
 @pytest.mark.parametrize("kind, reason", BENEFITS)
 def test_no_benefit_is_reached_by_a_reinstatement(kind: str, reason: str) -> None:
-    """To put a policy in force again for a death would pay one outside the cover."""
+    """To put a policy in force again because of a death would pay for a death outside the cover."""
     remedy = BY_PAIR[kind, reason]
     assert "reinstate" not in remedy.what.replace("don't reinstate", "")
     assert not any("reinstate" in steps for steps in remedy.steps)
@@ -52,7 +52,7 @@ def test_what_is_no_refusal(folder: Folder, words: list[str], says: str) -> None
 
 @dataclass(frozen=True)
 class Case:
-    """A life's postings and a death near one of them, with what is advised on it."""
+    """The postings of a policy, a death near one of them, and the advice on it."""
 
     life: list[Command]
     death: Command
@@ -63,13 +63,13 @@ class Case:
 
     @property
     def advised(self) -> Command | None:
-        """The claim that is told to be posted."""
+        """The claim that the advice says to post."""
         found = re.search("post the claim of ([0-9-]{10})", self.text)
         return replace(self.death, day=datetime.date.fromisoformat(found[1])) if found else None
 
     @property
     def then(self) -> list[Command]:
-        """The postings up to the death's day."""
+        """The postings up to the day of the death."""
         return [it for it in self.life if it.on <= self.death.on]
 
 
@@ -79,7 +79,7 @@ def drawn_case(draw: Random, life: list[Command]) -> Case:
 
 
 def last_answers(folder: Folder, lives: list[list[Command]]) -> list[str]:
-    """What the program answers the last command of each of these lives, all in an empty folder."""
+    """Returns the program's answers to the last command of each of these lists, all posted to a book in an empty folder."""
     rows = [replace(it, number=number) for number, life in enumerate(lives, 1) for it in life]
     answers = folder.post("".join(f"1,{','.join(words_of(row))}\n" for row in rows)).splitlines()
     ends = [sum(len(life) for life in lives[:place + 1]) - 1 for place in range(len(lives))]
@@ -87,14 +87,15 @@ def last_answers(folder: Folder, lives: list[list[Command]]) -> list[str]:
 
 
 def test_deaths_that_are_told_late(folder: Folder) -> None:
-    """Each is asked of the program on its day, behind the postings up to there, and as it is advised."""
+    """The program is asked about each death on its day, after the postings up to that day, and about the claim that is
+    advised."""
     draw = Random(5)
     lives = [[it for it in life_of(draw, drawn_issue(draw, number)) if it.kind != "paidup"] for number in range(1, 101)]
     cases = [drawn_case(draw, life) for life in lives for _ in range(4)]
     seen: Counter[str] = Counter()
     for case, answer in zip(cases, last_answers(folder.below("then"), [[*it.then, it.death] for it in cases])):
         is_insured, is_told_not = ",accepted," in answer, "it wasn't insured then" in case.text
-        # of the day of a posting the journal doesn't tell which came first
+        # if there is a posting on the same day, the journal doesn't show which came first
         is_that_day = case.then[-1].on == case.death.on
         assert is_insured or not case.advised, (answer, case)
         assert is_insured != is_told_not or is_that_day, (answer, case)
@@ -105,20 +106,21 @@ def test_deaths_that_are_told_late(folder: Folder) -> None:
     assert min(seen[each] for each in ("posted", "referred", "not insured")) > 20, seen
 
 
-# --- the four deaths of the page, of which one may be posted ---
+# --- the four deaths of the page; only one may be posted ---
 
 
 @pytest.fixture
 def deaths(folder: Folder) -> Folder:
-    """By hand: 7401's premium of 2021-03-15 fell due after the death of 2021-03-02; 7402 and 7404 went by the premium of
-    2021-03-15, whose grace ends on 2021-04-15, the day before the lapses."""
+    """A book with the policies of the page, worked out by hand: the premium of 7401 fell due on 2021-03-15, after the death of
+    2021-03-02; for 7402 and 7404 what counts is the premium of 2021-03-15, whose grace ends on 2021-04-15, the day before the
+    lapses."""
     folder.take("before-deaths.csv", "late-deaths.csv")
     folder.post(folder.read("before-deaths.csv"))
     return folder
 
 
 def to_do(folder: Folder, script: str, today: str = "2021-06-15") -> list[str]:
-    """What is told to do about the rows of a script, none of which is to be sent as it is."""
+    """Returns the advice about the rows of a script, none of which may be sent as it is."""
     folder.write("late.csv", script)
     told = folder.finds("check", "late.csv", "--today", today, says=f"reported: {len(script.splitlines())};").out
     return [line for line in told.splitlines() if line.startswith("  to do")]
@@ -146,7 +148,7 @@ def test_a_reduction_behind_the_death_leaves_a_part_outside(deaths: Folder) -> N
 
 
 def test_deaths_about_a_reinstatement(deaths: Folder) -> None:
-    """7404 was in its days of grace on 2021-04-10, and of the day of its reinstatement nobody knows."""
+    """Policy 7404 was in its days of grace on 2021-04-10; whether it was insured on the day of its reinstatement isn't known."""
     deaths.post("1,premium,7404,2022-03-15,1480.00\n")
     assert to_do(deaths, "1,claim,7404,2021-04-10\n1,claim,7404,2021-06-01\n1,claim,7404,2021-06-02\n", "2022-06-15") == [
         "  to do: it was insured then; posted since: lapse of 2021-04-16, reinstate of 2021-06-01: don't reinstate; "

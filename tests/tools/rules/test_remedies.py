@@ -1,4 +1,4 @@
-"""Each pair of a kind of line and a reason for which it can be refused: the refusal is asked of the program, its remedy is
+"""Tests each pair of a kind of line and a reason for which it can be refused: the program refuses the line, its remedy is
 carried out, and what the remedy says to post is then accepted. A remedy that posts nothing says so, or refers the case."""
 from __future__ import annotations
 
@@ -20,7 +20,7 @@ FORCE = (*ISSUE, "premium,7,2020-01-01,100.00")
 ALTERED = (*FORCE, "alter,7,2020-12-01,900.00,100.00")
 PAID = (*FORCE, "premium,7,2021-01-01,100.00", "premium,7,2022-01-01,100.00")
 TERM = tuple(line.replace("endowment", "term") for line in PAID)
-# 31 days of grace end on 2021-02-01
+# the 31 days of grace end on 2021-02-01
 STATES = {
     "lapsed": (*FORCE, "lapse,7,2021-02-02"),
     "claimed": (*FORCE, "claim,7,2020-06-01"),
@@ -29,15 +29,15 @@ STATES = {
     "expired": (*TERM, "mature,7,2023-01-01"),
     "paidup": ("upgrade", *FORCE, "paidup,7,2020-06-01,300.00"),
 }
-# one of ten years, so that its term isn't over when the right to a reinstatement is
+# a policy of ten years, whose term isn't over when the right to a reinstatement ends
 LONG = tuple(line.replace(",3,", ",10,") for line in STATES["lapsed"])
 NEW = "issue,107,{day},endowment,30,3,1000.00,100.00"
 
 
 @dataclass(frozen=True)
 class Scene:
-    """What was posted, the line that is refused, and what its remedy needs to know: which of its ways is gone, the day that
-    was meant, and the amounts of lines that are posted."""
+    """What was posted, the line that is refused, and what its remedy needs: the number of the alternative that is followed, the
+    day that was meant, and the amounts of lines that are posted."""
 
     posted: tuple[str, ...]
     line: str
@@ -104,7 +104,7 @@ SCENES: dict[str, list[Scene]] = {
         Scene(("upgrade", *FORCE), "paidup,7,2022-01-15,300.00", 1, "2021-01-15"),
         Scene(FORCE, "claim,7,2021-02-02"), Scene(FORCE, "mature,7,2023-01-01")],
     "notinarrears": [Scene(FORCE, "lapse,7,2021-02-01", meant="2021-02-02")],
-    # the right ends three years after the first premium that is missed
+    # the right to reinstate ends three years after the first missed premium
     "toolate": [Scene(LONG, "reinstate,7,2025-03-01,500.00", 0), Scene(LONG, "reinstate,7,2025-03-01,100.00", 1, "2021-03-01")],
     "wrongamount": [Scene(FORCE, "premium,7,2021-01-01,99.00"), after("lapsed", "reinstate,7,2021-03-01,99.00")],
     "notareduction": [
@@ -121,19 +121,19 @@ for status, amount in (("claimed", "1000.00"), ("matured", "1000.00"), ("settled
     SCENES[f"wrongstatus,{status}"].append(
         Scene(("upgrade", *(line for line in STATES[status])), f"paidup,7,{LATER},300.00", amounts={"settle": amount}))
 PAIRS = [(scene.kind, reason, place) for reason, scenes in SCENES.items() for place, scene in enumerate(scenes)]
-# what has no scene: a book of four million commands, and answers to valuations
+# reasons without a scene: a book of four million commands, and answers to valuations
 ELSEWHERE = ("full", "ahead", "trimmed", "pinsfull")
 
 
 def posted(folder: Folder, lines: tuple[str, ...]) -> None:
-    """Each of the lines is accepted."""
+    """Posts these lines, and asserts that each of them is accepted."""
     out = folder.post("".join(f"1,{line}\n" for line in lines))
     answers = [line for line in out.splitlines() if not line.startswith("watcher")]
     assert len(answers) == len(lines) and all(",accepted," in each for each in answers), out
 
 
 def refused(folder: Folder, line: str) -> list[str]:
-    """The reason for which the program refuses a line."""
+    """Posts a line, asserts that the program refuses it, and returns the reason."""
     fields = folder.post(f"1,{line}\n").splitlines()[0].split(",")
     assert fields[3] == "refused", fields
     return fields[4:]
@@ -145,20 +145,20 @@ def with_field(line: str, place: int, text: str) -> str:
 
 
 def day_for(scene: Scene, words: list[str]) -> str:
-    """The day that a remedy names: the one that was meant, or by the value of the refusal."""
+    """Returns the day that a remedy names: the one that was meant, or one that follows from the refusal."""
     if scene.meant or words[0] != "tooearly":
         return scene.meant or words[1]
     return str(datetime.date.fromisoformat(words[1]) - datetime.timedelta(90))
 
 
 def amount_for(words: list[str]) -> str:
-    """The amount of the refusal, or one below it where a reduction is wanted."""
+    """Returns the amount in the refusal, or a lower one if a reduction is needed."""
     cents = int(words[1].replace(".", ""))
     return money(cents - 100 if words[0] == "notareduction" else cents)
 
 
 def row_of(step: str, scene: Scene, words: list[str]) -> str:
-    """The row that a step of a remedy posts."""
+    """Returns the row that a step of a remedy posts."""
     day, line = scene.line.split(",")[2:3], scene.line
     if step == AGAIN:
         return line
@@ -194,7 +194,7 @@ def posts_nothing(remedy: Remedy) -> bool:
 
 
 def test_each_pair_and_each_way_has_a_scene() -> None:
-    """None stands in the table that the program can't give, and none is left out of the walk."""
+    """The table has no pair that the program can't give, and each pair has a scene."""
     tried = {(kind, reason, SCENES[reason][place].way) for kind, reason, place in PAIRS}
     told = {(kind, reason, way) for (kind, reason), remedy in BY_PAIR.items() if reason not in ELSEWHERE
             for way in range(max(len(remedy.steps), 1))}
@@ -202,7 +202,7 @@ def test_each_pair_and_each_way_has_a_scene() -> None:
 
 
 def test_the_table_has_each_pair_that_the_rules_give() -> None:
-    """Each kind of line, on a policy in each state and on each of many days, with a right amount and with a wrong one."""
+    """Each kind of line is tried for a policy in each state, on each of many days, with a right amount and with a wrong one."""
     found = set()
     states = [FORCE, PAID, LONG, *STATES.values()]
     setups = [*states, *(("upgrade", *lines) for lines in states if lines[0] != "upgrade")]
@@ -255,7 +255,7 @@ def test_check_gives_the_advice_of_the_kind(folder: Folder, line: str, says: str
 
 
 def test_a_death_in_the_days_of_grace_owes_a_premium(folder: Folder) -> None:
-    """It is insured; the premium that was due on 2021-01-01 isn't paid."""
+    """The policy is insured, but the premium that was due on 2021-01-01 isn't paid."""
     posted(folder, FORCE)
     owed = "the premium of 100.00 that is due on 2021-01-01 is owed: post it before the claim, or deduct it from the settlement"
     for day, is_owed in (("2020-12-31", False), ("2021-01-01", True), ("2021-02-01", True)):

@@ -1,4 +1,4 @@
-"""Scripts before they are sent: looked over, and run on a copy; nothing is posted."""
+"""Tests scripts before they are sent: they are checked, and run on a copy; nothing is posted."""
 from __future__ import annotations
 
 import fcntl
@@ -19,8 +19,9 @@ DAY = """\
 6,settle,15,2024-04-20,50000.00
 1,value,2025-02-28,now,1
 """
-# By hand: 15 has 40000.00 outstanding, 13's settlement of this day is command 25, and 11's newest one is of 2024-03-10, 679
-# days behind 2022-05-01. The clerks 5 and 6 may come in either order, and the row of 6 is refused in each.
+# By hand: policy 15 has 40000.00 outstanding; the settlement of 13 on this day is command 25; and the newest posting of 11 is
+# dated 2024-03-10, 679 days after 2022-05-01. The lanes 5 and 6 may come in either order, and the row of lane 6 is refused in
+# each.
 TOLD = """\
 line 2 of one-order.csv: 1,premium,12,2025-02-27,311.00
   the day is before that of the lane's posting above, which is 2025-02-28
@@ -51,7 +52,7 @@ line 1 of wrong.csv: 5,settle,15,2025-05-04,40000.01
   it is refused: oversettled,40000.00
   to do: pay no more than this
 """
-# a limited plan of two premiums, an endowment made paid up: the first ends with the table, 90 years on
+# a limited plan with two premiums, and an endowment made paid up; the limited plan ends at age 131, about 90 years later
 AGES = """\
 1,upgrade
 1,issue,31,2015-06-01,limited,40,2,1000.00,10.00
@@ -65,7 +66,7 @@ AGES = """\
 
 @pytest.fixture
 def office(small_office: Folder) -> Folder:
-    """The small office; a test of this module posts nothing to it."""
+    """The small office; no test of this module posts to it."""
     small_office.write("day.csv", DAY)
     small_office.write("one-order.csv", "".join(row for row in DAY.splitlines(keepends=True) if not row.startswith(("5", "6"))))
     return small_office
@@ -87,7 +88,7 @@ def test_nothing_is_told_of_a_right_row(office: Folder) -> None:
 
 
 def test_a_claim_long_after_the_newest_posting(folder: Folder) -> None:
-    """Premiums are awaited of the policy, so it can't have been without a posting for so long."""
+    """The policy has premiums still to pay, so it can't have been without a posting for so long."""
     folder.post("1,issue,7,2024-01-01,whole,30,0,60.00,1.00\n")
     folder.write("claim.csv", "1,claim,7,2025-06-01\n")
     told = folder.finds("check", "claim.csv", "--today", "2025-06-01", says="^rows: 1, reported: 1;").out

@@ -1,4 +1,5 @@
-"""`due`: by hand for a policy of each kind; of drawn books it lists what the program accepts, and nothing else."""
+"""Tests `due`: for a policy of each kind the list is worked out by hand; for drawn books it has exactly what the program
+accepts."""
 from __future__ import annotations
 
 import csv
@@ -33,9 +34,9 @@ SCRIPT = """\
 1,premium,7,2020-01-20,70.00
 1,premium,7,2021-01-20,70.00
 """
-# By hand. On 2021-02-20: 1 is due on the 28th, since 2021 has no 29 February; 5 has been in arrears since 2021-02-01, on
-# which its grace ended; 3 may be reinstated up to its third anniversary, for 2020 alone. In April 3 has missed a premium
-# more, and the grace of 6 ends on the day. A year on 2 and 7 have ended, of which a term pays nothing.
+# By hand. On 2021-02-20: the premium of policy 1 is due on the 28th, since 2021 has no 29 February; 5 is in arrears, because its
+# grace ended on 2021-02-01; 3 may be reinstated up to its third anniversary, for the premium of 2020 only. In April, policy 3 has
+# missed one more premium, and the grace of 6 ends on that day. A year later 2 and 7 have ended; 7, a term policy, pays nothing.
 LISTS = {
     "today": (["2021-02-20"], """\
 lapse,5,2021-01-01,2021-02-01,50.00
@@ -83,7 +84,7 @@ REFUSED = {
 
 @pytest.fixture
 def office(folder: Folder) -> Folder:
-    """A policy of each kind."""
+    """A book with a policy of each kind."""
     folder.post(SCRIPT)
     return folder
 
@@ -109,7 +110,7 @@ def test_refused(office: Folder, words: list[str], says: str) -> None:
     data = office.journal.read_bytes()
     office.write("cut.life", data[:100])
     office.write("text.life", "a page of text that is no journal\n")
-    # the second record, a premium, with another amount, and its commit byte open
+    # the second record, a premium, has another amount; its commit byte is 1
     office.write("bad.life", data[:94] + b"\x01" + data[95:111] + b"\xff" + data[112:])
     office.refused("due", *words, says=says)
 
@@ -120,7 +121,7 @@ def test_a_book_without_records_has_nothing_due(folder: Folder) -> None:
 
 
 class Lived:
-    """A drawn book, and which lines the program accepts on a copy of it."""
+    """A drawn book, and a check of which lines the program accepts on a copy of it."""
 
     def __init__(self, folder: Folder, seed: int, policies: int) -> None:
         commands = lived(seed, policies)
@@ -147,7 +148,7 @@ def lived_on(request: pytest.FixtureRequest, folder: Folder) -> tuple[Lived, str
 
 
 def usual(kind: str, policy: Policy) -> str:
-    """An amount for a policy that isn't listed: the one that would be right if it were due."""
+    """Returns an amount for a policy that isn't listed: the one that would be right if it were due."""
     cents = policy.premium if kind != "settle" else max(policy.outstanding, 1)
     return f"{cents // 100}.{cents % 100:02}"
 
@@ -157,7 +158,7 @@ def test_drawn_lines_to_send_are_all_that_are_accepted(lived_on: tuple[Lived, st
     drawn, day = lived_on
     listed = drawn.due(day, "--script", kind).splitlines()
     assert sorted(listed) == drawn.accepted([f"1,{kind},{number},{day}" for number in drawn.book.policies])
-    # a drawn policy is matured soon after its end
+    # no maturity may be listed, because a drawn policy matures soon after its end
     assert listed or kind == "mature"
 
 
@@ -171,7 +172,7 @@ def test_drawn_lines_of_later_days_come_in_order(lived_on: tuple[Lived, str]) ->
 
 @pytest.mark.parametrize("kind", ["premium", "reinstate", "settle"])
 def test_drawn_amounts_are_those_that_are_accepted(lived_on: tuple[Lived, str], kind: str) -> None:
-    """Each policy is asked; one whose last posting is of a later day can't be."""
+    """Each policy is tried; one whose last posting has a later day can't be."""
     drawn, day = lived_on
     whats = ("premium", "grace") if kind == "premium" else (kind,)
     items = csv.DictReader(io.StringIO(drawn.due(day, "--within", "90")))

@@ -1,4 +1,5 @@
-"""`explain`: a refused line, a script, a basis or a table: the place, what was found there, and what is wanted."""
+"""Tests `explain` for a refused line, a script, a basis or a table: it gives the place, what was found there, and what is
+wanted."""
 from __future__ import annotations
 
 import re
@@ -11,7 +12,7 @@ HEAD = "<XTbML><Table><Values><Axis>"
 RATES = HEAD + '\n  <Y t="0">0.1</Y>\n  <Y t="1">{}</Y>'
 SELECT = ('<XTbML>\n<Table><Values><Axis><Axis t="1">\n  <Y t="{}">0.1</Y></Axis></Axis></Values></Table>{}</XTbML>')
 GAP = '<Table><Values><Axis><Y t="3">0.1</Y></Axis></Values></Table>'
-# of t.xml by the program's own refusal of it: what is said
+# by name: the text of t.xml, which the program refuses, and what `explain` says about it
 TABLES: dict[str, tuple[str | None, list[str]]] = {
     "no file": (None, ["no such file"]),
     "a table that breaks off": (RATES.format("0.0004213387291"), ["^parser: "]),
@@ -39,7 +40,7 @@ REFUSED = {
 
 
 def explained(folder: Folder) -> str:
-    """What is said of the program's refusal of the basis."""
+    """Returns the explanation of the program's refusal of the basis."""
     answer = folder.life("value", "2021-01-01")
     assert answer.status == 4, answer
     return folder.printed("explain", answer.out.strip())
@@ -102,7 +103,7 @@ def test_layouts_of_select_tables(folder: Folder, layout: str) -> None:
 
 
 def test_rates_that_stand_directly_in_a_labelled_axis(folder: Folder) -> None:
-    """They are taken by age, and what is behind them is passed over."""
+    """The rates are read by age, and what follows them is ignored."""
     text = (EXAMPLES / "select-inner.xml").read_text(encoding="utf-8")
     for old, new in (('<Axis><Axis t="0">', '<Axis t="0">'), ("</Axis></Axis></Values>", "</Axis></Values>")):
         assert old in text

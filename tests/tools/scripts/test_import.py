@@ -1,5 +1,5 @@
-"""`import`: a book of 5,000 drawn policies of another system, beside what was drawn and the exact values; each way of writing
-by hand; and what can't be mapped."""
+"""Tests `import`: a book of 5,000 drawn policies of another system is compared with what was drawn and with exact values; each
+way of writing is worked out by hand; and rows and maps that can't be used are refused."""
 from __future__ import annotations
 
 import argparse
@@ -37,7 +37,7 @@ SCRIPT = """\
 1,premium,12,2020-02-29,12.34
 1,premium,12,2021-02-28,12.34
 """
-# a row, and why it can't be mapped, if so
+# a row, and why it can't be mapped, or nothing if it can
 ROWS = [
     ("1/1/2020\tA\t1\t40\t3\t1,000.00\t1234\t2\t", ""),
     ("2/30/2020\tA\t2\t40\t3\t1,000.00\t1234\t2\t", "isn't in the calendar"),
@@ -60,7 +60,7 @@ ROWS = [
 
 
 def import_into(folder: Folder, book: str, text: str, status: int, *words: str) -> str:
-    """Imports a text by map.csv: the script, which ends with this status."""
+    """Imports a text by map.csv, asserts that `import` ends with this status, and returns the script."""
     folder.write(book, text)
     folder.printed("import", book, "--map", "map.csv", *TO, *words, status=status)
     return folder.read("new.csv")
@@ -75,7 +75,7 @@ def left(folder: Folder) -> list[list[str]]:
 
 @pytest.mark.slow
 def test_a_drawn_book(folder: Folder) -> None:
-    """Every 400th policy of 5,000 can't be mapped, and the header row is line 1."""
+    """Every 400th policy of 5,000 can't be mapped; the header row is line 1."""
     folder.take("g.xml")
     folder.write("basis.csv", "1900-01-01,g.xml,400\n")
     drawn = subprocess.run([sys.executable, str(EXAMPLES / "other_system.py"), str(DRAWN), "wanted-policies"], cwd=folder.path,
@@ -110,7 +110,7 @@ def test_each_way_of_writing(mapped: Folder) -> None:
 
 
 def test_a_script_that_is_too_large_is_made_in_parts(mapped: Folder, monkeypatch: pytest.MonkeyPatch) -> None:
-    """Of more than 16 MiB; here of more than 60 bytes."""
+    """The limit is 16 MiB; here it is 60 bytes."""
     monkeypatch.setattr(import_book, "MOST_SCRIPT_BYTES", 60)
     monkeypatch.chdir(mapped.path)
     parser = argparse.ArgumentParser()
@@ -142,8 +142,8 @@ def test_rows_that_cant_be_mapped(mapped: Folder) -> None:
 
 # --- birthdays, days to which premiums are paid, statuses and classes, by hand ---
 
-# The ages of a birth on 1980-07-02 on 2020-01-01, 183 days after the last birthday and 183 before the next one, and a day
-# later, when the next one is nearer; of a 29 February. Policy 3 is lapsed: its premium of 2021-03-01 was last taken on
+# A person born on 1980-07-02 is 183 days after the last birthday and 183 before the next one on 2020-01-01, and one day later the
+# next birthday is nearer; policy 3 has a birth on 29 February. Policy 3 is lapsed: the last day for its premium of 2021-03-01 was
 # 2021-04-01. Policy 4 was made paid up when its second premium was due.
 STATUS_MAP = """\
 number,no

@@ -1,7 +1,7 @@
-"""`rest`: of a run that ended early the rows that it didn't reach, each once.
+"""Tests `rest`, which gives the rows that a run which ended early didn't reach, each once.
 
-An office of this module runs a script up to a moment, and hands over what a kill leaves: the script, the journal, and
-perhaps a prefix of what was printed. The program itself is killed at a moment, too.
+A model of an office runs a script up to some turn, and leaves what a kill leaves: the script, the journal, and perhaps a prefix
+of the transcript. The program itself is killed at some moment, too.
 """
 from __future__ import annotations
 
@@ -24,12 +24,12 @@ from life_tools.scripts.remainder import History, NoRun, demand_records, rest_of
 from tests.strategies import scripts
 from tests.support.folders import Folder
 
-# by lane, how many of its rows were answered, or were answered up to the last accepted one
+# by lane: how many of its rows were answered, in all or up to the last accepted one
 Counts = dict[int, int]
 
 
 def answer_text(line: Line, book: Book, after: Policy | Refusal | Upgraded) -> str:
-    """The transcript of a row as the program prints it; no policy is valued here."""
+    """Returns the answer to a row as the program prints it; here no valuation has policies."""
     count = len(book.commands)
     if line.kind == "trim":
         words = [str(count)]
@@ -43,7 +43,8 @@ def answer_text(line: Line, book: Book, after: Policy | Refusal | Upgraded) -> s
 
 
 def run_up_to(draw: Random, lines: list[Line], book: Book, turns: int) -> tuple[Counts, list[tuple[int, str]]]:
-    """A run of so many turns, each a drawn lane's: each lane's rows up to its last accepted one, and the transcript."""
+    """Runs this number of turns, each of a drawn lane. Returns for each lane the rows up to its last accepted one, and the
+    transcript."""
     left, told = lanes_of(lines), []
     answered, shown = dict.fromkeys(left, 0), dict.fromkeys(left, 0)
     for _ in range(turns):
@@ -59,7 +60,7 @@ def run_up_to(draw: Random, lines: list[Line], book: Book, turns: int) -> tuple[
 
 
 def cut(draw: Random, told: list[tuple[int, str]]) -> tuple[str, Counts]:
-    """A transcript that is cut anywhere, and how many of each lane's answers are whole in it."""
+    """Returns a transcript that is cut anywhere, and how many answers of each lane are complete in it."""
     whole = draw.randrange(len(told) + 1)
     part = told[whole][1][:draw.randrange(len(told[whole][1]))] if whole < len(told) else ""
     counts: Counts = {}
@@ -74,14 +75,15 @@ def has_equal(lines: list[Line]) -> bool:
 
 
 def judge_rest(lines: list[Line], rest: dict[int, list[Line]], shown: Counts) -> None:
-    """Of each lane the rows behind its last accepted one are left. Equal rows of one lane may be taken for one another."""
+    """Asserts that for each lane the rows after its last accepted one are left. Equal rows of one lane may be mistaken for
+    each other."""
     for lane, rows in lanes_of(lines).items():
         assert len(rest[lane]) <= len(rows) - shown.get(lane, 0), f"too much is left of lane {lane}"
         assert rows[shown.get(lane, 0):] == rest[lane] or has_equal(rows), f"too little is left of lane {lane}"
 
 
 def without_equal_lanes(script: str) -> list[Line]:
-    """The rows of a script but for the postings that another lane has, too."""
+    """Returns the rows of a script without postings that another lane has, too."""
     rows, lane_of = list[str](), dict[str, str]()
     for row in script.splitlines():
         lane, words = row.split(",", 1)
@@ -106,7 +108,7 @@ def test_what_is_left_of_a_drawn_script(script: str, draw: Random) -> None:
 
 def can_leave(lanes: dict[int, list[Line]], at: Counts, book: Book, commands: list[Command],
               seen: set[tuple[int, tuple[int, ...]]]) -> bool:
-    """Whether a run of just these rows may leave these commands, in some order of the lanes' turns."""
+    """Returns whether a run of exactly these rows can leave these commands, with some order of the lanes' turns."""
     key = (len(book.commands), tuple(at.values()))
     if key in seen:
         return False
@@ -118,7 +120,7 @@ def can_leave(lanes: dict[int, list[Line]], at: Counts, book: Book, commands: li
 
 
 def turns(lanes: dict[int, list[Line]], at: Counts, book: Book, commands: list[Command]) -> Iterator[tuple[int, Book]]:
-    """Each lane whose next row may be answered now, with the book after it."""
+    """Yields each lane whose next row may be answered now, with the book after it."""
     for lane, rows in lanes.items():
         if at[lane] == len(rows):
             continue
@@ -184,7 +186,7 @@ def test_the_transcript_of_another_script(text: str) -> None:
 
 
 def killed_run(folder: Folder, script: str, size: int) -> str:
-    """Runs a script and kills the run once the journal has so many bytes: what it printed."""
+    """Runs a script, kills the run once the journal is larger than this number of bytes, and returns what it printed."""
     with open(folder.write("script", script), "rb") as given, open(folder.path / "killed", "wb") as out:
         with subprocess.Popen([str(folder.program.path), "run"], cwd=folder.path, stdin=given, stdout=out) as run:
             while run.poll() is None and not (folder.journal.exists() and folder.journal.stat().st_size > size):
@@ -198,7 +200,7 @@ def test_the_rest_of_a_killed_run_is_posted(folder: Folder) -> None:
     killed = killed_run(folder, "".join(f"{lane},issue,{lane}{number:02},2020-01-01,endowment,0,3,1000.00,400.00\n"
                                         for lane in range(1, 9) for number in range(90)), 9000)
     rest = folder.printed("rest", "script", "journal.life", "0")
-    # what was printed says where the run began, if it shows a position
+    # if the output shows a position, it also shows where the run began
     begun = [] if ",accepted," in killed else ["0"]
     assert folder.printed("rest", "script", "journal.life", *begun, "--printed", "killed") == rest
     folder.refused("rest", "script", "journal.life", says="BEFORE is needed")
@@ -212,7 +214,7 @@ def test_the_rest_of_a_killed_run_is_posted(folder: Folder) -> None:
 
 
 def rows_of_policy(number: int) -> Iterator[str]:
-    """An issue and what follows it in the rows of other lanes; no two rows are equal."""
+    """Yields an issue and the rows that follow it in other lanes; no two rows are equal."""
     yield f"{number % 8 + 1},issue,{number},2020-01-01,endowment,0,3,1000.00,400.00"
     if number > 40:
         yield f"{(number + 3) % 8 + 1},premium,{number - 40},2020-01-02,400.00"
@@ -223,11 +225,11 @@ def rows_of_policy(number: int) -> Iterator[str]:
 
 
 def test_the_rest_of_a_long_killed_run(folder: Folder) -> None:
-    """Since no two rows are equal, of each lane the rest begins behind its last row that is in the journal."""
+    """No two rows are equal, so the rest of each lane begins after its last row that is in the journal."""
     policies = 50000 if folder.program.is_proved else 2000
     rows = [row for number in range(1, policies + 1) for row in rows_of_policy(number)]
     killed_run(folder, "\n".join(rows) + "\n", policies * 50)
-    # behind the last record may lie a part of one, as after any crash, which `read` reports by its status
+    # after the last record there may be part of another one, as after any crash, which `read` reports by its status
     posted = {line.split(",", 1)[1] for line in folder.tools("read", "journal.life").out.splitlines() if line[0].isdigit()}
     last = {row.split(",", 1)[0]: place for place, row in enumerate(rows) if row.split(",", 1)[1] in posted}
     wanted = [row for place, row in enumerate(rows) if place > last.get(row.split(",", 1)[0], -1)]

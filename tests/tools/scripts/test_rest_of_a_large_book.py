@@ -1,4 +1,4 @@
-"""`rest` reads a journal by columns, as other tools do: on a full book it took a minute."""
+"""Tests that `rest` reads a journal by columns, as other tools do: for a full book it once took a minute."""
 from __future__ import annotations
 
 import datetime
@@ -11,7 +11,7 @@ from life_tools.rules.commands import Command
 from tests.support.folders import Folder
 
 POLICIES = 100_000
-# of one run, so that the machine's speed matters little; by objects it is fifteen times as long
+# limit for the time of `rest` compared with reading the book in the same test; by objects it takes fifteen times as long
 MOST_TIMES = 6
 
 

@@ -1,5 +1,5 @@
-"""Tables in forms that the program doesn't take, made of the shipped ones in the layouts of known tables. What `table
-convert` makes of them is taken, and has the same rates as another XML parser reads them; nothing is invented."""
+"""Tests tables in forms that the program doesn't accept, made from the shipped ones in the layouts of known tables. What
+`table convert` makes of them is accepted, and has the rates that another XML parser reads; no rate is invented."""
 from __future__ import annotations
 
 import re
@@ -20,13 +20,15 @@ HALF = Decimal("0.5e-9")
 
 
 def rates_of(path: Path) -> list[Decimal]:
-    """The rates of a file in their order, by the standard library's other parser; a row without one is passed over."""
+    """Returns the rates of a file in their order, read by the other parser of the standard library; a row without a rate is
+    skipped."""
     texts = [(row.text or "").strip() for row in Tree.fromstring(path.read_bytes()).iter() if row.tag.rpartition("}")[2] == "Y"]
     return [Decimal(text.replace(",", ".")) for text in texts if text]
 
 
 def converted(folder: Folder, changes: list[str], source: Path, scale: Decimal = Decimal(1), words: tuple[str, ...] = ()) -> None:
-    """Converts t.xml: these changes are told, and no more; what is made is taken, and its rates are those of the source."""
+    """Converts t.xml, and asserts that exactly these changes are reported, that the result is accepted, and that its rates are
+    those of the source."""
     ended = folder.tools("table", "convert", "t.xml", "made.xml", *words)
     assert ended.status == 0, ended
     assert all(re.search(change, ended.err) for change in changes) and len(ended.err.splitlines()) == len(changes), ended
@@ -37,7 +39,7 @@ def converted(folder: Folder, changes: list[str], source: Path, scale: Decimal =
 
 @dataclass(frozen=True)
 class Form:
-    """How others write the table: a change of the plain text, its encoding, and what the conversion tells."""
+    """A form in which others write a table: a change of the plain text, its encoding, and what the conversion reports."""
 
     pattern: str
     to: str
@@ -124,7 +126,7 @@ def test_a_rounded_file_is_the_same_but_for_its_rates(folder: Folder) -> None:
 
 
 def test_rates_by_hand(folder: Folder) -> None:
-    """0.0004213387291 is 0.000421339 to nine places, 2.709e-10 more; 0.04213 of each 100 is 0.0004213."""
+    """0.0004213387291 is 0.000421339 to nine places, which is 2.709e-10 more; 0.04213 per 100 is 0.0004213."""
     rates = '<XTbML><Table><Values><Axis><Y t="0">{}</Y><Y t="1" >1</Y></Axis></Values></Table></XTbML>\n'
     folder.write("t.xml", rates.format("0.0004213387291"))
     rounded = folder.tools("table", "round", "t.xml", "rounded.xml")
@@ -151,7 +153,7 @@ def test_select_and_ultimate_rates_in_two_files_are_joined(folder: Folder) -> No
 
 
 def test_issue_axes_with_their_rates_directly_in_them(folder: Folder) -> None:
-    """They are read by age, of the first alone."""
+    """They are read by age, and only the first axis is read."""
     direct = re.sub(r"<Axis t=\"([0-9]*)\">\s*<Axis>(.*?)</Axis>\s*</Axis>", r'<Axis t="\1">\2</Axis>', SELECT, flags=re.S)
     folder.write("t.xml", direct)
     told = folder.printed("table", "check", "t.xml", status=1)
@@ -161,7 +163,7 @@ def test_issue_axes_with_their_rates_directly_in_them(folder: Folder) -> None:
 
 
 FIVES = "".join(f'<Y t="{age}">0.1</Y>' for age in range(0, 100, 5))
-# a change of the plain text, and why it can't be converted
+# a change of the plain text, and why the result can't be converted
 WRONG = {
     "ages by fives": (r"(?s)<Axis>.*</Axis>", f"<Axis>{FIVES}</Axis>", "age 5 comes after 0: what lies between isn't invented"),
     "a hole": (r'(<Y t="40">)[^<]*', r"\1", "the rate of age 40 .* is '', which is no number"),
@@ -175,7 +177,7 @@ WRONG = {
     "cut short": (r"(?s)</Y>\s*<Y t=\"50.*", "", "it is no XML"),
     "an entity": (r"<XTbML ", '<!DOCTYPE XTbML [<!ENTITY a "1">]><XTbML ', "it declares the entity a"),
     "deep elements": (r"(?s)\A.*\Z", "<XTbML>" + "<a>" * 70 + "</a>" * 70 + "</XTbML>", "more than 64 deep"),
-    # two levels of entities would make a hundred times the text
+    # two levels of entities would multiply the text by a hundred
     "entities of entities": (
         r"(?s)\A.*\Z", f'<!DOCTYPE x [<!ENTITY a "{"a" * 10}"><!ENTITY b "{"&a;" * 10}">]><XTbML>&b;</XTbML>',
         "it declares the entity a"),
@@ -235,7 +237,7 @@ def test_refused(examples_basis: Folder, words: str, says: str) -> None:
 
 
 def test_names_that_a_basis_cant_have(folder: Folder) -> None:
-    """A table's name with a blank, and a table in a file of another purpose: looked at all the same."""
+    """A table whose name has a blank, and a table in a file with another name's purpose, are checked all the same."""
     folder.take("q.xml")
     folder.write("a name.xml", folder.read("q.xml"))
     folder.write("basis.csv", folder.read("q.xml"))

@@ -1,5 +1,6 @@
-"""The bulk reader of what `value` and `state` print beside the one that reads line by line, on drawn texts, most of them with
-a byte changed: what the first takes is what the second takes, and right texts are taken by both."""
+"""Compares the reader of what `value` and `state` print that works on columns with the one that reads line by line, on drawn
+texts, most of them with one byte changed. Whatever the first reader accepts, the second accepts; right texts are accepted by
+both."""
 from __future__ import annotations
 
 from random import Random
@@ -22,7 +23,7 @@ BLOCKS = range(4)
 
 
 def value_text(draw: Random, book: Book) -> str:
-    """What `value` may print of a book, with drawn bounds."""
+    """Returns a text that `value` might print for a book, with drawn bounds."""
     measure = draw.choice(("", ",mean", ",deficiency"))
     lines, sums, words = list[str](), [0] * (4 if "def" in measure else 2), 0
     for policy in book.policies.values():
@@ -66,14 +67,14 @@ def said_of(read: Callable[[], T]) -> T | None:
 
 
 def parts_of(draw: Random, text: bytes) -> list[bytes]:
-    """The text in parts, as a pipe hands them over, read in blocks of another size."""
+    """Returns the text in parts, as a pipe delivers it; the reader's blocks have another size."""
     printed_columns.BLOCK = draw.choice((50, 1000, 1 << 20))
     size = draw.choice((1, 7, 100, 10**6))
     return [text[at:at + size] for at in range(0, len(text), size)]
 
 
 def compare_value(draw: Random, data: bytes) -> bool:
-    """Whether both readers take a valuation."""
+    """Returns whether the reader by columns accepts a valuation; if it does, both readers must agree."""
     found = said_of(lambda: valuation_of(parts_of(draw, data)))
     if found is None:
         return False
@@ -84,7 +85,7 @@ def compare_value(draw: Random, data: bytes) -> bool:
 
 
 def compare_state(draw: Random, data: bytes) -> bool:
-    """Whether both readers take a state."""
+    """Returns whether the reader by columns accepts a state; if it does, both readers must agree."""
     found = said_of(lambda: state_of(parts_of(draw, data)))
     if found is None:
         return False

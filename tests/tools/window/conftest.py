@@ -1,4 +1,4 @@
-"""A window over a book that has lived, by tools that were installed with the program under test."""
+"""Fixtures for a window on a book with many kinds of postings, by tools that were installed with the program under test."""
 from __future__ import annotations
 
 from pathlib import Path
@@ -17,13 +17,13 @@ POLICIES = 300
 
 @pytest.fixture(scope="session")
 def tools(tmp_path_factory: pytest.TempPathFactory, program: Program) -> Path:
-    """The tools as they are installed, with the program under test for theirs."""
+    """The tools as they are installed, with the program under test as their program."""
     return installed(tmp_path_factory.mktemp("installed"), program)
 
 
 @pytest.fixture(scope="session")
 def lived(tmp_path_factory: pytest.TempPathFactory, program: Program) -> Folder:
-    """A book of some 2,000 commands of 27 years, with a basis and another one."""
+    """A book of some 2,000 commands over 27 years, with a basis and a second one."""
     folder = Folder(tmp_path_factory.mktemp("lived") / "office", program)
     folder.path.mkdir()
     folder.write("journal.life", file_of(commands_lived(3, POLICIES)))
@@ -36,6 +36,6 @@ def lived(tmp_path_factory: pytest.TempPathFactory, program: Program) -> Folder:
 
 @pytest.fixture(scope="session")
 def window(tools: Path, lived: Folder) -> Iterator[Window]:
-    """An open window on it, of which tests only read."""
+    """An open window on this book, which tests only read."""
     with Window(tools, lived.path) as opened:
         yield opened

@@ -1,4 +1,5 @@
-"""Every number of a chart is the table's behind it and the program's, and each mark leads to a list that adds up to it."""
+"""Tests that every number of a chart is that of the table under it and of the program, and that each mark leads to a list that
+adds up to it."""
 from __future__ import annotations
 
 import datetime
@@ -29,7 +30,7 @@ def money(amount: int) -> str:
 
 
 def first_page(window: Window) -> Answer:
-    """The first page once every year-end is valued."""
+    """Returns the first page once every year-end is valued."""
     ends = time.monotonic() + PATIENCE
     while time.monotonic() < ends:
         answer = window.page("/1/")
@@ -40,19 +41,19 @@ def first_page(window: Window) -> Answer:
 
 
 def told(marks: Iterable[str]) -> dict[str, str]:
-    """What marks say, by their names."""
+    """Returns what the marks say, by their names."""
     return dict(each.rsplit(": ", 1) for each in marks)
 
 
 def behind(answer: Answer, label: str) -> list[list[str]]:
-    """The rows of the table behind a chart."""
+    """Returns the rows of the table under a chart."""
     captions = re.findall(r"<caption[^>]*>(.*?)</caption>", answer.page)
     return answer.rows(next(each for each in captions if each.startswith(label)))
 
 
 # --- the first page ---
 
-# it runs the program and the tools three times for each of twelve year-ends
+# the page runs the program and the tools three times for each of twelve year-ends
 @pytest.mark.timeout(1200)
 def test_year_ends_are_what_the_program_prints(window: Window, lived: Folder) -> None:
     answer = first_page(window)
@@ -90,7 +91,7 @@ def balance(lived: Folder, account: str) -> int:
 
 
 def test_claims_and_maturities_make_the_account_incurred(window: Window, lived: Folder) -> None:
-    """Of the years that are shown by posting, and of all years by the account."""
+    """The years that are shown are compared posting by posting; the sum of all years is compared with the account."""
     answer = window.page("/1/")
     marks, rows = told(answer.marks("Claims and maturities")), behind(answer, "Claims and maturities")
     wanted: Counter[tuple[str, str]] = Counter()
@@ -104,7 +105,7 @@ def test_claims_and_maturities_make_the_account_incurred(window: Window, lived: 
 
 
 def steps_of(commands: Iterable[Command]) -> Iterable[tuple[Command, Policy]]:
-    """Each command with the policy that it leaves, by the rules of one command after the other."""
+    """Yields each command with the policy that it leaves, by the rules for one command after another."""
     policies: dict[int, Policy] = {}
     for command in commands:
         if command.kind != "upgrade":
@@ -115,7 +116,8 @@ def steps_of(commands: Iterable[Command]) -> Iterable[tuple[Command, Policy]]:
 
 
 def installments() -> tuple[Counter[str], Counter[str]]:
-    """By months: what fell due and was paid or is unpaid of a policy in force, and what was received; one after another."""
+    """Returns by months what fell due, and was paid or is unpaid on a policy in force, and what was received; computed command
+    by command."""
     due: Counter[str] = Counter()
     received: Counter[str] = Counter()
     policies: dict[int, Policy] = {}
@@ -147,7 +149,7 @@ def test_premiums_by_month(window: Window, lived: Folder) -> None:
 
 
 def test_what_falls_due_next_is_what_due_lists(window: Window, lived: Folder) -> None:
-    """Of the next month those whose premiums before are paid, which `due` lists within its days."""
+    """The premiums of the next month whose predecessors are paid are those that `due` lists within its days."""
     printed = lived.tools("due", "2024-12-31", "--within", "31").out.splitlines()
     listed = sum(cents(line.split(",")[4]) for line in printed
                  if line.startswith("premium,") and line.split(",")[2] > "2024-12-31")
@@ -219,7 +221,7 @@ def test_the_waterfall_is_the_movement(window: Window, lived: Folder) -> None:
 
 
 def test_a_movement_of_mean_reserves(window: Window, lived: Folder) -> None:
-    """The page says by which reserves it is; its ends are what the tool prints by the same."""
+    """The page names the reserves that it shows; its opening and closing reserves are what the tool prints for them."""
     answer = window.page(f"/1/movement?{moments(lived)}&measure=mean")
     words = re.findall(r"[0-9-]+", re.sub("(on|p)[12]=", "", moments(lived)))
     closing = re.search("^closing reserve +[0-9]+ +([0-9.]+)", lived.printed("movement", *words, "--mean"), re.M)

@@ -1,5 +1,5 @@
-"""The door: an address that works once and goes to its owner alone, a prefix that no other server of the machine is shown,
-limits of connections and time, hostile requests, and what a dead window left."""
+"""Tests the window's door: an address that works once and is given only to its owner, a prefix that isn't shown to other
+servers of the machine, limits of connections and time, hostile requests, and what a killed window left."""
 from __future__ import annotations
 
 import hashlib
@@ -26,7 +26,7 @@ MOST_CONNECTIONS, WHOLE_REQUEST = 64, 15
 
 
 def raw(window: Window, head: str, body: bytes = b"") -> tuple[int, str]:
-    """The status of a request as it is sent, and what follows; 0 where nothing is answered."""
+    """Sends a request as it is; returns the status, which is 0 if nothing is answered, and what follows it."""
     with socket.create_connection(("127.0.0.1", window.port), PATIENCE) as line:
         line.sendall(head.encode("latin-1") + b"\r\n\r\n" + body)
         line.shutdown(socket.SHUT_WR)
@@ -54,7 +54,8 @@ def test_the_address_works_once(tools: Path, lived: Folder, tmp_path: Path) -> N
 
 
 def test_an_address_for_a_colleague(tools: Path, lived: Folder, tmp_path: Path) -> None:
-    """A page has an address that lets somebody else in once, to the page as it is; a page can be asked for by no word of it."""
+    """A page has an address that lets somebody else in once, to the page as it is; no argument of the address can ask for
+    another page."""
     with Window(tools, lived.path, temporary=tmp_path) as window:
         page = window.page("/1/find?plan=term&at=700")
         link = next(each for each in page.links() if "/share?" in each)
@@ -73,7 +74,7 @@ def test_an_address_for_a_colleague(tools: Path, lived: Folder, tmp_path: Path) 
 
 
 def test_the_key_is_not_written_to_a_pipe(tools: Path, lived: Folder, tmp_path: Path) -> None:
-    """What is printed to a pipe is the path of a file that its owner alone can read."""
+    """What is printed to a pipe is the path of a file that only its owner can read."""
     words = [sys.executable, "-B", str(tools), "browse", "--port", "0", "--folder", str(lived.path)]
     with subprocess.Popen(words, env={**os.environ, "TMPDIR": str(tmp_path)}, stdout=subprocess.PIPE, stderr=subprocess.DEVNULL,
                           text=True) as process:
@@ -89,7 +90,7 @@ def test_the_key_is_not_written_to_a_pipe(tools: Path, lived: Folder, tmp_path: 
 # --- limits ---
 
 def test_a_slow_request_is_ended(window: Window) -> None:
-    """A byte each second is too slow for 15 seconds."""
+    """A byte every half second is too slow for a limit of 15 seconds."""
     with socket.create_connection(("127.0.0.1", window.port), PATIENCE) as line:
         begun = time.monotonic()
         with pytest.raises(OSError):
@@ -101,7 +102,7 @@ def test_a_slow_request_is_ended(window: Window) -> None:
 
 
 def test_no_more_connections_than_it_serves(window: Window) -> None:
-    """A hundred that say nothing: those beyond the most are ended at once, and all others in time."""
+    """A hundred connections say nothing: those beyond the limit are ended at once, and all others in time."""
     held = [socket.create_connection(("127.0.0.1", window.port), PATIENCE) for _ in range(100)]
     try:
         time.sleep(2)
@@ -218,7 +219,7 @@ def test_a_pipe_in_place_of_the_newest_run_is_a_page_with_the_reason(tools: Path
 # --- requests that no browser of a person sends ---
 
 def requests(it: Window) -> Iterator[tuple[str, tuple[int, str]]]:
-    """Each with its name."""
+    """Yields each request's name and its reply."""
     root, host = it.root, f"127.0.0.1:{it.port}"
 
     def asks(target: str, method: str = "GET", to: str = host, cookie: str = it.cookie, more: str = "",
@@ -263,7 +264,7 @@ def requests(it: Window) -> Iterator[tuple[str, tuple[int, str]]]:
 
 
 def kept(folder: Path) -> dict[str, tuple[str, int]]:
-    """What lies in the book's folder: names, contents, and when each was written."""
+    """Returns what lies in the book's folder: names, contents, and when each file was written."""
     return {str(path): (hashlib.sha256(path.read_bytes()).hexdigest(), path.stat().st_mtime_ns)
             for path in folder.rglob("*") if path.is_file()}
 

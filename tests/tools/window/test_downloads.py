@@ -1,4 +1,4 @@
-"""The downloads of a window: they add up to what the program prints, and no cell of them begins a formula."""
+"""Tests the downloads of a window: they add up to what the program prints, and no cell of them begins a formula."""
 from __future__ import annotations
 
 import csv

@@ -1,4 +1,4 @@
-"""A window is opened on one book or several, only reads what it shows, and leaves nothing behind."""
+"""Tests that a window opens one book or several, only reads what it shows, and leaves nothing in its temporary folder."""
 from __future__ import annotations
 
 import fcntl
@@ -21,7 +21,7 @@ pytestmark = pytest.mark.needs("python:flask")
 
 @pytest.fixture
 def two(lived: Folder, table_q: Folder) -> Folder:
-    """A folder with a list of two books: the one that has lived, and one with a single policy."""
+    """A folder with a list of two books: the one with many kinds of postings, and one with a single policy."""
     shutil.copytree(lived.path, table_q.path / "one")
     other = table_q.below("two")
     for name in ("q.xml", "basis.csv"):
@@ -54,7 +54,7 @@ def sums(folder: Path) -> dict[str, str]:
 
 @pytest.mark.needs("strace")
 def test_a_book_in_use_is_only_read(tools: Path, two: Folder, tmp_path: Path) -> None:
-    """Another process has the journal; the window opens it for reading alone, and writes nothing beside it."""
+    """Another process has locked the journal; the window opens it only for reading, and writes nothing in the book's folder."""
     calls, before = tmp_path / "calls", sums(two.path)
     shutil.copy(tools, tmp_path / "bin-life-tools")
     wrapped = tmp_path / "traced.py"

@@ -1,4 +1,5 @@
-"""What a page is of: its header and footer name it, its address is tied to it, and the audit is of a day's own position."""
+"""Tests which position a page shows: its header and footer name it, its address is tied to it, and the audit of a day is of
+that day's position."""
 from __future__ import annotations
 
 import csv
@@ -21,7 +22,7 @@ def position_of(lived: Folder, day: str) -> int:
 
 
 def named(answer: Answer, tag: str) -> int:
-    """The position that the header or the footer names."""
+    """Returns the position that the header or the footer names."""
     part = re.search(rf"<{tag}>.*?</{tag}>", answer.page, re.S)
     assert part
     found = re.search(r"position ([0-9,]+)", re.sub("<[^>]*>", " ", part[0]))
@@ -49,7 +50,7 @@ def test_any_day_leads_to_its_position(window: Window, lived: Folder) -> None:
 
 
 def test_the_audit_is_of_the_days_position(window: Window, lived: Folder) -> None:
-    """Sample, papers, letters, seal and flags of a year-end are those that the tools make of its position."""
+    """Sample, papers, letters, seal and flags of a year-end are those that the tools make for its position."""
     position = position_of(lived, YEAR_END)
     page = window.page(f"/1/audit?on={YEAR_END}")
     hidden = re.findall(r'name="at" value="([^"]*)"', page.page)
@@ -79,7 +80,7 @@ def test_a_letter_of_each_drawn_policy_is_of_the_position(window: Window, lived:
 
 @pytest.fixture
 def copied(lived: Folder, tmp_path: Path) -> Folder:
-    """A book of its own, which a test may change."""
+    """A copy of the book, which a test may change."""
     shutil.copytree(lived.path, tmp_path / "office")
     return Folder(tmp_path / "office", lived.program)
 
@@ -106,7 +107,7 @@ def test_a_changed_basis_is_told_and_changes_no_old_page(tools: Path, copied: Fo
 
 
 def test_a_table_that_changes_and_a_basis_that_is_no_text_are_told(tools: Path, copied: Folder) -> None:
-    """Both are told on each page, and a page that is there stays."""
+    """Both are reported on each page, and a page that was made before stays as it is."""
     with Window(tools, copied.path) as window:
         before = window.page("/1/find").rows("Policies")
         table = copied.read("g.xml")

@@ -1,4 +1,4 @@
-"""Pages on paper, and at a desk's usual width: what a person reads there, over amounts of nine digits and more."""
+"""Tests pages on paper, and at the usual width of a desk: what a person reads there, with amounts of nine digits and more."""
 from __future__ import annotations
 
 import base64
@@ -50,7 +50,7 @@ def words_on_paper(browser: Any, folder: Path) -> list[str]:
 
 
 def test_the_statement_on_paper_and_on_a_screen(browser: Any, tmp_path: Path) -> None:
-    """By hand: 3 * 99999999.99 and so on, 1088888892.48 in all, of 12 policies."""
+    """By hand: 3 * 99999999.99 and so on, 1088888892.48 in all, for 12 policies."""
     browser.open(browser.base + STATEMENT)
     browser.look("statement")
     words = words_on_paper(browser, tmp_path)

@@ -1,4 +1,4 @@
-"""Which program is asked: another one than the tools' own gets no mark of proof, on no page, sheet or file."""
+"""Tests which program is used: for a program other than the tools' own no page, sheet or file has the mark of proof."""
 from __future__ import annotations
 
 import csv
@@ -21,7 +21,7 @@ PAGES = ("/1/", "/1/find", "/1/policy?number=7001&on=2021-01-01", "/1/report?on=
 
 @pytest.fixture
 def office(table_q: Folder) -> Folder:
-    """A book of the one policy whose reserve is worked out by hand: 127.22 to 127.23 on 2021-01-01."""
+    """A book with only the policy whose reserve is computed by hand: 127.22 to 127.23 on 2021-01-01."""
     book = table_q.below("office")
     for name in ("q.xml", "basis.csv"):
         book.write(name, table_q.read(name))
@@ -40,7 +40,7 @@ def forger(tmp_path: Path, program: Program) -> Path:
 
 @pytest.fixture
 def other(tmp_path: Path, program: Program) -> Path:
-    """Another program than the tools' own, which prints what that prints."""
+    """A program other than the tools' own, which prints the same."""
     path = tmp_path / "other"
     path.write_text(f"#!/bin/sh\nexec '{program.path}' \"$@\"\n")
     path.chmod(0o755)
@@ -134,7 +134,7 @@ def test_a_csv_names_another_program(office: Folder, other: Path) -> None:
 
 
 def test_version_judges_the_program_that_is_asked(office: Folder, other: Path, program: Program) -> None:
-    """Beside the program that the tools belong to, LIFE_PROGRAM may name another one, which all tools then ask."""
+    """LIFE_PROGRAM may name another program than the one that the tools belong to; all tools then use it."""
     asked = Folder(office.path, Program(other, False))
     told = asked.tools("version")
     assert told.status == 1 and "wrong: LIFE_PROGRAM names another program" in told.out

@@ -1,4 +1,4 @@
-"""Books with little in them: no policy, one, or nothing posted for months. Each page of such a book is there and is right."""
+"""Tests books with little in them: no policy, one, or nothing posted for months. Each page of such a book exists and is right."""
 from __future__ import annotations
 
 import os
@@ -38,8 +38,8 @@ def test_each_page_of_an_empty_book(tools: Path, table_q: Folder) -> None:
 
 
 def test_a_day_months_after_the_last_posting(tools: Path, table_q: Folder) -> None:
-    """As it stood on a day its year-end is shown, though nothing was posted since July, and arrears are those of the day. Of the
-    newest position no year-end is shown that its postings don't reach."""
+    """For the state on a day, the year-end is shown, although nothing was posted since July, and arrears are those of the day.
+    For the newest position, no year-end is shown that its postings don't reach."""
     book = below(table_q, "office")
     book.post("1,issue,7001,2020-01-01,endowment,0,3,1000.00,400.00\n1,issue,7002,2020-07-01,endowment,0,3,1000.00,400.00\n")
     book.post("1,issue,7003,2021-01-01,endowment,0,3,1000.00,400.00\n")

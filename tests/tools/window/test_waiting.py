@@ -1,4 +1,5 @@
-"""What waits for a person: rows that `day` holds back and rows that were refused, counted on the first page and listed."""
+"""Tests what waits for a person: rows that `day` holds back and rows that were refused are counted on the first page and
+listed."""
 from __future__ import annotations
 
 import os
@@ -13,7 +14,8 @@ pytestmark = pytest.mark.needs("python:flask")
 
 
 def test_held_and_refused_rows(tools: Path, table_q: Folder) -> None:
-    """By hand: of the second file the first row is of a day far in the future, so it is held; the second names no policy."""
+    """By hand: in the second file the first row has a day far in the future, so it is held; the second row names an unknown
+    policy."""
     office = table_q.below("office")
     for name in ("q.xml", "basis.csv"):
         office.write(name, table_q.read(name))

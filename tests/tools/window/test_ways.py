@@ -1,5 +1,5 @@
-"""A clerk's, an administrator's, an actuary's, an auditor's and an operator's way through the window, in Chromium at a desk's, a
-tablet's and a phone's width, light and dark; what the pages say is compared with what the program and the tools print."""
+"""Tests what a clerk, an administrator, an actuary, an auditor and an operator do in the window, in Chromium at the widths of
+a desk, a tablet and a phone, in light and dark. What the pages say is compared with what the program and the tools print."""
 from __future__ import annotations
 
 import json
@@ -16,14 +16,14 @@ from tests.support.windows import Window
 
 pytestmark = [pytest.mark.browser, pytest.mark.needs("python:flask", "python:selenium")]
 YEAR_END = "2022-12-31"
-# the statuses that a person reads otherwise than the program prints them
+# statuses that a person reads in other words than the program prints
 SAYS = {"inforce": "in force", "paidup": "paid up"}
 SHOTS = ROOT / "out" / "shots"
 TAB = "\ue004"
 
 
 class Book:
-    """What the program and the tools print of the book."""
+    """What the program and the tools print for the book."""
 
     def __init__(self, folder: Folder) -> None:
         self.folder = folder
@@ -36,7 +36,7 @@ class Book:
         return ended.out
 
     def tool(self, *words: str) -> tuple[str, str]:
-        """What a tool prints, asked once of each state of the journal."""
+        """Returns what a tool prints; it is run once for each state of the journal."""
         key = self.folder.journal.stat().st_size, words
         if key not in self.told:
             ended = self.folder.tools(*words)
@@ -66,7 +66,7 @@ def demand(right: object, what: str) -> None:
 
 @pytest.fixture(scope="module")
 def office(tmp_path_factory: pytest.TempPathFactory, program: Program) -> Folder:
-    """A book of drawn policies, of the examples' small office and of 7001, with a run in its log and a backup."""
+    """A book of drawn policies, the small office of the examples and policy 7001, with a run in its log and a backup."""
     folder = Folder(tmp_path_factory.mktemp("ways") / "book", program)
     folder.path.mkdir()
     for name in ("q.xml", "g.xml"):
@@ -175,7 +175,7 @@ def day_lists(browser: Any, book: Book) -> None:
 
 
 def administrator(browser: Any, book: Book, base: str) -> None:
-    """Looks through lists, and takes what was posted since; an earlier page stays as it was."""
+    """Looks through lists, and takes up what was posted since; an earlier page stays as it was."""
     browser.open(base + "/1/find")
     browser.choose("Plan", "endowment")
     browser.press("Find")
@@ -216,7 +216,7 @@ def grows(browser: Any, book: Book, base: str) -> None:
 
 
 def actuary(browser: Any, book: Book, base: str) -> None:
-    """Chooses a year's end, values it, sees that all adds up, and has one reserve worked out."""
+    """Chooses a year-end, values it, sees that everything adds up, and has one reserve worked out."""
     browser.open(base + "/1/month")
     browser.type("Opening day", "2021-12-31")
     browser.type("Closing day", YEAR_END)
@@ -269,7 +269,7 @@ def reads_movement(browser: Any, book: Book, position: str) -> None:
 
 
 def reads_statement(browser: Any, book: Book) -> None:
-    """Each sheet adds up in the words that are read, and ends with what the program prints."""
+    """Asserts that each sheet adds up as it is read, and ends with what the program prints."""
     browser.says("Checked: the increase in reserves ends with exactly these")
     last = book.tool("position-on", "2024-06-30", "journal.life")[0].strip()
     total, increase = book.total("2024-06-30", "--at", last), browser.rows("Increase in reserves")
@@ -356,7 +356,7 @@ def auditor(browser: Any, book: Book, base: str) -> None:
 
 
 def operator(browser: Any, book: Book, base: str) -> None:
-    """Looks how the book stands, types what is no day, and goes by keys alone."""
+    """Looks at the state of the book, types what isn't a day, and uses only the keyboard."""
     browser.open(base + "/1/stands")
     browser.look("stands")
     demand(browser.facts()["postings"] == f"{book.count():,}", "the count of postings")
