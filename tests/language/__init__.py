@@ -1,1 +1,2 @@
-"""A small parser of the language: the sources (.rt) and the definitions of specs/ (.antt), and what follows from their texts."""
+"""A small parser of the language: it reads the sources (.rt) and the definitions of specs/ (.antt), and finds what follows
+from their texts."""

@@ -1,4 +1,4 @@
-"""What the definitions and sources say of themselves.
+"""Reports what the definitions and sources say about themselves.
 
 usage: python3 -m tests.language above CRATE          the crates that a change of this one has proved again
        python3 -m tests.language counts               how much is to be read for the main statements
@@ -6,7 +6,7 @@ usage: python3 -m tests.language above CRATE          the crates that a change o
        python3 -m tests.language rests [--less NAME] NAME..    the definitions that a name rests on, by file
        python3 -m tests.language cases                what no worked case holds, and which cases are conditional
 
-A NAME is a definition, as life_app.specs.Headline.IsPromised, or a file of the code, as life_app/src/program.rt.
+A NAME is a definition, such as life_app.specs.Headline.IsPromised, or a file of the code, such as life_app/src/program.rt.
 """
 from __future__ import annotations
 

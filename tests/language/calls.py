@@ -1,10 +1,9 @@
-"""Which public functions of the program `main` reaches, by the texts of the sources.
+"""Finds which public functions of the program `main` reaches, from the texts of the sources.
 
-A function is reached where reached code names it. A method is reached where reached code calls one of its name with as many
-arguments, its type is named by reached code, and the calling file knows the type: it names the type, or something that it
-names has the type in its fields or its head. A method of a trait is also reached through its trait, and where its trait is
-from outside of the program. Types aren't inferred: where a file knows two types, a call of a method that both have reaches
-both.
+A function is reached if reached code names it. A method is reached if reached code calls a method of its name with as many
+arguments, its type is named by reached code, and the calling file knows the type: the file names the type, or something that it
+names has the type in its fields or its head. A method of a trait is also reached through its trait, or if its trait comes from
+outside the program. Types aren't inferred: if a file knows two types, a call of a method that both have reaches both methods.
 """
 from __future__ import annotations
 
@@ -19,7 +18,7 @@ from .tokens import Token
 
 @dataclass(frozen=True)
 class Call:
-    """A name in a body: what stands before it, and how many arguments follow; -1 where none are written."""
+    """A name in a body: what stands before it, and how many arguments follow it; -1 if none are written."""
 
     name: str
     before: str
@@ -27,7 +26,7 @@ class Call:
 
 
 def calls_in(body: list[Token]) -> Iterator[Call]:
-    """The lower-case names of a body, each with what stands before it: `.`, the word before `::`, or nothing."""
+    """Yields the lower-case names of a body, each with what stands before it: `.`, the word before `::`, or nothing."""
     for at, one in enumerate(body):
         if one.kind != "word" or not (one.text[0].islower() or one.text[0] == "_"):
             continue
@@ -41,7 +40,7 @@ def calls_in(body: list[Token]) -> Iterator[Call]:
 
 
 def path_before(body: list[Token], at: int) -> str:
-    """The word before the `::` in front of this place; parameters in angles are passed over."""
+    """Returns the word before the `::` that precedes this place; type arguments in angle brackets are skipped."""
     place = at - 2
     if place >= 0 and body[place].text == ">":
         depth = 0
@@ -66,7 +65,8 @@ def behind_angles(body: list[Token], at: int) -> int:
 
 
 def arguments_of(body: list[Token], at: int) -> list[list[Token]]:
-    """The arguments of a call. A comma between `<` and `>` can't be told from one between comparisons, so both ways are one."""
+    """Returns the arguments of a call. A comma between `<` and `>` can't be distinguished from one between two comparisons; it
+    is counted as one that separates arguments."""
     found: list[list[Token]] = [[]]
     depth = 0
     for one in body[at:]:
@@ -119,7 +119,8 @@ class Program:
         self.reached: set[Function] = set()
 
     def meant(self, file: Path, name: str) -> set[Key]:
-        """The types of the program that a name means in a file: one that the file brings, or one of its own crate."""
+        """Returns the types of the program that a name can mean in a file: a type that the file imports, or one of its own
+        crate."""
         use = self.brought[file].get(name)
         crate = self.sources[file].crate
         if use is None or use.first in ("crate", "super", "self"):
@@ -130,7 +131,7 @@ class Program:
         return {(use.first, use.name)} if (use.first, use.name) in self.types else self.named[use.name]
 
     def closed(self, some: Iterable[Key]) -> set[Key]:
-        """These types, and those that they are made of."""
+        """Returns these types, and the types that they are made of."""
         found: set[Key] = set()
         left = set(some)
         while left:
@@ -142,8 +143,8 @@ class Program:
         return found
 
     def known_to(self, file: Path) -> set[Key]:
-        """The types that a file knows: those that it names, those that these are made of, and those in the heads of what it calls
-        of them."""
+        """Returns the types that a file knows: those that it names, those that these are made of, and those in the heads of
+        the functions that it calls on them."""
         if file not in self.known:
             source = self.sources[file]
             said = {word for one in source.functions for word in words_of(one.head) | words_of(one.body) | {one.owner}}
@@ -160,13 +161,14 @@ class Program:
         return self.known[file]
 
     def may_call(self, file: Path, one: Function, known: set[Key]) -> bool:
-        """Whether a file that names a function may mean this one: it has its type, or brings it."""
+        """Returns whether a file that names a function may mean this one: it knows the function's type, or imports the
+        function."""
         if one.owner:
             return bool(self.meant(one.file, one.owner) & known)
         return one.name in self.brought[file] or one.crate == self.sources[file].crate
 
     def reach(self, main: Function) -> None:
-        """Takes in what `main` reaches, until nothing is new."""
+        """Adds everything that `main` reaches, until nothing new is found."""
         self.take(main)
         found = True
         while found:
@@ -176,7 +178,7 @@ class Program:
                 self.take(one)
 
     def is_met(self, one: Function) -> bool:
-        """Whether a method is called on a type that is met, or through its trait."""
+        """Returns whether a method is called on a type that reached code names, or through its trait."""
         owners = self.meant(one.file, one.owner) if one.owner else set()
         if not owners & self.mentioned:
             return False
@@ -191,7 +193,7 @@ class Program:
         if before == ".":
             return one.has_self and given in (len(one.parameters) - 1, -1)
         meant = self.meant(file, before)
-        # a type parameter, or the type itself, a name for it, or a trait of its
+        # a type parameter, the type itself, a name for the type, or one of its traits
         return not meant or bool(keys & self.closed(meant)) or bool(meant & self.traits)
 
     def take(self, one: Function) -> None:
@@ -207,7 +209,7 @@ class Program:
                 self.call(source, call.name, call.arguments >= 0, before)
 
     def call(self, source: Source, name: str, is_call: bool, module: str) -> None:
-        """A function is called, or handed on, by a name that the file brings or has."""
+        """Takes in a function that is called, or passed on, by a name that the file imports or defines."""
         brought = next((one for one in source.uses if one.local == name), None)
         crate = source.crate if brought is None or brought.first in ("crate", "super", "self") else brought.first
         meant = brought.name if brought else name
@@ -222,12 +224,12 @@ class Program:
 
 
 def is_run(one: Function) -> bool:
-    """Whether a function is there to be run: it is no law, whose body is empty, and no worked case."""
+    """Returns whether a function is there to be run: it isn't a law, whose body is empty, and isn't a worked case."""
     return not one.is_law and "worked" not in one.file.name and "worked" not in one.file.parts
 
 
 def reached_and_not(changed: Iterable[Source] = ()) -> tuple[set[str], set[str]]:
-    """The public functions that `main` reaches and the others, with these sources in place of those that stand there."""
+    """Returns the public functions that `main` reaches and the others, with these sources in place of the files on the disk."""
     crates = [crate for crate in crates_of_the_program() if crate != "measure"]
     others = {one.file: one for one in changed}
     program = Program([others.get(source.file, source) for crate in crates for source in sources_of(crate)])

@@ -1,16 +1,17 @@
-"""Which definitions under the promise no worked case rests on, and which premises of it no worked case builds.
+"""Finds the definitions under the promise that no worked case holds, and the premises of the promise that no worked case builds.
 
-A worked case is a definition of a file specs/Worked*.antt, or below specs/Worked*/, that a contract names: a theorem on
-small values from outside. It holds what its words name, and so on down, but for what is said of a disk, whatever it is: a
-case that names that says nothing of it. The worked run (`life_app/specs/WorkedRun`) names whole runs, under which all else
-stands; so it holds what it names itself, and what it builds. Each definition under a clause of a public function of
-`life_app` and `life_cli` has to be held so, or to stand below with the reason; and none that is held may stand there.
+A worked case is a definition of a file specs/Worked*.antt, or below specs/Worked*/, that a contract names: a theorem on small
+values that come from outside. A case holds the definitions that it names, those that these name, and so on. It holds nothing
+below a statement about any disk (OF_A_DISK), because a case that names such a statement says nothing about it. The worked run
+(`life_app/specs/WorkedRun`) names whole runs, which rest on everything else; so it holds only what it names itself, and what it
+builds. Each definition under a clause of a public function of `life_app` and `life_cli` must be held in this way, or be listed
+below with the reason; and no definition that is held may be listed.
 
-A premise of such a clause, and each statement of these two crates under one, has to be built: a case shows it, as a part
-that is no choice, by its name or in a field of what it builds (`statements`). A premise that nothing builds might never
-hold, and then the law under it says nothing. So might a case of which a part, or the function that shows it, stands under a
-hypothesis that no case builds (`conditions`, `plain_data`): it is conditional, builds nothing, and has to stand below
-with the reason. tests/repository/test_cases.py tries that.
+A premise of such a clause, and each statement of these two crates under a premise, must be built: a case shows it, in a part that
+isn't a choice, by its name or in a field of what the case builds (`statements`). A premise that nothing builds might never hold,
+and then the law under it says nothing. The same is true of a case if one of its parts, or the function that shows it, stands
+under a hypothesis that no case builds (`conditions`, `plain_data`): such a case is conditional, builds nothing, and must be
+listed below with the reason. tests/repository/test_cases.py checks this.
 """
 from __future__ import annotations
 
@@ -25,14 +26,14 @@ from .source import CRATES, Function, Source, parsed
 HOME = ("life_app.specs.", "life_cli.specs.")
 WORKED = re.compile(r"\.specs\.(?:\w+\.)*Worked\w*\.")
 
-# Of a disk, whatever it is. A case that names these says nothing of what stands below them.
+# Statements about any disk. A case that names these says nothing about the definitions below them.
 OF_A_DISK = set("""
     outside_io.specs.Disks.Elapses outside_io.specs.Disks.Looks outside_io.specs.Disks.Only
     outside_io.specs.Shelves.Files posting_journal.specs.Opening.IsSynced posting_journal.specs.Runs.IsSafe
     posting_journal.specs.Runs.LooksOn office_state.specs.Images.IsLeftBy office_state.specs.Images.IsLeftAlone
     office_state.specs.Images.HoldsSince office_state.specs.Images.HasKept office_state.specs.Images.KeepsAccepted""".split())
 
-# Held by no worked case, for good, by the reason.
+# The definitions that are never held by a worked case, by the reason.
 EXCEPTIONS = {
     "How a trial load ends: no worked run is one. It puts together what is held apart, and says no value of its own.":
         "trial_load.specs.Loading.IsLoadOf",
@@ -41,12 +42,12 @@ EXCEPTIONS = {
         program_endings.specs.Writing.shelf_between""",
 }
 
-# They say something of each value, or of the one that they find, by the statement that they are given.
+# These state something of each value, or of the value that they find, by the statement that they are given.
 TAKE_STATEMENTS = {"AllZip", "HoldsStill", "IsToldText", "JournalIs", "NeedsBasis", "ShelfHas"}
 
 EXCEPTED = {key for names in EXCEPTIONS.values() for key in names.split()}
 
-# Conditional, by the reason: which hypotheses, and the cases that stand under them.
+# The conditional cases, by the reason: which hypotheses, and the cases that stand under them.
 CONDITIONAL = {
     "What a mode's record means over any disk, which it leaves open.": (
         r"\w+ D\b.*|D\.honest new|D\.reads [\w.]+ ≡ (\[\]|codes \"hello\")|E\.may_leave disks\.kept image", """
@@ -70,7 +71,7 @@ CONDITIONAL = {
 
 
 class Texts:
-    """All definitions of specs/, what each shows and asks for, and what its words mean; and the code."""
+    """All definitions of specs/, with what each of them shows and asks for and what its names mean; and the code."""
 
     def __init__(self) -> None:
         self.definitions, self.imports = specs.read_specs()
@@ -87,7 +88,7 @@ class Texts:
         return parsed(path.relative_to(CRATES).parts[0], path, self.code[path])
 
     def changed(self, path: Path, text: str) -> Texts:
-        """The same with another text of a file."""
+        """Returns the same texts with another text for one file."""
         other = copy.copy(self)
         if path in self.code:
             other.code = self.code | {path: text}
@@ -105,7 +106,7 @@ class Texts:
         return found & self.definitions.keys()
 
     def meaning(self, word: str, place: str) -> conditions.Meaning | None:
-        """What a name of a worked file means in this file: its parameters, its clauses, and its own file."""
+        """Returns what a name of a worked file means in this file: its parameters, its clauses, and its own file."""
         if (word, place) not in self.meanings:
             self.meanings[word, place] = self.meaning_of(word, place)
         return self.meanings[word, place]
@@ -126,15 +127,15 @@ class Texts:
         return (given, statements.clauses_of(one.name, lines), one.place) if is_type else None
 
     def as_read(self, part: conditions.Part) -> conditions.Part:
-        """Under one more hypothesis where it begins by a name whose meaning isn't read here: one of a worked file, or another
-        that is given a statement and may make of it what it likes."""
+        """Adds a hypothesis to a part that begins with a name whose meaning isn't read here: a name of a worked file, or
+        another name that is given a statement and may do anything with it."""
         word = "" if conditions.sides(part.text)[0] else conditions.items(part.text)[0]
         unread = word[:1].isupper() and any(map(WORKED.search, self.keys_of(word, part.places))) or (
             word not in TAKE_STATEMENTS and self.gives_statement(part.text, part.places))
         return replace(part, supposed=part.supposed + (f"what {word} says",)) if unread else part
 
     def gives_statement(self, text: str, places: frozenset[str]) -> bool:
-        """Whether something in brackets begins by the name of a statement, also behind a `λ`."""
+        """Returns whether something in brackets begins with the name of a statement, also after a `λ`."""
         for group in statements.groups(text)[1]:
             said = re.split(r"[×→⊎:]|λ[^.]*\.\s", group)
             if any(self.is_statement(conditions.items(one)[0], places) for one in said if one.strip()):
@@ -147,11 +148,11 @@ class Texts:
         return {self.imports[place].get(word, f"{place}.{word}") for place in places} & self.definitions.keys()
 
     def is_statement(self, word: str, places: frozenset[str]) -> bool:
-        """Whether a name means a type that isn't of plain data."""
+        """Returns whether a name means a type that isn't plain data."""
         return word[:1].isupper() and bool(self.keys_of(word, places)) and not self.is_data(word, places)
 
     def side(self, key: str, side: str) -> set[str]:
-        """The definitions that this one shows for sure (`sure`), shows perhaps (`choice`), or asks for (`asked`)."""
+        """Returns the definitions that this one certainly shows (`sure`), perhaps shows (`choice`), or asks for (`asked`)."""
         place = self.definitions[key].place
         if key not in self.sides:
             self.sides[key] = statements.sides_of(self.definitions[key])
@@ -161,7 +162,7 @@ class Texts:
         return specs.reach(roots, self.definitions, self.imports, less)[0]
 
     def statements(self) -> set[str]:
-        """The definitions that say something, and aren't data: an equation, an order, a choice, or another one."""
+        """Returns the definitions that state something and aren't data: an equation, an order, a choice, or another statement."""
         says = {key for key, one in self.definitions.items() if re.search("[≡≢≤<⊥⊎⊤]|Unit {0}", statements.body_of(one))}
         size = 0
         while size < len(says):
@@ -171,7 +172,7 @@ class Texts:
 
 
 def contracts(texts: Texts) -> tuple[set[str], set[str]]:
-    """The definitions that public clauses of the two crates name, and those under them that are asked for."""
+    """Returns the definitions that public clauses of the two crates name, and those under them that are asked for."""
     named, open_names = set(), []
     for crate in (prefix.split(".")[0] for prefix in HOME):
         for path in texts.code:
@@ -187,7 +188,8 @@ def contracts(texts: Texts) -> tuple[set[str], set[str]]:
 
 
 def asked_for(texts: Texts, open_names: list[tuple[str, bool]]) -> set[str]:
-    """What is asked for, through the statements of the two crates; of others the first alone."""
+    """Returns what is asked for, followed through the statements of the two crates; of other crates only the first statement
+    is taken."""
     seen = set()
     while open_names:
         one = open_names.pop()
@@ -203,7 +205,8 @@ def asked_for(texts: Texts, open_names: list[tuple[str, bool]]) -> set[str]:
 
 
 def parts_of(texts: Texts) -> list[conditions.Part]:
-    """What the worked cases show, the definitions of worked files that clauses name, each under what its function asks for."""
+    """Returns what the worked cases show: the definitions of worked files that clauses name, each under what its function asks
+    for."""
     parts: list[conditions.Part] = []
     for path in texts.code:
         imports = texts.imports[str(path)]
@@ -220,14 +223,14 @@ def parts_of(texts: Texts) -> list[conditions.Part]:
 
 
 def contracts_in(source: Source) -> list[tuple[Function, list[tuple[bool, str]]]]:
-    """The public functions of a file, each with its clauses: whether each is shown, and what it says."""
+    """Returns the public functions of a file, each with its clauses: whether each clause is shown, and what it says."""
     return [(one, [(clause.side == "ensures", statements.bare(clause.text)) for clause in one.clauses])
             for one in source.functions if one.is_public]
 
 
 def given_to(one: Function, source: Source) -> tuple[str, ...]:
-    """What a function is given, but for devices as parameters: whoever can't give it is shown nothing. All of its head is, where
-    it is of a type's own, which may have parameters too."""
+    """Returns what a function is given, without parameters that are devices: a caller who can't give it is shown nothing. For
+    a function of a type the whole head is returned, because the type may have parameters, too."""
     said = " ".join(one.said.split())
     found = re.fullmatch(r"fn \w+(?:<([^()]*)>)?\(\)( -> [^()]*)?", said)
     if not found or one.kind:
@@ -236,19 +239,19 @@ def given_to(one: Function, source: Source) -> tuple[str, ...]:
 
 
 def is_device(given: str, source: Source) -> bool:
-    """Whether it is a parameter bound by a trait of devices, which the file has from the crate of these."""
+    """Returns whether this is a parameter bound by a trait of devices that the file imports from the crate of devices."""
     name, _, bound = given.partition(": ")
     return name in plain_data.PARAMETERS and any(one.first == "outside_io" and one.local == bound for one in source.uses)
 
 
 def cases_in(texts: Texts, clauses: list[tuple[bool, str]], imports: dict[str, str]) -> list[tuple[str, str]]:
-    """The names of worked cases that clauses show, each with the clause."""
+    """Returns the names of worked cases that clauses show, each with its clause."""
     return [(word, clause) for shown, clause in clauses if shown for word in sorted(set(specs.WORD.findall(clause)))
             if word in imports and WORKED.search(imports[word]) and imports[word] in texts.definitions]
 
 
 def built_by(texts: Texts, shown: list[conditions.Part]) -> set[str]:
-    """What these parts show for sure, and what that shows so."""
+    """Returns what these parts certainly show, and what that certainly shows."""
     built, open_names = set(), {part.case for part in shown}
     for part in shown:
         words = set() if part.text.endswith("→ ⊥") else statements.Sides().read(part.text).sure
@@ -262,7 +265,7 @@ def built_by(texts: Texts, shown: list[conditions.Part]) -> set[str]:
 
 
 def held_by(texts: Texts, cases: set[str], built: set[str]) -> set[str]:
-    """What the cases hold."""
+    """Returns the definitions that the cases hold."""
     whole = {key for key in texts.under(cases, set()) if key.startswith(HOME) and re.search(r"\.specs\.Worked\w", key)}
     named = set().union(*(specs.named_in(texts.definitions[key], texts.imports, texts.definitions) for key in whole))
     asked = set().union(*(texts.side(key, "asked") for key in whole))
@@ -271,7 +274,7 @@ def held_by(texts: Texts, cases: set[str], built: set[str]) -> set[str]:
 
 
 def told_conditional(shown: list[conditions.Part], others: list[conditions.Part]) -> tuple[list[str], set[str]]:
-    """What is wrong of the cases under hypotheses that no case builds, and each of them."""
+    """Returns what is wrong about cases under hypotheses that no case builds, and all these cases."""
     listed = {case: pattern for pattern, cases in CONDITIONAL.values() for case in cases.split()}
     shapes = conditions.by_shape(shown)
     found = sorted({(part.case, one) for part in others for one in conditions.unmet(part, shapes)})
@@ -283,12 +286,12 @@ def told_conditional(shown: list[conditions.Part], others: list[conditions.Part]
 
 
 def told_data(texts: Texts) -> list[str]:
-    """What is wrong of types of the code, each of which is taken for data."""
+    """Returns what is wrong about types of the code, each of which is taken for data."""
     return [f"no value can be had of {one}, so it is no data" for one in plain_data.without_values(texts.code)]
 
 
 def empty_parts(text: str) -> list[str]:
-    """The parts of a statement that say nothing: an equation or an order of a term with itself."""
+    """Returns the parts of a statement that say nothing: an equation or an order of a term with itself."""
     found: list[str] = []
     for side in statements.split(statements.split(conditions.bare(text), "→")[-1], "⊎"):
         for factor in statements.split(side, "×"):
@@ -304,7 +307,7 @@ def empty_parts(text: str) -> list[str]:
 
 
 def told_empty(texts: Texts, keys: set[str]) -> list[str]:
-    """What is wrong of these definitions: a part that says nothing."""
+    """Returns what is wrong about these definitions: a part that says nothing."""
     wrong = []
     for key in sorted(keys):
         one = texts.definitions[key]
@@ -316,7 +319,7 @@ def told_empty(texts: Texts, keys: set[str]) -> list[str]:
 
 
 class Found:
-    """What is wrong of these texts, and what was counted."""
+    """What is wrong in these texts, and what was counted."""
 
     def __init__(self, texts: Texts) -> None:
         parts = parts_of(texts)

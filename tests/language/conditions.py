@@ -1,8 +1,8 @@
-"""What a worked case shows, and under which hypotheses: the parts of a statement, each with what stands before its arrows.
+"""Reads what a worked case shows, and under which hypotheses: the parts of a statement, each with what stands before its arrows.
 
-Whoever reads `A → B` holds nothing of B before A is shown. A hypothesis is met where a case shows it, under none or under
-met ones, for some values of its variables; `⊥` never is. A binder is one too, but of plain data, that has a value. In
-`A → B → ⊥` it is B that is denied, and A that is supposed; in `A × B → ⊥` as well.
+A reader of `A → B` has nothing of B before A is shown. A hypothesis is met if a case shows it, under no hypothesis or under met
+ones, for some values of its variables; `⊥` is never met. A binder is a hypothesis, too, unless its type is plain data, which has
+a value. In `A → B → ⊥`, B is denied and A is supposed; likewise in `A × B → ⊥`.
 """
 from __future__ import annotations
 
@@ -17,13 +17,13 @@ BINDER = re.compile(r"^([^():→×⊎{}≡]+) : (.*)$", re.S)
 LAMBDA = re.compile(r"λ\s+(.*?)\.\s", re.S)
 SIGNS = "→≡≢≤<∷"
 
-# What a name means in a file, where that is read in its place: its parameters, its clauses, and its own file.
+# What a name means in a file in which its meaning is read: its parameters, its clauses, and its own file.
 Meaning = tuple[list[str], list[str], str]
 
 
 @dataclass(frozen=True)
 class Part:
-    """What a case shows: its text, what it supposes, the variables that stand for any value, and the files of its names."""
+    """A part of what a case shows: its text, what it supposes, the variables that stand for any value, and its names' files."""
 
     case: str
     text: str
@@ -32,13 +32,13 @@ class Part:
     places: frozenset[str]
 
 
-# Parts that are shown, by their shapes.
+# The parts that are shown, by their shapes.
 Shown = dict[tuple[str, int], list[Part]]
 
 
 @functools.cache
 def bare(text: str) -> str:
-    """In one line, without brackets around all of it."""
+    """Returns the text in one line, without brackets around the whole."""
     text = " ".join(text.split())
     while text.startswith("(") and closes(text) == len(text) - 1:
         text = text[1:-1].strip()
@@ -47,7 +47,7 @@ def bare(text: str) -> str:
 
 @functools.cache
 def closes(text: str) -> int:
-    """Where the bracket closes that opens the text."""
+    """Returns the place of the bracket that closes the one with which the text begins."""
     depth = 0
     for place, letter in enumerate(text):
         depth += (letter in statements.OPEN) - (letter in statements.CLOSE)
@@ -57,12 +57,13 @@ def closes(text: str) -> int:
 
 
 def binders(text: str) -> list[tuple[list[str], str]]:
-    """The names and the type of each binder of which the text is made, as `(a b : T) (c : U)`; none where it is another."""
+    """Returns the names and the type of each binder if the text consists of binders, such as `(a b : T) (c : U)`; otherwise
+    none."""
     found, rest = [], text.strip()
     while rest.startswith(("(", "{", "⦃")):
         end = closes(rest)
         one = BINDER.match(rest[1:end].strip())
-        # a bracket in a text in quotation marks has no other
+        # a bracket in a quoted text may have no counterpart
         if not one or end < 0:
             return []
         found.append((one[1].split(), one[2]))
@@ -72,7 +73,7 @@ def binders(text: str) -> list[tuple[list[str], str]]:
 
 @functools.cache
 def items(text: str) -> tuple[str, ...]:
-    """The words of a term, a bracketed part as one."""
+    """Returns the words of a term; a part in brackets is one word."""
     found, rest = [], text.strip()
     while rest:
         end = closes(rest) + 1 or len(rest) if rest[0] in statements.OPEN else len(re.split(r"[\s({⦃]", rest, maxsplit=1)[0])
@@ -83,7 +84,7 @@ def items(text: str) -> tuple[str, ...]:
 
 @functools.cache
 def sides(text: str) -> tuple[str, tuple[str, ...]]:
-    """The outermost sign of a term and what stands beside it, or no sign and its words."""
+    """Returns the outermost sign of a term and the terms on its sides; if there is no sign, the words of the term."""
     for sign in SIGNS:
         found = statements.split(text, sign)
         if len(found) > 1:
@@ -92,7 +93,7 @@ def sides(text: str) -> tuple[str, tuple[str, ...]]:
 
 
 def put(text: str, values: dict[str, str]) -> str:
-    """The text with these values for its names."""
+    """Returns the text with these values in place of its names."""
     if not values:
         return text
     word = re.compile(r"(?<![\w.\"?-])(" + "|".join(map(re.escape, values)) + r")(?![\w\"?-])")
@@ -100,8 +101,8 @@ def put(text: str, values: dict[str, str]) -> str:
 
 
 class Reader:
-    """Reads what a case shows. `meaning` tells what a name of a worked file means, if it is known, and `is_data` whether a
-    type is of plain data, that has a value. `heads` are the names by which the parts begin."""
+    """Reads what a case shows. `meaning` returns what a name of a worked file means, if that is known; `is_data` returns
+    whether a type is plain data, which has a value. `heads` are the names with which the parts begin."""
 
     def __init__(self, case: str, meaning: Callable[[str, str], Meaning | None],
                  is_data: Callable[[str, frozenset[str]], bool]) -> None:
@@ -110,7 +111,7 @@ class Reader:
         self.heads: set[str] = set()
 
     def read(self, text: str, within: Part) -> None:
-        """`within` has what stands around the text."""
+        """Reads a text; `within` is the part around it."""
         before = statements.split(bare(text), "→")
         after = before.pop().strip()
         denied = before.pop() if after == "⊥" and before else ""
@@ -125,12 +126,13 @@ class Reader:
             self.read_factors(within)
 
     def asked(self, one: str, places: frozenset[str]) -> tuple[str, ...]:
-        """What stands before an arrow, but for plain data."""
+        """Returns what stands before an arrow, without plain data."""
         bound = binders(one)
         return tuple(bare(kind) for _, kind in bound if not self.is_data(kind, places)) if bound else (bare(one),)
 
     def read_denied(self, text: str, within: Part) -> None:
-        """Of several factors the last is denied, under the others. Whoever denies `⊥` says nothing."""
+        """Reads a denied text. Of several factors the last is denied, and the others are supposed. A denial of `⊥` says
+        nothing."""
         *others, last = statements.split(self.unfolded(bare(text), within), "×")
         supposed = within.supposed + tuple(one for other in others for one in self.asked(other, within.places))
         denied = " × ".join(self.asked(last, within.places)) or bare(last)
@@ -139,7 +141,7 @@ class Reader:
         self.parts.append(Part(self.case, f"{denied} → ⊥", supposed, within.names, within.places))
 
     def unfolded(self, text: str, within: Part) -> str:
-        """What a name of a worked file means, put in its place where it is one statement."""
+        """Returns the text with the meaning of a name of a worked file in its place, if that meaning is one statement."""
         words = items(text)
         meant = self.meant(words[0], within) if words else None
         if meant and len(meant[0]) == len(words) - 1 and len(meant[1]) == 1:
@@ -177,7 +179,7 @@ class Reader:
                     self.read(said, Part(self.case, "", within.supposed, names, within.places))
 
     def read_choices(self, choices: list[str], within: Part) -> None:
-        """One of them holds, so none of them is shown."""
+        """Reads several choices. Only one of them holds, so none of them is shown."""
         known = len(self.parts)
         for one in choices:
             self.read(one, within)
@@ -198,8 +200,9 @@ class Reader:
 
 
 def fits(one: str, names: frozenset[str], other: str, others: frozenset[str], bound: dict[str, str]) -> bool:
-    """Whether the second is the first for some values of these names; what they are is noted. So is what the second's own
-    names have to be, by a mark, since each stands for any value, but for one at a time."""
+    """Returns whether the second term is the first one for some values of these names, which are noted in `bound`. Values that
+    the second term's own names must have are noted, too, with a mark, since each of these stands for any value, but only for
+    one at a time."""
     if one in names:
         return bound.setdefault(one, other) == other
     if other in others:
@@ -214,19 +217,19 @@ def fits(one: str, names: frozenset[str], other: str, others: frozenset[str], bo
 
 
 def fits_member(one: str, names: frozenset[str], other: str, bound: dict[str, str]) -> bool:
-    """Of `g.reads` and `called.reads`: the same member, of a value that the name may have."""
+    """Compares `g.reads` and `called.reads`: they are the same member, of a value that the name may have."""
     (owner, _, member), (value, _, same) = one.partition("."), other.partition(".")
     return bool(member) and member == same and owner in names and bound.setdefault(owner, value) == value
 
 
 @functools.cache
 def may_fit(one: str, names: frozenset[str], other: str, others: frozenset[str]) -> bool:
-    """Whether it does where nothing is known of the names yet."""
+    """Returns whether the second term fits the first one if nothing is known yet about the names."""
     return one != "⊥" and fits(one, names, other, others, {})
 
 
 def by_shape(parts: list[Part], before: Shown | None = None) -> Shown:
-    """The parts by the sign of each and how many terms are beside it, behind those before."""
+    """Returns the parts by their signs and numbers of terms, after the parts in `before`."""
     found = {shape: list(known) for shape, known in (before or {}).items()}
     for part in parts:
         sign, terms = sides(part.text)
@@ -235,7 +238,7 @@ def by_shape(parts: list[Part], before: Shown | None = None) -> Shown:
 
 
 def unmet(part: Part, shown: Shown) -> Iterator[str]:
-    """What the part supposes, and none of these shows."""
+    """Yields what the part supposes and none of these parts shows."""
     bound: dict[str, str] = {}
     for one in part.supposed:
         sign, terms = sides(one)
@@ -249,7 +252,7 @@ def unmet(part: Part, shown: Shown) -> Iterator[str]:
 
 
 def met(parts: list[Part]) -> tuple[list[Part], list[Part]]:
-    """The parts that stand under no hypothesis, or under met ones; and the others."""
+    """Returns the parts that stand under no hypothesis or only under met ones, and the other parts."""
     shown: list[Part] = []
     shapes: Shown = {}
     others = parts

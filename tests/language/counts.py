@@ -1,7 +1,7 @@
-"""How much is to be read for the main statements: the table in docs/proof/review.md.
+"""Counts how much there is to read for the main statements; the table is in docs/proof/review.md.
 
-tests/repository/promise.csv lists the clauses of the program and the definitions under them with their words, so that one
-that comes to say less is seen. `python3 -m tests.language counts --write` writes it anew.
+tests/repository/promise.csv lists the clauses of the program and the definitions under them with their numbers of words, so that
+one that comes to say less is noticed. `python3 -m tests.language counts --write` writes the list anew.
 """
 from __future__ import annotations
 
@@ -57,7 +57,8 @@ def table_of(public: Public) -> str:
 
 
 def list_of(public: Public) -> str:
-    """The definitions under the program's clauses and its clauses themselves, each with its words, as lines of CSV."""
+    """Returns the definitions under the program's clauses and the clauses themselves, each with its number of words, as lines
+    of CSV."""
     made = io.StringIO()
     rows = csv.writer(made, lineterminator="\n")
     rows.writerow(["what", "name", "words"])
@@ -70,6 +71,6 @@ def list_of(public: Public) -> str:
 
 
 def changed(public: Public) -> list[str]:
-    """The lines by which the list differs from what the definitions and clauses are now."""
+    """Returns the lines in which the list differs from the present definitions and clauses."""
     known, now = LIST.read_text(encoding="utf-8").splitlines(), list_of(public).splitlines()
     return [f"- {line}" for line in known if line not in now] + [f"+ {line}" for line in now if line not in known]

@@ -1,6 +1,8 @@
-"""Whether a type is of plain data, that has a value: whoever is given one is asked for nothing. Each word of it has to be
-known: a type of the kit, one of the code, which has no enumeration without values, a record of such fields, a `data` of which
-a value can be made of such, a name for such a type, or a type parameter of a function. All else is held for a statement.
+"""Decides whether a type is plain data, which has a value: a function that is given plain data is asked for nothing.
+
+Each word of the type must be known: a type of the kit, a type of the code (which has no enumeration without values), a record of
+such fields, a `data` of which a value can be made from such types, a name for such a type, or a type parameter of a function.
+Everything else is taken for a statement.
 """
 from __future__ import annotations
 
@@ -21,14 +23,14 @@ NO_VALUES = re.compile(r"\benum\s+(\w+)[^{;]*\{\s*\}")
 
 
 class PlainData:
-    """Tells it of types by the definitions of specs/ and what the names of each file mean."""
+    """Decides for types whether they are plain data, by the definitions of specs/ and by what the names of each file mean."""
 
     def __init__(self, definitions: dict[str, specs.Definition], imports: Imports) -> None:
         self.definitions, self.imports = definitions, imports
         self.told: dict[str, bool] = {}
 
     def holds(self, kind: str, places: frozenset[str], given: frozenset[str] = frozenset()) -> bool:
-        """Of a type as these files write it; `given` are type parameters."""
+        """Returns whether a type is plain data, as these files write it; `given` are its type parameters."""
         return bool(PLAIN.fullmatch(kind)) and all(
             word in given or self.of_word(word, places) for word in re.findall(r"[^\s()×]+", kind))
 
@@ -38,7 +40,8 @@ class PlainData:
         return all(map(self.of_key, keys)) if keys else word in PARAMETERS
 
     def of_key(self, key: str) -> bool:
-        """A type that rests on itself isn't known to have a value while that is looked for."""
+        """Returns whether a definition is plain data. A type that rests on itself isn't known to have a value while that is
+        being decided."""
         if key not in self.told:
             self.told[key] = False
             self.told[key] = key in OF_THE_KIT or ".specs.declared." in key or self.of_definition(key)
@@ -62,6 +65,6 @@ class PlainData:
 
 
 def without_values(code: dict[Path, str]) -> list[str]:
-    """The enumerations of the code that have no value, by their files."""
+    """Returns the enumerations of the code that have no value, by their files."""
     return [f"{path.relative_to(ROOT)} has {name}" for path, text in code.items() if "enum" in text
             for name in NO_VALUES.findall(statements.bare(text))]

@@ -1,4 +1,5 @@
-"""All that is public: the functions of each crate, and the definitions under their clauses, the program's and others'."""
+"""Collects what is public: the functions of each crate, and the definitions under the clauses of the program and of the other
+crates."""
 from __future__ import annotations
 
 from dataclasses import dataclass
@@ -12,7 +13,7 @@ PROGRAM = ("life_app", "life_cli")
 
 @dataclass
 class Public:
-    """The texts, the public functions with clauses of each crate, the definitions under the program's, and all others."""
+    """The texts, the public functions with clauses of each crate, the definitions under the program's clauses, and all others."""
 
     texts: Texts
     functions: dict[str, list[Function]]
@@ -21,7 +22,7 @@ class Public:
 
 
 def contracts_under(texts: Texts, functions: list[Function]) -> set[str]:
-    """The definitions under the clauses of these functions."""
+    """Returns the definitions under the clauses of these functions."""
     named: set[str] = set()
     for one in functions:
         imports = texts.imports[str(one.file)]

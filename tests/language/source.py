@@ -1,4 +1,4 @@
-"""The items of a source: its functions with their clauses, its types, constants and imports."""
+"""Parses a source into its items: functions with their clauses, types, constants and imports."""
 from __future__ import annotations
 
 import functools
@@ -26,7 +26,7 @@ class Clause:
 
     @property
     def said(self) -> str:
-        """Its text without comments, its lines moved to the left."""
+        """The text without comments, with its lines moved to the left."""
         lines = [line.split(" -- ")[0].rstrip() for line in self.text.splitlines()
                  if not line.strip().startswith(("--", "//"))]
         first, rest = (lines[0].strip(), lines[1:]) if lines else ("", [])
@@ -38,7 +38,7 @@ class Clause:
 
 @dataclass(eq=False)
 class Function:
-    """A function: where it stands, what it belongs to (an `impl` or a trait, of which type), its head, clauses and body."""
+    """A function: its place, what it belongs to (an `impl` or a trait, and of which type), its head, clauses and body."""
 
     crate: str
     file: Path
@@ -60,13 +60,13 @@ class Function:
 
     @property
     def shown(self) -> str:
-        """Its name as a page shows it: `Type::name as Trait`."""
+        """The name as a page shows it: `Type::name as Trait`."""
         name = f"{self.owner}::{self.name}" if self.owner else self.name
         return f"{name} as {self.trait}" if self.trait else name
 
     @property
     def place(self) -> str:
-        """Its file and line, from the crate's folder on."""
+        """The file and line, relative to the crate's folder."""
         return f"{self.file.relative_to(CRATES / self.crate).as_posix()}:{self.line}"
 
     @property
@@ -75,7 +75,7 @@ class Function:
 
     @property
     def parameters(self) -> list[list[Token]]:
-        """Each parameter's tokens, `self` among them."""
+        """The tokens of each parameter, including `self`."""
         begin = next((at for at, one in enumerate(self.head) if one.text == "("), None)
         return [] if begin is None else arguments(self.head, begin)
 
@@ -87,13 +87,13 @@ class Function:
 
     @property
     def is_law(self) -> bool:
-        """Whether it only states something: its body is empty."""
+        """Whether the function only states something, which means that its body is empty."""
         return not self.body
 
 
 @dataclass(frozen=True)
 class Use:
-    """A name that an import brings: the path's first word, the name there, and the name here."""
+    """A name that an import brings: the first word of the path, the name there, and the name in this file."""
 
     first: str
     name: str
@@ -113,7 +113,7 @@ class Named:
 
 @dataclass
 class Source:
-    """A file of a crate."""
+    """The items of one file of a crate."""
 
     crate: str
     file: Path
@@ -126,7 +126,8 @@ class Source:
 
 
 def arguments(tokens: list[Token], at: int) -> list[list[Token]]:
-    """What stands between the bracket at this place and its closing one, parted at commas; `<` and `>` are brackets too."""
+    """Returns what stands between the bracket at this place and its closing one, separated at commas; `<` and `>` count as
+    brackets, too."""
     found: list[list[Token]] = [[]]
     depth = 0
     for one in tokens[at + 1:closing(tokens, at)]:
@@ -140,7 +141,7 @@ def arguments(tokens: list[Token], at: int) -> list[list[Token]]:
 
 
 def used(tokens: list[Token]) -> Iterator[Use]:
-    """The names of one `use`, from behind that word to before its semicolon."""
+    """Yields the names of one `use`; the tokens are those after that word and before the semicolon."""
     def within(part: list[Token], first: str, before: str) -> Iterator[Use]:
         words = [one for one in part]
         path, at = before, 0
@@ -175,7 +176,7 @@ class Parser:
         return self.source
 
     def above(self, line: int, kind: str) -> str:
-        """The comment of this kind right above a line; lines of attributes may stand between."""
+        """Returns the comment of this kind directly above a line; lines of attributes may stand between them."""
         found: list[str] = []
         line -= 1
         while line > 0 and (line in self.comments and line not in self.code_lines or self.is_attribute(line)):
@@ -193,7 +194,7 @@ class Parser:
             at = self.item(at, owner)
 
     def item(self, at: int, owner: tuple[str, str, str]) -> int:
-        """Takes in the item at this place, and gives the place behind it."""
+        """Takes in the item at this place, and returns the place after it."""
         tokens, begin, is_public = self.tokens, at, False
         while tokens[at].text == "#":
             at = closing(tokens, at + (2 if tokens[at + 1].text == "!" else 1)) + 1
@@ -229,7 +230,7 @@ class Parser:
         self.source.named.append(Named(kind, self.tokens[at + 1].text, is_public, self.tokens[at].line, part))
 
     def end_of(self, at: int) -> int:
-        """Behind an item that ends with a semicolon, or with the braces that it has where it is a type or a macro."""
+        """Returns the place after an item that ends with a semicolon, or with its braces if it is a type or a macro."""
         tokens = self.tokens
         has_body = tokens[at].text not in ("const", "static", "type", "use", "ghost")
         while tokens[at].text != ";":
@@ -247,7 +248,7 @@ class Parser:
         return end + 1
 
     def block(self, at: int, is_public: bool) -> int:
-        """An `impl` or a trait, with what stands in it."""
+        """Takes in an `impl` or a trait with its items, and returns the place after it."""
         tokens = self.tokens
         opening = at
         while tokens[opening].text != "{":
@@ -295,7 +296,7 @@ class Parser:
 
 
 def owner_of(tokens: list[Token]) -> tuple[str, str]:
-    """The type and the trait of what stands between `impl` and its brace, without their parameters."""
+    """Returns the type and the trait between `impl` and its brace, without their parameters."""
     names: list[str] = []
     traits: list[str] = []
     depth = 0
@@ -317,7 +318,7 @@ def parsed(crate: str, file: Path, text: str) -> Source:
 
 
 def source_of(file: Path) -> Source:
-    """The items of a file of a crate."""
+    """Returns the items of a file of a crate."""
     return parsed(file.relative_to(CRATES).parts[0], file, file.read_text(encoding="utf-8"))
 
 
@@ -326,7 +327,7 @@ def sources_of(crate: str) -> list[Source]:
 
 
 def layers() -> list[tuple[str, list[tuple[str, list[str]]]]]:
-    """The headings of crates.txt, each with its crates and the libraries that each names."""
+    """Returns the headings of crates.txt, each with its crates and the libraries that each crate names."""
     found: list[tuple[str, list[tuple[str, list[str]]]]] = []
     for line in (ROOT / "crates.txt").read_text(encoding="utf-8").splitlines():
         head, colon, rest = line.partition("#")[0].partition(":")
@@ -339,17 +340,17 @@ def layers() -> list[tuple[str, list[tuple[str, list[str]]]]]:
 
 
 def libraries() -> dict[str, list[str]]:
-    """What each crate of crates.txt stands on."""
+    """Returns the libraries on which each crate of crates.txt stands."""
     return {crate: names for _, crates in layers() for crate, names in crates}
 
 
 def crates_of_the_program() -> list[str]:
-    """The crates in the order of crates.txt, but those of tests."""
+    """Returns the crates in the order of crates.txt, without those of tests."""
     return [crate for crate in libraries() if not crate.endswith("_tests")]
 
 
 def public_functions(crate: str) -> list[Function]:
-    """The functions that a crate makes public: by its `pub mod`, or by the name that its `pub use` passes on."""
+    """Returns the functions that a crate makes public: by its `pub mod`, or by a name in its `pub use`."""
     sources = sources_of(crate)
     library = next((one for one in sources if one.file.name == "lib.rt" and one.file.parent.name == "src"), None)
     if library is None:

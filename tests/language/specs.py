@@ -1,7 +1,7 @@
-"""The definitions of specs/, and what each rests on.
+"""Reads the definitions of specs/, and finds what each of them rests on.
 
-A definition is counted where it stands in a `specs/` of the repository, those of `where` blocks too; a type of the code
-that a definition names is counted apart, and definitions of the kit not at all.
+A definition is counted in the `specs/` folder of the repository in which it stands, also if it stands in a `where` block. A type
+of the code that a definition names is counted separately; definitions of the kit aren't counted.
 """
 from __future__ import annotations
 
@@ -21,13 +21,13 @@ BEGINS = re.compile(r"(?:(?:abbrev|unfoldable)\s+pub|pub\s+(?:record|data)|recor
 PRIVATE = re.compile(r"(" + NAME + r")\s*:\s")
 WORD = re.compile(r"(?<![.\w])[^\s:{}()\[\],.;⦃⦄×⊎λ→≡]+")
 
-# What the names of each file mean.
+# by file: what its imported names mean
 Imports = dict[str, dict[str, str]]
 
 
 @dataclass
 class Definition:
-    """A definition: its place, its name, the line at which it begins, the comment right above it, and its lines."""
+    """A definition: its place, its name, the line on which it begins, the comment directly above it, and its lines."""
 
     place: str
     name: str
@@ -62,7 +62,7 @@ class Definition:
 
 @dataclass(frozen=True)
 class Count:
-    """How much is to be read: definitions, files, lines and words."""
+    """How much there is to read: the numbers of definitions, files, lines and words."""
 
     definitions: int
     files: int
@@ -77,7 +77,7 @@ def counted(definitions: Iterable[Definition]) -> Count:
 
 
 def imports_of(text: str) -> dict[str, str]:
-    """What each imported name means: crate.specs.Path.name, also where a list passes it on."""
+    """Returns what each imported name means, as crate.specs.Path.name, also if a list of imports passes it on."""
     found = {}
     for place, names in USE.findall(text):
         for entry in names.split(","):
@@ -90,18 +90,18 @@ def imports_of(text: str) -> dict[str, str]:
 
 @functools.cache
 def passed_on(place: str) -> dict[str, str]:
-    """What each name of a list of imports means; none where the place is no such list."""
+    """Returns what each name of a list of imports means; nothing if the place isn't such a list."""
     file = CRATES / (place.replace(".", "/") + ".antt")
     return imports_of(file.read_text(encoding="utf-8")) if file.name == LIST and file.exists() else {}
 
 
 def place_of(file: Path) -> str:
-    """crate.specs.Path, as imports name a file."""
+    """Returns the name of a file as imports write it: crate.specs.Path."""
     return ".".join(file.relative_to(CRATES).with_suffix("").parts)
 
 
 def read_specs() -> tuple[dict[str, Definition], Imports]:
-    """All definitions by key, and each file's imports."""
+    """Returns all definitions by key, and the imports of each file."""
     definitions: dict[str, Definition] = {}
     imports: Imports = {}
     for file in sorted(CRATES.glob("*/specs/**/*.antt")):
@@ -113,7 +113,7 @@ def read_specs() -> tuple[dict[str, Definition], Imports]:
 
 
 def definitions_in(place: str, text: str) -> dict[str, Definition]:
-    """The definitions of a file, each with its lines: those that begin it, and those that go on by indentation."""
+    """Returns the definitions of a file, each with its lines: the line with which it begins, and the indented lines after it."""
     found: dict[str, Definition] = {}
     current, comment, margin = None, list[str](), 0
     for number, line in enumerate(text.splitlines(), 1):
@@ -137,7 +137,7 @@ def definitions_in(place: str, text: str) -> dict[str, Definition]:
 
 
 def named_in(one: Definition, imports: Imports, definitions: dict[str, Definition]) -> set[str]:
-    """The definitions and the types of the code that this one names."""
+    """Returns the definitions and the types of the code that this definition names."""
     found = set()
     for line in one.lines:
         for word in WORD.findall(line.split(" -- ")[0]):
@@ -149,7 +149,8 @@ def named_in(one: Definition, imports: Imports, definitions: dict[str, Definitio
 
 
 def reach(roots: set[str], definitions: dict[str, Definition], imports: Imports, given: set[str]) -> tuple[set[str], set[str]]:
-    """All definitions, and all types of the code, that these rest on; `given` are taken as they are."""
+    """Returns all definitions, and all types of the code, that these definitions rest on; nothing below those in `given` is
+    included."""
     seen, types, left = set[str](), set[str](), set(roots)
     while left:
         name = left.pop()
@@ -163,7 +164,7 @@ def reach(roots: set[str], definitions: dict[str, Definition], imports: Imports,
 
 
 def roots_of(name: str, definitions: dict[str, Definition]) -> set[str]:
-    """What a name means: a definition, or a file of the code with all ghost names of its contracts."""
+    """Returns what a name means: a definition, or, for a file of the code, all ghost names of its contracts."""
     if name.endswith(".rt"):
         return set(imports_of((CRATES / name).read_text(encoding="utf-8")).values())
     if name not in definitions:

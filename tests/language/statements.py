@@ -1,7 +1,7 @@
-"""What a statement asks for, and what it shows: the definitions that it names, by the side of an arrow on which they stand.
+"""Finds what a statement asks for and what it shows: the definitions that it names, by the side of the arrow on which they stand.
 
-Whoever holds to `A → B` shows B, and asks for A. In `A → ⊥` and `¬ A` it is A that is asked for. A record shows what its
-fields show; a definition by several clauses, and each side of `⊎`, are choices: one of them is enough.
+A proof of `A → B` shows B and asks for A. In `A → ⊥` and `¬ A`, A is asked for. A record shows what its fields show. The clauses
+of a definition with several clauses, and the sides of `⊎`, are choices: one of them is enough.
 """
 
 from __future__ import annotations
@@ -19,12 +19,12 @@ NAME_ENDS = re.compile(r"\b(?!\s*:)")
 
 
 def bare(text: str) -> str:
-    """Without comments."""
+    """Returns the text without comments."""
     return "\n".join(line.split(" -- ")[0] for line in text.splitlines() if not line.strip().startswith(("--", "//")))
 
 
 def split(text: str, marks: str) -> list[str]:
-    """At these marks, but for those in brackets."""
+    """Splits a text at these marks, except in brackets."""
     if not any(mark in text for mark in marks):
         return [text]
     parts, depth, begun = [], 0, 0
@@ -41,7 +41,7 @@ def split(text: str, marks: str) -> list[str]:
 
 @functools.cache
 def groups(text: str) -> tuple[str, list[str]]:
-    """What stands outside of brackets, and what is in each of the outermost ones."""
+    """Returns what stands outside brackets, and what is in each of the outermost brackets."""
     outside, inside, depth, begun = [], [], 0, 0
     for place, letter in enumerate(text):
         if letter in OPEN:
@@ -59,7 +59,7 @@ def groups(text: str) -> tuple[str, list[str]]:
 
 
 class Sides:
-    """The words of a statement that are shown for sure, those that may be, and those that are asked for."""
+    """The words of a statement that are certainly shown, those that may be shown, and those that are asked for."""
 
     def __init__(self) -> None:
         self.sure: set[str] = set()
@@ -96,7 +96,7 @@ class Sides:
 
 
 def fields_of(lines: list[str]) -> list[str]:
-    """The types of a record's fields, each with the lines that go on with it."""
+    """Returns the types of a record's fields, each with the lines that continue it."""
     fields = []
     for line in lines:
         begins = re.match(r"\s+pub [^\s:]+ : (.*)$", line)
@@ -108,7 +108,7 @@ def fields_of(lines: list[str]) -> list[str]:
 
 
 def clauses_of(name: str, lines: list[str]) -> list[str]:
-    """The right sides of a definition's clauses."""
+    """Returns the right sides of a definition's clauses."""
     clauses = []
     for line in lines:
         bare_line = line.lstrip()
@@ -120,7 +120,7 @@ def clauses_of(name: str, lines: list[str]) -> list[str]:
 
 
 def body_of(one: specs.Definition) -> str:
-    """What a definition says: a record's fields, or its clauses."""
+    """Returns what a definition says: the fields of a record, or its clauses."""
     lines = bare("\n".join(one.lines)).splitlines()
     if re.match(r"\s*pub record", lines[0]):
         return "\n".join(fields_of(lines))
@@ -128,7 +128,7 @@ def body_of(one: specs.Definition) -> str:
 
 
 def sides_of(one: specs.Definition) -> Sides:
-    """What a definition shows and asks for. Of several clauses each is a choice."""
+    """Returns what a definition shows and asks for. If it has several clauses, each is a choice."""
     lines = bare("\n".join(one.lines)).splitlines()
     sides = Sides()
     if re.match(r"\s*pub record", lines[0]):

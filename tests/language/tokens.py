@@ -1,4 +1,4 @@
-"""The tokens of a source."""
+"""Splits a source into tokens."""
 from __future__ import annotations
 
 import functools
@@ -20,7 +20,7 @@ OPEN, CLOSE = {"(": ")", "[": "]", "{": "}"}, {")": "(", "]": "[", "}": "{"}
 
 
 class Token(NamedTuple):
-    """A token: its kind, its text, its line from 1, and where it begins in the text."""
+    """A token: its kind, its text, its line counted from 1, and where it begins in the text."""
 
     kind: str
     text: str
@@ -30,7 +30,7 @@ class Token(NamedTuple):
 
 @functools.lru_cache(maxsize=2048)
 def tokens_of(text: str) -> tuple[Token, ...]:
-    """All tokens but white space, comments too."""
+    """Returns all tokens, including comments, without white space."""
     found, line = [], 1
     for one in TOKEN.finditer(text):
         kind = one.lastgroup or ""
@@ -41,12 +41,12 @@ def tokens_of(text: str) -> tuple[Token, ...]:
 
 
 def code_of(tokens: tuple[Token, ...]) -> list[Token]:
-    """Without comments."""
+    """Returns the tokens without comments."""
     return [one for one in tokens if one.kind not in ("doc", "remark")]
 
 
 def closing(tokens: list[Token], at: int) -> int:
-    """The place of the bracket that closes the one at this place. Only round, square and curly brackets count."""
+    """Returns the place of the bracket that closes the one at this place. Only round, square and curly brackets count."""
     depth = 0
     for place in range(at, len(tokens)):
         if tokens[place].kind == "sign":
