@@ -1,9 +1,9 @@
-"""The writer is woken for each line that it can write: all interleavings of a writer and two or three lanes.
+"""Searches all interleavings of a writer and one to three lanes: the writer must be woken for each line that it can write.
 
-The steps are the atomic accesses of lane_runner: src/bell.rt, `wait_for_next` of src/merging.rt, `hand_over` of
-src/answering.rt. A lane may wait before each line for as long as it likes, as one does whose record is synced, or who is
-held up at a gate. No contract says that a ring arrives; this search does, of a model. Where a ring is left out or held
-back, or two accesses change places (FAULTS), it has to find a line that waits.
+The steps are the atomic accesses of lane_runner: src/bell.rt, `wait_for_next` of src/merging.rt, `hand_over` of src/answering.rt.
+Before each line a lane may wait as long as it likes, such as a lane whose record is being synced. No contract states that a ring
+arrives; this search shows it for a model. If a ring is left out or delayed, or two accesses are exchanged (FAULTS), the search
+must find a line that waits.
 """
 from __future__ import annotations
 
@@ -11,7 +11,7 @@ from collections.abc import Iterator
 from typing import NamedTuple
 
 NOBODY, SEVERAL = 0, 2
-# the lines of each lane
+# the number of lines of each lane
 RUNS = {"one lane": (4,), "two lanes": (3, 3), "three lanes": (2, 1, 1)}
 NO_RING = "no ring behind a line"
 EARLY_RING = "the ring before its line"
@@ -23,7 +23,7 @@ ASLEEP = "asleep"
 
 
 class Lane(NamedTuple):
-    """A lane: its next steps, how many lines it has yet to tell, and how many that it told weren't taken."""
+    """A lane: its next steps, how many lines it has yet to report, and how many reported lines weren't taken."""
 
     steps: tuple[str, ...]
     left: int
@@ -31,8 +31,8 @@ class Lane(NamedTuple):
 
 
 class State(NamedTuple):
-    """The named lane's place from 1, the lanes, and the writer's next step, with the lane whose line is missing and how many
-    lines came since it slept."""
+    """The place of the named lane, counted from 1, the lanes, and the writer's next step, with the lane whose line is missing
+    and how many lines came since the writer slept."""
 
     named: int
     lanes: tuple[Lane, ...]
@@ -42,7 +42,7 @@ class State(NamedTuple):
 
 
 def lines_of(lane: Lane) -> int:
-    """The lines that the writer has yet to take of it."""
+    """Returns how many lines of this lane the writer has yet to take."""
     return lane.left + lane.told
 
 
@@ -51,7 +51,7 @@ def put_lane(state: State, at: int, lane: Lane) -> State:
 
 
 def ways_to_tell(left: int, fault: str) -> tuple[str, ...]:
-    """The steps of the next line, where one is left."""
+    """Returns the steps of the next line, if one is left."""
     if left == 0:
         return ()
     if fault == NO_RING or (fault == HELD_BACK and left % 2):
@@ -60,7 +60,7 @@ def ways_to_tell(left: int, fault: str) -> tuple[str, ...]:
 
 
 def lane_moves(state: State, at: int, fault: str) -> State:
-    """A lane's next step."""
+    """Returns the state after the lane's next step."""
     lane, place = state.lanes[at], at + 1
     step, *rest = lane.steps
     if step == "see" and state.named != place:
@@ -75,7 +75,7 @@ def lane_moves(state: State, at: int, fault: str) -> State:
 
 
 def look(state: State, at: int) -> State:
-    """Looks at one lane, and then at the next one."""
+    """Looks at one lane; the next step is to look at the next lane, or to take a line or rest."""
     lane, is_last = state.lanes[at], at + 1 == len(state.lanes)
     missing = at + 1 if lane.left and not lane.told else state.missing
     then = ("rest" if missing else "take") if is_last else f"look {at + 2}"
@@ -83,7 +83,7 @@ def look(state: State, at: int) -> State:
 
 
 def takes(state: State) -> Iterator[State]:
-    """A line is taken: that of any lane, since any may have the earliest turn."""
+    """Yields the states after a line is taken: one of any lane, since any lane may have the earliest turn."""
     for at, lane in enumerate(state.lanes):
         if lane.told:
             after = put_lane(state, at, lane._replace(told=lane.told - 1))
@@ -91,19 +91,19 @@ def takes(state: State) -> Iterator[State]:
 
 
 def to_name(state: State, fault: str) -> int:
-    """The lane that the writer names where a line is missing."""
+    """Returns the lane that the writer names if a line is missing."""
     return 1 if fault == OTHER_LANE else state.missing
 
 
 def rest(state: State, fault: str) -> State:
-    """Naps, or sleeps for the named lane, or names it and looks again."""
+    """Naps, sleeps until the named lane rings, or names a lane and looks again."""
     if state.came >= SEVERAL:
         return state._replace(writer="nap", came=0)
     return state._replace(writer="park" if state.named == to_name(state, fault) else "name")
 
 
 def writer_moves(state: State, fault: str) -> Iterator[State]:
-    """What the writer's next step may lead to."""
+    """Yields the states to which the writer's next step may lead."""
     step, again = state.writer, state._replace(writer="look 1", missing=NOBODY)
     if step.startswith("look"):
         yield look(state, int(step.split()[1]) - 1)
@@ -122,7 +122,7 @@ def writer_moves(state: State, fault: str) -> Iterator[State]:
 
 
 def waits(state: State) -> bool:
-    """Whether the writer sleeps over a line that it could write, while each lane may be long about its next one."""
+    """Returns whether the writer sleeps although it could write a line, while each lane may take long for its next one."""
     return (state.writer == ASLEEP and all(lane.steps[:1] in ((), ("tell",)) for lane in state.lanes)
             and all(lane.told or not lane.left for lane in state.lanes))
 
@@ -135,7 +135,7 @@ def after(state: State, fault: str) -> Iterator[State]:
 
 
 def search(lines: tuple[int, ...], fault: str = "") -> tuple[int, str]:
-    """How many states can be reached, and what is wrong with one of them, where something is."""
+    """Returns how many states can be reached, and what is wrong with one of them, or an empty text."""
     start = State(NOBODY, tuple(Lane(ways_to_tell(many, fault), many) for many in lines))
     seen, left = {start}, [start]
     while left:

@@ -1,4 +1,5 @@
-"""Nothing is proved that doesn't run: `main` reaches each public function of the program, or it stands below with its reason."""
+"""Tests that nothing is proved that doesn't run: `main` reaches each public function of the program, or it is listed below
+with the reason."""
 from __future__ import annotations
 
 import pytest
@@ -40,7 +41,7 @@ ALLOWED = {
 
 
 def amiss(reached: set[str], unreached: set[str]) -> list[str]:
-    """What isn't reached and has no reason, and which reasons are of nothing."""
+    """Returns what isn't reached and has no reason, and the reasons that are no longer needed."""
     covered = {name: {full for full in unreached if full == name or full.startswith(name + "::")} for name in ALLOWED}
     return [f"{full} isn't reached" for full in sorted(unreached.difference(*covered.values()))] + [
         f"{name} is reached, or gone, and needs no reason" for name in ALLOWED if name in reached or not covered[name]]
@@ -67,7 +68,8 @@ def test_what_nobody_calls_is_told(file: str, planted: str, full: str) -> None:
 
 
 def test_no_watcher_is_brought_but_those_that_are_always_ready() -> None:
-    """A watcher that isn't ready is evidence of want of memory, so the program brings none that may not be."""
+    """A watcher that isn't ready counts as evidence that memory was refused, so the program has no watcher that may be
+    unready."""
     own = ("policy_types", "watcher_set")
     crates = [file.name for file in CRATES.iterdir() if not file.name.endswith("_tests") and file.name not in ("measure", *own)]
     found = [f"{one.file.name}: {one.owner}" for crate in crates for source in sources_of(crate) for one in source.functions

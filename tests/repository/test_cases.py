@@ -1,7 +1,8 @@
-"""Each definition under the promise is held by a worked case, and a case or a definition that comes to say less is told.
+"""Tests that a worked case holds each definition under the promise, and that a case or a definition that comes to say less is
+reported.
 
-A hypothesis that nothing builds is put into worked cases and their contracts, one at a time and in memory, and it has to be
-told by the name of its case; of such as are met, or of plain data, nothing has to be told.
+A hypothesis that nothing builds is put into worked cases and their contracts, one at a time and in memory, and must be reported
+with the name of its case. Hypotheses that are met, or that are plain data, must not be reported.
 """
 from __future__ import annotations
 
@@ -52,15 +53,15 @@ Under said = nothing → said
 
 """
 
-# Before the arrow in front of a case.
+# hypotheses that are put before the arrow of a case
 HYPOTHESES = ("⊥", "1 ≡ 0", "(1 ≡ 0)", "{_ : ⊥}", "⦃ v : ⊥ ⦄", "(v : Void)", "(v : List Void)", "(v : Twice)", "(v : Deep)",
               "(v : Hidden)", "(v : Claim)", "nothing", "(v : nothing)", "(n : ℕ) (v : n ≡ n + 1)", "(n : ℕ) → n ≡ n + 1",
               "(D ≡ E)", "(x : ⊥) × List ℕ", "(v : ℕ × ⊥)", "(v : ℕ → ⊥)", "¬ ℕ", "(P : Type 0) → P")
-# A value can be made of these, and the last is shown by another case.
+# a value can be made of the first three, and another case shows the last one
 NO_LESS = ("(n : ℕ)", "{pair : Pair} (words : List (Option ℕ))", "(disk : CalledDisk) (lane : Lane)",
            "(disk : CalledDisk) → called.honest disk")
 
-# Other ways to say less: the file, what stands in it, what is put there, and the case that is named.
+# Other ways to say less: the file, what stands in it, what replaces it, and the case that is named.
 WAYS: list[tuple[Path, str, str, str]] = [
     (CASES, GIVEN, f"(⊥ → {GIVEN})", "Promise.GivenByHand"),
     (CASES, PART, "PromisedByHand = Under (IsPromised called Opens) × IsPromised called", PROMISED),
@@ -92,7 +93,7 @@ def texts() -> Texts:
 
 
 def put(texts: Texts, path: Path, old: str, new: str) -> Texts:
-    """With the one in place of the other; the cases have the helpers too."""
+    """Returns the texts with one text in place of another; the file of cases gets the helpers, too."""
     text = texts.code.get(path) or path.read_text(encoding="utf-8")
     assert old in text, f"{path.name} has no {old}"
     text = text.replace(old, new, 1)
@@ -100,7 +101,7 @@ def put(texts: Texts, path: Path, old: str, new: str) -> Texts:
 
 
 def told_of(texts: Texts) -> list[str]:
-    """What is told of conditional cases, and of code that spoils what is taken for data."""
+    """Returns what is reported about conditional cases, and about code that spoils what is taken for data."""
     return told_conditional(*conditions.met(parts_of(texts)))[0] + told_data(texts)
 
 
@@ -145,7 +146,8 @@ def test_an_emptied_definition_or_case_is_told(texts: Texts, path: Path, old: st
 
 
 def test_no_clause_and_no_definition_under_the_promise_has_come_to_say_less_or_more() -> None:
-    """Where this is meant, `python3 -m tests.language counts --write` writes the list anew, and the change of it is reviewed."""
+    """If a change is meant, `python3 -m tests.language counts --write` writes the list anew, and the change of the list is
+    reviewed."""
     assert counts.changed(all_public()) == []
 
 

@@ -1,4 +1,5 @@
-"""What pages quote stands so in the code: the theorem's clauses, the limits, and the names of what takes a figure again."""
+"""Tests that what pages quote is in the code: the theorem's clauses, the limits, and the names of the scripts that measure a
+figure again."""
 from __future__ import annotations
 
 import re
@@ -11,7 +12,7 @@ from tests.language.source import CRATES, ROOT
 THEOREM = ROOT / "docs" / "proof" / "theorem.md"
 LIMITS = ROOT / "docs" / "reference" / "limits.md"
 FIGURES = ROOT / "docs" / "development" / "figures.md"
-# a figure of the limits' page, and the constants of the code that it is
+# a figure of the page of limits, and the constants of the code that it states
 CONSTANTS = [
     ("commands in a journal", ["4,000,000"], ["policy_types/src/command.rt MOST_COMMANDS"]),
     ("length of a script", ["16,777,216"], ["script_run/src/intake.rt MOST_SCRIPT_BYTES"]),
@@ -33,7 +34,8 @@ def in_one_line(text: str) -> str:
 
 @pytest.fixture(scope="module")
 def proved() -> str:
-    """The definitions and the code of all crates in one line, a clause of a function written as a field of a record is."""
+    """Returns the definitions and the code of all crates in one line, with a function's clauses written as the fields of a
+    record are."""
     files = [file for part in ("specs", "src") for file in sorted(CRATES.glob(f"*/{part}/**/*"))
              if file.suffix in (".antt", ".rt")]
     text = in_one_line(" ".join(file.read_text(encoding="utf-8") for file in files))
@@ -41,7 +43,7 @@ def proved() -> str:
 
 
 def quoted(page: str) -> list[str]:
-    """The lines of its blocks, each with its blanks as one."""
+    """Returns the lines of a page's blocks, each run of blanks as one blank."""
     blocks = re.findall(r"^```text\n(.*?)^```", page, re.S | re.M)
     return [in_one_line(line) for block in blocks for line in block.splitlines() if line.strip()]
 
@@ -95,7 +97,7 @@ def test_what_takes_a_figure_again_is_there() -> None:
 
 
 def test_each_script_of_bench_takes_a_figure_of_the_page() -> None:
-    """Or is a part of one that does."""
+    """A script that doesn't measure a figure itself must be a part of one that does."""
     text = FIGURES.read_text(encoding="utf-8")
     shared = {"common.sh", "timing.py", "workload.py", "loopback.sh", "workers.py"}
     alone = [file for file in (ROOT / "bench").iterdir() if file.is_file() and not file.name.startswith(("figures", "plain_"))

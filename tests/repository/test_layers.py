@@ -1,4 +1,5 @@
-"""The crates stand in layers: each only on crates above its own heading of crates.txt, and on no library that it doesn't use."""
+"""Tests that the crates stand in layers: each crate stands only on crates above its own heading in crates.txt, and on no
+library that it doesn't use."""
 from __future__ import annotations
 
 import re
@@ -11,8 +12,8 @@ from tests.language.source import CRATES, ROOT, layers, libraries, sources_of
 ARCHITECTURE = ROOT / "docs" / "development" / "architecture.md"
 
 
-# Libraries that no file of the crate names. Their types pass through it, or a macro of another crate names them; whether one
-# can go takes a proof.
+# Libraries that no file of the crate names. Their types pass through the crate, or a macro of another crate names them; only a
+# proof shows whether one can be removed.
 UNNAMED = {
     "shared_office": ["posting_journal"],
     "cash_projection": ["office_state"],
@@ -33,7 +34,7 @@ UNNAMED = {
 
 
 def below_or_beside(found: list[tuple[str, list[tuple[str, list[str]]]]]) -> list[str]:
-    """The crates that stand on one below their heading, or beside them."""
+    """Returns the crates that stand on a crate below their heading, or under the same heading."""
     ours = {crate for _, crates in found for crate, _ in crates}
     above: set[str] = set()
     wrong = []
@@ -45,7 +46,7 @@ def below_or_beside(found: list[tuple[str, list[tuple[str, list[str]]]]]) -> lis
 
 
 def is_used(crate: str, library: str) -> bool:
-    """Whether a file of the crate names the library, in code, in a contract, in a definition or in a proof."""
+    """Returns whether a file of the crate names the library, in code, in a contract, in a definition or in a proof."""
     said = re.compile(rf"\b{library}::|Rattle\.{library}\.")
     files = (file for part in ("src", "specs", "proofs") for file in (CRATES / crate / part).rglob("*") if file.is_file())
     return any(said.search(file.read_text(encoding="utf-8")) for file in files)
@@ -84,7 +85,7 @@ def test_the_handles_are_those_that_may_be_used() -> None:
 
 
 def named_files(page: str) -> list[tuple[str, list[Path]]]:
-    """The lines of a page that name files of crates, each with these."""
+    """Returns the lines of a page that name files of crates, each with these files."""
     found = ((line, re.findall(r"`(\w+/(?:src|specs|proofs)/[\w/.]*)`", line)) for line in page.splitlines())
     return [(line, [CRATES / name for name in names]) for line, names in found if names]
 

@@ -1,8 +1,8 @@
-"""Who waits is woken, in all interleavings of a model, and the model is that of the functions as they stand.
+"""Tests that a waiting caller is woken, in all interleavings of a model, and that the model is that of the present functions.
 
-No contract says that a wake or a ring arrives. Two searches say it of models of the atomic accesses, and find a planted fault
-in each. modelled.txt holds the bodies of the functions of which the models are, token by token: whoever changes one looks
-whether the model is still of it, and then writes the list anew by `python3 -m tests.repository.test_models`.
+No contract states that a wake or a ring arrives. Two searches show it for models of the atomic accesses, and find a planted fault
+in each model. modelled.txt has the bodies of the modelled functions, token by token: whoever changes one of them checks whether
+the model still describes it, and then writes the list anew with `python3 -m tests.repository.test_models`.
 """
 from __future__ import annotations
 
@@ -16,7 +16,7 @@ from tests.repository import bell_of_the_writer as bell
 from tests.repository import turns_of_the_lock as turns
 
 LIST = Path(__file__).with_name("modelled.txt")
-# each file, and the functions of it that are modelled, or all
+# each file, and its functions that are modelled; an empty list means all
 MODELLED: dict[str, list[str]] = {
     "turn_lock/src/queues.rt": [], "turn_lock/src/entering.rt": [], "turn_lock/src/steps.rt": ["take", "give"],
     "turn_lock/src/turnstile.rt": ["turn", "serve"],
@@ -26,7 +26,7 @@ MODELLED: dict[str, list[str]] = {
 
 
 def modelled_in(file: str, text: str) -> list[str]:
-    """The modelled functions and the constants of a file, each as a line."""
+    """Returns the modelled functions and the constants of a file, each as a line."""
     source = parsed(file.split("/")[0], CRATES / file, text)
     names = MODELLED[file]
     lines = [f"{file} {' '.join(token.text for token in one.tokens)}" for one in source.named
@@ -65,14 +65,14 @@ def test_a_changed_function_is_told(file: str, old: str, new: str) -> None:
 
 
 def constant(name: str) -> list[str]:
-    """The value of a constant of the queues, as tokens."""
+    """Returns the value of a constant of the queues, as tokens."""
     found = next(one for one in source_of(CRATES / "turn_lock/src/queues.rt").named if one.name == name)
     texts = [token.text for token in found.tokens]
     return texts[texts.index("=") + 1:-1]
 
 
 def test_the_limits_of_the_model_are_those_of_the_lock() -> None:
-    """Turns of the model are heavy ones."""
+    """The turns of the model count as heavy ones."""
     for limit, name in zip(turns.LIMITS["free"], ("MOST_BEFORE_BRIEF", "MOST_BEFORE_OTHERS")):
         assert constant(name) == [str(limit), "*", "HEAVY"]
 

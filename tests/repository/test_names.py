@@ -1,5 +1,5 @@
-"""One meaning a word: no two crates define the same name in specs/, or the same type or constant in src/, and no number stands
-under two names, but for those below."""
+"""Tests that a word has one meaning: no two crates define the same name in specs/, or the same type or constant in src/, and
+no number has two names, except those listed below."""
 from __future__ import annotations
 
 import re
@@ -30,7 +30,7 @@ ALLOWED_CONSTANTS = {
     "CLOSED": "the gate's byte in a journal and in a checkpoint, two formats",
     "OPEN": "the gate's byte in a journal and in a checkpoint, two formats",
 }
-# Numbers that mean another thing under each of these names: no change of one of them asks for a change of another.
+# Numbers that mean something else under each of these names: a change of one asks for no change of the others.
 SAME_NUMBER = {
     "policies that are read, and rows that are gone through, at once": {"POLICIES_TOGETHER", "POLICIES_IN_ROOM"},
     "a rate in units of its finest digit, and a share of lives": {"ONE", "CERTAIN"},
@@ -40,12 +40,12 @@ SAME_NUMBER = {
     "bytes of a piece, places of a cache, premiums kept, bytes gathered": {"PIECE", "SLOTS", "PREMIUMS_KEPT", "MOST_GATHERED"},
     "work for one more worker, of two kinds, and columns kept": {"POLICIES_TO_A_WORKER", "COLUMNS_KEPT", "ROWS_TO_A_WORKER"},
 }
-# below this many, numbers are the same by chance
+# smaller numbers are the same by chance
 LEAST = 100
 
 
 def definitions() -> dict[str, set[str]]:
-    """The crates that define each name."""
+    """Returns the crates that define each name."""
     crates = defaultdict(set)
     for file in CRATES.glob("*/specs/**/*.antt"):
         if file.name in ("Lib.antt", "Names.antt"):
@@ -62,7 +62,7 @@ def program() -> list[Source]:
 
 
 def named(*kinds: str) -> dict[str, set[str]]:
-    """The crates of the program that have one of these kinds, by its name."""
+    """Returns the crates of the program that have an item of one of these kinds, by its name."""
     crates = defaultdict(set)
     for source in program():
         for one in source.named:
@@ -78,7 +78,7 @@ def amiss(crates: dict[str, set[str]], allowed: Iterable[str]) -> list[str]:
 
 
 def numbers(sources: Iterable[Source]) -> dict[int, set[str]]:
-    """The names of each number that a constant is, where it is spelled as one or as a product."""
+    """Returns the names of each number that is the value of a constant, if the constant is written as a number or a product."""
     found = defaultdict(set)
     for source in sources:
         for one in source.named if "worked" not in source.file.name else []:
@@ -95,7 +95,7 @@ def numbers(sources: Iterable[Source]) -> dict[int, set[str]]:
 
 
 def doubled(sources: Iterable[Source]) -> list[str]:
-    """The numbers with several names, where these aren't allowed."""
+    """Returns the numbers with several names, unless these are allowed."""
     several = {number: names for number, names in numbers(sources).items() if number >= LEAST and len(names) > 1}
     return [f"{number:,} is {', '.join(sorted(names))}" for number, names in sorted(several.items())
             if not any(names <= allowed for allowed in SAME_NUMBER.values())]

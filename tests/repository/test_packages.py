@@ -1,4 +1,4 @@
-"""The packages of life_tools stand in layers: each imports only those below it."""
+"""Tests that the packages of life_tools stand in layers: each imports only packages below it."""
 from __future__ import annotations
 
 import ast
@@ -10,7 +10,7 @@ TOOLS = ROOT / "tools" / "life_tools"
 # from the lowest to the highest
 LAYERS = ("common", "rules", "tables", "reserves", "journal", "valuations", "scripts", "reports", "audit", "books", "desk",
           "backup", "window", "cli")
-# Modules that import a package above their own. None may come to it, and one that is needed no more goes.
+# Modules that import a package above their own. No module may be added, and one that is no longer needed is removed.
 UPWARD = {
     ("reports/bundles.py", "audit"),        # a bundle holds the working papers of a sample
     ("audit/samples.py", "books"),          # the name for all books of a list
@@ -23,7 +23,7 @@ UPWARD = {
 
 
 def imported(text: str) -> set[str]:
-    """The packages of life_tools that a module imports, at its head or in a function."""
+    """Returns the packages of life_tools that a module imports, at its head or in a function."""
     modules = [name for node in ast.walk(ast.parse(text))
                for name in ([node.module or ""] if isinstance(node, ast.ImportFrom)
                             else [each.name for each in node.names] if isinstance(node, ast.Import) else [])]
@@ -31,7 +31,7 @@ def imported(text: str) -> set[str]:
 
 
 def upward(file: str, text: str) -> set[tuple[str, str]]:
-    """The packages above its own that a module of this path imports."""
+    """Returns the packages above its own that a module of this path imports."""
     own = LAYERS.index(Path(file).parts[0])
     return {(file, package) for package in imported(text) if LAYERS.index(package) > own}
 

@@ -1,4 +1,4 @@
-"""The scripts as they are written: types by mypy, style by flake8 and shellcheck, and no Python within a shell script."""
+"""Tests the scripts as they are written: types by mypy, style by flake8 and shellcheck, and no Python in a shell script."""
 from __future__ import annotations
 
 import os
@@ -10,23 +10,23 @@ import pytest
 
 from tests.language.source import ROOT
 
-# Folders whose Python files find one another by their names alone
+# folders whose Python files import one another by their plain names
 FLAT = sorted({str(file.parent.relative_to(ROOT)) for folder in ("bench", ".ci") for file in (ROOT / folder).rglob("*.py")})
-# SC1090, SC1091: a part that is read by a path of its own; SC2015, SC2016, SC2094: as it is meant; SC3013: `-nt`, which each
-# shell here has; SC2013: words, not lines
+# SC1090, SC1091: a part is read by a path that is computed; SC2015, SC2016, SC2094: the code is meant so; SC3013: `-nt`, which
+# each shell here has; SC2013: words, not lines
 ALLOWED = "SC1090,SC1091,SC2013,SC2015,SC2016,SC2094,SC3013"
 WITHIN = re.compile(r"""python3?"? (-[A-Za-z]+ )*- |python3?"? (-[A-Za-z]+ )*-$|<<'?PY|python3 -c (?!["']import [\w., ]+["'])""")
 
 
 def said(words: list[str], folder: Path = ROOT, path: str = "") -> str:
-    """What a judge says, where it isn't content."""
+    """Returns what a checker prints, or an empty text if it finds nothing wrong."""
     env = {**os.environ, "MYPYPATH": path} if path else None
     ran = subprocess.run(words, cwd=folder, env=env, capture_output=True, text=True, check=False)
     return "" if ran.returncode == 0 else ran.stdout + ran.stderr
 
 
 def cache(name: str) -> str:
-    """What a later run of mypy reads again."""
+    """Returns the folder for mypy's cache of a run."""
     return str(ROOT / "out" / "mypy" / name.replace("/", "-"))
 
 
@@ -65,7 +65,7 @@ def test_style_of_shell() -> None:
 
 @pytest.mark.parametrize("script", shell_scripts())
 def test_no_python_within_a_shell_script(script: str) -> None:
-    """A program in Python that a shell script holds is looked at by none of these."""
+    """None of these checkers looks at a Python program inside a shell script."""
     lines = (ROOT / script).read_text(encoding="utf-8", errors="replace").splitlines()
     assert [line for line in lines if WITHIN.search(line)] == []
 

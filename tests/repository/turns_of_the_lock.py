@@ -1,8 +1,9 @@
-"""Who waits for the lock is woken: all interleavings of three callers of one turn each, over both queues.
+"""Searches all interleavings of three callers of the lock, with one turn each, over both queues: a caller that waits must be
+woken.
 
-The steps are the atomic accesses of turn_lock: src/entering.rt, src/queues.rt, and take and give of src/steps.rt.
-No contract says that a wake arrives; this search does, of a model. Where a ring is left out, or two accesses change
-places (FAULTS), it has to find a caller that sleeps for ever.
+The steps are the atomic accesses of turn_lock: src/entering.rt, src/queues.rt, and take and give of src/steps.rt. No contract
+states that a wake arrives; this search shows it for a model. If a ring is left out, or two accesses are exchanged (FAULTS), the
+search must find a caller that sleeps for ever.
 """
 from __future__ import annotations
 
@@ -15,9 +16,9 @@ QUEUES = {
     "one brief": (BRIEF, OTHERS, OTHERS),
     "two brief": (BRIEF, BRIEF, OTHERS),
 }
-# So many turns on end may pass the first of each queue. Three turns don't reach those of the lock, which are the last
+# This many turns in a row may pass the first caller of each queue. Three turns don't reach the limits of the lock, which are last
 LIMITS = {"kept": (1, 1), "free, then kept": (2, 2), "free": (5, 8)}
-# So many more may pass the first brief one: where both queues are due, the other one is let in before it
+# This many more may pass the first brief caller: if both queues are due, the other queue's first caller is let in before it
 MORE = (1, 0)
 NO_FREE_RING = "no ring after a free give"
 NO_KEPT_RING = "no ring after a give to one that waits"
@@ -41,7 +42,7 @@ SLEEPS = ("sleep",)
 
 
 class Queue(NamedTuple):
-    """A queue: how many came and were let in, their bells, and the count of turns that passed its first."""
+    """A queue: how many came and were let in, their bells, and the number of turns that passed its first caller."""
 
     came: int = 0
     let_in: int = 0
@@ -51,7 +52,7 @@ class Queue(NamedTuple):
 
 
 class Caller(NamedTuple):
-    """A caller: its next steps, its queue and number there, what it read last, and whose bell it rings."""
+    """A caller: its next steps, its queue and its number there, what it read last, and whose bell it rings."""
 
     steps: tuple[str, ...]
     queue: int
@@ -63,9 +64,9 @@ class Caller(NamedTuple):
 
 
 class State(NamedTuple):
-    """The lock's word, the two queues and the callers, of whom it doesn't matter which is which.
+    """The lock's word, the two queues and the callers, which are interchangeable.
 
-    A kept word is twice the number, and one more for others.
+    A word that keeps the lock for a caller is twice the caller's number, plus one for the queue of others.
     """
 
     lock: int
@@ -87,7 +88,7 @@ class Turn:
         self.queue = state.queues[self.me.queue]
 
     def after(self) -> State:
-        """The state after it."""
+        """Returns the state after the step."""
         step, *rest = self.me.steps
         self.me = self.me._replace(steps=tuple(rest))
         getattr(self, step)()
@@ -106,7 +107,7 @@ class Turn:
         self.queues[queue] = self.queues[queue]._replace(bells=tuple(bells))
 
     def takes(self, word: int) -> bool:
-        """Takes the lock where it has this word."""
+        """Takes the lock if it has this word; returns whether it did."""
         if self.lock != word:
             return False
         self.lock = TAKEN
@@ -149,7 +150,7 @@ class Turn:
         self.put(self.me.queue, let_in=self.queue.let_in + 1)
 
     def park(self) -> None:
-        """Sleeps where nobody has rung since."""
+        """Sleeps if nobody has rung since."""
         if self.queue.bells[self.me.number] == self.me.read:
             self.to(*SLEEPS)
         else:
@@ -162,7 +163,7 @@ class Turn:
         self.count(BRIEF)
 
     def count(self, which: int) -> None:
-        """Counts the turn. Of what it reads only `came` is changed by others meanwhile, so this is one access."""
+        """Counts the turn. Of the values that it reads, others change only `came` meanwhile, so this is one access."""
         queue = self.queues[which]
         before = queue.passed if queue.first == queue.let_in else 0
         self.put(which, first=queue.let_in, passed=before + 1 if queue.came != queue.let_in else 0)
@@ -195,7 +196,7 @@ class Turn:
         self.me = self.me._replace(read=self.queues[OTHERS].let_in)
 
     def see_came(self) -> None:
-        """Somebody waits among the others, or else it looks at the brief ones."""
+        """Notes whether somebody waits among the others; if not, the brief ones are looked at."""
         self.me = self.me._replace(read=OTHERS if self.queues[OTHERS].came != self.me.read else BRIEF)
 
     def first_let_in(self) -> None:
@@ -215,7 +216,7 @@ class Turn:
             self.to(*self.me.steps[1:], rings=NOBODY)
 
     def ring(self) -> None:
-        """Makes an odd bell even, and wakes who sleeps at it."""
+        """Makes an odd bell even, and wakes the caller that sleeps at it."""
         number, which = divmod(self.me.rings, 2)
         if self.queues[which].bells[number] == self.me.read:
             self.put_bell(which, number, self.me.read + 1)
@@ -229,7 +230,7 @@ class Turn:
 
 
 def search(queues: tuple[int, ...], limits: tuple[int, int], fault: str = "") -> tuple[int, str]:
-    """How many states can be reached, and what is wrong with one of them, where something is."""
+    """Returns how many states can be reached, and what is wrong with one of them, or an empty text."""
     start = State(FREE, (Queue(), Queue()), tuple(Caller(("arrive",), queue) for queue in queues))
     seen, left = {start}, [start]
     while left:
